@@ -1,0 +1,22 @@
+use Prim.Native.Nat.{ℕ}
+use Rattle.model.specs.declared.length.View.{View}
+use Rattle.model.specs.declared.length.View.the-variants.{Prepare, Effect}
+use Rattle.model.specs.declared.length.Lengths.{Lengths}
+use Rattle.model.specs.declared.length.Slot.{Slot}
+
+abbrev pub viewNumber : View → ℕ
+viewNumber Prepare = 0
+viewNumber Effect = 1
+
+abbrev pub lengthsOf : Lengths → View → ℕ
+lengthsOf l Prepare = l .prepare
+lengthsOf l Effect = l .effect
+
+abbrev pub slotOf : ℕ → Lengths → Slot
+slotOf c l = record { child = c; «prepare_len» = l .prepare; «effect_len» = l .effect }
+
+abbrev pub emptySlot : Slot
+emptySlot = record { child = 4294967295; «prepare_len» = 0; «effect_len» = 0 }
+
+abbrev pub slotLengths : Slot → Lengths
+slotLengths s = record { prepare = s .«prepare_len»; effect = s .«effect_len» }

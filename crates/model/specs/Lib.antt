@@ -1,0 +1,4 @@
+pub mod Length
+pub mod Lists
+pub mod Node
+pub mod State

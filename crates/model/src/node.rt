@@ -1,0 +1,21 @@
+// What the functions over one node answer, and the sizes of a tree's nodes and areas.
+
+// Words of a slot, slots of a node, words of a node, nodes that the leaf area and the inner area each hold.
+pub struct Shape {
+    pub stride: usize,
+    pub fan: usize,
+    pub size: usize,
+    pub nodes: usize,
+}
+
+// The slot that holds a position: slot, offset into it, and the effect lengths before it.
+pub enum Found {
+    At(usize, u32, u64),
+    Nothing,
+}
+
+// The slot that holds a child.
+pub enum Place {
+    Slot(usize),
+    Missing,
+}
