@@ -1,4 +1,5 @@
 use Prim.Native.Nat.{ℕ}
+use mathlib.Core.List.{List, [], _∷_}
 use Rattle.model.specs.declared.length.View.{View}
 use Rattle.model.specs.declared.length.View.the-variants.{Prepare, Effect}
 use Rattle.model.specs.declared.length.Lengths.{Lengths}
@@ -20,3 +21,7 @@ emptySlot = record { child = 4294967295; «prepare_len» = 0; «effect_len» = 0
 
 abbrev pub slotLengths : Slot → Lengths
 slotLengths s = record { prepare = s .«prepare_len»; effect = s .«effect_len» }
+
+-- one length a view
+abbrev pub listOf : Lengths → List ℕ
+listOf l = l .prepare ∷ l .effect ∷ []

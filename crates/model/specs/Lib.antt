@@ -2,3 +2,17 @@ pub mod Length
 pub mod Lists
 pub mod Node
 pub mod State
+pub mod Row
+pub mod Climb
+pub mod Locate
+pub mod Grow
+pub mod Place
+pub mod Answer
+pub mod Refuse
+pub mod Calls
+pub mod ById
+pub mod Record
+pub mod Sound
+pub mod Audit
+pub mod Table
+pub mod Settled

@@ -34,12 +34,20 @@ pub struct Slot {
 
 impl Slot {
     // What an unused slot holds; its child also marks the root's missing parent.
-    pub const EMPTY: Slot = Slot { child: 4294967295, prepare_len: 0, effect_len: 0 };
+    pub const EMPTY: Slot = Slot {
+        child: 4294967295,
+        prepare_len: 0,
+        effect_len: 0,
+    };
 
     pub fn new(child: u32, lengths: Lengths) -> Slot
         ensures { λ r. ⌜ r ≡ slotOf child lengths ⌝ }
     {
-        Slot { child: child, prepare_len: lengths.prepare, effect_len: lengths.effect }
+        Slot {
+            child: child,
+            prepare_len: lengths.prepare,
+            effect_len: lengths.effect,
+        }
     }
 
     pub fn empty() -> Slot
@@ -51,6 +59,9 @@ impl Slot {
     pub fn lengths(self) -> Lengths
         ensures { λ r. ⌜ r ≡ slotLengths self ⌝ }
     {
-        Lengths { prepare: self.prepare_len, effect: self.effect_len }
+        Lengths {
+            prepare: self.prepare_len,
+            effect: self.effect_len,
+        }
     }
 }

@@ -1,8 +1,9 @@
 // What the tree is made of: numbers, lengths, slots, cursors, head and the answers of the calls.
 // specs/ holds what a reader must believe: the plain row, a tree as words, Sound, and every call.
 // Stands on nothing but the kit.
-pub mod number;
+pub mod answer;
+pub mod head;
 pub mod length;
 pub mod node;
-pub mod head;
-pub mod answer;
+pub mod number;
+pub mod walk;

@@ -1,0 +1,71 @@
+-- The causes of a refusal on a tree (document 01, "When a call cannot be done"), in the order in which a call tests them. Assumes nothing.
+use mathlib.Core.Bool.{Bool, true, false, cond, _&&_, _||_, not}
+use mathlib.Core.List.{List, [], _∷_, _++_}
+use Prim.Native.Nat.{ℕ, _+_, _*_}
+use lib.ListN.{length, getD}
+use lib.Dec.{ltb, leb, eqb}
+use Rattle.model.specs.Lists.{Cause, cause, some}
+use Rattle.model.specs.Node.{Node, total, used}
+use Rattle.model.specs.State.{State, shape, nodeAt}
+use Rattle.model.specs.declared.node.Shape.{Shape}
+use Rattle.model.specs.declared.head.Head.{Head}
+use Rattle.model.specs.declared.head.Cursor.{Cursor}
+
+-- the base: slots of three words, prepare is view 0 and effect view 1
+abbrev pub stride : ℕ
+stride = 3
+
+abbrev pub effect : ℕ
+effect = 1
+
+abbrev pub views : List ℕ
+views = 0 ∷ 1 ∷ []
+
+abbrev pub shapeOf : Head → Shape
+shapeOf h = shape stride (h .fan) (h .limit)
+
+-- 1: fan not 4 to 32, or limit not 1 to 65,536
+abbrev pub badSize : ℕ → ℕ → Cause
+badSize fan limit = cause 1 (ltb fan 4 || ltb 32 fan || ltb limit 1 || ltb 65536 limit)
+
+-- 2: an area shorter than the limit needs
+abbrev pub tooShort : Shape → ℕ → List ℕ → List ℕ → List ℕ → Cause
+tooShort g limit ls xs hs = cause 2 (ltb (length ls) (g .nodes * g .size) || ltb (length xs) (g .nodes * g .size) || ltb (length hs) limit)
+
+-- 9, met by every call that reads links: the root or a count leads outside the areas, or no leaf can be that deep
+abbrev pub astray : Shape → Head → Cause
+astray g h =
+    cause 9 (leb (g .nodes) (h .root .0) || ltb (h .levels) 1 || ltb 15 (h .levels) || ltb (g .nodes) (h .leaves) || ltb (g .nodes) (h .inners) || ltb (h .limit) (h .entries))
+
+unfoldable pub opening : State → List Cause
+opening s =
+    let h = s .head in
+    badSize (h .fan) (h .limit) ∷ tooShort (shapeOf h) (h .limit) (s .leaves) (s .inners) (s .homes) ∷ astray (shapeOf h) h ∷ []
+
+-- a cursor is current exactly when the stamp equals the entry count, the leaf is in use and the slot is below its len
+abbrev pub current : State → Cursor → Bool
+current s c = eqb (c .stamp) (s .head .entries) && ltb (c .leaf .0) (s .head .leaves) && ltb (c .slot) (nodeAt (shapeOf (s .head)) (c .leaf .0) (s .leaves) .len)
+
+-- 3: cursor not current
+abbrev pub stale : State → Cursor → Cause
+stale s c = cause 3 (not (current s c))
+
+-- 4: id not below the number of entries
+abbrev pub noSuchId : State → ℕ → Cause
+noSuchId s i = cause 4 (leb (s .head .entries) i)
+
+-- 6: split moves more than the entry has, in either view
+abbrev pub tooMuch : List ℕ → List ℕ → Cause
+tooMuch given ls = cause 6 (some (λ v. ltb (getD ls v 0) (getD given v 0)) views)
+
+-- the total in view v, as the root's slots have it
+abbrev pub totalOf : State → ℕ → ℕ
+totalOf s v = total v (used (nodeAt (shapeOf (s .head)) (s .head .root .0) (s .inners)))
+
+-- 7: a view's total would pass 4,294,967,295, with old lengths replaced by new ones
+abbrev pub past : State → List ℕ → List ℕ → Cause
+past s old new = cause 7 (some (λ v. ltb (4294967295 + getD old v 0) (totalOf s v + getD new v 0)) views)
+
+-- 8: one entry more, and the tree holds its limit
+abbrev pub full : State → Cause
+full s = cause 8 (leb (s .head .limit) (s .head .entries))

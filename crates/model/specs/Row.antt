@@ -1,0 +1,178 @@
+-- The plain row (document 01, "The plain row"): what every list of calls must answer. Assumes nothing.
+use mathlib.Core.Bool.{Bool, true, false, cond, _&&_, not}
+use mathlib.Core.List.{List, [], _∷_, _++_, zipWith}
+use Prim.Native.Nat.{ℕ, zero, suc, _+_, _-_}
+use lib.ListN.{length, getD, drop}
+use lib.Dec.{ltb, leb, eqb}
+use Rattle.model.specs.Lists.{sumBy, some, Cause, cause, refusal}
+use Rattle.model.specs.Length.{viewNumber, listOf}
+use Rattle.model.specs.declared.length.View.{View}
+use Rattle.model.specs.declared.length.Lengths.{Lengths}
+
+-- an entry: its id and a length in each view, prepare and effect
+pub record Entry : Type 0 where
+  pub id : ℕ
+  pub lengths : List ℕ
+
+pub record Row : Type 0 where
+  pub limit : ℕ
+  pub entries : List Entry
+
+-- a call of a list; `malformed` stands for a record with a field outside its values
+pub data Call : Type 0 where
+  reset : Lengths → Call
+  insert : ℕ → Lengths → Call
+  add : ℕ → Lengths → Call
+  split : Bool → ℕ → Lengths → Call
+  setLengths : ℕ → Lengths → Call
+  update : ℕ → Lengths → Call
+  lookup : View → ℕ → Call
+  rank : View → ℕ → Call
+  next : ℕ → Call
+  compare : ℕ → ℕ → Call
+  lengths : ℕ → Call
+  count : Call
+  first : Call
+  malformed : Call
+
+-- 0 or the number of a refusal, and the values in document 01's order
+pub record Answer : Type 0 where
+  pub number : ℕ
+  pub values : List ℕ
+
+abbrev pub done : List ℕ → Answer
+done vs = record { number = 0; values = vs }
+
+abbrev pub refused : ℕ → Answer
+refused n = record { number = n; values = [] }
+
+-- what a call leaves and what it answers
+pub record Moved (S : Type 0) : Type 0 where
+  pub after : S
+  pub answer : Answer
+
+abbrev pub moved : {S : Type 0} → S → Answer → Moved S
+moved s a = record { after = s; answer = a }
+
+-- the id that stands for the end, and the answer "none"
+abbrev pub noEntry : ℕ
+noEntry = 4294967295
+
+abbrev pub entry : ℕ → List ℕ → Entry
+entry i ls = record { id = i; lengths = ls }
+
+abbrev pub row : ℕ → List Entry → Row
+row l es = record { limit = l; entries = es }
+
+abbrev pub lengthIn : ℕ → Entry → ℕ
+lengthIn v e = getD (e .lengths) v 0
+
+-- the sum of the lengths in view v
+abbrev pub total : ℕ → List Entry → ℕ
+total v es = sumBy (lengthIn v) es
+
+-- prepare is view 0, effect view 1
+abbrev pub effect : ℕ
+effect = 1
+
+abbrev pub views : List ℕ
+views = 0 ∷ 1 ∷ []
+
+-- the entries before the one of that id, and those from it on; all and none where no entry has that id
+unfoldable pub before : ℕ → List Entry → List Entry
+before i [] = []
+before i (e ∷ es) = cond (eqb (e .id) i) [] (e ∷ before i es)
+
+unfoldable pub from : ℕ → List Entry → List Entry
+from i [] = []
+from i (e ∷ es) = cond (eqb (e .id) i) (e ∷ es) (from i es)
+
+abbrev pub after : ℕ → List Entry → List Entry
+after i es = drop 1 (from i es)
+
+abbrev pub lengthsOf : ℕ → List Entry → List ℕ
+lengthsOf i es = (getD (from i es) 0 (entry i [])) .lengths
+
+-- the id of the first of some entries
+abbrev pub firstId : List Entry → ℕ
+firstId es = (getD es 0 (entry noEntry [])) .id
+
+-- a new entry e before the one of that id; at the end for noEntry, which no entry has
+abbrev pub inserted : ℕ → Entry → List Entry → List Entry
+inserted i e es = before i es ++ e ∷ from i es
+
+-- the lengths of e taken out of the entry of that id into e, just before it if so flagged, else just after
+unfoldable pub divided : Bool → ℕ → Entry → List Entry → List Entry
+divided flag i e es =
+    let rest = entry i (zipWith _-_ (lengthsOf i es) (e .lengths)) in
+    before i es ++ cond flag (e ∷ rest ∷ after i es) (rest ∷ e ∷ after i es)
+
+-- other lengths for the entry of that id
+abbrev pub changed : ℕ → List ℕ → List Entry → List Entry
+changed i ls es = before i es ++ entry i ls ∷ after i es
+
+-- the one entry whose sum s of view lengths before it has s ≤ index < s + its length; f is the sum of effect lengths before it
+unfoldable pub found : ℕ → ℕ → ℕ → ℕ → List Entry → Answer
+found v index s f [] = refused 5
+found v index s f (e ∷ es) =
+    cond (leb s index && ltb index (s + lengthIn v e)) (done (e .id ∷ (index - s) ∷ f ∷ [])) (found v index (s + lengthIn v e) (f + lengthIn effect e) es)
+
+-- 0, 1, 2: the first named stands before, is, or stands after the second
+unfoldable pub ordered : ℕ → ℕ → List Entry → ℕ
+ordered i j es =
+    let m = length (before i es) in
+    let n = length (before j es) in
+    cond (ltb m n) 0 (cond (eqb m n) 1 2)
+
+-- the causes of a refusal (document 01, "When a call cannot be done")
+abbrev pub noSuchId : Row → ℕ → Cause
+noSuchId r i = cause 4 (leb (length (r .entries)) i)
+
+abbrev pub noSuchPlace : Row → ℕ → Cause
+noSuchPlace r i = cause 4 (leb (length (r .entries)) i && not (eqb i noEntry))
+
+abbrev pub tooMuch : List ℕ → List ℕ → Cause
+tooMuch given ls = cause 6 (some (λ v. ltb (getD ls v 0) (getD given v 0)) views)
+
+abbrev pub past : List Entry → Cause
+past es = cause 7 (some (λ v. ltb 4294967295 (total v es)) views)
+
+abbrev pub full : Row → Cause
+full r = cause 8 (leb (r .limit) (length (r .entries)))
+
+-- the entries after a call and its answer, where none of the causes applies; else the row as it was and the number
+unfoldable pub unless : Row → List Cause → List Entry → Answer → Moved Row
+unless r cs es a = cond (eqb (refusal cs) 0) (moved (row (r .limit) es) a) (moved r (refused (refusal cs)))
+
+-- a new entry: its id is the entry count
+abbrev pub newEntry : Row → Lengths → Entry
+newEntry r l = entry (length (r .entries)) (listOf l)
+
+-- the row that make and reset leave
+abbrev pub madeRow : ℕ → Lengths → Row
+madeRow limit l = row limit (entry 0 (listOf l) ∷ [])
+
+unfoldable pub rowStep : Row → Call → Moved Row
+rowStep r (reset l) = moved (madeRow (r .limit) l) (done [])
+rowStep r (insert i l) =
+    let es = inserted i (newEntry r l) (r .entries) in
+    unless r (noSuchPlace r i ∷ past es ∷ full r ∷ []) es (done (length (r .entries) ∷ total effect (before i (r .entries)) ∷ []))
+rowStep r (add i l) =
+    let es = inserted i (newEntry r l) (r .entries) in
+    unless r (noSuchPlace r i ∷ past es ∷ full r ∷ []) es (done (length (r .entries) ∷ []))
+rowStep r (split flag i l) =
+    unless r (noSuchId r i ∷ tooMuch (listOf l) (lengthsOf i (r .entries)) ∷ full r ∷ []) (divided flag i (newEntry r l) (r .entries)) (done (length (r .entries) ∷ []))
+rowStep r (setLengths i l) =
+    let es = changed i (listOf l) (r .entries) in
+    unless r (noSuchId r i ∷ past es ∷ []) es (done [])
+rowStep r (update i l) =
+    let es = changed i (listOf l) (r .entries) in
+    unless r (noSuchId r i ∷ past es ∷ []) es (done (total effect (before i (r .entries)) ∷ []))
+rowStep r (lookup v index) = moved r (found (viewNumber v) index 0 0 (r .entries))
+rowStep r (rank v i) = unless r (noSuchId r i ∷ []) (r .entries) (done (total (viewNumber v) (before i (r .entries)) ∷ []))
+rowStep r (next i) = unless r (noSuchId r i ∷ []) (r .entries) (done (firstId (after i (r .entries)) ∷ []))
+rowStep r (compare i j) = unless r (noSuchId r i ∷ noSuchId r j ∷ []) (r .entries) (done (ordered i j (r .entries) ∷ []))
+rowStep r (lengths i) = unless r (noSuchId r i ∷ []) (r .entries) (done (lengthsOf i (r .entries)))
+rowStep r count = moved r (done (length (r .entries) ∷ []))
+rowStep r first = moved r (done (firstId (r .entries) ∷ []))
+rowStep r malformed = moved r (refused 10)

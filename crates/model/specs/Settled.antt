@@ -1,0 +1,87 @@
+-- The table played on a tree's words and on the plain row, each from nothing, and one theorem: both see what the table says.
+use mathlib.Core.Path.{_≡_, refl}
+use mathlib.Core.List.{List, [], _∷_, _++_, map, flatMap, zipWith}
+use mathlib.Core.Bool.{Bool, true, false}
+use Prim.Native.Nat.{ℕ, _-_}
+use lib.ListN.{length, replicate}
+use Rattle.model.specs.Lists.{part, putAt, sumBy, some, range, refusal}
+use Rattle.model.specs.Node as node
+use Rattle.model.specs.State.{State, state, headOf}
+use Rattle.model.specs.Row as row
+use Rattle.model.specs.Row.{Row, Answer, Moved, moved, done, madeRow, rowStep}
+use Rattle.model.specs.Climb as climb
+use Rattle.model.specs.Locate as locate
+use Rattle.model.specs.Grow as grow
+use Rattle.model.specs.Place as place
+use Rattle.model.specs.Answer.{outcomeAnswer}
+use Rattle.model.specs.Refuse as refuse
+use Rattle.model.specs.Calls as calls
+use Rattle.model.specs.ById.{told, treeStep}
+use Rattle.model.specs.Sound.{entriesOf, level}
+use Rattle.model.specs.Audit as check
+use Rattle.model.specs.Audit.{audit}
+use Rattle.model.specs.declared.head.Held.the-variants.{Absent}
+use Rattle.model.specs.declared.answer.Verdict.{Verdict}
+use Rattle.model.specs.declared.answer.Verdict.the-variants as verdict
+use Rattle.model.specs.declared.answer.Standing.{Standing}
+use Rattle.model.specs.declared.answer.Standing.the-variants as standing
+use Rattle.model.specs.Table.{Play, made, called, Case, table}
+
+pub record Seen : Type 0 where
+  pub answer : Answer
+  pub order : List ℕ
+  pub newest : List ℕ
+  pub audit : Verdict
+
+abbrev pub seen : Answer → List ℕ → List ℕ → Verdict → Seen
+seen a o n v = record { answer = a; order = o; newest = n; audit = v }
+
+-- fan 4, limit 5: two nodes of 15 words in each area, five homes; what they held before make is of no account
+abbrev pub before : State
+before = state (headOf 0 0 0 0 0 0 0 Absent) (replicate 30 7) (replicate 30 7) (replicate 5 7)
+
+unfoldable pub treePlay : State → Play → Moved State
+treePlay s (made l) = told (calls.make 4 5 l (s .leaves) (s .inners) (s .homes)) outcomeAnswer
+treePlay s (called c) = treeStep s c
+
+-- leaf and slot of the entry made last
+unfoldable pub newestIn : Standing → List ℕ
+newestIn (standing.At c) = c .leaf .0 ∷ c .slot ∷ []
+newestIn (standing.Refused n) = []
+
+unfoldable pub treeSeen : Moved State → Seen
+treeSeen m = seen (m .answer) (map (λ e. e .id) (entriesOf (m .after))) (newestIn (calls.cursor (m .after) (m .after .head .entries - 1))) (audit (m .after))
+
+unfoldable pub treeRun : State → List Case → List Seen
+treeRun s [] = []
+treeRun s (c ∷ cs) = let m = treePlay s (c .play) in treeSeen m ∷ treeRun (m .after) cs
+
+unfoldable pub rowPlay : Row → Play → Moved Row
+rowPlay r (made l) = moved (madeRow 5 l) (done [])
+rowPlay r (called c) = rowStep r c
+
+unfoldable pub rowSeen : Case → Moved Row → Seen
+rowSeen c m = seen (m .answer) (map (λ e. e .id) (m .after .entries)) (c .newest) verdict.Yes
+
+unfoldable pub rowRun : Row → List Case → List Seen
+rowRun r [] = []
+rowRun r (c ∷ cs) = let m = rowPlay r (c .play) in rowSeen c m ∷ rowRun (m .after) cs
+
+abbrev pub said : Case → Seen
+said c = seen (c .answer) (c .order) (c .newest) verdict.Yes
+
+-- after each case the tree's audit says yes; a plain row has neither leaves nor an audit: these two are taken from the table
+pub settled : (treeRun before table ≡ map said table) × (rowRun (row.row 0 []) table ≡ map said table)
+unfolding treePlay newestIn treeSeen treeRun rowPlay rowSeen rowRun
+    part putAt sumBy some range refusal flatMap zipWith
+    node.slotsFrom node.nodeOf node.wordsOf node.emptySlot node.plus node.minus node.totalsFrom node.slotFor node.findFrom node.indexFrom node.inserted node.childSplit node.lowerHalf node.upperHalf
+    row.before row.from row.divided row.found row.ordered row.unless row.rowStep
+    climb.rankUp climb.climbUp climb.stepsUp climb.firstDown climb.lastDown climb.nextUp
+    locate.back locate.walked locate.served locate.descend locate.fromRoot
+    grow.adopt grow.adoptAll grow.link grow.divide grow.growRoot grow.splitNode grow.linkHalf grow.addTo grow.aboveOf
+    place.rehome place.linkLeaf place.splitLeaf place.makeRoom place.enter place.place place.divide place.replace place.climb
+    refuse.opening
+    calls.begun calls.make calls.first calls.nextAfter calls.id calls.cursor calls.locate calls.insert calls.splitEntry
+    treeStep entriesOf level
+    check.every check.depth check.isFilled check.isHeld check.isChild check.isInner check.isEntry check.isLeaf check.isFinger check.isSound audit
+settled = (refl, refl)
