@@ -1,0 +1,119 @@
+//! What a run has met, counted, so that a test can assert that it met what it claims.
+
+use crate::record::Call;
+use crate::state::{Finger, Head};
+
+#[derive(Clone, Default, PartialEq, Eq, Debug)]
+pub struct Coverage {
+    /// Calls answered, by kind.
+    pub kinds: [u64; 14],
+    /// Calls refused by the row, by number.
+    pub refused: [u64; 11],
+    pub leaf_splits: u64,
+    /// Splits of an inner node below the root, and of the root.
+    pub inner_splits: u64,
+    pub root_growths: u64,
+    pub most_levels: u32,
+    /// Lookups that the finger served, by where it had to go within its leaf.
+    pub served_forwards: u64,
+    pub served_backwards: u64,
+    pub served_in_place: u64,
+    /// Lookups that went down from the root past a finger of the same view that did not hold the index.
+    pub passed_over: u64,
+    /// What changes did to the finger.
+    pub dropped: u64,
+    pub rewound: u64,
+    pub stayed: u64,
+    /// Changes at an entry of the finger's own leaf that split this leaf.
+    pub leaf_split_under_finger: u64,
+    /// Full comparisons of entries and audit.
+    pub checks: u64,
+}
+
+impl Coverage {
+    pub fn answered(&self) -> u64 {
+        self.kinds.iter().sum()
+    }
+
+    pub fn calls(&self) -> u64 {
+        self.answered() + self.refused.iter().sum::<u64>()
+    }
+
+    pub fn all_kinds(&self) -> bool {
+        self.kinds[1..].iter().all(|&count| count > 0)
+    }
+
+    /// Whether the finger served both ways and was passed over, dropped, rewound and left alone.
+    pub fn finger_whole(&self) -> bool {
+        let ways =
+            [self.served_forwards, self.served_backwards, self.passed_over, self.dropped, self.rewound, self.stayed];
+        ways.iter().all(|&count| count > 0)
+    }
+
+    /// Notes an answered call with the heads before and after it and the leaf of the entry it names.
+    pub fn note(&mut self, kind: u8, call: Call, leaf: Option<u32>, before: &Head, after: &Head) {
+        self.kinds[kind as usize] += 1;
+        self.most_levels = self.most_levels.max(after.levels);
+        match call {
+            Call::Reset { .. } => {}
+            Call::Lookup { view, index } => self.note_lookup(view as u32, index, before.finger, after.finger),
+            _ => self.note_change(kind, leaf, before, after),
+        }
+    }
+
+    fn note_lookup(&mut self, view: u32, index: u32, before: Option<Finger>, after: Option<Finger>) {
+        let (Some(before), Some(after)) = (before, after) else { return };
+        if before.view != view || index < before.start {
+            return;
+        }
+        let counter = if before.leaf != after.leaf {
+            &mut self.passed_over
+        } else {
+            match after.slot.cmp(&before.slot) {
+                std::cmp::Ordering::Greater => &mut self.served_forwards,
+                std::cmp::Ordering::Less => &mut self.served_backwards,
+                std::cmp::Ordering::Equal => &mut self.served_in_place,
+            }
+        };
+        *counter += 1;
+    }
+
+    fn note_change(&mut self, kind: u8, leaf: Option<u32>, before: &Head, after: &Head) {
+        let leaf_split = after.leaf_count > before.leaf_count;
+        let grown = after.levels - before.levels;
+        self.leaf_splits += leaf_split as u64;
+        self.root_growths += grown as u64;
+        self.inner_splits += (after.inner_count - before.inner_count - grown) as u64;
+        let Some(finger) = before.finger.filter(|_| kind <= 6) else { return };
+        match after.finger {
+            None => self.dropped += 1,
+            Some(now) if now == finger => self.stayed += 1,
+            Some(_) => self.rewound += 1,
+        }
+        self.leaf_split_under_finger += (leaf_split && leaf == Some(finger.leaf)) as u64;
+    }
+}
+
+impl std::ops::AddAssign<&Coverage> for Coverage {
+    fn add_assign(&mut self, other: &Coverage) {
+        for (sum, count) in self.kinds.iter_mut().zip(other.kinds) {
+            *sum += count;
+        }
+        for (sum, count) in self.refused.iter_mut().zip(other.refused) {
+            *sum += count;
+        }
+        self.leaf_splits += other.leaf_splits;
+        self.inner_splits += other.inner_splits;
+        self.root_growths += other.root_growths;
+        self.most_levels = self.most_levels.max(other.most_levels);
+        self.served_forwards += other.served_forwards;
+        self.served_backwards += other.served_backwards;
+        self.served_in_place += other.served_in_place;
+        self.passed_over += other.passed_over;
+        self.dropped += other.dropped;
+        self.rewound += other.rewound;
+        self.stayed += other.stayed;
+        self.leaf_split_under_finger += other.leaf_split_under_finger;
+        self.checks += other.checks;
+    }
+}

@@ -1,0 +1,16 @@
+//! The oracle of the port: lib.rs itself, the plain row of document 01, the audit of a tree's
+//! words, and a driver that plays one list of calls on both and compares everything.
+//!
+//! "Document 01" is the project's scope paper; "lib.rs" is `docs/src/crates/strider-tree/src/lib.rs`.
+
+pub mod audit;
+pub mod coverage;
+pub mod driver;
+pub mod lists;
+pub mod random;
+pub mod record;
+pub mod row;
+pub mod rust;
+pub mod state;
+pub mod stored;
+pub mod tree;

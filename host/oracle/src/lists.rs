@@ -1,0 +1,165 @@
+//! Random lists of records, drawn one by one with the row in sight, so that most calls are answered
+//! and the others miss by little.
+
+use crate::random::Random;
+use crate::record::Record;
+use crate::row::{Entry, Row};
+use crate::state::NONE;
+
+/// How the lengths of entries are drawn.
+#[derive(Clone, Copy, PartialEq, Eq, Debug)]
+pub enum Sizes {
+    /// 0 to 4.
+    Small,
+    /// Mostly 0.
+    Zeros,
+    /// Around what is left below 4,294,967,295.
+    NearEnd,
+}
+
+/// What a list is like.
+#[derive(Clone, Copy, Debug)]
+pub struct Style {
+    /// The weights of kinds 1 to 13.
+    pub weights: [u64; 13],
+    pub sizes: Sizes,
+    /// How often, in percent, the next call is close to the one before.
+    pub close: u64,
+    /// How often, in percent, a call is made to miss.
+    pub miss: u64,
+}
+
+/// Inserts and splits above all.
+pub const GROWING: [u64; 13] = [0, 30, 30, 30, 4, 6, 20, 4, 4, 4, 2, 1, 1];
+/// Every kind often.
+pub const EVEN: [u64; 13] = [0, 10, 10, 10, 10, 10, 20, 10, 8, 8, 6, 2, 2];
+/// Lookups between changes, for the finger.
+pub const LOOKING: [u64; 13] = [0, 8, 6, 14, 6, 6, 60, 2, 2, 2, 1, 1, 1];
+
+pub struct Lister {
+    random: Random,
+    style: Style,
+    /// A place in the row, from which a close call does not stray far.
+    focus: usize,
+    view: u8,
+}
+
+impl Lister {
+    pub fn new(seed: u64, style: Style) -> Lister {
+        Lister { random: Random::new(seed), style, focus: 0, view: 0 }
+    }
+
+    /// The next record of a list that has brought the row where it is.
+    pub fn draw(&mut self, row: &Row) -> Record {
+        if self.random.percent(self.style.miss) {
+            return self.missing(row);
+        }
+        let kind = self.kind();
+        self.good(kind, row)
+    }
+
+    /// A record of that kind whose fields are good and whose entries exist.
+    pub fn good(&mut self, kind: u8, row: &Row) -> Record {
+        let entry = self.entry(row);
+        let before = if self.random.percent(10) { NONE } else { entry.id };
+        match kind {
+            1 => self.with_lengths(1, 0, row),
+            2 | 3 => self.with_lengths(kind, before, row),
+            4 => {
+                let taken = entry.lengths.map(|own| self.part_of(own));
+                Record::new(4, self.random.below(2) as u8, entry.id, taken[0], taken[1])
+            }
+            5 | 6 => self.with_lengths(kind, entry.id, row),
+            7 => self.lookup(row),
+            8 => Record::new(8, self.random.below(2) as u8, entry.id, 0, 0),
+            10 => Record::new(10, 0, entry.id, self.entry(row).id, 0),
+            9 | 11 => Record::new(kind, 0, entry.id, 0, 0),
+            _ => Record::new(kind, 0, 0, 0, 0),
+        }
+    }
+
+    fn kind(&mut self) -> u8 {
+        let mut left = self.random.below(self.style.weights.iter().sum());
+        for (kind, &weight) in (1..).zip(&self.style.weights) {
+            if left < weight {
+                return kind;
+            }
+            left -= weight;
+        }
+        13
+    }
+
+    /// An entry close to the focus, or anywhere; the focus moves there.
+    fn entry(&mut self, row: &Row) -> Entry {
+        let count = row.entries.len();
+        self.focus = if self.random.percent(self.style.close) {
+            (self.focus + self.random.below(7) as usize).saturating_sub(3).min(count - 1)
+        } else {
+            self.random.below(count as u64) as usize
+        };
+        row.entries[self.focus]
+    }
+
+    /// A position within a close entry, or at its end; past the view's last entry this is refused.
+    fn lookup(&mut self, row: &Row) -> Record {
+        if !self.random.percent(self.style.close) {
+            self.view = self.random.below(2) as u8;
+        }
+        let entry = self.entry(row);
+        let offset = self.part_of(entry.lengths[self.view as usize]);
+        let index = row.before(self.view as usize, self.focus) + offset;
+        Record::new(7, self.view, index, 0, 0)
+    }
+
+    fn with_lengths(&mut self, kind: u8, a: u32, row: &Row) -> Record {
+        let [b, c] = [0, 1].map(|view| self.length(view, row));
+        Record::new(kind, 0, a, b, c)
+    }
+
+    fn length(&mut self, view: usize, row: &Row) -> u32 {
+        match self.style.sizes {
+            Sizes::Small => self.random.below(5) as u32,
+            Sizes::Zeros => self.random.below(12).saturating_sub(9) as u32,
+            Sizes::NearEnd => {
+                let left = u32::MAX - row.total(view);
+                match self.random.below(8) {
+                    0 => left,
+                    1 => left.saturating_add(1),
+                    2 => left / 2,
+                    3 => self.part_of(left),
+                    _ => self.random.below(3) as u32,
+                }
+            }
+        }
+    }
+
+    /// From 0 to `whole`, both ends often.
+    fn part_of(&mut self, whole: u32) -> u32 {
+        match self.random.below(4) {
+            0 => 0,
+            1 => whole,
+            _ => self.random.below(whole as u64 + 1) as u32,
+        }
+    }
+
+    /// A record that misses: a missing id, the view's end, a split of too much, a total past u32, or
+    /// a bad field.
+    fn missing(&mut self, row: &Row) -> Record {
+        let entry = self.entry(row);
+        let past = row.count() + self.random.below(2) as u32;
+        let view = self.random.below(2) as u8;
+        let too_much = [0, 1].map(|view| (u32::MAX - row.total(view)).saturating_add(1));
+        match self.random.below(10) {
+            0 => Record::new([4, 5, 6, 8, 9, 11][self.random.below(6) as usize], 0, past, 0, 0),
+            1 => Record::new(2 + view, 0, past, 1, 1),
+            2 => Record::new(10, 0, entry.id, past, 0),
+            3 => Record::new(7, view, row.total(view as usize), 0, 0),
+            4 => Record::new(4, view, entry.id, entry.lengths[0].saturating_add(1), entry.lengths[1]),
+            5 => Record::new(4, view, entry.id, 0, entry.lengths[1].saturating_add(1)),
+            6 => Record::new(2 + view, 0, entry.id, too_much[0], 1),
+            7 => Record::new(5 + view, 0, entry.id, 1, too_much[1].saturating_add(entry.lengths[1])),
+            8 => Record::new(14 * view, 0, 0, 0, 0),
+            _ => Record::new(1 + self.random.below(13) as u8, 2, 0, 0, 0),
+        }
+    }
+}

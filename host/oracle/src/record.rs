@@ -1,0 +1,162 @@
+//! The 16-byte records and answers of document 01 ("Door and program").
+
+use crate::state::NONE;
+
+/// A record as it came: kind, byte 1 (a view or a flag), two bytes that must be 0, then three words.
+#[derive(Clone, Copy, PartialEq, Eq, Debug)]
+pub struct Record {
+    pub kind: u8,
+    pub byte1: u8,
+    pub zeros: [u8; 2],
+    pub a: u32,
+    pub b: u32,
+    pub c: u32,
+}
+
+/// The call that a good record asks for. Lengths are a pair, prepare and effect; a view is 0 or 1.
+#[derive(Clone, Copy, PartialEq, Eq, Debug)]
+pub enum Call {
+    Reset {
+        lengths: [u32; 2],
+    },
+    /// Before that id, or at the end for [`NONE`].
+    Insert {
+        before: u32,
+        lengths: [u32; 2],
+    },
+    Add {
+        before: u32,
+        lengths: [u32; 2],
+    },
+    Split {
+        id: u32,
+        lengths: [u32; 2],
+        before: bool,
+    },
+    Set {
+        id: u32,
+        lengths: [u32; 2],
+    },
+    Update {
+        id: u32,
+        lengths: [u32; 2],
+    },
+    Lookup {
+        view: usize,
+        index: u32,
+    },
+    Rank {
+        view: usize,
+        id: u32,
+    },
+    Next {
+        id: u32,
+    },
+    Compare {
+        first: u32,
+        second: u32,
+    },
+    Lengths {
+        id: u32,
+    },
+    Count,
+    First,
+}
+
+/// A number (0 when not refused) and three fields.
+#[derive(Clone, Copy, PartialEq, Eq, Debug)]
+pub struct Answer {
+    pub number: u8,
+    pub fields: [u32; 3],
+}
+
+/// Which of byte 1, a, b and c a kind uses; no kind but 1 to 13 is known.
+fn used(kind: u8) -> Option<[bool; 4]> {
+    Some(match kind {
+        1 => [false, false, true, true],
+        2 | 3 | 5 | 6 => [false, true, true, true],
+        4 => [true, true, true, true],
+        7 | 8 => [true, true, false, false],
+        9 | 11 => [false, true, false, false],
+        10 => [false, true, true, false],
+        12 | 13 => [false, false, false, false],
+        _ => return None,
+    })
+}
+
+impl Record {
+    pub fn new(kind: u8, byte1: u8, a: u32, b: u32, c: u32) -> Record {
+        Record { kind, byte1, zeros: [0, 0], a, b, c }
+    }
+
+    pub fn decode(bytes: &[u8; 16]) -> Record {
+        let word = |at: usize| u32::from_le_bytes([bytes[at], bytes[at + 1], bytes[at + 2], bytes[at + 3]]);
+        Record { kind: bytes[0], byte1: bytes[1], zeros: [bytes[2], bytes[3]], a: word(4), b: word(8), c: word(12) }
+    }
+
+    pub fn encode(&self) -> [u8; 16] {
+        sixteen([self.kind, self.byte1, self.zeros[0], self.zeros[1]], [self.a, self.b, self.c])
+    }
+
+    /// Whether every field is within its values: a view or flag is 0 or 1, what is unused is 0.
+    fn fields_good(&self) -> bool {
+        let Some([byte1, a, b, c]) = used(self.kind) else { return false };
+        self.zeros == [0, 0]
+            && self.byte1 <= byte1 as u8
+            && (a || self.a == 0)
+            && (b || self.b == 0)
+            && (c || self.c == 0)
+    }
+
+    /// The call asked for, or nothing where the answer is number 10.
+    pub fn call(&self) -> Option<Call> {
+        if !self.fields_good() {
+            return None;
+        }
+        let (lengths, view) = ([self.b, self.c], self.byte1 as usize);
+        Some(match self.kind {
+            1 => Call::Reset { lengths },
+            2 => Call::Insert { before: self.a, lengths },
+            3 => Call::Add { before: self.a, lengths },
+            4 => Call::Split { id: self.a, lengths, before: self.byte1 == 1 },
+            5 => Call::Set { id: self.a, lengths },
+            6 => Call::Update { id: self.a, lengths },
+            7 => Call::Lookup { view, index: self.a },
+            8 => Call::Rank { view, id: self.a },
+            9 => Call::Next { id: self.a },
+            10 => Call::Compare { first: self.a, second: self.b },
+            11 => Call::Lengths { id: self.a },
+            12 => Call::Count,
+            _ => Call::First,
+        })
+    }
+}
+
+impl Call {
+    /// The ids of the entries that the call names; the end is none.
+    pub fn ids(&self) -> [Option<u32>; 2] {
+        match *self {
+            Call::Insert { before, .. } | Call::Add { before, .. } => [Some(before).filter(|&id| id != NONE), None],
+            Call::Split { id, .. } | Call::Set { id, .. } | Call::Update { id, .. } => [Some(id), None],
+            Call::Rank { id, .. } | Call::Next { id } | Call::Lengths { id } => [Some(id), None],
+            Call::Compare { first, second } => [Some(first), Some(second)],
+            Call::Reset { .. } | Call::Lookup { .. } | Call::Count | Call::First => [None, None],
+        }
+    }
+}
+
+impl Answer {
+    /// The answer record: number, kind as given, two zero bytes, the three fields.
+    pub fn encode(&self, kind: u8) -> [u8; 16] {
+        sixteen([self.number, kind, 0, 0], self.fields)
+    }
+}
+
+fn sixteen(first: [u8; 4], words: [u32; 3]) -> [u8; 16] {
+    let mut bytes = [0; 16];
+    bytes[..4].copy_from_slice(&first);
+    for (place, word) in bytes[4..].chunks_exact_mut(4).zip(words) {
+        place.copy_from_slice(&word.to_le_bytes());
+    }
+    bytes
+}

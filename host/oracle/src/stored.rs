@@ -1,0 +1,125 @@
+//! The lists kept in `docs/oracle/`: lib.rs's answers and cursors, call by call.
+
+use crate::coverage::Coverage;
+use crate::driver::{Driver, Line};
+use crate::lists::{Lister, Sizes, Style, LOOKING};
+use crate::record::Record;
+use crate::rust::{Rust, Seen};
+use crate::state::NONE;
+
+/// How one list comes about: a make, `adds` entries at the end, and then calls drawn, a reset among
+/// them if so said.
+struct Plan {
+    name: &'static str,
+    fan: u32,
+    limit: u32,
+    first: [u32; 2],
+    adds: u32,
+    drawn: u32,
+    reset_at: u32,
+    seed: u64,
+    /// How tall the tree must get.
+    levels: u32,
+}
+
+/// `fan8` starts from the tree of the door and of `rowrun`. Only `fan32-tall` has enough entries to
+/// split a root of 32 children.
+const PLANS: [Plan; 5] = [
+    Plan { name: "fan4", fan: 4, limit: 48, first: [3, 3], adds: 0, drawn: 200, reset_at: 12, seed: 1, levels: 3 },
+    Plan { name: "fan5", fan: 5, limit: 48, first: [0, 2], adds: 0, drawn: 200, reset_at: 12, seed: 2, levels: 2 },
+    Plan { name: "fan8", fan: 8, limit: 512, first: [0, 0], adds: 0, drawn: 200, reset_at: 12, seed: 3, levels: 2 },
+    Plan { name: "fan32", fan: 32, limit: 90, first: [5, 1], adds: 0, drawn: 300, reset_at: 12, seed: 4, levels: 1 },
+    Plan {
+        name: "fan32-tall",
+        fan: 32,
+        limit: 580,
+        first: [2, 1],
+        adds: 532,
+        drawn: 120,
+        reset_at: 119,
+        seed: 5,
+        levels: 2,
+    },
+];
+
+/// A list as it is stored: as text with everything answered, and its records as bytes.
+pub struct Stored {
+    pub name: &'static str,
+    pub text: String,
+    pub records: Vec<u8>,
+    pub coverage: Coverage,
+}
+
+/// Every stored list. Each meets all kinds, the refusals 4 to 7 and 10, leaf splits, all ways of the
+/// finger, and its plan's levels; those that are drawn from the start also a leaf split under the finger.
+pub fn stored() -> Vec<Stored> {
+    PLANS
+        .iter()
+        .map(|plan| {
+            let list = match plan.fan {
+                4 => play::<4>(plan),
+                5 => play::<5>(plan),
+                8 => play::<8>(plan),
+                _ => play::<32>(plan),
+            };
+            let met = &list.coverage;
+            assert!(met.all_kinds() && met.finger_whole() && met.leaf_splits > 0, "{}: {met:?}", list.name);
+            assert!(plan.adds > 0 || met.leaf_split_under_finger > 0, "{}: {met:?}", list.name);
+            assert!([4, 5, 6, 7, 10].iter().all(|&number| met.refused[number] > 0), "{}: {met:?}", list.name);
+            assert_eq!((met.most_levels, met.calls()), (plan.levels, (plan.adds + plan.drawn) as u64), "{}", list.name);
+            list
+        })
+        .collect()
+}
+
+/// What each list meets, one line a list.
+pub fn coverage_text(lists: &[Stored]) -> String {
+    lists.iter().map(|list| format!("{}: {} calls, {:?}\n", list.name, list.coverage.calls(), list.coverage)).collect()
+}
+
+fn play<const N: usize>(plan: &Plan) -> Stored {
+    let Plan { name, fan, limit, first: [prepare, effect], .. } = *plan;
+    let mut driver = Driver::<Rust<N>>::make(limit, plan.first, 1);
+    let mut lister =
+        Lister::new(plan.seed, Style { weights: growing_looks(), sizes: Sizes::Small, close: 75, miss: 10 });
+    let mut text = format!("make {fan} {limit} {prepare} {effect}\n");
+    let mut records = Vec::new();
+    for call in 0..plan.adds + plan.drawn {
+        let record = match call.checked_sub(plan.adds) {
+            None => Record::new(3, 0, NONE, call % 3, call % 2),
+            Some(drawn) if drawn == plan.reset_at => lister.good(1, &driver.row),
+            Some(_) => lister.draw(&driver.row),
+        };
+        let line = driver.play(record).expect("lib.rs and the row agree");
+        text += &line_text(&line);
+        records.extend(record.encode());
+    }
+    Stored { name, text, records, coverage: driver.coverage }
+}
+
+/// Lookups in between, and enough changes to fill a small tree.
+fn growing_looks() -> [u64; 13] {
+    let mut weights = LOOKING;
+    for (kind, more) in [(2, 14), (3, 10), (4, 12), (8, 2), (9, 2), (10, 2), (11, 2), (12, 1), (13, 1)] {
+        weights[kind - 1] += more;
+    }
+    weights
+}
+
+/// One line: a word, the record's five fields, the number and three fields of the answer, and the
+/// places of two cursors given and two cursors got.
+fn line_text(line: &Line) -> String {
+    let Record { kind, byte1, a, b, c, .. } = line.record;
+    let [x, y, z] = line.answer.fields;
+    let word = if line.reply.is_some() { "call" } else { "refused" };
+    let places = line.reply.map_or([None; 4], |reply| [reply.given[0], reply.given[1], reply.got[0], reply.got[1]]);
+    format!(
+        "{word} {kind} {byte1} {a} {b} {c} {} {x} {y} {z} {}\n",
+        line.answer.number,
+        places.map(place_text).join(" ")
+    )
+}
+
+fn place_text(seen: Option<Seen>) -> String {
+    seen.map_or("-".into(), |seen| format!("{}.{}", seen.place.leaf, seen.place.slot))
+}

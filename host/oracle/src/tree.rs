@@ -1,0 +1,83 @@
+//! lib.rs unchanged, and beside it the readers of its private state.
+
+include!("../../../docs/src/crates/strider-tree/src/lib.rs");
+
+use crate::state;
+
+/// Fills the words of nodes and homes that are not in use: they keep what was lent.
+pub const LENT: u32 = 0x5A5A_5A5A;
+
+impl<const N: usize> Node<N> {
+    fn words(&self) -> impl Iterator<Item = u32> + '_ {
+        let slots = self.slots.iter().flat_map(|slot| [slot.child, slot.prepare_len, slot.effect_len]);
+        [self.len, self.parent, self.at].into_iter().chain(slots)
+    }
+}
+
+impl<const N: usize> PrepareEffectTree<N> {
+    /// The head that the port holds for this tree; the limit is ours.
+    pub fn head(&self, limit: u32) -> state::Head {
+        state::Head {
+            fan: N as u32,
+            limit,
+            root: self.root,
+            levels: self.height,
+            entry_count: self.leaf_of_entry.len() as u32,
+            leaf_count: self.leaves.len() as u32,
+            inner_count: self.nodes.len() as u32,
+            finger: self.finger.map(|finger| finger.words()),
+        }
+    }
+
+    /// Head and areas, the areas as long as the limit needs.
+    pub fn state(&self, limit: u32) -> state::State {
+        let head = self.head(limit);
+        let words = head.nodes_needed() as usize * head.node_words();
+        state::State {
+            head,
+            leaves: lent(self.leaves.iter().flat_map(Node::words), words),
+            inners: lent(self.nodes.iter().flat_map(Node::words), words),
+            homes: lent(self.leaf_of_entry.iter().copied(), limit as usize),
+        }
+    }
+
+    /// Puts a finger there that lib.rs would not have, for the tests that must fail.
+    pub fn put_finger(&mut self, finger: Option<state::Finger>) {
+        self.finger = finger.map(|finger| Finger {
+            view: if finger.view == 0 { View::Prepare } else { View::Effect },
+            leaf: finger.leaf,
+            start: finger.start,
+            effect: finger.effect,
+            slot: finger.slot as usize,
+            within: finger.within,
+            effect_within: finger.effect_within,
+        });
+    }
+}
+
+impl Finger {
+    fn words(self) -> state::Finger {
+        state::Finger {
+            view: if self.view == View::Prepare { 0 } else { 1 },
+            leaf: self.leaf,
+            start: self.start,
+            effect: self.effect,
+            slot: self.slot as u32,
+            within: self.within,
+            effect_within: self.effect_within,
+        }
+    }
+}
+
+impl Cursor {
+    /// Leaf and slot as they are stored.
+    pub fn fields(self) -> [u32; 2] {
+        [self.leaf, self.slot]
+    }
+}
+
+fn lent(used: impl Iterator<Item = u32>, words: usize) -> Vec<u32> {
+    let mut area: Vec<u32> = used.collect();
+    area.resize(area.len().max(words), LENT);
+    area
+}

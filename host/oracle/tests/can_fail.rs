@@ -1,0 +1,171 @@
+//! The tests can fail: wrong trees played beside the row are caught, by full checks at once and by
+//! the answers alone in the end.
+
+use oracle::driver::{Driver, Parted};
+use oracle::lists::{Lister, Sizes, Style, LOOKING};
+use oracle::record::Call;
+use oracle::row::{Entry, Row};
+use oracle::rust::{Place, Reply, Rust, Seen, Subject};
+use oracle::state::{Finger, Head, State};
+use std::panic::{catch_unwind, AssertUnwindSafe};
+
+/// lib.rs at fan 4 whose calls go through a wrong step, with what that step remembers.
+struct Mutant {
+    rust: Rust<4>,
+    wrong: Wrong,
+    splits: u32,
+    first_lookup: Option<Reply>,
+}
+
+type Wrong = fn(&mut Mutant, Call) -> Reply;
+
+impl Subject for Mutant {
+    fn call(&mut self, call: Call) -> Reply {
+        (self.wrong)(self, call)
+    }
+
+    fn head(&self) -> Head {
+        self.rust.head()
+    }
+
+    fn state(&self) -> State {
+        self.rust.state()
+    }
+
+    fn entries(&self) -> Vec<Entry> {
+        self.rust.entries()
+    }
+}
+
+fn right(tree: &mut Mutant, call: Call) -> Reply {
+    tree.rust.call(call)
+}
+
+fn swapped_split_flag(tree: &mut Mutant, call: Call) -> Reply {
+    match call {
+        Call::Split { id, lengths, before } => tree.rust.call(Call::Split { id, lengths, before: !before }),
+        _ => right(tree, call),
+    }
+}
+
+/// Puts the finger back as it was before a change, where `stale` says so of it and the head after.
+fn keeps(tree: &mut Mutant, call: Call, stale: impl Fn(Finger, &Head) -> bool) -> Reply {
+    let old = tree.head().finger;
+    let reply = right(tree, call);
+    let change = !matches!(call, Call::Reset { .. } | Call::Lookup { .. });
+    if let Some(finger) = old.filter(|&finger| change && stale(finger, &tree.head())) {
+        tree.rust.tree.put_finger(Some(finger));
+    }
+    reply
+}
+
+fn finger_kept(tree: &mut Mutant, call: Call) -> Reply {
+    keeps(tree, call, |_, _| true)
+}
+
+fn finger_kept_although_its_slot_left(tree: &mut Mutant, call: Call) -> Reply {
+    let leaves = tree.head().leaf_count;
+    keeps(tree, call, |finger, head| head.leaf_count > leaves && finger.slot >= 2)
+}
+
+fn effect_position_plus_offset(tree: &mut Mutant, call: Call) -> Reply {
+    let mut reply = right(tree, call);
+    if matches!(call, Call::Lookup { .. }) {
+        reply.fields[2] += reply.fields[1];
+    }
+    reply
+}
+
+fn zero_length_entry_taken(tree: &mut Mutant, call: Call) -> Reply {
+    let mut reply = right(tree, call);
+    if let Call::Lookup { view, .. } = call {
+        let entries = tree.entries();
+        let found = entries.iter().position(|entry| entry.id == reply.fields[0]).unwrap_or(0);
+        if found > 0 && reply.fields[1] == 0 && entries[found - 1].lengths[view] == 0 {
+            reply.fields[0] = entries[found - 1].id;
+        }
+    }
+    reply
+}
+
+fn guesses_after_the_first_lookup(tree: &mut Mutant, call: Call) -> Reply {
+    let reply = right(tree, call);
+    match call {
+        Call::Lookup { .. } => *tree.first_lookup.get_or_insert(reply),
+        _ => reply,
+    }
+}
+
+/// The add's own entry is read where the first one stands.
+fn stores_nothing(tree: &mut Mutant, call: Call) -> Reply {
+    let Call::Add { .. } = call else { return right(tree, call) };
+    let id = tree.head().entry_count;
+    let seen = |id| Seen { place: Place { leaf: 0, slot: 0 }, id };
+    Reply { fields: [id, 0, 0], given: call.ids().map(|id| id.map(seen)), got: [Some(seen(id)), None] }
+}
+
+fn count_forgets_splits(tree: &mut Mutant, call: Call) -> Reply {
+    let mut reply = right(tree, call);
+    match call {
+        Call::Split { .. } => tree.splits += 1,
+        Call::Count => reply.fields[0] -= tree.splits,
+        _ => {}
+    }
+    reply
+}
+
+fn none_from_every_next(tree: &mut Mutant, call: Call) -> Reply {
+    let mut reply = right(tree, call);
+    if matches!(call, Call::Next { .. }) {
+        (reply.fields, reply.got) = ([u32::MAX, 0, 0], [None; 2]);
+    }
+    reply
+}
+
+fn set_forgets_the_effect_length(tree: &mut Mutant, call: Call) -> Reply {
+    let Call::Set { id, lengths: [prepare, _] } = call else { return right(tree, call) };
+    let own = tree.rust.tree.lengths(tree.rust.tree.cursor(id)).effect;
+    tree.rust.call(Call::Set { id, lengths: [prepare, own] })
+}
+
+/// Document 01's "Mistakes near to hand" and its clause c, as far as they are not about refusals:
+/// what is refused is the row's to say here, and is not played on the tree.
+const MUTANTS: [(&str, Wrong); 10] = [
+    ("swapped split flag", swapped_split_flag),
+    ("finger kept after every change", finger_kept),
+    ("finger kept although its slot left with the upper half", finger_kept_although_its_slot_left),
+    ("effect position + offset", effect_position_plus_offset),
+    ("zero-length entry taken at its own position", zero_length_entry_taken),
+    ("a lookup that guesses after the first", guesses_after_the_first_lookup),
+    ("an add that stores nothing", stores_nothing),
+    ("a count that forgets splits", count_forgets_splits),
+    ("none from every next", none_from_every_next),
+    ("set forgets the effect length", set_forgets_the_effect_length),
+];
+
+/// Plays a list of up to 3,000 calls; an error or a panic of lib.rs is a catch.
+fn play(wrong: Wrong, check_every: u64) -> Result<u64, Parted> {
+    let style = Style { weights: LOOKING, sizes: Sizes::Small, close: 80, miss: 1 };
+    let mutant = Mutant { rust: Rust::make(2_000, [2, 3]), wrong, splits: 0, first_lookup: None };
+    let mut driver = Driver::beside(mutant, Row::make(2_000, [2, 3]), check_every);
+    let mut lister = Lister::new(7, style);
+    let run = AssertUnwindSafe(|| {
+        for _ in 0..3_000 {
+            let record = lister.draw(&driver.row);
+            driver.play(record)?;
+        }
+        Ok(driver.coverage.calls())
+    });
+    catch_unwind(run).unwrap_or(Err("lib.rs panicked".into()))
+}
+
+#[test]
+fn every_mutant_is_caught() {
+    for (name, wrong) in MUTANTS {
+        for (how, check_every) in [("a check after every call", 1), ("answers alone", 0)] {
+            let caught = play(wrong, check_every).expect_err(name);
+            println!("{name}, {how}: {caught}");
+        }
+    }
+    assert_eq!(play(right, 1), Ok(3_000), "what is not wrong passes");
+}

@@ -1,0 +1,160 @@
+//! The audit says no for every single word that matters, and ends on words of any kind.
+
+use oracle::audit::{audit, Verdict};
+use oracle::random::Random;
+use oracle::rust::pair;
+use oracle::state::State;
+use oracle::tree::{PrepareEffectTree, View};
+use std::collections::BTreeMap;
+
+/// A sound tree that holds exactly its limit, with a finger in the midst of a leaf. Lengths differ
+/// from entry to entry and from view to view, so that no other finger has the same sums.
+fn sound<const N: usize>(entries: u32, view: View) -> State {
+    let mut tree = PrepareEffectTree::<N>::new(pair([1, 7]));
+    for id in 1..entries {
+        let before = (id % 3 != 0).then(|| tree.cursor(id * 7 % id));
+        tree.add(before, pair([1 + id % 5, 3 + id % 11]));
+    }
+    let total = tree.entry_to_char_index(view, last(&tree));
+    let mut index = total / 2;
+    while tree.head(entries).finger.is_none_or(|finger| finger.slot == 0) {
+        tree.locate(view, index);
+        index += 1;
+    }
+    tree.state(entries)
+}
+
+fn last<const N: usize>(tree: &PrepareEffectTree<N>) -> oracle::tree::Cursor {
+    let mut at = tree.first();
+    while let Some(next) = tree.next(at) {
+        at = next;
+    }
+    at
+}
+
+/// Other values for a word: each single bit, its neighbours, and the ends.
+fn others(word: u32) -> impl Iterator<Item = u32> {
+    let bits = (0..32).map(move |bit| word ^ 1 << bit);
+    bits.chain([word.wrapping_add(1), word.wrapping_sub(1), 0, u32::MAX]).filter(move |&other| other != word)
+}
+
+/// How often each verdict came.
+type Verdicts = BTreeMap<String, u64>;
+
+/// Flips the word that `pick` finds in every way; each must be refused or get a no.
+fn flip(state: &mut State, what: &str, met: &mut Verdicts, pick: impl Fn(&mut State) -> &mut u32) {
+    let word = *pick(state);
+    for other in others(word) {
+        *pick(state) = other;
+        let verdict = audit(state);
+        assert_ne!(verdict, Verdict::Yes, "{what}: {word} became {other}");
+        *met.entry(format!("{verdict:?}")).or_default() += 1;
+    }
+    *pick(state) = word;
+}
+
+fn finger(state: &mut State) -> &mut oracle::state::Finger {
+    state.head.finger.as_mut().expect("there is a finger")
+}
+
+fn flip_head(state: &mut State, met: &mut Verdicts) {
+    flip(state, "fan", met, |state| &mut state.head.fan);
+    flip(state, "limit", met, |state| &mut state.head.limit);
+    flip(state, "root", met, |state| &mut state.head.root);
+    flip(state, "levels", met, |state| &mut state.head.levels);
+    flip(state, "entry count", met, |state| &mut state.head.entry_count);
+    flip(state, "leaf count", met, |state| &mut state.head.leaf_count);
+    flip(state, "inner count", met, |state| &mut state.head.inner_count);
+    flip(state, "finger's view", met, |state| &mut finger(state).view);
+    flip(state, "finger's leaf", met, |state| &mut finger(state).leaf);
+    flip(state, "finger's start", met, |state| &mut finger(state).start);
+    flip(state, "finger's effect", met, |state| &mut finger(state).effect);
+    flip(state, "finger's slot", met, |state| &mut finger(state).slot);
+    flip(state, "finger's within", met, |state| &mut finger(state).within);
+    flip(state, "finger's effect within", met, |state| &mut finger(state).effect_within);
+}
+
+fn flip_everything(mut state: State, met: &mut Verdicts) {
+    assert_eq!(audit(&state), Verdict::Yes);
+    let words = state.head.node_words();
+    let (leaves, inners) = (state.head.leaf_count as usize * words, state.head.inner_count as usize * words);
+    flip_head(&mut state, met);
+    for at in 0..leaves {
+        flip(&mut state, "leaf word", met, |state| &mut state.leaves[at]);
+    }
+    for at in 0..inners {
+        flip(&mut state, "inner word", met, |state| &mut state.inners[at]);
+    }
+    for at in 0..state.head.entry_count as usize {
+        flip(&mut state, "home", met, |state| &mut state.homes[at]);
+    }
+    state.leaves[leaves..].fill(9);
+    state.inners[inners..].fill(9);
+    assert_eq!(audit(&state), Verdict::Yes, "words that are not in use do not matter");
+    state.homes.pop();
+    assert_eq!(audit(&state), Verdict::Refused(2), "homes too short");
+}
+
+/// Both refusals and every phrase but "totals within u32" are met; no single word can bring that one
+/// about, and `outside` shows it.
+#[test]
+fn every_flip_of_a_word_in_use_is_caught() {
+    let states = [
+        sound::<4>(2, View::Prepare),
+        sound::<4>(60, View::Prepare),
+        sound::<5>(60, View::Effect),
+        sound::<8>(90, View::Prepare),
+        sound::<32>(70, View::Effect),
+    ];
+    let mut met = Verdicts::new();
+    for state in states {
+        let (head, before) = (state.head, met.values().sum::<u64>());
+        flip_everything(state, &mut met);
+        let flips = met.values().sum::<u64>() - before;
+        println!("fan {}, {} entries, {} levels: {flips} flips, each caught", head.fan, head.entry_count, head.levels);
+        assert!(flips > 33 * head.node_words() as u64 * (head.leaf_count + head.inner_count) as u64);
+    }
+    println!("{met:?}");
+    assert_eq!(met.len(), 11);
+}
+
+/// Several words at once, with counts, links and lens that lead anywhere: the audit ends and does not panic.
+#[test]
+fn the_audit_ends_on_any_words() {
+    let mut random = Random::new(1);
+    let (mut yes, mut no) = (0, 0);
+    for _ in 0..20_000 {
+        let mut state = sound::<4>(40, View::Prepare);
+        for _ in 0..1 + random.below(6) {
+            let value = [0, 1, 2, 4, 19, u32::MAX, random.word() as u32][random.below(7) as usize];
+            let areas = [&mut state.leaves, &mut state.inners, &mut state.homes];
+            let area = random.below(3) as usize;
+            let at = random.below(areas[area].len() as u64) as usize;
+            areas[area][at] = value;
+        }
+        if random.percent(20) {
+            (state.head.levels, state.head.root) = (random.below(16) as u32, random.below(20) as u32);
+        }
+        match audit(&state) {
+            Verdict::Yes => yes += 1,
+            _ => no += 1,
+        }
+    }
+    println!("{no} damaged trees refused, {yes} still sound");
+    assert_eq!(yes + no, 20_000);
+    assert!(no > 15_000);
+}
+
+/// Every inner node names itself or the root in every slot: the lists of a level could grow without end.
+#[test]
+fn the_audit_ends_on_circles() {
+    for levels in 1..=15 {
+        let mut state = sound::<32>(65_536, View::Prepare);
+        state.head.levels = levels;
+        state.inners.fill(0);
+        for node in state.inners.chunks_exact_mut(99) {
+            node[0] = 32;
+        }
+        assert_ne!(audit(&state), Verdict::Yes);
+    }
+}

@@ -1,0 +1,121 @@
+//! The row's refusals 10 and 4 to 8, each by itself and in their order, and the records' fields.
+
+use oracle::record::{Answer, Record};
+use oracle::row::Row;
+use oracle::state::NONE;
+
+/// A full row of two entries: (4294967290, 2) and (3, 1).
+fn full_row() -> Row {
+    let mut row = Row::make(2, [4_294_967_290, 2]);
+    row.play(&Record::new(3, 0, NONE, 3, 1));
+    row
+}
+
+/// The number that a record gets; a refused call answers zeros and changes nothing.
+fn number(record: Record) -> u8 {
+    let mut row = full_row();
+    let Answer { number, fields } = row.play(&record);
+    if number != 0 {
+        assert_eq!((fields, row), ([0; 3], full_row()));
+    }
+    number
+}
+
+fn refused(wanted: u8, records: &[(u8, u8, u32, u32, u32)]) {
+    for &(kind, byte1, a, b, c) in records {
+        assert_eq!(number(Record::new(kind, byte1, a, b, c)), wanted, "{kind},{byte1},{a},{b},{c}");
+    }
+    println!("number {wanted}: {} records", records.len());
+}
+
+#[test]
+fn a_missing_id_is_4_in_every_call_that_names_one() {
+    refused(
+        4,
+        &[(2, 0, 2, 0, 0), (3, 0, 2, 0, 0), (4, 0, 2, 0, 0), (4, 1, NONE, 0, 0), (5, 0, 2, 0, 0), (6, 0, 2, 0, 0)],
+    );
+    refused(4, &[(8, 0, 2, 0, 0), (9, 0, 2, 0, 0), (10, 0, 2, 0, 0), (10, 0, 0, 2, 0), (11, 0, 2, 0, 0)]);
+    refused(
+        4,
+        &[
+            (5, 0, NONE, 0, 0),
+            (6, 0, NONE, 0, 0),
+            (8, 1, NONE, 0, 0),
+            (9, 0, NONE, 0, 0),
+            (10, 0, 1, NONE, 0),
+            (11, 0, NONE, 0, 0),
+        ],
+    );
+}
+
+#[test]
+fn a_position_at_or_past_the_total_is_5() {
+    refused(5, &[(7, 0, 4_294_967_293, 0, 0), (7, 0, NONE, 0, 0), (7, 1, 3, 0, 0), (7, 1, NONE, 0, 0)]);
+    refused(0, &[(7, 0, 4_294_967_292, 0, 0), (7, 1, 2, 0, 0)]);
+}
+
+#[test]
+fn a_split_of_too_much_is_6() {
+    refused(6, &[(4, 0, 1, 4, 1), (4, 1, 1, 3, 2), (4, 0, 0, NONE, 0), (4, 1, 0, 0, 3)]);
+}
+
+#[test]
+fn a_total_past_u32_is_7() {
+    refused(7, &[(2, 0, NONE, 3, 0), (3, 0, 0, 3, 0), (2, 0, 1, 0, 4_294_967_293), (3, 0, 1, 0, NONE)]);
+    refused(7, &[(5, 0, 1, 6, 1), (6, 0, 1, 6, 1), (5, 0, 0, NONE, 2), (6, 0, 1, 0, 4_294_967_294)]);
+    refused(0, &[(5, 0, 1, 5, 1), (6, 0, 1, 5, 1), (5, 0, 0, 4_294_967_292, 2), (6, 0, 1, 0, 4_294_967_293)]);
+}
+
+#[test]
+fn one_entry_past_the_limit_is_8() {
+    refused(8, &[(2, 0, NONE, 2, 0), (3, 0, 0, 0, 0), (4, 0, 0, 0, 0), (4, 1, 1, 3, 1)]);
+}
+
+/// 4 before 7 and 8; 6 and 7 before 8; 10 before all.
+#[test]
+fn the_order_of_the_refusals() {
+    refused(4, &[(2, 0, 2, NONE, NONE), (3, 0, 9, NONE, NONE), (4, 0, 2, NONE, NONE), (5, 0, 2, NONE, NONE)]);
+    refused(6, &[(4, 0, 1, 4, 0)]);
+    refused(7, &[(2, 0, 0, NONE, 0)]);
+    refused(10, &[(2, 1, 2, NONE, NONE), (4, 2, 2, NONE, NONE), (7, 2, NONE, 0, 0), (10, 0, 2, 2, 1)]);
+}
+
+/// Every kind with every field that it does not use set to 1, byte 1 past its values, and kinds past theirs.
+#[test]
+fn a_field_outside_its_values_is_10() {
+    refused(
+        10,
+        &[(0, 0, 0, 0, 0), (14, 0, 0, 0, 0), (255, 0, 0, 0, 0), (4, 2, 0, 0, 0), (7, 2, 0, 0, 0), (8, 255, 0, 0, 0)],
+    );
+    refused(
+        10,
+        &[(1, 1, 0, 0, 0), (2, 1, 0, 0, 0), (3, 1, 0, 0, 0), (5, 1, 0, 0, 0), (6, 1, 0, 0, 0), (9, 1, 0, 0, 0)],
+    );
+    refused(10, &[(10, 1, 0, 0, 0), (11, 1, 0, 0, 0), (12, 1, 0, 0, 0), (13, 1, 0, 0, 0), (1, 0, 1, 0, 0)]);
+    refused(
+        10,
+        &[(7, 0, 0, 1, 0), (7, 0, 0, 0, 1), (8, 0, 0, 1, 0), (8, 0, 0, 0, 1), (9, 0, 0, 1, 0), (9, 0, 0, 0, 1)],
+    );
+    refused(
+        10,
+        &[(10, 0, 0, 0, 1), (11, 0, 0, 1, 0), (11, 0, 0, 0, 1), (12, 0, 1, 0, 0), (12, 0, 0, 1, 0), (12, 0, 0, 0, 1)],
+    );
+    refused(10, &[(13, 0, 1, 0, 0), (13, 0, 0, 1, 0), (13, 0, 0, 0, 1)]);
+    for kind in 1..=13 {
+        for zeros in [[1, 0], [0, 1], [255, 255]] {
+            assert_eq!(number(Record { zeros, ..Record::new(kind, 0, 0, 0, 0) }), 10);
+        }
+    }
+}
+
+#[test]
+fn records_and_answers_are_sixteen_bytes() {
+    let bytes = [4, 1, 0, 0, 1, 2, 3, 4, 5, 0, 0, 0, 0, 0, 0, 128];
+    let record = Record::decode(&bytes);
+    assert_eq!(record, Record::new(4, 1, 0x0403_0201, 5, 0x8000_0000));
+    assert_eq!(record.encode(), bytes);
+    let answer = Answer { number: 0, fields: [1, 256, NONE] };
+    assert_eq!(answer.encode(10), [0, 10, 0, 0, 1, 0, 0, 0, 0, 1, 0, 0, 255, 255, 255, 255]);
+    let odd = [77, 3, 9, 9, 0, 0, 0, 0, 0, 0, 0, 0, 0, 0, 0, 0];
+    assert_eq!(full_row().play(&Record::decode(&odd)).encode(77), [10, 77, 0, 0, 0, 0, 0, 0, 0, 0, 0, 0, 0, 0, 0, 0]);
+}
