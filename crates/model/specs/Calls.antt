@@ -12,7 +12,7 @@ use Rattle.model.specs.State.{State, state, headOf, shape, nodeAt, putNo
 use Rattle.model.specs.Climb.{leafNo, rankUp, stepsUp, firstDown, lastDown, nextUp}
 use Rattle.model.specs.Locate.{servedBy, fromRoot, effectAt}
 use Rattle.model.specs.Place.{Change, change, withFinger, place, divide, replace, climb, lengthsIn}
-use Rattle.model.specs.Refuse.{stride, effect, shapeOf, badSize, tooShort, opening, stale, noSuchId, tooMuch, past, full}
+use Rattle.model.specs.Refuse.{stride, effect, shapeOf, badSize, tooShort, opening, stale, atCursor, noSuchId, tooMuch, past, full}
 use Rattle.model.specs.declared.node.Place.{Place}
 use Rattle.model.specs.declared.node.Place.the-variants as slot
 use Rattle.model.specs.declared.number.EntryId.{EntryId}
@@ -136,17 +136,17 @@ unfoldable pub nextAfter : State → Cursor → Next
 nextAfter s c =
     let h = s .head in
     let m = leafAt s c in
-    unless (opening s ++ stale s c ∷ []) next.Refused
+    unless (opening s ++ atCursor s c) next.Refused
     (cond (ltb (c .slot + 1) (m .len)) (next.At (cursorAt (h .entries) (c .leaf .0) (c .slot + 1))) (nextOf (h .entries) (nextUp (shapeOf h) (h .levels) 0 (m .parent) (m .at) (s .inners))))
 
 unfoldable pub id : State → Cursor → Named
-id s c = unless (opening s ++ stale s c ∷ []) named.Refused (named.Entry (entryId (child (slotAt s c))))
+id s c = unless (opening s ++ atCursor s c) named.Refused (named.Entry (entryId (child (slotAt s c))))
 
 abbrev pub lengthsFrom : List ℕ → Lengths
 lengthsFrom ls = record { prepare = getD ls 0 0; effect = getD ls 1 0 }
 
 unfoldable pub lengthsOf : State → Cursor → Measured
-lengthsOf s c = unless (opening s ++ stale s c ∷ []) measured.Refused (measured.Are (lengthsFrom (lengths (slotAt s c))))
+lengthsOf s c = unless (opening s ++ atCursor s c) measured.Refused (measured.Are (lengthsFrom (lengths (slotAt s c))))
 
 abbrev pub standingIn : ℕ → ℕ → Place → Standing
 standingIn stamp k (slot.Slot i) = standing.At (cursorAt stamp k i)
@@ -191,7 +191,7 @@ unfoldable pub entryToCharIndex : State → View → Cursor → Number
 entryToCharIndex s v c =
     let h = s .head in
     let m = leafAt s c in
-    unless (opening s ++ stale s c ∷ []) number.Refused
+    unless (opening s ++ atCursor s c) number.Refused
     (rankOf (rankUp (shapeOf h) (viewNumber v) (h .levels) (m .parent) (m .at) (start (viewNumber v) (c .slot) m) (s .inners)))
 
 -- lookups ---------------------------------------------------------------------------------------------------------------------------------
@@ -238,7 +238,7 @@ resized s c l =
     climb g effect (minus (listOf l) (lengths (slotAt s c))) (replace g s (c .leaf .0) (c .slot) (listOf l))
 
 abbrev pub resizeCauses : State → Cursor → Lengths → List Cause
-resizeCauses s c l = opening s ++ stale s c ∷ past s (lengths (slotAt s c)) (listOf l) ∷ []
+resizeCauses s c l = opening s ++ atCursor s c ++ past s (lengths (slotAt s c)) (listOf l) ∷ []
 
 unfoldable pub setLengths : State → Cursor → Lengths → Reply Outcome
 setLengths s c l = unless (resizeCauses s c l) (λ n. reply s (outcome.Refused n)) (settled s (resized s c l .0) outcome.Refused outcome.Done)
@@ -264,12 +264,12 @@ placed s t l =
     let r = aim s t in
     climb g effect (listOf l) (cond (eqb (r .number) 0) (place g s (r .leaf) (r .slot) (listOf l)) r)
 
-abbrev pub staleTarget : State → Target → List Cause
-staleTarget s (target.Before c) = stale s c ∷ []
-staleTarget s target.End = []
+abbrev pub targetCauses : State → Target → List Cause
+targetCauses s (target.Before c) = atCursor s c
+targetCauses s target.End = []
 
 abbrev pub insertCauses : State → Target → Lengths → List Cause
-insertCauses s t l = opening s ++ staleTarget s t ++ past s [] (listOf l) ∷ full s ∷ []
+insertCauses s t l = opening s ++ targetCauses s t ++ past s [] (listOf l) ∷ full s ∷ []
 
 unfoldable pub insert : State → Target → Lengths → Reply Inserted
 insert s t l =
@@ -287,5 +287,5 @@ unfoldable pub splitEntry : State → Cursor → Lengths → Bool → Reply Divi
 splitEntry s c l flag =
     let n = s .head .entries in
     let r = divide (shapeOf (s .head)) flag s (c .leaf .0) (c .slot) (listOf l) in
-    unless (opening s ++ stale s c ∷ tooMuch (listOf l) (lengths (slotAt s c)) ∷ full s ∷ []) (λ m. reply s (divided.Refused m))
+    unless (opening s ++ atCursor s c ++ tooMuch (listOf l) (lengths (slotAt s c)) ∷ full s ∷ []) (λ m. reply s (divided.Refused m))
     (settled s r divided.Refused (divided.At (entryId n) (cursorAt (n + 1) (r .leaf) (r .slot)) (cursorAt (n + 1) (r .leaf) (r .slot + 1))))

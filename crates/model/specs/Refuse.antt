@@ -50,6 +50,13 @@ current s c = eqb (c .stamp) (s .head .entries) && ltb (c .leaf .0) (s .head .le
 abbrev pub stale : State → Cursor → Cause
 stale s c = cause 3 (not (current s c))
 
+-- 9: the leaf of a current cursor says that it uses more slots than it has
+abbrev pub overfull : State → Cursor → Cause
+overfull s c = cause 9 (ltb (s .head .fan) (nodeAt (shapeOf (s .head)) (c .leaf .0) (s .leaves) .len))
+
+abbrev pub atCursor : State → Cursor → List Cause
+atCursor s c = stale s c ∷ overfull s c ∷ []
+
 -- 4: id not below the number of entries
 abbrev pub noSuchId : State → ℕ → Cause
 noSuchId s i = cause 4 (leb (s .head .entries) i)
