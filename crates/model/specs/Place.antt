@@ -63,11 +63,11 @@ module _ (g : Shape) where
       (rehome (s .head .entries) new (used upper) (s .homes)))
       (change 9 s k i)
 
-  -- `make_room`: a full leaf is split before the new entry is placed
+  -- `make_room`: a full leaf is split before the new entry is placed; the leaf is one in use
   unfoldable pub makeRoom : State → ℕ → ℕ → Change
   makeRoom s k i =
       let len = nodeAt g k (s .leaves) .len in
-      cond (ltb k (g .nodes) && leb i len && leb len (g .fan)) (cond (ltb len (g .fan)) (change 0 s k i) (splitLeaf s k i)) (change 9 s k i)
+      cond (ltb k (s .head .leaves) && leb i len && leb len (g .fan)) (cond (ltb len (g .fan)) (change 0 s k i) (splitLeaf s k i)) (change 9 s k i)
 
   -- leaf k is written anew with one entry more, which gets the next id; its home and the finger learn it. w is 1 where slot i itself must be in use
   unfoldable pub enter : (Node → Node) → ℕ → State → ℕ → ℕ → Change
