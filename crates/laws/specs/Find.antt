@@ -1,0 +1,161 @@
+-- What a search through slots or down the levels can answer, and two lists of steps compared. Assumes nothing.
+use mathlib.Core.Path.{_≡_, refl, ap, _∙_}
+use mathlib.Core.Bool.{Bool, true, false, cond}
+use mathlib.Core.List.{List, [], _∷_}
+use Prim.Native.Nat.{ℕ, zero, suc, _+_, _-_, _*_, _<_, _≤_}
+use native.Mathlib.Omega.{arith}
+use native.Mathlib.Nat.{min-le-left}
+use native.Mathlib.Numerals.{add-one}
+use lib.ListN.{length, getD, take, drop, length-take, length-drop, drop-of-length-le, List·getD-eq-default}
+use lib.Seq.{length-take-le, drop-cons, getD-take, getD-drop}
+use lib.Dec.{ltb}
+use borrow.Author.Tests.{lt-ltb, le-ltb, ltb-true, ltb-false}
+use Rattle.model.specs.Lists.{All, part}
+use Rattle.model.specs.Node.{Node, nodeOf, child, slotsFrom, lengthIn, used, findFrom}
+use Rattle.model.specs.State.{nodeAt}
+use Rattle.model.specs.Locate.{descend, into}
+use Rattle.model.specs.Calls.{inOrder}
+use Rattle.model.specs.declared.node.Shape.{Shape}
+use Rattle.model.specs.declared.node.Found.{Found}
+use Rattle.model.specs.declared.node.Found.the-variants.{At, Nothing}
+use Rattle.model.specs.declared.number.LeafNo.{LeafNo}
+use Rattle.model.specs.declared.walk.Descent.{Descent}
+use Rattle.model.specs.declared.walk.Descent.the-variants as descent
+use Rattle.model.specs.declared.answer.Compared.the-variants as compared
+use Rattle.laws.specs.Lists.{All-take, All-drop}
+use Rattle.laws.specs.Words.{getD-part}
+use Rattle.laws.specs.Slots.{slots-length}
+use Rattle.laws.specs.Down.{sized}
+
+-- a word that fits in 32 bits
+abbrev pub Word : ℕ → Type 0
+Word n = n ≤ 4294967295
+
+take-short : {A : Type 0} (n : ℕ) (l : List A) → length (take n l) ≤ n
+take-short n l = rw length-take (min-le-left n (length l))
+
+-- step j of the first n, and those after it
+steps-from : (n j : ℕ) (l : List ℕ) → j < n → n ≤ length l → drop j (take n l) ≡ getD l j 0 ∷ drop (j + 1) (take n l)
+steps-from n j l h hl = rw (add-one, drop-cons (take n l) j 0 (rw (length-take-le n l hl) h), getD-take n l j 0 h)
+
+-- the words of a part are words
+pub part-fits : (p n : ℕ) (ws : List ℕ) → ((i : ℕ) → Word (getD ws i 0)) → (i : ℕ) → Word (getD (part p n ws) i 0)
+unfolding part
+part-fits p n ws f i = go (ltb i n) refl
+  where
+    go : (b : Bool) → ltb i n ≡ b → Word (getD (take n (drop p ws)) i 0)
+    go true e = rw (getD-take n (drop p ws) i 0 (ltb-true i n e), getD-drop p ws i 0) (f (p + i))
+    go false e = rw (List·getD-eq-default (take n (drop p ws)) 0 {n = i} (omega (arith, take-short n (drop p ws), ltb-false i n e))) (omega arith)
+
+-- the lengths of slots are words where all words are
+pub columns-fit : (s n p c : ℕ) (ws : List ℕ) → c < s → ((i : ℕ) → Word (getD ws i 0)) → All (λ x. Word (getD x c 0)) (slotsFrom s n p ws)
+unfolding slotsFrom All
+columns-fit s zero p c ws h f = tt
+columns-fit s (suc n) p c ws h f = (rw (getD-part p s c ws h) (f (p + c)), columns-fit s n (p + s) c ws h f)
+
+-- what was found: a slot passed in, and no more than the index is left
+pub record Ranged (k index count : ℕ) (r : Found) : Type 0 where
+  pub slot : (j o t : ℕ) → r ≡ At j o t → j < k + count
+  pub offset : (j o t : ℕ) → r ≡ At j o t → o ≤ index
+
+not-found : (j o t : ℕ) → _≡_ {A = Found} Nothing (At j o t) → ⊥
+not-found j o t q = let z : _≡_ {A = ℕ} 0 1 = cc in omega arith
+
+pub find-ranged : (v e k index sum : ℕ) (slots : List (List ℕ)) → Ranged k index (length slots) (findFrom v e k index sum slots)
+unfolding findFrom
+find-ranged v e k index sum [] = record { slot = λ j o t q. absurd (not-found j o t q); offset = λ j o t q. absurd (not-found j o t q) }
+find-ranged v e k index sum (x ∷ xs) = go (ltb index (lengthIn v x)) (find-ranged v e (k + 1) (index - lengthIn v x) (sum + lengthIn e x) xs)
+  where
+    go : (b : Bool) → Ranged (k + 1) (index - lengthIn v x) (length xs) (findFrom v e (k + 1) (index - lengthIn v x) (sum + lengthIn e x) xs)
+        → Ranged k index (suc (length xs)) (cond b (At k index sum) (findFrom v e (k + 1) (index - lengthIn v x) (sum + lengthIn e x) xs))
+    go true r = record { slot = λ j o t q. let f : k ≡ j = cc in omega arith; offset = λ j o t q. let f : index ≡ o = cc in omega arith }
+    go false r = record { slot = λ j o t q. omega (arith, r .slot j o t q); offset = λ j o t q. omega (arith, r .offset j o t q) }
+
+-- and at most a word was added for each slot
+pub find-before : (v e k index sum : ℕ) (slots : List (List ℕ)) → All (λ x. Word (lengthIn e x)) slots → (j o t : ℕ) → findFrom v e k index sum slots ≡ At j o t
+    → t ≤ sum + length slots * 4294967295
+unfolding findFrom All
+find-before v e k index sum [] w j o t q = absurd (not-found j o t q)
+find-before v e k index sum (x ∷ xs) w j o t q = go (ltb index (lengthIn v x)) (find-before v e (k + 1) (index - lengthIn v x) (sum + lengthIn e x) xs (w .1) j o t) q
+  where
+    go : (b : Bool) → (findFrom v e (k + 1) (index - lengthIn v x) (sum + lengthIn e x) xs ≡ At j o t → t ≤ sum + lengthIn e x + length xs * 4294967295)
+        → cond b (At k index sum) (findFrom v e (k + 1) (index - lengthIn v x) (sum + lengthIn e x) xs) ≡ At j o t → t ≤ sum + suc (length xs) * 4294967295
+    go true r q = let f : sum ≡ t = cc in omega arith
+    go false r q = omega (arith, r q, w .0)
+
+-- the slots in use are as many as the node says, where it says no more than it has
+used-length : (g : Shape) (k : ℕ) (xs : List ℕ) → nodeAt g k xs .len ≤ g .fan → length (used (nodeAt g k xs)) ≡ nodeAt g k xs .len
+unfolding nodeOf
+used-length g k xs h = length-take-le (getD (part (k * g .size) (g .size) xs) 0 0) (slotsFrom (g .stride) (g .fan) 3 (part (k * g .size) (g .size) xs)) (rw slots-length h)
+
+-- the same of the slots in use of a node, from slot `from` on
+module _ (g : Shape) (v e k from index sum : ℕ) (xs : List ℕ) (hl : nodeAt g k xs .len ≤ g .fan) where
+  left-length : length (drop from (used (nodeAt g k xs))) ≡ nodeAt g k xs .len - from
+  left-length = length-drop from (used (nodeAt g k xs)) ∙ ap (λ (n : ℕ). n - from) (used-length g k xs hl)
+
+  pub used-ranged : from ≤ nodeAt g k xs .len → Ranged from index (nodeAt g k xs .len - from) (findFrom v e from index sum (drop from (used (nodeAt g k xs))))
+  used-ranged hf = rw left-length at (find-ranged v e from index sum (drop from (used (nodeAt g k xs))))
+
+  pub used-before : e + 1 < g .stride → ((i : ℕ) → Word (getD xs i 0)) → (j o t : ℕ) → findFrom v e from index sum (drop from (used (nodeAt g k xs))) ≡ At j o t
+      → t ≤ sum + g .fan * 4294967295
+  unfolding nodeOf
+  used-before he w j o t q =
+      let fits = All-take (λ x. Word (lengthIn e x)) (nodeAt g k xs .len) (nodeAt g k xs .slots) (columns-fit (g .stride) (g .fan) 3 (e + 1) (part (k * g .size) (g .size) xs) he (part-fits (k * g .size) (g .size) xs w)) in
+      omega (arith, left-length, find-before v e from index sum (drop from (used (nodeAt g k xs))) (All-drop (λ x. Word (lengthIn e x)) from (used (nodeAt g k xs)) fits) j o t q)
+
+-- the position left after a descent is no more than the position asked for
+pub record Rests (index : ℕ) (d : Descent) : Type 0 where
+  pub rest : (l : LeafNo) (r t : ℕ) → d ≡ descent.At l r t → r ≤ index
+
+no-rest : (index : ℕ) (d : Descent) → ((l : LeafNo) (r t : ℕ) → d ≡ descent.At l r t → ⊥) → Rests index d
+no-rest index d never = record { rest = λ l r t q. absurd (never l r t q) }
+
+broken-rests : (index : ℕ) → Rests index descent.Broken
+broken-rests index = no-rest index descent.Broken (λ l r t q. let z : _≡_ {A = ℕ} 0 1 = cc in omega arith)
+
+pub nothing-rests : (index : ℕ) → Rests index descent.Nothing
+nothing-rests index = no-rest index descent.Nothing (λ l r t q. let z : _≡_ {A = ℕ} 0 1 = cc in omega arith)
+
+through : (go : ℕ → ℕ → ℕ → Descent) (miss : Descent) (m : Node) (index : ℕ) (f : Found) → ((j o t : ℕ) → f ≡ At j o t → o ≤ index) → ((c r t : ℕ) → Rests r (go c r t)) → Rests index miss
+    → Rests index (into go miss m f)
+through go miss m index (At j o t) h on r = record { rest = λ l r u q. omega (arith, h j o t refl, on (child (getD (m .slots) j [])) o t .rest l r u q) }
+through go miss m index Nothing h on r = r
+
+pub descend-rests : (v e : ℕ) (g : Shape) (miss : Descent) (n k index s : ℕ) (xs : List ℕ) → Rests index miss → Rests index (descend v e g miss n k index s xs)
+unfolding descend
+descend-rests v e g miss zero k index s xs h = record { rest = λ l r t q. let f : index ≡ r = cc in omega arith }
+descend-rests v e g miss (suc n) k index s xs h =
+    either (sized g k xs)
+    (through (λ c r t. descend v e g descent.Broken n c r t xs) miss (nodeAt g k xs) index (findFrom v e 0 index s (used (nodeAt g k xs)))
+    (find-ranged v e 0 index s (used (nodeAt g k xs)) .offset) (λ c r t. descend-rests v e g descent.Broken n c r t xs (broken-rests r)) h)
+  where
+    either : (b : Bool) {d : Descent} → Rests index d → Rests index (cond b d descent.Broken)
+    either true r = r
+    either false r = broken-rests index
+
+-- two lists of steps, of which the first n and m count, compared from step j on
+module _ (n m j : ℕ) (xs ys : List ℕ) where
+  pub order-end : n ≤ j → inOrder (drop j (take n xs)) (drop j (take m ys)) ≡ compared.Same
+  unfolding inOrder
+  order-end h = rw (drop-of-length-le (take n xs) {i = j} (omega (arith, take-short n xs)))
+
+  ended : (l : List ℕ) → inOrder l [] ≡ compared.Same
+  unfolding inOrder
+  ended [] = refl
+  ended (x ∷ l) = refl
+
+  pub order-short : m ≤ j → inOrder (drop j (take n xs)) (drop j (take m ys)) ≡ compared.Same
+  order-short h = rw (drop-of-length-le (take m ys) {i = j} (omega (arith, take-short m ys))) (ended (drop j (take n xs)))
+
+  module _ (hn : j < n) (hx : n ≤ length xs) (hm : j < m) (hy : m ≤ length ys) where
+    pub order-before : getD xs j 0 < getD ys j 0 → inOrder (drop j (take n xs)) (drop j (take m ys)) ≡ compared.Before
+    unfolding inOrder
+    order-before h = rw (steps-from n j xs hn hx, steps-from m j ys hm hy, lt-ltb (getD xs j 0) (getD ys j 0) h)
+
+    pub order-after : getD ys j 0 < getD xs j 0 → inOrder (drop j (take n xs)) (drop j (take m ys)) ≡ compared.After
+    unfolding inOrder
+    order-after h = rw (steps-from n j xs hn hx, steps-from m j ys hm hy, le-ltb (getD xs j 0) (getD ys j 0) (omega arith), lt-ltb (getD ys j 0) (getD xs j 0) h)
+
+    pub order-on : getD xs j 0 ≡ getD ys j 0 → inOrder (drop j (take n xs)) (drop j (take m ys)) ≡ inOrder (drop (j + 1) (take n xs)) (drop (j + 1) (take m ys))
+    unfolding inOrder
+    order-on e = rw (steps-from n j xs hn hx, steps-from m j ys hm hy, le-ltb (getD xs j 0) (getD ys j 0) (omega arith), le-ltb (getD ys j 0) (getD xs j 0) (omega arith))

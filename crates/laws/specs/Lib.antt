@@ -1,0 +1,17 @@
+pub mod Lists
+pub mod Words
+pub mod Slots
+pub mod Nodes
+pub mod Formed
+pub mod Changes
+pub mod Areas
+pub mod AreaRead
+pub mod Climb
+pub mod Down
+pub mod Find
+pub mod Fronts
+pub mod Grow
+pub mod Lens
+pub mod Locate
+pub mod Put
+pub mod Read

@@ -1,0 +1,129 @@
+-- The lookup: in the leaf that the search from the root comes to, and from the slot at which the finger stands. Assumes nothing.
+use mathlib.Core.Path.{_≡_, refl, _∙_}
+use mathlib.Core.Bool.{Bool, true, false, cond}
+use mathlib.Core.List.{List, []}
+use Prim.Native.Nat.{ℕ, zero, suc, _-_, _<_, _≤_}
+use native.Mathlib.Omega.{arith}
+use lib.ListN.{getD, drop}
+use lib.Seq.{getD-take}
+use lib.Dec.{ltb}
+use borrow.Author.Tests.{lt-ltb, le-ltb, lt-leb, le-leb, eq-eqb, ne-eqb}
+use Rattle.model.specs.Node.{Node, used, lengthIn, wrap, findFrom}
+use Rattle.model.specs.State.{nodeAt}
+use Rattle.model.specs.Climb.{leafNo}
+use Rattle.model.specs.Locate.{less, stand, back, finger, walked, served, leafOf, rewound, changing}
+use Rattle.model.specs.declared.node.Shape.{Shape}
+use Rattle.model.specs.declared.node.Found.the-variants.{At, Nothing}
+use Rattle.model.specs.declared.head.Finger.{Finger}
+use Rattle.model.specs.declared.head.Held.the-variants as held
+use Rattle.model.specs.declared.walk.Descent.the-variants as descent
+use Rattle.model.specs.declared.walk.Search.the-variants as search
+use Rattle.laws.specs.Down.{sized}
+
+-- a slot in use is that slot
+pub used-at : (n : Node) (j : ℕ) → j < n .len → getD (used n) j [] ≡ getD (n .slots) j []
+used-at n j h = getD-take (n .len) (n .slots) j [] h
+
+-- in the leaf
+module _ (v e : ℕ) (g : Shape) (k index rest s : ℕ) (ls : List ℕ) where
+  pub leaf-broken : sized g k ls ≡ false → leafOf v e g index ls (descent.At (leafNo k) rest s) ≡ search.Broken
+  leaf-broken q = rw q
+
+  pub leaf-miss : sized g k ls ≡ true → findFrom v e 0 rest 0 (used (nodeAt g k ls)) ≡ Nothing → leafOf v e g index ls (descent.At (leafNo k) rest s) ≡ search.Broken
+  leaf-miss q f = rw (q, f)
+
+  pub leaf-found : (j o t : ℕ) → sized g k ls ≡ true → findFrom v e 0 rest 0 (used (nodeAt g k ls)) ≡ At j o t
+      → leafOf v e g index ls (descent.At (leafNo k) rest s) ≡ search.At (finger v k (index - rest) (wrap s) j (rest - o) (wrap t)) o
+  leaf-found j o t q f = rw (q, f)
+
+-- back from a slot: at the first slot, at a slot that doesn't start past the index, or one slot further back
+module _ (v e : ℕ) (slots : List (List ℕ)) (index w f : ℕ) where
+  pub back-first : (j : ℕ) → j ≤ 0 → back v e slots index j w f ≡ stand j w f
+  unfolding back
+  back-first zero h = refl
+  back-first (suc j) h = absurd (omega arith)
+
+  pub back-here : (j : ℕ) → w ≤ index → back v e slots index j w f ≡ stand j w f
+  unfolding back
+  back-here zero h = refl
+  back-here (suc j) h = rw (le-ltb index w h)
+
+  pub back-on : (j : ℕ) → 0 < j → index < w
+      → back v e slots index j w f ≡ back v e slots index (j - 1) (less w (lengthIn v (getD slots (j - 1) []))) (less f (lengthIn e (getD slots (j - 1) [])))
+  unfolding back
+  back-on zero h l = absurd (omega arith)
+  back-on (suc j) h l =
+      let one : suc j - 1 ≡ j = omega arith in
+      rw (lt-ltb index w l, one)
+
+-- the same over the slots in use of a node, with a and b the lengths of the slot before
+pub back-turn : (v e : ℕ) (n : Node) (index w f : ℕ) (j a b w′ f′ : ℕ) → 0 < j → j ≤ n .len → index < w → a ≡ lengthIn v (getD (n .slots) (j - 1) []) → b ≡ lengthIn e (getD (n .slots) (j - 1) [])
+    → w′ ≡ less w a → f′ ≡ less f b → back v e (used n) index j w f ≡ back v e (used n) index (j - 1) w′ f′
+back-turn v e n index w f j a b w′ f′ h hj l ea eb ew ef = back-on v e (used n) index w f j h l ∙ rw (used-at n (j - 1) (omega arith), ew, ef, ea, eb)
+
+pub back-slot : (v e : ℕ) (slots : List (List ℕ)) (index j w f : ℕ) → back v e slots index j w f .slot ≤ j
+unfolding back
+back-slot v e slots index zero w f = omega arith
+back-slot v e slots index (suc j) w f =
+    go (ltb index w) (back-slot v e slots index j (less w (lengthIn v (getD slots j []))) (less f (lengthIn e (getD slots j []))))
+  where
+    go : (b : Bool) → back v e slots index j (less w (lengthIn v (getD slots j []))) (less f (lengthIn e (getD slots j []))) .slot ≤ j
+        → cond b (back v e slots index j (less w (lengthIn v (getD slots j []))) (less f (lengthIn e (getD slots j [])))) (stand (suc j) w f) .slot ≤ suc j
+    go true h = omega arith
+    go false h = omega arith
+
+-- from the slot b, w, x to which the finger goes back: it can't go back far enough, the leaf doesn't hold the index, or a slot does
+module _ (v e : ℕ) (f : Finger) (index : ℕ) (slots : List (List ℕ)) (b w x : ℕ) (h : stand b w x ≡ back v e slots index (f .slot) (f .within) (f .«effect_within»)) where
+  pub walked-broken : index < w → walked v e f index slots ≡ search.Broken
+  unfolding walked
+  walked-broken l = rw (← h, lt-ltb index w l)
+
+  pub walked-miss : w ≤ index → findFrom v e b (index - w) x (drop b slots) ≡ Nothing → walked v e f index slots ≡ search.Nothing
+  unfolding walked
+  walked-miss l q = rw (← h, le-ltb index w l, q)
+
+  pub walked-found : (j o t : ℕ) → w ≤ index → findFrom v e b (index - w) x (drop b slots) ≡ At j o t
+      → walked v e f index slots ≡ search.At (finger (f .view) (f .leaf) (f .start) (f .effect) j (index - o) (wrap t)) o
+  unfolding walked
+  walked-found j o t l q = rw (← h, le-ltb index w l, q)
+
+-- whether the finger serves: another view, an index before its leaf, a finger that points outside, or from its own slot
+module _ (v e : ℕ) (g : Shape) (f : Finger) (leaves index : ℕ) (ls : List ℕ) where
+  pub served-other : (f .view ≡ v → ⊥) → served v e g f leaves index ls ≡ search.Nothing
+  unfolding served
+  served-other d = rw (ne-eqb (f .view) v d)
+
+  pub served-early : f .view ≡ v → index < f .start → served v e g f leaves index ls ≡ search.Nothing
+  unfolding served
+  served-early d l = rw (eq-eqb (f .view) v d, lt-leb (f .start) index l)
+
+  module _ (d : f .view ≡ v) (l : f .start ≤ index) where
+    pub served-out : leaves ≤ f .leaf → served v e g f leaves index ls ≡ search.Broken
+    unfolding served
+    served-out o = rw (eq-eqb (f .view) v d, le-leb (f .start) index l, le-ltb (f .leaf) leaves o)
+
+    pub served-full : f .leaf < leaves → g .fan < nodeAt g (f .leaf) ls .len → served v e g f leaves index ls ≡ search.Broken
+    unfolding served
+    served-full o n = rw (eq-eqb (f .view) v d, le-leb (f .start) index l, lt-ltb (f .leaf) leaves o, lt-leb (nodeAt g (f .leaf) ls .len) (g .fan) n)
+
+    pub served-past : f .leaf < leaves → nodeAt g (f .leaf) ls .len ≤ g .fan → nodeAt g (f .leaf) ls .len ≤ f .slot → served v e g f leaves index ls ≡ search.Broken
+    unfolding served
+    served-past o n p =
+        rw (eq-eqb (f .view) v d, le-leb (f .start) index l, lt-ltb (f .leaf) leaves o, le-leb (nodeAt g (f .leaf) ls .len) (g .fan) n, le-ltb (f .slot) (nodeAt g (f .leaf) ls .len) p)
+
+    pub served-on : f .leaf < leaves → nodeAt g (f .leaf) ls .len ≤ g .fan → f .slot < nodeAt g (f .leaf) ls .len
+        → served v e g f leaves index ls ≡ walked v e f (index - f .start) (used (nodeAt g (f .leaf) ls))
+    unfolding served
+    served-on o n p =
+        rw (eq-eqb (f .view) v d, le-leb (f .start) index l, lt-ltb (f .leaf) leaves o, le-leb (nodeAt g (f .leaf) ls .len) (g .fan) n, lt-ltb (f .slot) (nodeAt g (f .leaf) ls .len) p)
+
+-- what a change leaves of the finger: none in another leaf, the leaf's first slot for an earlier slot, else the finger as it is
+module _ (leaf slot : ℕ) (f : Finger) where
+  pub changing-gone : (f .leaf ≡ leaf → ⊥) → changing leaf slot (held.At f) ≡ held.Absent
+  changing-gone d = rw (ne-eqb (f .leaf) leaf d)
+
+  pub changing-back : f .leaf ≡ leaf → slot < f .slot → changing leaf slot (held.At f) ≡ held.At (rewound f)
+  changing-back d l = rw (eq-eqb (f .leaf) leaf d, lt-ltb slot (f .slot) l)
+
+  pub changing-kept : f .leaf ≡ leaf → f .slot ≤ slot → changing leaf slot (held.At f) ≡ held.At f
+  changing-kept d l = rw (eq-eqb (f .leaf) leaf d, le-ltb slot (f .slot) l)
