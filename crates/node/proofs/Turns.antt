@@ -1,0 +1,79 @@
+-- One turn of each loop that writes words. Assumes nothing.
+use mathlib.Core.Path.{_≡_, refl, sym, ap, _∙_}
+use mathlib.Core.List.{List, _++_, zipWith}
+use Prim.Native.Nat.{ℕ, _+_, _-_, _*_, _%_, _^_, _<_, _≤_}
+use native.Mathlib.Omega.{arith}
+use native.Mathlib.Numerals.{add-one}
+use lib.ListN.{length, getD, take, drop, set, replicate, length-drop, length-replicate, replicate-append-replicate}
+use lib.Seq.{length-take-le, take-all, take-suc, getD-drop}
+use Rattle.model.specs.Lists.{part, putAt}
+use Rattle.model.specs.Node.{none, wrap, emptySlot, emptySlots}
+use Rattle.laws.specs.Lists.{length-zip, zip-more}
+use Rattle.laws.specs.Slots.{flat, flat-append, flat-one, length-flat}
+use Rattle.laws.specs.Formed.{length-empty, empty-wide}
+use Rattle.laws.specs.Words.{length-part, part-front, put-none, put-next, put-on, put-back, getD-before, getD-after}
+
+-- one word more of src written
+pub copy-turn : (p i : ℕ) (src ws : List ℕ) → i < length src → p + length src ≤ length ws
+    → set (putAt p (take i src) ws) (p + i) (getD src i 0) ≡ putAt p (take (i + 1) src) ws
+copy-turn p i src ws h g =
+    let l : length (take i src) ≡ i = length-take-le i src (omega arith) in
+    rw (add-one, take-suc src i 0) (put-on p (p + i) (getD src i 0) (take i src) ws (omega arith) (omega arith))
+
+-- each word from word p on changed by a word of xs: none yet, one more, all
+module _ (f : ℕ → ℕ → ℕ) (p i : ℕ) (xs ws : List ℕ) where
+  pub each-none : ws ≡ putAt p (zipWith f (part p 0 ws) (take 0 xs)) ws
+  unfolding zipWith part
+  each-none = sym (put-none p ws)
+
+  pub each-turn : (v : ℕ) (now : List ℕ) → i < length xs → p + length xs ≤ length ws → now ≡ putAt p (zipWith f (part p i ws) (take i xs)) ws
+      → v ≡ f (getD now (p + i) 0) (getD xs i 0) → set now (p + i) v ≡ putAt p (zipWith f (part p (i + 1) ws) (take (i + 1) xs)) ws
+  unfolding part
+  each-turn v now h g en ev =
+      let a : length (part p i ws) ≡ i = length-part p i ws (omega arith) in
+      let b : length (take i xs) ≡ i = length-take-le i xs (omega arith) in
+      let l : length (zipWith f (part p i ws) (take i xs)) ≡ i = length-zip f (part p i ws) (take i xs) (omega arith) ∙ a in
+      let d : i < length (drop p ws) = rw length-drop (omega arith) in
+      rw (ev, en, getD-after p (p + i) (zipWith f (part p i ws) (take i xs)) ws (omega arith) (omega arith), zip-more f i (drop p ws) xs d h, ← getD-drop p ws i 0)
+      (put-on p (p + i) _ (zipWith f (part p i ws) (take i xs)) ws (omega arith) (omega arith))
+
+  pub each-all : i ≤ length xs → length xs ≤ i → putAt p (zipWith f (part p i ws) (take i xs)) ws ≡ putAt p (zipWith f (part p (length xs) ws) xs) ws
+  each-all h g =
+      let e : i ≡ length xs = omega arith in
+      rw (take-all i xs g, e)
+
+-- the difference modulo 2 ^ 32 is the number that, added again, gives the first
+pub wrapped-less : (a b r : ℕ) → (r + b) % 2 ^ 32 ≡ a → r < 2 ^ 32 → b < 2 ^ 32 → r ≡ wrap (a + (2 ^ 32 - b))
+wrapped-less a b r e h g = omega arith
+
+-- one word more moved up, the last first
+pub shift-turn : (s w q : ℕ) (ws : List ℕ) → 0 < w → w ≤ q → q + s ≤ length ws
+    → set (putAt (w + s) (part w (q - w) ws) ws) (w - 1 + s) (getD (putAt (w + s) (part w (q - w) ws) ws) (w - 1) 0) ≡ putAt (w - 1 + s) (part (w - 1) (q - (w - 1)) ws) ws
+shift-turn s w q ws h hw hq =
+    let l : length (part w (q - w) ws) ≡ q - w = length-part w (q - w) ws (omega arith) in
+    let e : q - (w - 1) ≡ q - w + 1 = omega arith in
+    let f : w - 1 + 1 ≡ w = omega arith in
+    rw (getD-before (w + s) (w - 1) (part w (q - w) ws) ws (omega arith) (omega arith), put-back (w + s) (w - 1 + s) (getD ws (w - 1) 0) (part w (q - w) ws) ws (omega arith) (omega arith), e, part-front (w - 1) (q - w) ws (omega arith), f)
+
+-- a filled run of words: one word more, and an empty slot made of one
+pub fill-turn : (p w a : ℕ) (now ws : List ℕ) → p ≤ w → w < length ws → now ≡ putAt p (replicate (w - p) a) ws → set now w a ≡ putAt p (replicate (w + 1 - p) a) ws
+fill-turn p w a now ws h g en =
+    let l : length (replicate (w - p) a) ≡ w - p = length-replicate (w - p) a in
+    let e : w + 1 - p ≡ w - p + 1 = omega arith in
+    rw (en, e, ← replicate-append-replicate (w - p) 1 a) (put-on p w a (replicate (w - p) a) ws (omega arith) g)
+
+pub empty-end : (p s w : ℕ) (now ws : List ℕ) → p + s ≡ w → 0 < s → w ≤ length ws → now ≡ putAt (p + 1) (replicate (w - (p + 1)) 0) ws → set now p none ≡ putAt p (emptySlot s) ws
+unfolding emptySlot
+empty-end p s w now ws e h g en =
+    let f : w - (p + 1) ≡ s - 1 = omega arith in
+    let l : length (replicate {A = ℕ} (s - 1) 0) ≡ s - 1 = length-replicate {A = ℕ} (s - 1) 0 in
+    rw (en, f) (put-back (p + 1) p none (replicate (s - 1) 0) ws refl (omega arith))
+
+-- one empty slot more
+pub clear-turn : (s p i w : ℕ) (now last ws : List ℕ) → 0 < s → w ≡ p + i * s → w + s ≤ length ws → now ≡ putAt p (flat (emptySlots s i)) ws → last ≡ putAt w (emptySlot s) now
+    → last ≡ putAt p (flat (emptySlots s (i + 1))) ws
+clear-turn s p i w now last ws h hw g en el =
+    let l : length (flat (emptySlots s i)) ≡ i * s = length-flat s (emptySlots s i) (empty-wide s i h) ∙ ap (λ (k : ℕ). k * s) (length-replicate i (emptySlot s)) in
+    let e : flat (emptySlots s (i + 1)) ≡ flat (emptySlots s i) ++ emptySlot s = rw (← replicate-append-replicate i 1 (emptySlot s), flat-append, flat-one) in
+    let d = length-empty s h in
+    rw (el, en, e) (put-next p w (flat (emptySlots s i)) (emptySlot s) ws (omega arith) (omega arith))

@@ -1,0 +1,147 @@
+// What is read from one node: sums of lengths, the slot of a position, the slot of a child.
+use model::node::Found;
+use model::node::Place;
+use model::node::Shape;
+ghost use mathlib.Core.Path.{_≡_};
+ghost use Prim.Native.Nat.{_+_, _^_, _<_, _≤_};
+ghost use lib.ListN.{length, getD, take, drop};
+ghost use Rattle.model.specs.Node.{slotsFrom, nodeOf, used, total, start, findFrom, indexFrom, slotFor};
+ghost use Rattle.node.specs.Shaped.{Shaped};
+
+// A word as a wider number, in which no sum over a node wraps.
+fn wide(x: u32) -> u64
+    ensures { λ r. ⌜ r ≡ x ⌝ }
+{
+    x as u64
+}
+
+// The lengths before slot i (Node::start): at most 32 words.
+pub fn start(node: &[u32], g: Shape, view: usize, i: usize) -> u64
+    requires { ⌜ Shaped g × (length (now node) ≡ g .size) × (view + 1 < g .stride) × (i ≤ g .fan) ⌝ }
+    ensures { λ r. ⌜ (r ≡ start view i (nodeOf (g .stride) (g .fan) (now (node .entry)))) × (r ≤ 137438953440) ⌝ }
+{
+    let stride = g.stride;
+    let mut sum: u64 = 0;
+    let mut p = 3 + view + 1;
+    let mut k: usize = 0;
+    while k < i {
+        sum += wide(node[p]);
+        p += stride;
+        k += 1;
+    }
+    sum
+}
+
+// The lengths of all slots in use: at most 32 words.
+pub fn used_total(node: &[u32], g: Shape, view: usize) -> u64
+    requires { ⌜ Shaped g × (length (now node) ≡ g .size) × (view + 1 < g .stride) ⌝ }
+    ensures { λ r. ⌜ (r ≡ total view (used (nodeOf (g .stride) (g .fan) (now (node .entry))))) × (r ≤ 137438953440) ⌝ }
+{
+    let fan = g.fan;
+    let len = node[0] as usize;
+    if len < fan {
+        return start(node, g, view, len);
+    }
+    start(node, g, view, fan)
+}
+
+// The first slot from slot `from` on that holds position `index` of view, counted from there; `sum` and the effect
+// lengths before it (Node::find).
+pub fn find(
+    node: &[u32],
+    g: Shape,
+    view: usize,
+    effect: usize,
+    from: usize,
+    index: u32,
+    sum: u64,
+) -> Found
+    requires { ⌜ Shaped g × (length (now node) ≡ g .size) × (view + 1 < g .stride) × (effect + 1 < g .stride) × (getD (now node) 0 0 ≤ g .fan) × (from ≤ getD (now node) 0 0) × (sum ≤ 2 ^ 48) ⌝ }
+    ensures { λ r. ⌜ r ≡ findFrom view effect from index sum (drop from (used (nodeOf (g .stride) (g .fan) (now (node .entry))))) ⌝ }
+{
+    let stride = g.stride;
+    let len = node[0] as usize;
+    let mut rest = index;
+    let mut before = sum;
+    let mut p = 3 + from * stride + 1;
+    let mut k = from;
+    while k < len {
+        let here = node[p + view];
+        if rest < here {
+            return Found::At(k, rest, before);
+        }
+        rest -= here;
+        before += wide(node[p + effect]);
+        p += stride;
+        k += 1;
+    }
+    Found::Nothing
+}
+
+// Up to eight slots are read until the child is met.
+fn index_near(node: &[u32], g: Shape, len: usize, child: u32) -> Place
+    requires { ⌜ Shaped g × (length (now node) ≡ g .size) × (len ≤ g .fan) ⌝ }
+    ensures { λ r. ⌜ r ≡ indexFrom child 0 (slotsFrom (g .stride) len 3 (now (node .entry))) ⌝ }
+{
+    let stride = g.stride;
+    let mut p: usize = 3;
+    let mut k: usize = 0;
+    while k < len {
+        if node[p] == child {
+            return Place::Slot(k);
+        }
+        p += stride;
+        k += 1;
+    }
+    Place::Missing
+}
+
+// More slots are all compared, from the last down, with no exit on the way.
+fn index_far(node: &[u32], g: Shape, len: usize, child: u32) -> Place
+    requires { ⌜ Shaped g × (length (now node) ≡ g .size) × (len ≤ g .fan) ⌝ }
+    ensures { λ r. ⌜ r ≡ indexFrom child 0 (slotsFrom (g .stride) len 3 (now (node .entry))) ⌝ }
+{
+    let stride = g.stride;
+    let mut found = len;
+    let mut p = 3 + len * stride;
+    let mut k = len;
+    while 0 < k {
+        k -= 1;
+        p -= stride;
+        if node[p] == child {
+            found = k;
+        }
+    }
+    if found < len {
+        return Place::Slot(found);
+    }
+    Place::Missing
+}
+
+// The slot that holds the child (Node::index_of).
+pub fn index_of(node: &[u32], g: Shape, child: u32) -> Place
+    requires { ⌜ Shaped g × (length (now node) ≡ g .size) × (getD (now node) 0 0 ≤ g .fan) ⌝ }
+    ensures { λ r. ⌜ r ≡ indexFrom child 0 (used (nodeOf (g .stride) (g .fan) (now (node .entry)))) ⌝ }
+{
+    let len = node[0] as usize;
+    if len <= 8 {
+        return index_near(node, g, len, child);
+    }
+    index_far(node, g, len, child)
+}
+
+// The slot for node k in its parent: its number and its totals.
+pub fn slot_for(node: &[u32], g: Shape, k: u32, x: &mut [u32])
+    requires { ⌜ Shaped g × (length (now node) ≡ g .size) × (length (now x) ≡ g .stride) ⌝ }
+    ensures { λ _. ⌜ now (x .exit) ≡ slotFor (g .stride) k (nodeOf (g .stride) (g .fan) (now (node .entry))) ⌝ }
+{
+    let stride = g.stride;
+    let fan = g.fan;
+    x[0] = k;
+    let mut v: usize = 0;
+    while v + 1 < stride {
+        let sum = start(node, g, v, fan);
+        x[v + 1] = (sum % 4294967296) as u32;
+        v += 1;
+    }
+}
