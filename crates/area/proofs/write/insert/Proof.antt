@@ -1,0 +1,41 @@
+-- `area::write::insert`: the part lent is node k, and comes back as that node with the slot put in.
+use native.Mathlib.Omega.{arith}
+use borrow.Author.Needs.{needs}
+use Rattle.model.specs.Node.{nodeOf, inserted}
+use Rattle.laws.specs.Words.{lent}
+use Rattle.area.proofs.Lend.{ends, whole, back}
+use Rattle.area.proofs.write.insert.Statement.{statement}
+use Rattle.area.proofs.write.insert.Tie as tie
+
+mul-a : tie.Need-mul-a
+mul-a c = omega (arith, ends (c .before .before .args .k) (c .before .before .pre .0) (c .before .before .pre .1))
+
+add-e : tie.Need-add-e
+add-e c = omega (arith, ends (c .before .before .args .k) (c .before .before .pre .0) (c .before .before .pre .1))
+
+mul-insert : tie.Need-mul-insert
+mul-insert c = omega (arith, ends (c .before .before .args .k) (c .before .before .pre .0) (c .before .before .pre .1))
+
+sub-insert : tie.Need-sub-insert
+sub-insert c = search needs
+
+part-insert-start : tie.Need-part-insert-start
+part-insert-start c = search needs
+
+part-insert-end : tie.Need-part-insert-end
+part-insert-end c = ends (c .before .before .args .k) (c .before .before .pre .0) (c .before .before .pre .1)
+
+insert-requires : tie.Need-insert-requires
+unfolding nodeOf
+insert-requires c κs = rw lent (c .before .before .before .pre .0 .shaped, whole (c .before .before .before .args .k) _ (c .before .before .before .pre .0) (c .before .before .before .pre .1), c .before .before .before .pre .2, c .before .before .before .pre .3, c .before .before .before .pre .4)
+
+same-length : tie.Need-same-length
+same-length c = search needs
+
+returns : tie.Need-returns
+returns c = back (c .before .before .before .before .before .before .args .k) _ _ (inserted (c .before .before .before .before .before .before .args .i) (c .before .before .before .before .before .before .args .x .now)) (c .before .before .before .before .before .before .pre .0) (c .before .before .before .before .before .before .pre .1) (c .before .before .insert .kept .0) (c .before .before .insert .ensures)
+
+pub insert-spec : {M : Type 1} → statement M
+insert-spec =
+    tie.close
+    (tie.spec mul-a add-e mul-insert sub-insert part-insert-start part-insert-end insert-requires same-length returns)

@@ -1,0 +1,40 @@
+-- `area::write::set_lengths`: the part lent is node k, and comes back as that node with other lengths in a slot.
+use native.Mathlib.Omega.{arith}
+use borrow.Author.Needs.{needs}
+use Rattle.model.specs.Node.{withLengths}
+use Rattle.laws.specs.Words.{lent}
+use Rattle.area.proofs.Lend.{ends, whole, back}
+use Rattle.area.proofs.write.set_lengths.Statement.{statement}
+use Rattle.area.proofs.write.set_lengths.Tie as tie
+
+mul-a : tie.Need-mul-a
+mul-a c = omega (arith, ends (c .before .before .args .k) (c .before .before .pre .0) (c .before .before .pre .1))
+
+add-e : tie.Need-add-e
+add-e c = omega (arith, ends (c .before .before .args .k) (c .before .before .pre .0) (c .before .before .pre .1))
+
+mul-set-lengths : tie.Need-mul-set-lengths
+mul-set-lengths c = omega (arith, ends (c .before .before .args .k) (c .before .before .pre .0) (c .before .before .pre .1))
+
+sub-set-lengths : tie.Need-sub-set-lengths
+sub-set-lengths c = search needs
+
+part-set-lengths-start : tie.Need-part-set-lengths-start
+part-set-lengths-start c = search needs
+
+part-set-lengths-end : tie.Need-part-set-lengths-end
+part-set-lengths-end c = ends (c .before .before .args .k) (c .before .before .pre .0) (c .before .before .pre .1)
+
+set-lengths-requires : tie.Need-set-lengths-requires
+set-lengths-requires c κs = rw lent (c .before .before .before .pre .0 .shaped, whole (c .before .before .before .args .k) _ (c .before .before .before .pre .0) (c .before .before .before .pre .1), c .before .before .before .pre .2, c .before .before .before .pre .3)
+
+same-length : tie.Need-same-length
+same-length c = search needs
+
+returns : tie.Need-returns
+returns c = back (c .before .before .before .before .before .before .args .k) _ _ (withLengths (c .before .before .before .before .before .before .args .i) (c .before .before .before .before .before .before .args .ls .now)) (c .before .before .before .before .before .before .pre .0) (c .before .before .before .before .before .before .pre .1) (c .before .before .set-lengths .kept .0) (c .before .before .set-lengths .ensures)
+
+pub set-lengths-spec : {M : Type 1} → statement M
+set-lengths-spec =
+    tie.close
+    (tie.spec mul-a add-e mul-set-lengths sub-set-lengths part-set-lengths-start part-set-lengths-end set-lengths-requires same-length returns)

@@ -1,0 +1,41 @@
+-- `area::write::split_child`: the part lent is node k, and comes back as that node with its slot divided.
+use native.Mathlib.Omega.{arith}
+use borrow.Author.Needs.{needs}
+use Rattle.model.specs.Node.{nodeOf, childSplit}
+use Rattle.laws.specs.Words.{lent}
+use Rattle.area.proofs.Lend.{ends, whole, back}
+use Rattle.area.proofs.write.split_child.Statement.{statement}
+use Rattle.area.proofs.write.split_child.Tie as tie
+
+mul-a : tie.Need-mul-a
+mul-a c = omega (arith, ends (c .before .before .args .k) (c .before .before .pre .0) (c .before .before .pre .1))
+
+add-e : tie.Need-add-e
+add-e c = omega (arith, ends (c .before .before .args .k) (c .before .before .pre .0) (c .before .before .pre .1))
+
+mul-split-child : tie.Need-mul-split-child
+mul-split-child c = omega (arith, ends (c .before .before .args .k) (c .before .before .pre .0) (c .before .before .pre .1))
+
+sub-split-child : tie.Need-sub-split-child
+sub-split-child c = search needs
+
+part-split-child-start : tie.Need-part-split-child-start
+part-split-child-start c = search needs
+
+part-split-child-end : tie.Need-part-split-child-end
+part-split-child-end c = ends (c .before .before .args .k) (c .before .before .pre .0) (c .before .before .pre .1)
+
+split-child-requires : tie.Need-split-child-requires
+unfolding nodeOf
+split-child-requires c κs = rw lent (c .before .before .before .pre .0 .shaped, whole (c .before .before .before .args .k) _ (c .before .before .before .pre .0) (c .before .before .before .pre .1), c .before .before .before .pre .2, c .before .before .before .pre .3, c .before .before .before .pre .4)
+
+same-length : tie.Need-same-length
+same-length c = search needs
+
+returns : tie.Need-returns
+returns c = back (c .before .before .before .before .before .before .args .k) _ _ (childSplit (c .before .before .before .before .before .before .args .before) (c .before .before .before .before .before .before .args .i) (c .before .before .before .before .before .before .args .x .now)) (c .before .before .before .before .before .before .pre .0) (c .before .before .before .before .before .before .pre .1) (c .before .before .split-child .kept .0) (c .before .before .split-child .ensures)
+
+pub split-child-spec : {M : Type 1} → statement M
+split-child-spec =
+    tie.close
+    (tie.spec mul-a add-e mul-split-child sub-split-child part-split-child-start part-split-child-end split-child-requires same-length returns)
