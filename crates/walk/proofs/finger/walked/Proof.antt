@@ -1,0 +1,81 @@
+-- `walk::finger::walked`: each answer is the definition's at the slot to which the finger goes back.
+use mathlib.Core.Path.{sym, ap, _∙_}
+use Prim.Native.Nat.{_-_, _≤_, _<_}
+use native.Mathlib.Omega.{arith}
+use borrow.Author.Needs.{needs}
+use Rattle.model.specs.Node.{used}
+use Rattle.model.specs.State.{nodeAt}
+use Rattle.laws.specs.Find.{used-ranged}
+use Rattle.laws.specs.Locate.{back-slot, walked-broken, walked-miss, walked-found}
+use Rattle.walk.proofs.finger.walked.Statement.{statement}
+use Rattle.walk.proofs.finger.walked.Tie as tie
+
+-- the finger goes back to a slot in use
+from : (c : tie.After-back)
+    → c .back .result .slot < nodeAt (c .before .before .args .g) (c .before .before .args .f .leaf) (c .before .before .args .leaves .now) .len
+from c =
+    let a = c .before .before .args in
+    omega (arith, ap (λ s. s .slot) (c .back .ensures), back-slot (a .view) (a .effect) (used (nodeAt (a .g) (a .f .leaf) (a .leaves .now))) (a .index) (a .f .slot) (a .f .within) (a .f .«effect_within»), c .before .before .pre .5)
+
+-- what was found lies in the leaf, and no more than the index is left
+found : (c : tie.After-known-told)
+    → (c .before .found .given .0 .0 < c .before .before .before .before .before .before .before .before .args .g .fan)
+    × (c .before .found .given .0 .1 .0 ≤ c .before .before .before .before .before .before .before .before .args .index)
+found c =
+    let s = c .before .before .before .before .before .before .before .before in
+    let b = c .before .before .before .before .before .before .back .result in
+    let f = from (c .before .before .before .before .before .before) in
+    let e = sym (c .before .before .before .find-in .ensures .finds) ∙ c .before .found .given .1 in
+    let r = used-ranged (s .args .g) _ _ (s .args .f .leaf) (b .slot) (s .args .index - b .within) _ (s .args .leaves .now) (s .pre .4) (omega arith) in
+    (omega (arith, f, s .pre .4, r .slot _ _ _ e), omega (arith, r .offset _ _ _ e))
+
+back-requires : tie.Need-back-requires
+back-requires c κs = (c .before .pre .0, c .before .pre .1, c .before .pre .2, c .before .pre .3, c .before .pre .4, c .before .pre .5)
+
+cast-sum : tie.Need-cast-sum
+cast-sum c = search needs
+
+returns : tie.Need-returns
+returns c = sym (walked-broken _ _ (c .before .before .before .before .args .f) _ _ _ _ _ (c .before .before .back .ensures) (c .if1 .taken))
+
+find-in-requires : tie.Need-find-in-requires
+find-in-requires c κs =
+    let s = c .before .before .before .before in
+    (s .pre .0, s .pre .3, s .pre .1, s .pre .2, s .pre .4, omega (arith, from (c .before .before)), omega (arith, c .before .before .back .ok))
+
+enum-known-found : tie.Need-enum-known-found
+enum-known-found c = search needs
+
+enum-told : tie.Need-enum-told
+enum-told c = search needs
+
+returns-2 : tie.Need-returns-2
+returns-2 c = sym (walked-miss _ _ (c .before .before .before .before .before .before .before .args .f) _ _ _ _ _ (c .before .before .before .before .before .back .ensures) (c .before .before .before .if1 .left) (sym (c .before .before .find-in .ensures .finds) ∙ c .enum-told .given .1))
+
+cast-at : tie.Need-cast-at
+cast-at c = omega (arith, found c, c .before .before .before .before .before .before .before .before .pre .0 .shaped)
+
+sub-t20 : tie.Need-sub-t20
+sub-t20 c = omega (arith, found c)
+
+cast-t22 : tie.Need-cast-t22
+cast-t22 c = omega arith
+
+returns-3 : tie.Need-returns-3
+returns-3 c = sym (walked-found _ _ (c .before .before .before .before .before .before .before .before .args .f) _ _ _ _ _ (c .before .before .before .before .before .before .back .ensures) _ _ _ (c .before .before .before .before .if1 .left) (sym (c .before .before .before .find-in .ensures .finds) ∙ c .before .found .given .1))
+
+pub walked-spec : {M : Type 1} → statement M
+walked-spec =
+    tie.close
+    (tie.spec
+    back-requires
+    cast-sum
+    returns
+    find-in-requires
+    enum-known-found
+    enum-told
+    returns-2
+    cast-at
+    sub-t20
+    cast-t22
+    returns-3)

@@ -1,0 +1,175 @@
+// The finger: the lookup from where the last one ended, and what a change leaves of it.
+use area::word::find_in;
+use area::word::len_of;
+use area::word::length_of;
+use model::head::Finger;
+use model::head::Held;
+use model::node::Found;
+use model::node::Shape;
+use model::walk::Search;
+ghost use mathlib.Core.Path.{_≡_};
+ghost use Prim.Native.Nat.{_+_, _<_, _≤_};
+ghost use lib.ListN.{length};
+ghost use Rattle.model.specs.Node.{used};
+ghost use Rattle.model.specs.State.{nodeAt};
+ghost use Rattle.model.specs.Locate.{stand, back, walked, served, servedBy, rewound, changing};
+ghost use Rattle.area.specs.Area.{Area};
+
+// A slot of a leaf and what stands before it in the leaf.
+pub struct Stand {
+    pub slot: usize,
+    pub within: u32,
+    pub effect_within: u32,
+}
+
+// Back from the finger's slot to the first that doesn't start past the index, which counts from the leaf's start.
+fn back(leaves: &[u32], g: Shape, view: usize, effect: usize, f: Finger, index: u32) -> Stand
+    requires { ⌜ Area g (length (now leaves)) × (view + 1 < g .stride) × (effect + 1 < g .stride) × (f .leaf < g .nodes) × (nodeAt g (f .leaf) (now leaves) .len ≤ g .fan) × (f .slot < nodeAt g (f .leaf) (now leaves) .len) ⌝ }
+    ensures { λ r. ⌜ stand (r .slot) (r .within) (r .«effect_within») ≡ back view effect (used (nodeAt g (f .leaf) (now (leaves .entry)))) index (f .slot) (f .within) (f .«effect_within») ⌝ }
+{
+    let leaf = f.leaf;
+    let mut slot = f.slot as usize;
+    let mut within = f.within;
+    let mut effect_within = f.effect_within;
+    while 0 < slot {
+        if within <= index {
+            return Stand {
+                slot: slot,
+                within: within,
+                effect_within: effect_within,
+            };
+        }
+        slot -= 1;
+        let length = length_of(leaves, g, view, leaf, slot);
+        let effect_length = length_of(leaves, g, effect, leaf, slot);
+        within = std::num::wrapping_sub_u32(within, length);
+        effect_within = std::num::wrapping_sub_u32(effect_within, effect_length);
+    }
+    Stand {
+        slot: slot,
+        within: within,
+        effect_within: effect_within,
+    }
+}
+
+// The finger moved from its own slot, back or on, to the slot that holds the index, which counts from the leaf's start.
+fn walked(leaves: &[u32], g: Shape, view: usize, effect: usize, f: Finger, index: u32) -> Search
+    requires { ⌜ Area g (length (now leaves)) × (view + 1 < g .stride) × (effect + 1 < g .stride) × (f .leaf < g .nodes) × (nodeAt g (f .leaf) (now leaves) .len ≤ g .fan) × (f .slot < nodeAt g (f .leaf) (now leaves) .len) ⌝ }
+    ensures { λ r. ⌜ r ≡ walked view effect f index (used (nodeAt g (f .leaf) (now (leaves .entry)))) ⌝ }
+{
+    let leaf = f.leaf;
+    let b = back(leaves, g, view, effect, f, index);
+    let from = b.slot;
+    let within = b.within;
+    let sum = b.effect_within as u64;
+    if index < within {
+        return Search::Broken;
+    }
+    let rest = index - within;
+    let found = find_in(leaves, g, view, effect, leaf, from, rest, sum);
+    let Found::At(slot, offset, before) = found else {
+        return Search::Nothing;
+    };
+    let at = slot as u32;
+    let finger = Finger {
+        view: f.view,
+        leaf: leaf,
+        start: f.start,
+        effect: f.effect,
+        slot: at,
+        within: index - offset,
+        effect_within: (before % 4294967296) as u32,
+    };
+    Search::At(finger, offset)
+}
+
+// The lookup from the finger, for its own view and an index at or past its leaf's start; `used` leaves are in use.
+pub fn served(
+    leaves: &[u32],
+    g: Shape,
+    view: usize,
+    effect: usize,
+    f: Finger,
+    used: u32,
+    index: u32,
+) -> Search
+    requires { ⌜ Area g (length (now leaves)) × (view + 1 < g .stride) × (effect + 1 < g .stride) × (used ≤ g .nodes) ⌝ }
+    ensures { λ r. ⌜ r ≡ served view effect g f used index (now (leaves .entry)) ⌝ }
+{
+    let own = f.view;
+    let start = f.start;
+    let leaf = f.leaf;
+    let slot = f.slot;
+    let fan = g.fan;
+    if own as usize != view {
+        return Search::Nothing;
+    }
+    if index < start {
+        return Search::Nothing;
+    }
+    if leaf >= used {
+        return Search::Broken;
+    }
+    let len = len_of(leaves, g, leaf);
+    if len as usize > fan {
+        return Search::Broken;
+    }
+    if slot >= len {
+        return Search::Broken;
+    }
+    walked(leaves, g, view, effect, f, index - start)
+}
+
+// The same from the finger that is held, if any.
+pub fn served_by(
+    leaves: &[u32],
+    g: Shape,
+    view: usize,
+    effect: usize,
+    held: Held,
+    used: u32,
+    index: u32,
+) -> Search
+    requires { ⌜ Area g (length (now leaves)) × (view + 1 < g .stride) × (effect + 1 < g .stride) × (used ≤ g .nodes) ⌝ }
+    ensures { λ r. ⌜ r ≡ servedBy view effect g held used index (now (leaves .entry)) ⌝ }
+{
+    match held {
+        Held::Absent => Search::Nothing,
+        Held::At(f) => served(leaves, g, view, effect, f, used, index),
+    }
+}
+
+// The finger at its leaf's first slot.
+pub fn rewound(f: Finger) -> Finger
+    ensures { λ r. ⌜ r ≡ rewound f ⌝ }
+{
+    Finger {
+        view: f.view,
+        leaf: f.leaf,
+        start: f.start,
+        effect: f.effect,
+        slot: 0,
+        within: 0,
+        effect_within: 0,
+    }
+}
+
+// What a change at a slot of a leaf leaves of the finger.
+pub fn changing(held: Held, leaf: u32, slot: u32) -> Held
+    ensures { λ r. ⌜ r ≡ changing leaf slot held ⌝ }
+{
+    match held {
+        Held::Absent => Held::Absent,
+        Held::At(f) => {
+            if f.leaf == leaf {
+                if slot < f.slot {
+                    Held::At(rewound(f))
+                } else {
+                    Held::At(f)
+                }
+            } else {
+                Held::Absent
+            }
+        }
+    }
+}

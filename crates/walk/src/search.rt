@@ -1,0 +1,110 @@
+// The search from the root.
+use crate::bounds::sized;
+use area::word::child_of;
+use area::word::find_in;
+use model::head::Finger;
+use model::node::Found;
+use model::node::Shape;
+use model::number::LeafNo;
+use model::walk::Descent;
+use model::walk::Search;
+ghost use mathlib.Core.Path.{_≡_};
+ghost use Prim.Native.Nat.{_+_, _<_, _≤_};
+ghost use lib.ListN.{length};
+ghost use Rattle.model.specs.Climb.{leafNo};
+ghost use Rattle.model.specs.Locate.{descend, leafOf, fromRoot};
+ghost use Rattle.area.specs.Area.{Area};
+
+// Down to the leaf that holds position index of view, with the effect lengths before it.
+pub fn descend(
+    inners: &[u32],
+    g: Shape,
+    view: usize,
+    effect: usize,
+    levels: u32,
+    root: u32,
+    index: u32,
+) -> Descent
+    requires { ⌜ Area g (length (now inners)) × (view + 1 < g .stride) × (effect + 1 < g .stride) × (levels ≤ 15) ⌝ }
+    ensures { λ r. ⌜ r ≡ descend view effect g Descent.Nothing levels root index 0 (now (inners .entry)) ⌝ }
+{
+    let mut n = levels;
+    let mut node = root;
+    let mut rest = index;
+    let mut sum: u64 = 0;
+    while 0 < n {
+        if !sized(inners, g, node) {
+            return Descent::Broken;
+        }
+        let found = find_in(inners, g, view, effect, node, 0, rest, sum);
+        let Found::At(slot, offset, before) = found else {
+            if n == levels {
+                return Descent::Nothing;
+            }
+            return Descent::Broken;
+        };
+        node = child_of(inners, g, node, slot);
+        rest = offset;
+        sum = before;
+        n -= 1;
+    }
+    Descent::At(LeafNo(node), rest, sum)
+}
+
+// The slot of leaf k that holds the position left, and the finger there; sum is the effect lengths before the leaf.
+fn search_leaf(
+    leaves: &[u32],
+    g: Shape,
+    view: usize,
+    effect: usize,
+    k: u32,
+    index: u32,
+    rest: u32,
+    sum: u64,
+) -> Search
+    requires { ⌜ Area g (length (now leaves)) × (view + 1 < g .stride) × (effect + 1 < g .stride) × (rest ≤ index) ⌝ }
+    ensures { λ r. ⌜ r ≡ leafOf view effect g index (now (leaves .entry)) (Descent.At (leafNo k) rest sum) ⌝ }
+{
+    if !sized(leaves, g, k) {
+        return Search::Broken;
+    }
+    let found = find_in(leaves, g, view, effect, k, 0, rest, 0);
+    let Found::At(slot, offset, within) = found else {
+        return Search::Broken;
+    };
+    let finger = Finger {
+        view: view as u32,
+        leaf: k,
+        start: index - rest,
+        effect: (sum % 4294967296) as u32,
+        slot: slot as u32,
+        within: rest - offset,
+        effect_within: (within % 4294967296) as u32,
+    };
+    Search::At(finger, offset)
+}
+
+// The search from the root, and the finger that it sets (locate).
+pub fn from_root(
+    leaves: &[u32],
+    inners: &[u32],
+    g: Shape,
+    view: usize,
+    effect: usize,
+    levels: u32,
+    root: u32,
+    index: u32,
+) -> Search
+    requires { ⌜ Area g (length (now leaves)) × Area g (length (now inners)) × (view + 1 < g .stride) × (effect + 1 < g .stride) × (levels ≤ 15) ⌝ }
+    ensures { λ r. ⌜ r ≡ fromRoot view effect g levels root index (now (leaves .entry)) (now (inners .entry)) ⌝ }
+{
+    let way = descend(inners, g, view, effect, levels, root, index);
+    match way {
+        Descent::At(leaf, rest, sum) => {
+            let k = leaf.0;
+            search_leaf(leaves, g, view, effect, k, index, rest, sum)
+        }
+        Descent::Nothing => Search::Nothing,
+        Descent::Broken => Search::Broken,
+    }
+}
