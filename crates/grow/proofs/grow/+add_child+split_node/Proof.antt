@@ -1,0 +1,628 @@
+-- `grow::grow::add_child` and `grow::grow::split_node`: each goes through its definition test by test; add_child is measured by one more
+-- than twice the levels left, split_node by twice that many. That the halves have room for a slot is `halves`, on any words.
+use mathlib.Core.Path.{refl, sym, ap, _∙_}
+use native.Mathlib.Omega.{arith}
+use lib.ListN.{length}
+use Rattle.model.specs.Node.{nodeOf}
+use Rattle.model.specs.Grow.{areas, linkHalf, aboveOf}
+use Rattle.laws.specs.AreaRead.{node-end}
+use Rattle.laws.specs.Grow.{split-bad, split-ok, above-none, above-more}
+use Rattle.grow.specs.Tops.{topOf}
+use Rattle.grow.proofs.Steps.{Stands, stands, add-missing, add-room, add-none, add-split, halves}
+use Prim.Native.Nat.{ℕ, _+_, _-_, _*_, _<_}
+use borrow.Author.Needs.{needs}
+use borrow.Fn.Kinds.{In}
+use borrow.Fn.PlainCycle.{Measures, is, falls, and}
+use Rattle.grow.proofs.grow.add_child.Reads as add-child
+use Rattle.grow.proofs.grow.add_child.Kinds as add-child-kinds
+use Rattle.grow.proofs.grow.+add_child+split_node.Lts-add_child as add-child-lts
+use Rattle.grow.proofs.grow.split_node.Reads as split-node
+use Rattle.grow.proofs.grow.split_node.Kinds as split-node-kinds
+use Rattle.grow.proofs.grow.+add_child+split_node.Lts-split_node as split-node-lts
+use Rattle.grow.proofs.grow.+add_child+split_node.{statement}
+use Rattle.grow.proofs.grow.+add_child+split_node.Tie.{close}
+
+abbrev μ-add-child : Measures 2 add-child-kinds.ps ℕ
+μ-add-child κs a = 2 * a .1 .1 .1 .1 .1 .1 .1 .1 .0 + 1
+
+abbrev μ-split-node : Measures 2 split-node-kinds.ps ℕ
+μ-split-node κs a = 2 * a .1 .1 .1 .1 .1 .1 .0
+
+abbrev add-child-at : ℕ → In 2 add-child-kinds.ps
+add-child-at t = and 2 add-child-kinds.ps (is 2 add-child-kinds.ps μ-add-child t) add-child.Pre
+
+abbrev add-child-below : ℕ → In 2 add-child-kinds.ps
+add-child-below t =
+    and 2 add-child-kinds.ps (falls 2 add-child-kinds.ps _<_ μ-add-child t) add-child.Pre
+
+abbrev split-node-at : ℕ → In 2 split-node-kinds.ps
+split-node-at t =
+    and 2 split-node-kinds.ps (is 2 split-node-kinds.ps μ-split-node t) split-node.Pre
+
+abbrev split-node-below : ℕ → In 2 split-node-kinds.ps
+split-node-below t =
+    and 2 split-node-kinds.ps (falls 2 split-node-kinds.ps _<_ μ-split-node t) split-node.Pre
+
+-- what is known once the place is found
+stood : (t : ℕ) (c : add-child-lts.After-known-told (
+  standing-reads.Asked,
+  standing-reads.Learnt,
+  word-reads.Asked,
+  word-reads.Learnt,
+  link-top-reads.Asked,
+  link-top-reads.Learnt,
+  split-node-below t,
+  split-node.Post,
+  link-half-reads.Asked,
+  link-half-reads.Learnt,
+) (add-child-at t) add-child.Post) → let a = c .before .before .before .before .before .before .before .before .before .args in
+    Stands (a .g) (a .t .inners) (a .level) (a .p .0) (a .after) (a .new) (areas (a .leaves .now) (a .inners .now)) (c .before .place .given .0 .0)
+stood t c = stands _ _ _ _ _ _ _ _ (sym (c .before .place .given .1) ∙ c .before .before .before .standing .ensures)
+
+add-child-standing-requires : (t : ℕ) → add-child-lts.Need-standing-requires (
+  standing-reads.Asked,
+  standing-reads.Learnt,
+  word-reads.Asked,
+  word-reads.Learnt,
+  link-top-reads.Asked,
+  link-top-reads.Learnt,
+  split-node-below t,
+  split-node.Post,
+  link-half-reads.Asked,
+  link-half-reads.Learnt,
+) (add-child-at t) add-child.Post
+add-child-standing-requires t c κs = (c .before .before .before .before .before .pre .1 .0, c .before .before .before .before .before .pre .1 .1)
+
+add-child-enum-known-place : (t : ℕ) → add-child-lts.Need-enum-known-place (
+  standing-reads.Asked,
+  standing-reads.Learnt,
+  word-reads.Asked,
+  word-reads.Learnt,
+  link-top-reads.Asked,
+  link-top-reads.Learnt,
+  split-node-below t,
+  split-node.Post,
+  link-half-reads.Asked,
+  link-half-reads.Learnt,
+) (add-child-at t) add-child.Post
+add-child-enum-known-place t c = search needs
+
+add-child-enum-told : (t : ℕ) → add-child-lts.Need-enum-told (
+  standing-reads.Asked,
+  standing-reads.Learnt,
+  word-reads.Asked,
+  word-reads.Learnt,
+  link-top-reads.Asked,
+  link-top-reads.Learnt,
+  split-node-below t,
+  split-node.Post,
+  link-half-reads.Asked,
+  link-half-reads.Learnt,
+) (add-child-at t) add-child.Post
+add-child-enum-told t c = search needs
+
+add-child-same-length : (t : ℕ) → add-child-lts.Need-same-length (
+  standing-reads.Asked,
+  standing-reads.Learnt,
+  word-reads.Asked,
+  word-reads.Learnt,
+  link-top-reads.Asked,
+  link-top-reads.Learnt,
+  split-node-below t,
+  split-node.Post,
+  link-half-reads.Asked,
+  link-half-reads.Learnt,
+) (add-child-at t) add-child.Post
+add-child-same-length t c = refl
+
+add-child-same-length-2 : (t : ℕ) → add-child-lts.Need-same-length-2 (
+  standing-reads.Asked,
+  standing-reads.Learnt,
+  word-reads.Asked,
+  word-reads.Learnt,
+  link-top-reads.Asked,
+  link-top-reads.Learnt,
+  split-node-below t,
+  split-node.Post,
+  link-half-reads.Asked,
+  link-half-reads.Learnt,
+) (add-child-at t) add-child.Post
+add-child-same-length-2 t c = refl
+
+add-child-returns : (t : ℕ) → add-child-lts.Need-returns (
+  standing-reads.Asked,
+  standing-reads.Learnt,
+  word-reads.Asked,
+  word-reads.Learnt,
+  link-top-reads.Asked,
+  link-top-reads.Learnt,
+  split-node-below t,
+  split-node.Post,
+  link-half-reads.Asked,
+  link-half-reads.Learnt,
+) (add-child-at t) add-child.Post
+add-child-returns t c = add-missing (c .before .before .before .before .before .before .before .before .args .g) (aboveOf (c .before .before .before .before .before .before .before .before .args .g) (c .before .before .before .before .before .before .before .before .args .left)) (topOf (c .before .before .before .before .before .before .before .before .args .t)) (c .before .before .before .before .before .before .before .before .args .level) (c .before .before .before .before .before .before .before .before .args .p .0) (c .before .before .before .before .before .before .before .before .args .after) (c .before .before .before .before .before .before .before .before .args .new) (areas (c .before .before .before .before .before .before .before .before .args .leaves .now) (c .before .before .before .before .before .before .before .before .args .inners .now)) (sym (c .enum-told .given .1) ∙ c .before .before .standing .ensures)
+
+add-child-cast-word : (t : ℕ) → add-child-lts.Need-cast-word (
+  standing-reads.Asked,
+  standing-reads.Learnt,
+  word-reads.Asked,
+  word-reads.Learnt,
+  link-top-reads.Asked,
+  link-top-reads.Learnt,
+  split-node-below t,
+  split-node.Post,
+  link-half-reads.Asked,
+  link-half-reads.Learnt,
+) (add-child-at t) add-child.Post
+add-child-cast-word t c = search needs
+
+add-child-word-requires : (t : ℕ) → add-child-lts.Need-word-requires (
+  standing-reads.Asked,
+  standing-reads.Learnt,
+  word-reads.Asked,
+  word-reads.Learnt,
+  link-top-reads.Asked,
+  link-top-reads.Learnt,
+  split-node-below t,
+  split-node.Post,
+  link-half-reads.Asked,
+  link-half-reads.Learnt,
+) (add-child-at t) add-child.Post
+add-child-word-requires t c κs = (omega (arith, c .before .before .before .before .before .before .before .before .before .before .before .pre .1 .0 .shaped .words), node-end (c .before .before .before .before .before .before .before .before .before .before .before .args .g) (c .before .before .before .before .before .before .before .before .before .before .before .args .p .0) (length (c .before .before .before .before .before .before .before .before .before .before .before .args .inners .now)) (omega (arith, stood t (c .before .before) .node, c .before .before .before .before .before .before .before .before .before .before .before .pre .1 .1)) (c .before .before .before .before .before .before .before .before .before .before .before .pre .1 .0 .inners))
+
+add-child-cast-len : (t : ℕ) → add-child-lts.Need-cast-len (
+  standing-reads.Asked,
+  standing-reads.Learnt,
+  word-reads.Asked,
+  word-reads.Learnt,
+  link-top-reads.Asked,
+  link-top-reads.Learnt,
+  split-node-below t,
+  split-node.Post,
+  link-half-reads.Asked,
+  link-half-reads.Learnt,
+) (add-child-at t) add-child.Post
+add-child-cast-len t c = search needs
+
+add-child-link-top-requires : (t : ℕ) → add-child-lts.Need-link-top-requires (
+  standing-reads.Asked,
+  standing-reads.Learnt,
+  word-reads.Asked,
+  word-reads.Learnt,
+  link-top-reads.Asked,
+  link-top-reads.Learnt,
+  split-node-below t,
+  split-node.Post,
+  link-half-reads.Asked,
+  link-half-reads.Learnt,
+) (add-child-at t) add-child.Post
+unfolding nodeOf
+add-child-link-top-requires t c κs = (c .before .before .before .before .before .before .before .before .before .before .before .before .before .before .before .pre .1 .0, omega (arith, stood t (c .before .before .before .before .before .before) .node, c .before .before .before .before .before .before .before .before .before .before .before .before .before .before .before .pre .1 .1), stood t (c .before .before .before .before .before .before) .fresh, record { place = stood t (c .before .before .before .before .before .before) .place; space = omega (arith, c .before .before .before .word .ensures, c .before .before .if1 .taken) })
+
+add-child-same-length-3 : (t : ℕ) → add-child-lts.Need-same-length-3 (
+  standing-reads.Asked,
+  standing-reads.Learnt,
+  word-reads.Asked,
+  word-reads.Learnt,
+  link-top-reads.Asked,
+  link-top-reads.Learnt,
+  split-node-below t,
+  split-node.Post,
+  link-half-reads.Asked,
+  link-half-reads.Learnt,
+) (add-child-at t) add-child.Post
+add-child-same-length-3 t c = c .before .before .before .before .link-top .kept .0
+
+add-child-same-length-4 : (t : ℕ) → add-child-lts.Need-same-length-4 (
+  standing-reads.Asked,
+  standing-reads.Learnt,
+  word-reads.Asked,
+  word-reads.Learnt,
+  link-top-reads.Asked,
+  link-top-reads.Learnt,
+  split-node-below t,
+  split-node.Post,
+  link-half-reads.Asked,
+  link-half-reads.Learnt,
+) (add-child-at t) add-child.Post
+add-child-same-length-4 t c = c .before .before .before .before .link-top .kept .1 .0
+
+add-child-returns-2 : (t : ℕ) → add-child-lts.Need-returns-2 (
+  standing-reads.Asked,
+  standing-reads.Learnt,
+  word-reads.Asked,
+  word-reads.Learnt,
+  link-top-reads.Asked,
+  link-top-reads.Learnt,
+  split-node-below t,
+  split-node.Post,
+  link-half-reads.Asked,
+  link-half-reads.Learnt,
+) (add-child-at t) add-child.Post
+add-child-returns-2 t c = c .before .before .before .before .link-top .ensures ∙ add-room (c .before .before .before .before .before .before .before .before .before .before .before .before .before .before .before .before .before .before .before .before .args .g) (aboveOf (c .before .before .before .before .before .before .before .before .before .before .before .before .before .before .before .before .before .before .before .before .args .g) (c .before .before .before .before .before .before .before .before .before .before .before .before .before .before .before .before .before .before .before .before .args .left)) (topOf (c .before .before .before .before .before .before .before .before .before .before .before .before .before .before .before .before .before .before .before .before .args .t)) (c .before .before .before .before .before .before .before .before .before .before .before .before .before .before .before .before .before .before .before .before .args .level) (c .before .before .before .before .before .before .before .before .before .before .before .before .before .before .before .before .before .before .before .before .args .p .0) (c .before .before .before .before .before .before .before .before .before .before .before .before .before .before .before .before .before .before .before .before .args .after) (c .before .before .before .before .before .before .before .before .before .before .before .before .before .before .before .before .before .before .before .before .args .new) (areas (c .before .before .before .before .before .before .before .before .before .before .before .before .before .before .before .before .before .before .before .before .args .leaves .now) (c .before .before .before .before .before .before .before .before .before .before .before .before .before .before .before .before .before .before .before .before .args .inners .now)) _ _ (sym (c .before .before .before .before .before .before .before .before .before .before .before .before .place .given .1) ∙ c .before .before .before .before .before .before .before .before .before .before .before .before .before .before .standing .ensures) (c .before .before .before .before .before .before .before .before .word .ensures) (c .before .before .before .before .before .before .before .if1 .taken)
+
+add-child-cast-if2 : (t : ℕ) → add-child-lts.Need-cast-if2 (
+  standing-reads.Asked,
+  standing-reads.Learnt,
+  word-reads.Asked,
+  word-reads.Learnt,
+  link-top-reads.Asked,
+  link-top-reads.Learnt,
+  split-node-below t,
+  split-node.Post,
+  link-half-reads.Asked,
+  link-half-reads.Learnt,
+) (add-child-at t) add-child.Post
+add-child-cast-if2 t c = search needs
+
+add-child-same-length-5 : (t : ℕ) → add-child-lts.Need-same-length-5 (
+  standing-reads.Asked,
+  standing-reads.Learnt,
+  word-reads.Asked,
+  word-reads.Learnt,
+  link-top-reads.Asked,
+  link-top-reads.Learnt,
+  split-node-below t,
+  split-node.Post,
+  link-half-reads.Asked,
+  link-half-reads.Learnt,
+) (add-child-at t) add-child.Post
+add-child-same-length-5 t c = refl
+
+add-child-same-length-6 : (t : ℕ) → add-child-lts.Need-same-length-6 (
+  standing-reads.Asked,
+  standing-reads.Learnt,
+  word-reads.Asked,
+  word-reads.Learnt,
+  link-top-reads.Asked,
+  link-top-reads.Learnt,
+  split-node-below t,
+  split-node.Post,
+  link-half-reads.Asked,
+  link-half-reads.Learnt,
+) (add-child-at t) add-child.Post
+add-child-same-length-6 t c = refl
+
+add-child-returns-3 : (t : ℕ) → add-child-lts.Need-returns-3 (
+  standing-reads.Asked,
+  standing-reads.Learnt,
+  word-reads.Asked,
+  word-reads.Learnt,
+  link-top-reads.Asked,
+  link-top-reads.Learnt,
+  split-node-below t,
+  split-node.Post,
+  link-half-reads.Asked,
+  link-half-reads.Learnt,
+) (add-child-at t) add-child.Post
+add-child-returns-3 t c = add-none (c .before .before .before .before .before .before .before .before .before .before .before .before .before .before .args .g) (aboveOf (c .before .before .before .before .before .before .before .before .before .before .before .before .before .before .args .g) (c .before .before .before .before .before .before .before .before .before .before .before .before .before .before .args .left)) (topOf (c .before .before .before .before .before .before .before .before .before .before .before .before .before .before .args .t)) (c .before .before .before .before .before .before .before .before .before .before .before .before .before .before .args .level) (c .before .before .before .before .before .before .before .before .before .before .before .before .before .before .args .p .0) (c .before .before .before .before .before .before .before .before .before .before .before .before .before .before .args .after) (c .before .before .before .before .before .before .before .before .before .before .before .before .before .before .args .new) (areas (c .before .before .before .before .before .before .before .before .before .before .before .before .before .before .args .leaves .now) (c .before .before .before .before .before .before .before .before .before .before .before .before .before .before .args .inners .now)) _ _ (sym (c .before .before .before .before .before .before .place .given .1) ∙ c .before .before .before .before .before .before .before .before .standing .ensures) (c .before .before .word .ensures) (c .before .if1 .left) (c .if2 .taken)
+
+add-child-split-node-requires : (t : ℕ) → add-child-lts.Need-split-node-requires (
+  standing-reads.Asked,
+  standing-reads.Learnt,
+  word-reads.Asked,
+  word-reads.Learnt,
+  link-top-reads.Asked,
+  link-top-reads.Learnt,
+  split-node-below t,
+  split-node.Post,
+  link-half-reads.Asked,
+  link-half-reads.Learnt,
+) (add-child-at t) add-child.Post
+add-child-split-node-requires t c κs = (omega (arith, c .before .before .before .before .before .before .before .before .before .before .before .before .before .before .before .before .pre .0), (c .before .before .before .before .before .before .before .before .before .before .before .before .before .before .before .before .pre .1 .0, stood t (c .before .before .before .before .before .before .before) .node, c .before .before .if2 .left, c .before .before .before .before .before .before .before .before .before .before .before .before .before .before .before .before .pre .1 .2))
+
+add-child-link-half-requires : (t : ℕ) → add-child-lts.Need-link-half-requires (
+  standing-reads.Asked,
+  standing-reads.Learnt,
+  word-reads.Asked,
+  word-reads.Learnt,
+  link-top-reads.Asked,
+  link-top-reads.Learnt,
+  split-node-below t,
+  split-node.Post,
+  link-half-reads.Asked,
+  link-half-reads.Learnt,
+) (add-child-at t) add-child.Post
+add-child-link-half-requires t c κs = let h = halves (c .before .before .before .before .before .before .before .before .before .before .before .before .before .before .before .before .before .before .before .before .before .before .before .args .g) (c .before .before .before .before .before .before .before .before .before .before .before .before .before .before .before .before .before .before .before .before .before .before .before .args .left) (topOf (c .before .before .before .before .before .before .before .before .before .before .before .before .before .before .before .before .before .before .before .before .before .before .before .args .t)) (c .before .before .before .before .before .before .before .before .before .before .before .before .before .before .before .before .before .before .before .before .before .before .before .args .level) (c .before .before .before .before .before .before .before .before .before .before .before .before .before .before .before .before .before .before .before .before .before .before .before .args .p .0) (c .before .before .before .before .before .before .before .before .before .before .before .before .before .before .before .place .given .0 .0) _ _ _ (c .before .before .before .before .before .before .before .before .before .before .before .before .before .before .before .before .before .before .before .before .before .before .before .pre .1 .0) (stood t (c .before .before .before .before .before .before .before .before .before .before .before .before .before .before) .node) (c .before .before .before .before .before .before .before .before .before .if2 .left) (omega (arith, stood t (c .before .before .before .before .before .before .before .before .before .before .before .before .before .before) .place, stood t (c .before .before .before .before .before .before .before .before .before .before .before .before .before .before) .full)) (c .before .before .before .before .before .before .split-node .ensures) in
+    (rw (c .before .before .before .before .before .before .split-node .kept .0, c .before .before .before .before .before .before .split-node .kept .1 .0) (c .before .before .before .before .before .before .before .before .before .before .before .before .before .before .before .before .before .before .before .before .before .before .before .pre .1 .0), omega (arith, stood t (c .before .before .before .before .before .before .before .before .before .before .before .before .before .before) .node, c .before .before .before .before .before .before .before .before .before .before .before .before .before .before .before .before .before .before .before .before .before .before .before .pre .1 .1), c .before .before .before .before .before .before .before .before .before .if2 .left, stood t (c .before .before .before .before .before .before .before .before .before .before .before .before .before .before) .fresh, h .0, h .1)
+
+add-child-same-length-7 : (t : ℕ) → add-child-lts.Need-same-length-7 (
+  standing-reads.Asked,
+  standing-reads.Learnt,
+  word-reads.Asked,
+  word-reads.Learnt,
+  link-top-reads.Asked,
+  link-top-reads.Learnt,
+  split-node-below t,
+  split-node.Post,
+  link-half-reads.Asked,
+  link-half-reads.Learnt,
+) (add-child-at t) add-child.Post
+add-child-same-length-7 t c = c .before .before .before .before .link-half .kept .0 ∙ c .before .before .before .before .before .before .before .before .before .before .before .split-node .kept .0
+
+add-child-same-length-8 : (t : ℕ) → add-child-lts.Need-same-length-8 (
+  standing-reads.Asked,
+  standing-reads.Learnt,
+  word-reads.Asked,
+  word-reads.Learnt,
+  link-top-reads.Asked,
+  link-top-reads.Learnt,
+  split-node-below t,
+  split-node.Post,
+  link-half-reads.Asked,
+  link-half-reads.Learnt,
+) (add-child-at t) add-child.Post
+add-child-same-length-8 t c = c .before .before .before .before .link-half .kept .1 .0 ∙ c .before .before .before .before .before .before .before .before .before .before .before .split-node .kept .1 .0
+
+add-child-returns-4 : (t : ℕ) → add-child-lts.Need-returns-4 (
+  standing-reads.Asked,
+  standing-reads.Learnt,
+  word-reads.Asked,
+  word-reads.Learnt,
+  link-top-reads.Asked,
+  link-top-reads.Learnt,
+  split-node-below t,
+  split-node.Post,
+  link-half-reads.Asked,
+  link-half-reads.Learnt,
+) (add-child-at t) add-child.Post
+add-child-returns-4 t c = c .before .before .before .before .link-half .ensures ∙ ap (linkHalf (c .before .before .before .before .before .before .before .before .before .before .before .before .before .before .before .before .before .before .before .before .before .before .before .before .before .before .before .before .args .g) (c .before .before .before .before .before .before .before .before .before .before .before .before .before .before .before .before .before .before .before .before .before .before .before .before .before .before .before .before .args .level) (c .before .before .before .before .before .before .before .before .before .before .before .before .before .before .before .before .before .before .before .before .before .before .before .before .before .before .before .before .args .p .0) (c .before .before .before .before .before .before .before .before .before .before .before .before .before .before .before .before .before .before .before .before .before .before .before .before .before .before .before .before .args .t .inners) _ (c .before .before .before .before .before .before .before .before .before .before .before .before .before .before .before .before .before .before .before .before .before .before .before .before .before .before .before .before .args .new)) (c .before .before .before .before .before .before .before .before .before .before .before .split-node .ensures) ∙ add-split (c .before .before .before .before .before .before .before .before .before .before .before .before .before .before .before .before .before .before .before .before .before .before .before .before .before .before .before .before .args .g) (aboveOf (c .before .before .before .before .before .before .before .before .before .before .before .before .before .before .before .before .before .before .before .before .before .before .before .before .before .before .before .before .args .g) (c .before .before .before .before .before .before .before .before .before .before .before .before .before .before .before .before .before .before .before .before .before .before .before .before .before .before .before .before .args .left)) (topOf (c .before .before .before .before .before .before .before .before .before .before .before .before .before .before .before .before .before .before .before .before .before .before .before .before .before .before .before .before .args .t)) (c .before .before .before .before .before .before .before .before .before .before .before .before .before .before .before .before .before .before .before .before .before .before .before .before .before .before .before .before .args .level) (c .before .before .before .before .before .before .before .before .before .before .before .before .before .before .before .before .before .before .before .before .before .before .before .before .before .before .before .before .args .p .0) (c .before .before .before .before .before .before .before .before .before .before .before .before .before .before .before .before .before .before .before .before .before .before .before .before .before .before .before .before .args .after) (c .before .before .before .before .before .before .before .before .before .before .before .before .before .before .before .before .before .before .before .before .before .before .before .before .before .before .before .before .args .new) (areas (c .before .before .before .before .before .before .before .before .before .before .before .before .before .before .before .before .before .before .before .before .before .before .before .before .before .before .before .before .args .leaves .now) (c .before .before .before .before .before .before .before .before .before .before .before .before .before .before .before .before .before .before .before .before .before .before .before .before .before .before .before .before .args .inners .now)) _ _ (sym (c .before .before .before .before .before .before .before .before .before .before .before .before .before .before .before .before .before .before .before .before .place .given .1) ∙ c .before .before .before .before .before .before .before .before .before .before .before .before .before .before .before .before .before .before .before .before .before .before .standing .ensures) (c .before .before .before .before .before .before .before .before .before .before .before .before .before .before .before .before .word .ensures) (c .before .before .before .before .before .before .before .before .before .before .before .before .before .before .before .if1 .left) (c .before .before .before .before .before .before .before .before .before .before .before .before .before .before .if2 .left)
+
+split-node-add-next : (t : ℕ) → split-node-lts.Need-add-next (
+  divide-reads.Asked,
+  divide-reads.Learnt,
+  grow-root-reads.Asked,
+  grow-root-reads.Learnt,
+  word-reads.Asked,
+  word-reads.Learnt,
+  add-child-below t,
+  add-child.Post,
+) (split-node-at t) split-node.Post
+split-node-add-next t c = omega (arith, c .before .before .before .pre .1 .2, c .before .before .before .pre .1 .0 .shaped .areas)
+
+split-node-divide-requires : (t : ℕ) → split-node-lts.Need-divide-requires (
+  divide-reads.Asked,
+  divide-reads.Learnt,
+  grow-root-reads.Asked,
+  grow-root-reads.Learnt,
+  word-reads.Asked,
+  word-reads.Learnt,
+  add-child-below t,
+  add-child.Post,
+) (split-node-at t) split-node.Post
+split-node-divide-requires t c κs = (c .before .before .before .before .before .pre .1 .0, c .before .before .before .before .before .pre .1 .1, c .before .before .before .before .before .pre .1 .2)
+
+split-node-same-length : (t : ℕ) → split-node-lts.Need-same-length (
+  divide-reads.Asked,
+  divide-reads.Learnt,
+  grow-root-reads.Asked,
+  grow-root-reads.Learnt,
+  word-reads.Asked,
+  word-reads.Learnt,
+  add-child-below t,
+  add-child.Post,
+) (split-node-at t) split-node.Post
+split-node-same-length t c = c .before .before .before .before .before .divide .kept .0
+
+split-node-same-length-2 : (t : ℕ) → split-node-lts.Need-same-length-2 (
+  divide-reads.Asked,
+  divide-reads.Learnt,
+  grow-root-reads.Asked,
+  grow-root-reads.Learnt,
+  word-reads.Asked,
+  word-reads.Learnt,
+  add-child-below t,
+  add-child.Post,
+) (split-node-at t) split-node.Post
+split-node-same-length-2 t c = c .before .before .before .before .before .divide .kept .1 .0
+
+split-node-returns : (t : ℕ) → split-node-lts.Need-returns (
+  divide-reads.Asked,
+  divide-reads.Learnt,
+  grow-root-reads.Asked,
+  grow-root-reads.Learnt,
+  word-reads.Asked,
+  word-reads.Learnt,
+  add-child-below t,
+  add-child.Post,
+) (split-node-at t) split-node.Post
+split-node-returns t c = split-bad (c .before .before .before .before .before .before .before .before .before .before .before .args .g) (aboveOf (c .before .before .before .before .before .before .before .before .before .before .before .args .g) (c .before .before .before .before .before .before .before .before .before .before .before .args .left)) (topOf (c .before .before .before .before .before .before .before .before .before .before .before .args .t)) (c .before .before .before .before .before .before .before .before .before .before .before .args .level) (c .before .before .before .before .before .before .before .before .before .before .before .args .k .0) (areas (c .before .before .before .before .before .before .before .before .before .before .before .args .leaves .now) (c .before .before .before .before .before .before .before .before .before .before .before .args .inners .now)) _ _ (c .before .before .before .before .before .divide .ensures) (c .if1 .taken)
+
+split-node-grow-root-requires : (t : ℕ) → split-node-lts.Need-grow-root-requires (
+  divide-reads.Asked,
+  divide-reads.Learnt,
+  grow-root-reads.Asked,
+  grow-root-reads.Learnt,
+  word-reads.Asked,
+  word-reads.Learnt,
+  add-child-below t,
+  add-child.Post,
+) (split-node-at t) split-node.Post
+split-node-grow-root-requires t c κs = (rw (c .before .before .before .before .before .before .before .before .divide .kept .0, c .before .before .before .before .before .before .before .before .divide .kept .1 .0) (c .before .before .before .before .before .before .before .before .before .before .before .before .before .before .pre .1 .0), omega (arith, c .before .before .before .before .before .before .before .before .before .before .before .before .before .before .pre .1 .1, c .before .before .before .before .before .before .before .before .before .before .before .before .before .before .pre .1 .2), c .before .before .before .before .before .before .before .before .before .before .before .before .before .before .pre .1 .2, c .before .before .before .before .before .before .before .before .before .before .before .before .before .before .pre .1 .3)
+
+split-node-same-length-3 : (t : ℕ) → split-node-lts.Need-same-length-3 (
+  divide-reads.Asked,
+  divide-reads.Learnt,
+  grow-root-reads.Asked,
+  grow-root-reads.Learnt,
+  word-reads.Asked,
+  word-reads.Learnt,
+  add-child-below t,
+  add-child.Post,
+) (split-node-at t) split-node.Post
+split-node-same-length-3 t c = c .before .before .before .before .grow-root .kept .0 ∙ c .before .before .before .before .before .before .before .before .before .before .before .before .before .divide .kept .0
+
+split-node-same-length-4 : (t : ℕ) → split-node-lts.Need-same-length-4 (
+  divide-reads.Asked,
+  divide-reads.Learnt,
+  grow-root-reads.Asked,
+  grow-root-reads.Learnt,
+  word-reads.Asked,
+  word-reads.Learnt,
+  add-child-below t,
+  add-child.Post,
+) (split-node-at t) split-node.Post
+split-node-same-length-4 t c = c .before .before .before .before .grow-root .kept .1 .0 ∙ c .before .before .before .before .before .before .before .before .before .before .before .before .before .divide .kept .1 .0
+
+split-node-returns-2 : (t : ℕ) → split-node-lts.Need-returns-2 (
+  divide-reads.Asked,
+  divide-reads.Learnt,
+  grow-root-reads.Asked,
+  grow-root-reads.Learnt,
+  word-reads.Asked,
+  word-reads.Learnt,
+  add-child-below t,
+  add-child.Post,
+) (split-node-at t) split-node.Post
+split-node-returns-2 t c = c .before .before .before .before .grow-root .ensures ∙ above-none (c .before .before .before .before .before .before .before .before .before .before .before .before .before .before .before .before .before .before .before .args .g) _ _ _ _ (c .before .before .before .before .before .before .before .before .before .before .before .before .before .before .before .before .before .before .before .args .left) (c .before .before .before .before .before .before .before .if2 .taken) ∙ split-ok (c .before .before .before .before .before .before .before .before .before .before .before .before .before .before .before .before .before .before .before .args .g) (aboveOf (c .before .before .before .before .before .before .before .before .before .before .before .before .before .before .before .before .before .before .before .args .g) (c .before .before .before .before .before .before .before .before .before .before .before .before .before .before .before .before .before .before .before .args .left)) (topOf (c .before .before .before .before .before .before .before .before .before .before .before .before .before .before .before .before .before .before .before .args .t)) (c .before .before .before .before .before .before .before .before .before .before .before .before .before .before .before .before .before .before .before .args .level) (c .before .before .before .before .before .before .before .before .before .before .before .before .before .before .before .before .before .before .before .args .k .0) (areas (c .before .before .before .before .before .before .before .before .before .before .before .before .before .before .before .before .before .before .before .args .leaves .now) (c .before .before .before .before .before .before .before .before .before .before .before .before .before .before .before .before .before .before .before .args .inners .now)) _ _ (c .before .before .before .before .before .before .before .before .before .before .before .before .before .divide .ensures) (c .before .before .before .before .before .before .before .before .if1 .left)
+
+split-node-cast-word : (t : ℕ) → split-node-lts.Need-cast-word (
+  divide-reads.Asked,
+  divide-reads.Learnt,
+  grow-root-reads.Asked,
+  grow-root-reads.Learnt,
+  word-reads.Asked,
+  word-reads.Learnt,
+  add-child-below t,
+  add-child.Post,
+) (split-node-at t) split-node.Post
+split-node-cast-word t c = search needs
+
+split-node-word-requires : (t : ℕ) → split-node-lts.Need-word-requires (
+  divide-reads.Asked,
+  divide-reads.Learnt,
+  grow-root-reads.Asked,
+  grow-root-reads.Learnt,
+  word-reads.Asked,
+  word-reads.Learnt,
+  add-child-below t,
+  add-child.Post,
+) (split-node-at t) split-node.Post
+split-node-word-requires t c κs = (omega (arith, c .before .before .before .before .before .before .before .before .before .before .before .before .before .before .pre .1 .0 .shaped .words), rw (c .before .before .before .before .before .before .before .before .divide .kept .1 .0) (node-end (c .before .before .before .before .before .before .before .before .before .before .before .before .before .before .args .g) (c .before .before .before .before .before .before .before .before .before .before .before .before .before .before .args .k .0) (length (c .before .before .before .before .before .before .before .before .before .before .before .before .before .before .args .inners .now)) (omega (arith, c .before .before .before .before .before .before .before .before .before .before .before .before .before .before .pre .1 .1, c .before .before .before .before .before .before .before .before .before .before .before .before .before .before .pre .1 .2)) (c .before .before .before .before .before .before .before .before .before .before .before .before .before .before .pre .1 .0 .inners)))
+
+split-node-sub-add-child : (t : ℕ) → split-node-lts.Need-sub-add-child (
+  divide-reads.Asked,
+  divide-reads.Learnt,
+  grow-root-reads.Asked,
+  grow-root-reads.Learnt,
+  word-reads.Asked,
+  word-reads.Learnt,
+  add-child-below t,
+  add-child.Post,
+) (split-node-at t) split-node.Post
+split-node-sub-add-child t c = omega (arith, c .before .before .before .before .before .if2 .left)
+
+split-node-add-child-requires : (t : ℕ) → split-node-lts.Need-add-child-requires (
+  divide-reads.Asked,
+  divide-reads.Learnt,
+  grow-root-reads.Asked,
+  grow-root-reads.Learnt,
+  word-reads.Asked,
+  word-reads.Learnt,
+  add-child-below t,
+  add-child.Post,
+) (split-node-at t) split-node.Post
+split-node-add-child-requires t c κs = (omega (arith, c .before .before .before .before .before .before .before .before .before .before .before .before .before .before .before .before .before .pre .0, c .before .before .before .before .before .if2 .left), (rw (c .before .before .before .before .before .before .before .before .before .before .before .divide .kept .0, c .before .before .before .before .before .before .before .before .before .before .before .divide .kept .1 .0) (c .before .before .before .before .before .before .before .before .before .before .before .before .before .before .before .before .before .pre .1 .0), omega (arith, c .before .before .before .before .before .before .before .before .before .before .before .before .before .before .before .before .before .pre .1 .2), c .before .before .before .before .before .before .before .before .before .before .before .before .before .before .before .before .before .pre .1 .3))
+
+split-node-same-length-5 : (t : ℕ) → split-node-lts.Need-same-length-5 (
+  divide-reads.Asked,
+  divide-reads.Learnt,
+  grow-root-reads.Asked,
+  grow-root-reads.Learnt,
+  word-reads.Asked,
+  word-reads.Learnt,
+  add-child-below t,
+  add-child.Post,
+) (split-node-at t) split-node.Post
+split-node-same-length-5 t c = c .before .before .before .before .add-child .kept .0 ∙ c .before .before .before .before .before .before .before .before .before .before .before .before .before .before .before .before .divide .kept .0
+
+split-node-same-length-6 : (t : ℕ) → split-node-lts.Need-same-length-6 (
+  divide-reads.Asked,
+  divide-reads.Learnt,
+  grow-root-reads.Asked,
+  grow-root-reads.Learnt,
+  word-reads.Asked,
+  word-reads.Learnt,
+  add-child-below t,
+  add-child.Post,
+) (split-node-at t) split-node.Post
+split-node-same-length-6 t c = c .before .before .before .before .add-child .kept .1 .0 ∙ c .before .before .before .before .before .before .before .before .before .before .before .before .before .before .before .before .divide .kept .1 .0
+
+split-node-returns-3 : (t : ℕ) → split-node-lts.Need-returns-3 (
+  divide-reads.Asked,
+  divide-reads.Learnt,
+  grow-root-reads.Asked,
+  grow-root-reads.Learnt,
+  word-reads.Asked,
+  word-reads.Learnt,
+  add-child-below t,
+  add-child.Post,
+) (split-node-at t) split-node.Post
+split-node-returns-3 t c = c .before .before .before .before .add-child .ensures ∙ above-more (c .before .before .before .before .before .before .before .before .before .before .before .before .before .before .before .before .before .before .before .before .before .before .args .g) _ _ _ _ (c .before .before .before .before .before .before .before .before .before .before .before .before .before .before .before .before .before .before .before .before .before .before .args .left) _ (c .before .before .before .before .before .before .before .before .before .before .if2 .left) (c .before .before .before .before .before .before .before .word .ensures) ∙ split-ok (c .before .before .before .before .before .before .before .before .before .before .before .before .before .before .before .before .before .before .before .before .before .before .args .g) (aboveOf (c .before .before .before .before .before .before .before .before .before .before .before .before .before .before .before .before .before .before .before .before .before .before .args .g) (c .before .before .before .before .before .before .before .before .before .before .before .before .before .before .before .before .before .before .before .before .before .before .args .left)) (topOf (c .before .before .before .before .before .before .before .before .before .before .before .before .before .before .before .before .before .before .before .before .before .before .args .t)) (c .before .before .before .before .before .before .before .before .before .before .before .before .before .before .before .before .before .before .before .before .before .before .args .level) (c .before .before .before .before .before .before .before .before .before .before .before .before .before .before .before .before .before .before .before .before .before .before .args .k .0) (areas (c .before .before .before .before .before .before .before .before .before .before .before .before .before .before .before .before .before .before .before .before .before .before .args .leaves .now) (c .before .before .before .before .before .before .before .before .before .before .before .before .before .before .before .before .before .before .before .before .before .before .args .inners .now)) _ _ (c .before .before .before .before .before .before .before .before .before .before .before .before .before .before .before .before .divide .ensures) (c .before .before .before .before .before .before .before .before .before .before .before .if1 .left)
+
+pub +add-child+split-node-spec : {M : Type 1} → statement M
++add-child+split-node-spec = close μ-add-child μ-split-node (λ t. add-child-lts.spec (
+  standing-reads.Asked,
+  standing-reads.Learnt,
+  word-reads.Asked,
+  word-reads.Learnt,
+  link-top-reads.Asked,
+  link-top-reads.Learnt,
+  split-node-below t,
+  split-node.Post,
+  link-half-reads.Asked,
+  link-half-reads.Learnt,
+)
+    (add-child-at t)
+    add-child.Post
+    (add-child-standing-requires t)
+    (add-child-enum-known-place t)
+    (add-child-enum-told t)
+    (add-child-same-length t)
+    (add-child-same-length-2 t)
+    (add-child-returns t)
+    (add-child-cast-word t)
+    (add-child-word-requires t)
+    (add-child-cast-len t)
+    (add-child-link-top-requires t)
+    (add-child-same-length-3 t)
+    (add-child-same-length-4 t)
+    (add-child-returns-2 t)
+    (add-child-cast-if2 t)
+    (add-child-same-length-5 t)
+    (add-child-same-length-6 t)
+    (add-child-returns-3 t)
+    (add-child-split-node-requires t)
+    (add-child-link-half-requires t)
+    (add-child-same-length-7 t)
+    (add-child-same-length-8 t)
+    (add-child-returns-4 t))
+    λ t. split-node-lts.spec (
+      divide-reads.Asked,
+      divide-reads.Learnt,
+      grow-root-reads.Asked,
+      grow-root-reads.Learnt,
+      word-reads.Asked,
+      word-reads.Learnt,
+      add-child-below t,
+      add-child.Post,
+    )
+    (split-node-at t)
+    split-node.Post
+    (split-node-add-next t)
+    (split-node-divide-requires t)
+    (split-node-same-length t)
+    (split-node-same-length-2 t)
+    (split-node-returns t)
+    (split-node-grow-root-requires t)
+    (split-node-same-length-3 t)
+    (split-node-same-length-4 t)
+    (split-node-returns-2 t)
+    (split-node-cast-word t)
+    (split-node-word-requires t)
+    (split-node-sub-add-child t)
+    (split-node-add-child-requires t)
+    (split-node-same-length-5 t)
+    (split-node-same-length-6 t)
+    (split-node-returns-3 t)

@@ -1,0 +1,58 @@
+-- `grow::grow::standing`: the tests are those of the definition, each before what it allows to be read.
+use Prim.Native.Nat.{_-_}
+use native.Mathlib.Omega.{arith}
+use lib.ListN.{length}
+use Rattle.laws.specs.AreaRead.{node-end}
+use Rattle.grow.proofs.Steps.{no-node, no-after, no-new, no-place, too-long, stands-at}
+use borrow.Author.Needs.{needs}
+use Rattle.grow.proofs.grow.standing.Statement.{statement}
+use Rattle.grow.proofs.grow.standing.Tie as tie
+
+returns : tie.Need-returns
+returns c = no-node _ _ _ _ _ _ _ (c .if1 .taken)
+
+returns-2 : tie.Need-returns-2
+returns-2 c = no-after _ _ _ _ _ _ _ (c .before .if1 .left) (c .if2 .taken)
+
+returns-3 : tie.Need-returns-3
+returns-3 c = no-new _ _ _ _ _ _ _ (c .before .before .if1 .left) (c .before .if2 .left) (c .if3 .taken)
+
+word-of-requires : tie.Need-word-of-requires
+word-of-requires c κs = search needs
+
+cast-i : tie.Need-cast-i
+cast-i c = search needs
+
+cast-word : tie.Need-cast-word
+cast-word c = search needs
+
+word-requires : tie.Need-word-requires
+word-requires c κs = (omega (arith, c .before .before .before .before .before .before .pre .0 .shaped .words), node-end (c .before .before .before .before .before .before .args .g) (c .before .before .before .before .before .before .args .p .0) (length (c .before .before .before .before .before .before .args .inners .now)) (omega (arith, c .before .before .before .if1 .left, c .before .before .before .before .before .before .pre .1)) (c .before .before .before .before .before .before .pre .0 .inners))
+
+cast-len : tie.Need-cast-len
+cast-len c = search needs
+
+returns-4 : tie.Need-returns-4
+returns-4 c = no-place _ _ _ _ _ _ _ _ _ (c .before .before .word-of .ensures) (c .before .word .ensures) (c .before .before .before .before .before .if1 .left) (c .before .before .before .before .if2 .left) (c .before .before .before .if3 .left) (c .if4 .taken)
+
+returns-5 : tie.Need-returns-5
+returns-5 c = too-long _ _ _ _ _ _ _ _ _ (c .before .before .before .word-of .ensures) (c .before .before .word .ensures) (c .before .before .before .before .before .before .if1 .left) (c .before .before .before .before .before .if2 .left) (c .before .before .before .before .if3 .left) (c .before .if4 .left) (c .if5 .taken)
+
+returns-6 : tie.Need-returns-6
+returns-6 c = stands-at _ _ _ _ _ _ _ _ _ (c .before .before .before .word-of .ensures) (c .before .before .word .ensures) (c .before .before .before .before .before .before .if1 .left) (c .before .before .before .before .before .if2 .left) (c .before .before .before .before .if3 .left) (c .before .if4 .left) (c .if5 .left)
+
+pub standing-spec : {M : Type 1} → statement M
+standing-spec =
+    tie.close
+    (tie.spec
+    returns
+    returns-2
+    returns-3
+    word-of-requires
+    cast-i
+    cast-word
+    word-requires
+    cast-len
+    returns-4
+    returns-5
+    returns-6)

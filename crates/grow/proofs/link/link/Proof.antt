@@ -1,0 +1,86 @@
+-- `grow::link::link`: the slot is summed up from the new node, put in, and every child from it on learns its place.
+use Prim.Native.Nat.{_-_}
+use mathlib.Core.List.{[], _∷_}
+use native.Mathlib.Omega.{arith}
+use lib.ListN.{length}
+use Rattle.model.specs.Node.{nodeOf}
+use Rattle.laws.specs.AreaRead.{node-end}
+use Rattle.laws.specs.Fronts.{front-in, front-back, front-again}
+use Rattle.laws.specs.Grow.{link-as}
+use borrow.Author.Needs.{needs}
+use Rattle.grow.proofs.link.link.Statement.{statement}
+use Rattle.grow.proofs.link.link.Tie as tie
+
+cast-k : tie.Need-cast-k
+cast-k c = search needs
+
+word-requires : tie.Need-word-requires
+word-requires c κs = (omega (arith, c .before .before .before .before .pre .0 .shaped .words), node-end (c .before .before .before .before .args .g) (c .before .before .before .before .args .p .0) (length (c .before .before .before .before .args .inners .now)) (c .before .before .before .before .pre .1) (c .before .before .before .before .pre .0 .inners))
+
+cast-len : tie.Need-cast-len
+cast-len c = search needs
+
+sub-slot-of : tie.Need-sub-slot-of
+sub-slot-of c = search needs
+
+part-x-start : tie.Need-part-x-start
+part-x-start c = search needs
+
+part-x-end : tie.Need-part-x-end
+part-x-end c = search needs
+
+slot-of-requires : tie.Need-slot-of-requires
+slot-of-requires c κs = search needs
+
+sub-hang : tie.Need-sub-hang
+sub-hang c = search needs
+
+part-hang-start : tie.Need-part-hang-start
+part-hang-start c = search needs
+
+part-hang-end : tie.Need-part-hang-end
+part-hang-end c = front-in (c .before .before .before .before .before .before .before .before .before .before .before .before .args .g .stride) (c .before .before .before .slot-of .last .1 .1 .1 .1 .1 .0) _ (0 ∷ 0 ∷ 0 ∷ 0 ∷ []) (c .before .before .before .slot-of .kept .1 .1 .1 .1 .1 .0) (c .before .before .before .before .before .before .before .before .before .before .before .before .pre .0 .shaped .narrow)
+
+hang-requires : tie.Need-hang-requires
+hang-requires c κs = (c .before .before .before .before .before .before .before .before .before .before .before .before .before .pre .0 .shaped, c .before .before .before .before .before .before .before .before .before .before .before .before .before .pre .1, c .before .before .before .before .before .before .before .before .before .before .before .before .before .pre .0 .inners, c .before .before .before .before .before .before .before .before .before .before .before .before .before .pre .3, front-again (c .before .before .before .before .before .before .before .before .before .before .before .before .before .args .g .stride) (c .before .before .before .before .slot-of .last .1 .1 .1 .1 .1 .0) _ (0 ∷ 0 ∷ 0 ∷ 0 ∷ []) (c .before .before .before .before .slot-of .kept .1 .1 .1 .1 .1 .0) (c .before .before .before .before .before .before .before .before .before .before .before .before .before .pre .0 .shaped .narrow))
+
+add-adopt-all : tie.Need-add-adopt-all
+add-adopt-all c = search needs
+
+add-adopt-all-2 : tie.Need-add-adopt-all-2
+add-adopt-all-2 c = search needs
+
+adopt-all-requires : tie.Need-adopt-all-requires
+unfolding nodeOf
+adopt-all-requires c κs = (rw (c .before .before .before .before .hang .kept .0) (c .before .before .before .before .before .before .before .before .before .before .before .before .before .before .before .before .before .before .pre .0), c .before .before .before .before .before .before .before .before .before .before .before .before .before .before .before .before .before .before .pre .1, omega (arith, c .before .before .before .before .before .before .before .before .before .before .before .before .before .word .ensures, c .before .before .before .before .before .before .before .before .before .before .before .before .before .before .before .before .before .before .pre .3 .space))
+
+same-length : tie.Need-same-length
+same-length c = search needs
+
+same-length-2 : tie.Need-same-length-2
+same-length-2 c = search needs
+
+returns : tie.Need-returns
+returns c = link-as _ _ _ _ _ _ _ _ (c .before .before .before .before .before .before .before .before .before .before .before .before .before .before .slot-of .last .1 .1 .1 .1 .1 .0) _ _ _ (c .before .before .before .before .before .before .before .before .before .before .before .before .before .before .before .before .before .before .word .ensures) (c .before .before .before .before .before .before .before .before .before .before .before .before .before .before .slot-of .ensures) (front-back (c .before .before .before .before .before .before .before .before .before .before .before .before .before .before .before .before .before .before .before .before .before .before .before .args .g .stride) (c .before .before .before .before .before .before .before .before .before .before .before .before .before .before .slot-of .last .1 .1 .1 .1 .1 .0) _ (0 ∷ 0 ∷ 0 ∷ 0 ∷ []) (c .before .before .before .before .before .before .before .before .before .before .before .before .before .before .slot-of .kept .1 .1 .1 .1 .1 .0) (c .before .before .before .before .before .before .before .before .before .before .before .before .before .before .before .before .before .before .before .before .before .before .before .pre .0 .shaped .narrow)) (c .before .before .before .before .before .before .before .before .before .hang .ensures) (c .before .before .before .before .adopt-all .ensures)
+
+pub link-spec : {M : Type 1} → statement M
+link-spec =
+    tie.close
+    (tie.spec
+    cast-k
+    word-requires
+    cast-len
+    sub-slot-of
+    part-x-start
+    part-x-end
+    slot-of-requires
+    sub-hang
+    part-hang-start
+    part-hang-end
+    hang-requires
+    add-adopt-all
+    add-adopt-all-2
+    adopt-all-requires
+    same-length
+    same-length-2
+    returns)

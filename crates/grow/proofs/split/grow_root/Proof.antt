@@ -1,0 +1,107 @@
+-- `grow::split::grow_root`: the next unused number is the root's, its slots are summed up from both nodes, and these learn it.
+use Prim.Native.Nat.{_-_}
+use mathlib.Core.List.{[], _∷_}
+use native.Mathlib.Omega.{arith}
+use Rattle.laws.specs.Fronts.{front-in, front-back, front-again}
+use Rattle.laws.specs.Grow.{root-none, root-as}
+use Rattle.grow.specs.Tops.{topOf}
+use borrow.Author.Needs.{needs}
+use Rattle.grow.proofs.split.grow_root.Statement.{statement}
+use Rattle.grow.proofs.split.grow_root.Tie as tie
+
+cast-if1 : tie.Need-cast-if1
+cast-if1 c = search needs
+
+returns : tie.Need-returns
+returns c = root-none (c .before .before .before .before .args .g) (topOf (c .before .before .before .before .args .t)) (c .before .before .before .before .args .k .0) (c .before .before .before .before .args .m .0) _ _ (c .if1 .taken)
+
+sub-sum-node : tie.Need-sub-sum-node
+sub-sum-node c = search needs
+
+part-x-start : tie.Need-part-x-start
+part-x-start c = search needs
+
+part-x-end : tie.Need-part-x-end
+part-x-end c = search needs
+
+sum-node-requires : tie.Need-sum-node-requires
+sum-node-requires c κs = search needs
+
+sub-sum-node-2 : tie.Need-sub-sum-node-2
+sub-sum-node-2 c = search needs
+
+part-y-start : tie.Need-part-y-start
+part-y-start c = search needs
+
+part-y-end : tie.Need-part-y-end
+part-y-end c = search needs
+
+sum-node-requires-2 : tie.Need-sum-node-requires-2
+sum-node-requires-2 c κs = search needs
+
+sub-crown : tie.Need-sub-crown
+sub-crown c = search needs
+
+part-crown-start : tie.Need-part-crown-start
+part-crown-start c = search needs
+
+part-crown-end : tie.Need-part-crown-end
+part-crown-end c = front-in (c .before .before .before .before .before .before .before .before .before .before .before .before .before .before .args .g .stride) (c .before .before .before .before .before .before .before .sum-node .last .1 .1 .1 .0) _ (0 ∷ 0 ∷ 0 ∷ 0 ∷ []) (c .before .before .before .before .before .before .before .sum-node .kept .1 .1 .1 .0) (c .before .before .before .before .before .before .before .before .before .before .before .before .before .before .pre .0 .shaped .narrow)
+
+sub-crown-2 : tie.Need-sub-crown-2
+sub-crown-2 c = search needs
+
+part-crown-start-2 : tie.Need-part-crown-start-2
+part-crown-start-2 c = search needs
+
+part-crown-end-2 : tie.Need-part-crown-end-2
+part-crown-end-2 c = front-in (c .before .before .before .before .before .before .before .before .before .before .before .before .before .before .before .before .args .g .stride) (c .before .before .before .before .before .sum-node2 .last .1 .1 .1 .0) _ (0 ∷ 0 ∷ 0 ∷ 0 ∷ []) (c .before .before .before .before .before .sum-node2 .kept .1 .1 .1 .0) (c .before .before .before .before .before .before .before .before .before .before .before .before .before .before .before .before .pre .0 .shaped .narrow)
+
+crown-requires : tie.Need-crown-requires
+crown-requires c κs = (c .before .before .before .before .before .before .before .before .before .before .before .before .before .before .before .before .before .pre .0 .shaped, c .before .before .before .before .before .before .before .before .before .before .before .before .before .if1 .left, c .before .before .before .before .before .before .before .before .before .before .before .before .before .before .before .before .before .pre .0 .inners, front-again (c .before .before .before .before .before .before .before .before .before .before .before .before .before .before .before .before .before .args .g .stride) (c .before .before .before .before .before .before .before .before .before .before .sum-node .last .1 .1 .1 .0) _ (0 ∷ 0 ∷ 0 ∷ 0 ∷ []) (c .before .before .before .before .before .before .before .before .before .before .sum-node .kept .1 .1 .1 .0) (c .before .before .before .before .before .before .before .before .before .before .before .before .before .before .before .before .before .pre .0 .shaped .narrow), front-again (c .before .before .before .before .before .before .before .before .before .before .before .before .before .before .before .before .before .args .g .stride) (c .before .before .before .before .before .before .sum-node2 .last .1 .1 .1 .0) _ (0 ∷ 0 ∷ 0 ∷ 0 ∷ []) (c .before .before .before .before .before .before .sum-node2 .kept .1 .1 .1 .0) (c .before .before .before .before .before .before .before .before .before .before .before .before .before .before .before .before .before .pre .0 .shaped .narrow))
+
+adopt-all-requires : tie.Need-adopt-all-requires
+adopt-all-requires c κs = (rw (c .before .before .before .before .crown .kept .0) (c .before .before .before .before .before .before .before .before .before .before .before .before .before .before .before .before .before .before .before .before .before .before .pre .0), c .before .before .before .before .before .before .before .before .before .before .before .before .before .before .before .before .before .before .if1 .left, omega (arith, c .before .before .before .before .before .before .before .before .before .before .before .before .before .before .before .before .before .before .before .before .before .before .pre .0 .shaped .slots))
+
+add-t46 : tie.Need-add-t46
+add-t46 c = search needs
+
+add-t47 : tie.Need-add-t47
+add-t47 c = search needs
+
+same-length : tie.Need-same-length
+same-length c = search needs
+
+same-length-2 : tie.Need-same-length-2
+same-length-2 c = search needs
+
+returns-2 : tie.Need-returns-2
+returns-2 c = root-as (c .before .before .before .before .before .before .before .before .before .before .before .before .before .before .before .before .before .before .before .before .before .before .before .before .before .before .before .args .g) (topOf (c .before .before .before .before .before .before .before .before .before .before .before .before .before .before .before .before .before .before .before .before .before .before .before .before .before .before .before .args .t)) (c .before .before .before .before .before .before .before .before .before .before .before .before .before .before .before .before .before .before .before .before .before .before .before .before .before .before .before .args .k .0) (c .before .before .before .before .before .before .before .before .before .before .before .before .before .before .before .before .before .before .before .before .before .before .before .before .before .before .before .args .m .0) _ _ (c .before .before .before .before .before .before .before .before .before .before .before .before .before .before .before .before .before .before .before .before .sum-node .last .1 .1 .1 .0) (c .before .before .before .before .before .before .before .before .before .before .before .before .before .before .before .before .sum-node2 .last .1 .1 .1 .0) _ _ _ _ _ (c .before .before .before .before .before .before .before .before .before .before .before .before .before .before .before .before .before .before .before .before .before .before .before .if1 .left) (c .before .before .before .before .before .before .before .before .before .before .before .before .before .before .before .before .before .before .before .before .sum-node .ensures) (c .before .before .before .before .before .before .before .before .before .before .before .before .before .before .before .before .sum-node2 .ensures) (front-back (c .before .before .before .before .before .before .before .before .before .before .before .before .before .before .before .before .before .before .before .before .before .before .before .before .before .before .before .args .g .stride) (c .before .before .before .before .before .before .before .before .before .before .before .before .before .before .before .before .before .before .before .before .sum-node .last .1 .1 .1 .0) _ (0 ∷ 0 ∷ 0 ∷ 0 ∷ []) (c .before .before .before .before .before .before .before .before .before .before .before .before .before .before .before .before .before .before .before .before .sum-node .kept .1 .1 .1 .0) (c .before .before .before .before .before .before .before .before .before .before .before .before .before .before .before .before .before .before .before .before .before .before .before .before .before .before .before .pre .0 .shaped .narrow)) (front-back (c .before .before .before .before .before .before .before .before .before .before .before .before .before .before .before .before .before .before .before .before .before .before .before .before .before .before .before .args .g .stride) (c .before .before .before .before .before .before .before .before .before .before .before .before .before .before .before .before .sum-node2 .last .1 .1 .1 .0) _ (0 ∷ 0 ∷ 0 ∷ 0 ∷ []) (c .before .before .before .before .before .before .before .before .before .before .before .before .before .before .before .before .sum-node2 .kept .1 .1 .1 .0) (c .before .before .before .before .before .before .before .before .before .before .before .before .before .before .before .before .before .before .before .before .before .before .before .before .before .before .before .pre .0 .shaped .narrow)) (c .before .before .before .before .before .before .before .before .before .crown .ensures) (c .before .before .before .before .adopt-all .ensures)
+
+pub grow-root-spec : {M : Type 1} → statement M
+grow-root-spec =
+    tie.close
+    (tie.spec
+    cast-if1
+    returns
+    sub-sum-node
+    part-x-start
+    part-x-end
+    sum-node-requires
+    sub-sum-node-2
+    part-y-start
+    part-y-end
+    sum-node-requires-2
+    sub-crown
+    part-crown-start
+    part-crown-end
+    sub-crown-2
+    part-crown-start-2
+    part-crown-end-2
+    crown-requires
+    adopt-all-requires
+    add-t46
+    add-t47
+    same-length
+    same-length-2
+    returns-2)
