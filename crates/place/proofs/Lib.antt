@@ -1,0 +1,4 @@
+pub mod HomeLaws
+pub mod EntryLaws
+pub mod SizeLaws
+pub mod RoomLaws

@@ -1,0 +1,51 @@
+// Other lengths for an entry, and their way up.
+use crate::change::with_finger;
+use area::word::at_of;
+use area::word::parent_of;
+use area::word::start_in;
+use area::write::set_lengths;
+use model::head::Head;
+use model::node::Shape;
+use model::walk::Sum;
+use walk::climb::climb_up;
+use walk::finger::changing;
+ghost use mathlib.Core.Path.{_≡_};
+ghost use mathlib.Core.List.{List};
+ghost use Prim.Native.Nat.{ℕ, _+_, _<_, _≤_};
+ghost use lib.ListN.{length};
+ghost use Rattle.model.specs.Node.{start};
+ghost use Rattle.model.specs.State.{state, nodeAt};
+ghost use Rattle.model.specs.Climb.{climbUp};
+ghost use Rattle.model.specs.Place.{change, replace};
+ghost use Rattle.area.specs.Area.{Area};
+
+// Other lengths in slot i of leaf k; the head as it is then.
+pub fn replace(head: Head, leaves: &mut [u32], g: Shape, k: u32, i: u32, ls: &[u32]) -> Head
+    requires { ⌜ Area g (length (now leaves)) × (k < g .nodes) × (i < g .fan) × (length (now ls) + 1 ≡ g .stride) ⌝ }
+    ensures { λ r. ⌜ ((xs hs : List ℕ) → change 0 (state r (now (leaves .exit)) xs hs) k i ≡ replace g (state head (now (leaves .entry)) xs hs) k i (now (ls .entry))) ⌝ }
+{
+    set_lengths(leaves, g, k, i as usize, ls);
+    let finger = head.finger;
+    let moved = changing(finger, k, i);
+    with_finger(moved, head)
+}
+
+// delta goes into every slot above leaf k, and the effect lengths before slot i of it are summed up.
+pub fn climb(
+    leaves: &[u32],
+    inners: &mut [u32],
+    g: Shape,
+    effect: usize,
+    delta: &[u32],
+    levels: u32,
+    k: u32,
+    i: u32,
+) -> Sum
+    requires { ⌜ Area g (length (now leaves)) × Area g (length (now inners)) × (effect + 1 < g .stride) × (length (now delta) + 1 ≡ g .stride) × (levels ≤ 15) × (k < g .nodes) × (i < g .fan) ⌝ }
+    ensures { λ r. ⌜ (r, now (inners .exit)) ≡ climbUp g effect (now (delta .entry)) levels (nodeAt g k (now (leaves .entry)) .parent) (nodeAt g k (now (leaves .entry)) .at) (start effect i (nodeAt g k (now (leaves .entry)))) (now (inners .entry)) ⌝ }
+{
+    let sum = start_in(leaves, g, effect, k, i);
+    let parent = parent_of(leaves, g, k);
+    let at = at_of(leaves, g, k);
+    climb_up(inners, g, effect, delta, levels, parent, at, sum)
+}
