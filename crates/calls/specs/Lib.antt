@@ -1,0 +1,4 @@
+pub mod Open
+pub mod Ready
+pub mod Read
+pub mod Lookup

@@ -1,0 +1,15 @@
+-- Parts of the calls that read one entry. Assumes nothing.
+use mathlib.Core.Bool.{cond}
+use mathlib.Core.List.{List}
+use Prim.Native.Nat.{ℕ}
+use lib.Dec.{leb}
+use Rattle.model.specs.Node.{used, indexFrom}
+use Rattle.model.specs.State.{nodeAt}
+use Rattle.model.specs.Calls.{standingIn}
+use Rattle.model.specs.declared.node.Shape.{Shape}
+use Rattle.model.specs.declared.answer.Standing.{Standing}
+use Rattle.model.specs.declared.answer.Standing.the-variants as standing
+
+-- the cursor of the entry i, where leaf k holds it
+unfoldable pub cursorIn : Shape → List ℕ → ℕ → ℕ → ℕ → Standing
+cursorIn g ls k i stamp = let m = nodeAt g k ls in cond (leb (m .len) (g .fan)) (standingIn stamp k (indexFrom i 0 (used m))) (standing.Refused 9)
