@@ -19,6 +19,12 @@ use Rattle.grow.proofs.grow.+add_child+split_node.Lts-add_child as add-
 use Rattle.grow.proofs.grow.split_node.Reads as split-node
 use Rattle.grow.proofs.grow.split_node.Kinds as split-node-kinds
 use Rattle.grow.proofs.grow.+add_child+split_node.Lts-split_node as split-node-lts
+use Rattle.grow.proofs.grow.link_half.Reads as link-half-reads
+use Rattle.grow.proofs.grow.link_top.Reads as link-top-reads
+use Rattle.grow.proofs.grow.standing.Reads as standing-reads
+use Rattle.grow.proofs.parts.word.Reads as word-reads
+use Rattle.grow.proofs.split.divide.Reads as divide-reads
+use Rattle.grow.proofs.split.grow_root.Reads as grow-root-reads
 use Rattle.grow.proofs.grow.+add_child+split_node.{statement}
 use Rattle.grow.proofs.grow.+add_child+split_node.Tie.{close}
 

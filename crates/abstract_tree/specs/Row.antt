@@ -1,0 +1,53 @@
+-- The plain row at a place: what `before`, `from` and `found` give where an entry is known to stand.
+use mathlib.Core.Path.{_≡_, refl, ap}
+use mathlib.Core.Logic.{_≢_}
+use mathlib.Core.List.{List, [], _∷_, _++_}
+use Prim.Native.Nat.{ℕ, _+_, _-_, _≤_, _<_}
+use native.Mathlib.Omega.{arith}
+use borrow.Author.Tests.{eq-eqb, ne-eqb, lt-ltb, le-ltb, le-leb}
+use Rattle.model.specs.Lists.{sumBy, All}
+use Rattle.model.specs.Row.{Entry, before, from, found, lengthIn, total, effect, done, refused}
+
+abbrev pub Without : ℕ → List Entry → Type 0
+Without i l = All (λ x. x .id ≢ i) l
+
+module _ (i : ℕ) where
+  pub before-at : (l : List Entry) (e : Entry) (m : List Entry) → Without i l → e .id ≡ i → before i (l ++ e ∷ m) ≡ l
+  unfolding before All
+  before-at [] e m w q = rw (eq-eqb (e .id) i q)
+  before-at (x ∷ l) e m w q = rw (ne-eqb (x .id) i (w .0)) (ap {B = List Entry} (λ k. x ∷ k) (before-at l e m (w .1) q))
+
+  pub from-at : (l : List Entry) (e : Entry) (m : List Entry) → Without i l → e .id ≡ i → from i (l ++ e ∷ m) ≡ e ∷ m
+  unfolding from All
+  from-at [] e m w q = rw (eq-eqb (e .id) i q)
+  from-at (x ∷ l) e m w q = rw (ne-eqb (x .id) i (w .0)) (from-at l e m (w .1) q)
+
+  -- where no entry has that id
+  pub before-end : (l : List Entry) → Without i l → before i l ≡ l
+  unfolding before All
+  before-end [] w = refl
+  before-end (x ∷ l) w = rw (ne-eqb (x .id) i (w .0)) (ap {B = List Entry} (λ k. x ∷ k) (before-end l (w .1)))
+
+  pub from-end : (l : List Entry) → Without i l → from i l ≡ []
+  unfolding from All
+  from-end [] w = refl
+  from-end (x ∷ l) w = rw (ne-eqb (x .id) i (w .0)) (from-end l (w .1))
+
+module _ (v index : ℕ) where
+  -- the entry that holds the index
+  pub found-at : (s f : ℕ) (l : List Entry) (e : Entry) (m : List Entry) (offset : ℕ) → s + total v l + offset ≡ index → offset < lengthIn v e
+      → found v index s f (l ++ e ∷ m) ≡ done (e .id ∷ offset ∷ (f + total effect l) ∷ [])
+  unfolding found sumBy
+  found-at s f [] e m offset q lt =
+      let a : index - s ≡ offset = omega arith in
+      let b : f ≡ f + 0 = omega arith in
+      rw (le-leb s index (omega arith), lt-ltb index (s + lengthIn v e) (omega arith), a, ← b)
+  found-at s f (x ∷ l) e m offset q lt =
+      let a : f + lengthIn effect x + sumBy (lengthIn effect) l ≡ f + (lengthIn effect x + sumBy (lengthIn effect) l) = omega arith in
+      rw (le-leb s index (omega arith), le-ltb index (s + lengthIn v x) (omega arith), ← a) (found-at (s + lengthIn v x) (f + lengthIn effect x) l e m offset (omega arith) lt)
+
+  -- no entry holds it
+  pub found-past : (s f : ℕ) (l : List Entry) → s + total v l ≤ index → found v index s f l ≡ refused 5
+  unfolding found sumBy
+  found-past s f [] h = refl
+  found-past s f (x ∷ l) h = rw (le-leb s index (omega arith), le-ltb index (s + lengthIn v x) (omega arith)) (found-past (s + lengthIn v x) (f + lengthIn effect x) l (omega arith))

@@ -1,0 +1,98 @@
+-- How deep a node stands, as audit counts it and as the abstract tree does; small facts for both directions of audit's theorem.
+use mathlib.Core.Path.{_≡_, sym, ap, _∙_}
+use mathlib.Core.Logic.{_≢_}
+use mathlib.Core.List.{List, [], _∷_, map}
+use Prim.Native.Nat.{ℕ, zero, suc, _+_, _≤_, _<_}
+use native.Mathlib.Decide.{ℕ-discrete, decLt}
+use native.Mathlib.Omega.{arith}
+use lib.ListN.{length, getD}
+use borrow.Author.Tests.{eq-eqb, ne-eqb, lt-ltb, le-ltb}
+use Rattle.model.specs.Lists.{All, range}
+use Rattle.model.specs.Node.{none, child, indexFrom}
+use Rattle.model.specs.State.{State}
+use Rattle.model.specs.Sound.{innerIn}
+use Rattle.model.specs.Audit.{depth}
+use Rattle.model.specs.declared.node.Place.the-variants as slot
+use Rattle.abstract_tree.specs.Levels.{Slot, Area}
+use Rattle.abstract_tree.specs.Apart.{dep, dep-none, dep-step}
+use Rattle.abstract_tree.specs.Cursor.{indexOf}
+use Rattle.theory.specs.Tree.{slotOf, treeOf}
+
+module _ (t : State) where
+  abbrev up : Area
+  up = treeOf 3 t .body .inner
+
+  -- one link of audit's climb
+  depth-none : (n k : ℕ) → k ≡ none → depth t n k ≡ 0
+  unfolding depth
+  depth-none zero k e = rw (eq-eqb k none e)
+  depth-none (suc n) k e = rw (eq-eqb k none e)
+
+  depth-more : (n k : ℕ) → k ≢ none → k < t .head .inners → depth t (suc n) k ≡ suc (depth t n (innerIn 3 t k .parent))
+  unfolding depth
+  depth-more n k ne lt = rw (ne-eqb k none ne, lt-ltb k (t .head .inners) lt)
+
+  depth-out : (n k : ℕ) → k ≢ none → t .head .inners ≤ k → depth t (suc n) k ≡ suc (suc n)
+  unfolding depth
+  depth-out n k ne ge = rw (ne-eqb k none ne, le-ltb k (t .head .inners) ge)
+
+  depth-zero : (k : ℕ) → k ≢ none → depth t 0 k ≡ 1
+  unfolding depth
+  depth-zero k ne = rw (ne-eqb k none ne)
+
+  -- a climb that ended in time
+  pub depth-dep : (n k : ℕ) → depth t n k ≤ n → (K : ℕ) → n ≤ K → dep (treeOf 3 t .body .inner) K k ≡ depth t n k
+  depth-dep zero k h K le = elim (ℕ-discrete k none) [
+    | yes e ↦ ap (dep (treeOf 3 t .body .inner) K) e ∙ dep-none (treeOf 3 t .body .inner) K ∙ sym (depth-none zero k e)
+    | no ne ↦ absurd (let z = depth-zero k ne in omega arith)
+  ]
+  depth-dep (suc n) k h zero le = absurd (omega arith)
+  depth-dep (suc n) k h (suc K) le = elim (ℕ-discrete k none) [
+    | yes e ↦ ap (dep (treeOf 3 t .body .inner) (suc K)) e ∙ dep-none (treeOf 3 t .body .inner) (suc K) ∙ sym (depth-none (suc n) k e)
+    | no ne ↦ elim (decLt k (t .head .inners)) [
+      | yes lt ↦ (let z = depth-more n k ne lt in dep-step (treeOf 3 t .body .inner) K k ne ∙ ap suc (depth-dep n (innerIn 3 t k .parent) (omega arith) K (omega arith)) ∙ sym z)
+      | no ge ↦ absurd (let z = depth-out n k ne (omega arith) in omega arith)
+    ]
+  ]
+
+  -- and back, where every link but the root's leads to a node in use
+  module _ (root : ℕ) (few : t .head .inners ≤ none) (top : innerIn 3 t root .parent ≡ none) (links : (k : ℕ) → k < t .head .inners → k ≢ root → innerIn 3 t k .parent < t .head .inners) where
+    pub dep-depth : (n K k : ℕ) → n < K → k < t .head .inners → dep (treeOf 3 t .body .inner) K k ≤ n → depth t n k ≡ dep (treeOf 3 t .body .inner) K k
+    dep-depth n zero k lt lk h = absurd (omega arith)
+    dep-depth zero (suc K) k lt lk h = absurd (let z = dep-step (treeOf 3 t .body .inner) K k (λ e. omega arith) in omega arith)
+    dep-depth (suc n) (suc K) k lt lk h =
+        let st : dep (treeOf 3 t .body .inner) (suc K) k ≡ suc (dep (treeOf 3 t .body .inner) K (innerIn 3 t k .parent)) = dep-step (treeOf 3 t .body .inner) K k (λ e. omega arith) in
+        depth-more n k (λ e. omega arith) lk
+        ∙ ap suc (elim (ℕ-discrete k root) [
+          | yes e ↦ (let q : innerIn 3 t k .parent ≡ none = ap (λ (j : ℕ). innerIn 3 t j .parent) e ∙ top in depth-none n (innerIn 3 t k .parent) q ∙ sym (ap (dep (treeOf 3 t .body .inner) K) q ∙ dep-none (treeOf 3 t .body .inner) K))
+          | no ne ↦ dep-depth n K (innerIn 3 t k .parent) (omega arith) (links k lk ne) (omega arith)
+        ])
+        ∙ sym st
+
+-- the first slot with a child, back from its place
+pub index-back : (c k j : ℕ) (xs : List (List ℕ)) → indexFrom c k xs ≡ slot.Slot j → k + indexOf c (map slotOf xs) ≡ j
+unfolding indexFrom
+index-back c k j [] e = absurd (let z : _≡_ {A = ℕ} 0 1 = cc in omega arith)
+index-back c k j (x ∷ xs) e = elim (ℕ-discrete (child x) c) [
+  | yes q ↦ (let z : indexOf c (map slotOf (x ∷ xs)) ≡ 0 = rw (eq-eqb (child x) c q, indexOf) in
+      let y : slot.Slot k ≡ slot.Slot j = rw (eq-eqb (child x) c q) at e in
+      let u : k ≡ j = slot-inj k j y in omega arith)
+  | no ne ↦ (let z : indexOf c (map slotOf (x ∷ xs)) ≡ suc (indexOf c (map slotOf xs)) = rw (ne-eqb (child x) c ne, indexOf) in
+      let y : indexFrom c (k + 1) xs ≡ slot.Slot j = rw (ne-eqb (child x) c ne) at e in
+      let u = index-back c (k + 1) j xs y in omega arith)
+]
+  where
+    slot-inj : (a b : ℕ) → slot.Slot a ≡ slot.Slot b → a ≡ b
+    slot-inj a b q = cc
+
+-- numbers of a range
+pub range-below : (i n m : ℕ) → i + n ≤ m → All (λ k. k < m) (range i n)
+unfolding All range
+range-below i zero m h = tt
+range-below i (suc n) m h = (omega arith, range-below (suc i) n m (omega arith))
+
+-- a property of the children in some slots, place by place
+pub all-kids : (Q : ℕ → Type 0) (xs : List (List ℕ)) → ((j : ℕ) → j < length xs → Q (child (getD xs j []))) → All Q (map (λ (x : Slot). x .child) (map slotOf xs))
+unfolding All
+all-kids Q [] h = tt
+all-kids Q (x ∷ xs) h = (h 0 (omega arith), all-kids Q xs (λ j lt. h (suc j) (omega arith)))

@@ -1,0 +1,78 @@
+-- The premises of the theorems are met: a make of fan 4 and limit 5 that isn't refused, a list of calls in words with every kind in it,
+-- and two lists alike but for lookups.
+use mathlib.Core.Path.{_≡_, refl}
+use mathlib.Core.Bool.{true}
+use mathlib.Core.List.{List, [], _∷_}
+use Prim.Native.Nat.{ℕ}
+use native.Mathlib.Omega.{arith}
+use lib.ListN.{replicate}
+use Rattle.model.specs.Lists.{All, refusal}
+use Rattle.model.specs.Node as node
+use Rattle.model.specs.State.{State}
+use Rattle.model.specs.Row as row
+use Rattle.model.specs.Row.{Call, noEntry, madeRow, rowStep}
+use Rattle.model.specs.ById.{treeStep}
+use Rattle.model.specs.Sound.{Sound}
+use Rattle.model.specs.Calls.{make}
+use Rattle.model.specs.Audit.{audit}
+use Rattle.model.specs.declared.length.View.the-variants as view
+use Rattle.model.specs.declared.length.Lengths.{Lengths}
+use Rattle.model.specs.declared.answer.Outcome.the-variants as outcome
+use Rattle.model.specs.declared.answer.Verdict.the-variants as verdict
+use Rattle.theory.specs.Make.{Words}
+use Rattle.theory.specs.Step.{InWords}
+use Rattle.theory.specs.Whole.{answers, finally, others, otherAnswers, whole, alike}
+use Rattle.theory.specs.Audited.{audit-exactly}
+
+abbrev pair : ℕ → ℕ → Lengths
+pair p e = record { prepare = p; effect = e }
+
+abbrev areaWords : List ℕ
+areaWords = replicate 30 7
+
+abbrev start : State
+start = make 4 5 (pair 3 3) areaWords areaWords (replicate 5 7) .after
+
+made : make 4 5 (pair 3 3) areaWords areaWords (replicate 5 7) .answer ≡ outcome.Done
+unfolding make refusal
+made = refl
+
+first-words : Words (pair 3 3)
+first-words = record { prepare = omega arith; effect = omega arith }
+
+-- every kind of call
+abbrev calls : List Call
+calls = row.insert noEntry (pair 2 0) ∷ row.add 0 (pair 0 5) ∷ row.split true 0 (pair 1 1) ∷ row.setLengths 1 (pair 4 0) ∷ row.update 1 (pair 2 0) ∷ row.lookup view.Prepare 3
+    ∷ row.rank view.Effect 1 ∷ row.next 1 ∷ row.compare 0 1 ∷ row.lengths 0 ∷ row.count ∷ row.first ∷ row.malformed ∷ row.reset (pair 1 1) ∷ []
+
+-- the same, looked up elsewhere
+abbrev calls′ : List Call
+calls′ = row.lookup view.Effect 9 ∷ row.insert noEntry (pair 2 0) ∷ row.add 0 (pair 0 5) ∷ row.split true 0 (pair 1 1) ∷ row.setLengths 1 (pair 4 0) ∷ row.update 1 (pair 2 0)
+    ∷ row.rank view.Effect 1 ∷ row.next 1 ∷ row.compare 0 1 ∷ row.lengths 0 ∷ row.count ∷ row.first ∷ row.malformed ∷ row.reset (pair 1 1) ∷ []
+
+in-words : All InWords calls
+unfolding All
+in-words = omega arith
+
+in-words′ : All InWords calls′
+unfolding All
+in-words′ = omega arith
+
+-- both lists get the row's answers, and their other calls the same ones
+pub answered : answers treeStep start calls ≡ answers rowStep (madeRow 5 (pair 3 3)) calls
+answered = whole 4 5 (pair 3 3) areaWords areaWords (replicate 5 7) first-words made calls in-words .0
+
+same-others : others calls ≡ others calls′
+unfolding others
+same-others = refl
+
+pub answered-alike : otherAnswers treeStep start calls ≡ otherAnswers treeStep start calls′
+answered-alike = alike 4 5 (pair 3 3) areaWords areaWords (replicate 5 7) first-words made calls calls′ in-words in-words′ same-others
+
+-- the tree that make leaves is sound, and audit says so
+pub sound-start : Sound start
+unfolding finally All
+sound-start = whole 4 5 (pair 3 3) areaWords areaWords (replicate 5 7) first-words made [] tt .1 .sound
+
+pub audited-start : audit start ≡ verdict.Yes
+audited-start = audit-exactly start .1 sound-start

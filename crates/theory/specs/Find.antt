@@ -1,0 +1,182 @@
+-- `find` in a node, and the search from the root down to the leaf that holds an index.
+use mathlib.Core.Path.{_≡_, refl, sym, ap, ap₂, _∙_, subst}
+use mathlib.Core.Bool.{Bool, true, false, cond, _&&_}
+use mathlib.Core.List.{List, [], _∷_, _++_, map, append-assoc}
+use Prim.Native.Nat.{ℕ, zero, suc, _+_, _-_, _≤_, _<_}
+use native.Mathlib.Nat.{not-suc-le-zero, zero-add}
+use native.Mathlib.Decide.{decLt}
+use native.Mathlib.Omega.{arith}
+use lib.Dec.{ltb, leb}
+use lib.ListN.{length, getD, length-append}
+use lib.Seq.{getD-append-seam}
+use borrow.Author.Tests.{lt-ltb, le-ltb, le-leb}
+use Rattle.model.specs.Lists.{All, sumBy}
+use Rattle.model.specs.Node as node
+use Rattle.model.specs.Node.{Node, child, lengthIn, used, findFrom}
+use Rattle.model.specs.State.{State, nodeAt}
+use Rattle.model.specs.Climb.{leafNo}
+use Rattle.model.specs.Locate.{into, descend}
+use Rattle.model.specs.Sound.{shapeIn, innerIn}
+use Rattle.model.specs.declared.node.Shape.{Shape}
+use Rattle.model.specs.declared.node.Found.{Found}
+use Rattle.model.specs.declared.node.Found.the-variants.{At, Nothing}
+use Rattle.model.specs.declared.number.LeafNo.{LeafNo}
+use Rattle.model.specs.declared.walk.Descent.{Descent}
+use Rattle.model.specs.declared.walk.Descent.the-variants as descent
+use Rattle.abstract_tree.specs.Lists.{cat, cat-append, map-append, MapAt, map-split, All-right}
+use Rattle.abstract_tree.specs.Levels.{Area, Mark, marks, marks-append, told, said, Links, total, len, wtOf}
+use Rattle.abstract_tree.specs.Rank.{level-sum, front-sum}
+use Rattle.theory.specs.Tidy.{len-used, slot-used}
+use Rattle.theory.specs.Tree.{slotOf, areaOf, sum-slots}
+use Rattle.theory.specs.Neat.{Neat}
+
+-- the slot that holds position x of view v, among slots counted from k before which s stands in view e
+pub record Hit (v e k x s : ℕ) (xs : List (List ℕ)) : Type 0 where
+  pub front : List (List ℕ)
+  pub here : List ℕ
+  pub behind : List (List ℕ)
+  pub offset : ℕ
+  pub row : xs ≡ front ++ here ∷ behind
+  pub got : findFrom v e k x s xs ≡ At (k + length front) offset (s + node.total e front)
+  pub sums : node.total v front + offset ≡ x
+  pub inside : offset < lengthIn v here
+
+pub find-hit : (v e k x s : ℕ) (xs : List (List ℕ)) → x < node.total v xs → Hit v e k x s xs
+unfolding findFrom sumBy
+find-hit v e k x s [] h = absurd (not-suc-le-zero h)
+find-hit v e k x s (y ∷ xs) h = elim (decLt x (lengthIn v y)) [
+  | yes lt ↦ record {
+    front = [];
+    here = y;
+    behind = xs;
+    offset = x;
+    row = refl;
+    got = rw (lt-ltb x (lengthIn v y) lt) (ap₂ (λ (a b : ℕ). At a x b) (let z : k ≡ k + 0 = omega arith in z) (let z : s ≡ s + 0 = omega arith in z));
+    sums = zero-add x;
+    inside = lt;
+  }
+  | no ge ↦ more (omega arith) (find-hit v e (k + 1) (x - lengthIn v y) (s + lengthIn e y) xs (omega arith))
+]
+  where
+    more : lengthIn v y ≤ x → Hit v e (k + 1) (x - lengthIn v y) (s + lengthIn e y) xs → Hit v e k x s (y ∷ xs)
+    more le q = record {
+      front = y ∷ q .front;
+      here = q .here;
+      behind = q .behind;
+      offset = q .offset;
+      row = ap {B = List (List ℕ)} (λ l. y ∷ l) (q .row);
+      got = rw (le-ltb x (lengthIn v y) le) (q .got ∙ ap₂ (λ (a b : ℕ). At a (q .offset) b) (let z : k + 1 + length (q .front) ≡ k + suc (length (q .front)) = omega arith in z)
+          (let z : s + lengthIn e y + node.total e (q .front) ≡ s + (lengthIn e y + node.total e (q .front)) = omega arith in z));
+      sums = omega (arith, q .sums);
+      inside = q .inside;
+    }
+
+pub find-miss : (v e k x s : ℕ) (xs : List (List ℕ)) → node.total v xs ≤ x → findFrom v e k x s xs ≡ Nothing
+unfolding findFrom sumBy
+find-miss v e k x s [] h = refl
+find-miss v e k x s (y ∷ xs) h = rw (le-ltb x (lengthIn v y) (omega arith)) (find-miss v e (k + 1) (x - lengthIn v y) (s + lengthIn e y) xs (omega arith))
+
+-- one step more of a descent that has come to node c
+module _ (v e : ℕ) (g : Shape) (xs : List ℕ) (c r a j o b : ℕ)
+    (here : (ltb c (g .nodes) && leb (nodeAt g c xs .len) (g .fan)) ≡ true) (found : findFrom v e 0 r a (used (nodeAt g c xs)) ≡ At j o b) where
+  pub descend-more : (miss : Descent) → ((k : ℕ) (x y : ℕ) → miss ≡ descent.At (leafNo k) x y → ⊥) → (n k rest s : ℕ) → descend v e g miss n k rest s xs ≡ descent.At (leafNo c) r a
+      → descend v e g miss (suc n) k rest s xs ≡ descent.At (leafNo (child (getD (nodeAt g c xs .slots) j []))) o b
+  unfolding descend
+  descend-more miss never-at zero k rest s q =
+      let ek : k ≡ c = leaf-inj q in
+      let er : rest ≡ r = rest-inj q in
+      let es : s ≡ a = sum-inj q in
+      rw (ek, er, es, here, found)
+    where
+      leaf-inj : descent.At (leafNo k) rest s ≡ descent.At (leafNo c) r a → k ≡ c
+      leaf-inj q = let z : leafNo k ≡ leafNo c = cc in ap (λ (x : LeafNo). x .0) z
+
+      rest-inj : descent.At (leafNo k) rest s ≡ descent.At (leafNo c) r a → rest ≡ r
+      rest-inj q = cc
+
+      sum-inj : descent.At (leafNo k) rest s ≡ descent.At (leafNo c) r a → s ≡ a
+      sum-inj q = cc
+  descend-more miss never-at (suc n) k rest s q =
+      go (ltb k (g .nodes) && leb (nodeAt g k xs .len) (g .fan)) refl (findFrom v e 0 rest s (used (nodeAt g k xs))) refl q
+      (λ k′ rest′ s′. descend-more descent.Broken (λ k x y z. never k x y z) n k′ rest′ s′)
+    where
+      never : (k x y : ℕ) → descent.Broken ≡ descent.At (leafNo k) x y → ⊥
+      never k x y z = let u : _≡_ {A = ℕ} 0 1 = cc in omega arith
+
+      go : (t : Bool) → (ltb k (g .nodes) && leb (nodeAt g k xs .len) (g .fan)) ≡ t → (f : Found) → findFrom v e 0 rest s (used (nodeAt g k xs)) ≡ f
+          → cond (ltb k (g .nodes) && leb (nodeAt g k xs .len) (g .fan)) (into (λ c r t. descend v e g descent.Broken n c r t xs) miss (nodeAt g k xs) (findFrom v e 0 rest s (used (nodeAt g k xs)))) descent.Broken ≡ descent.At (leafNo c) r a
+          → ((k′ rest′ s′ : ℕ) → descend v e g descent.Broken n k′ rest′ s′ xs ≡ descent.At (leafNo c) r a → descend v e g descent.Broken (suc n) k′ rest′ s′ xs ≡ descent.At (leafNo (child (getD (nodeAt g c xs .slots) j []))) o b)
+          → cond (ltb k (g .nodes) && leb (nodeAt g k xs .len) (g .fan)) (into (λ c r t. descend v e g descent.Broken (suc n) c r t xs) miss (nodeAt g k xs) (findFrom v e 0 rest s (used (nodeAt g k xs)))) descent.Broken ≡ descent.At (leafNo (child (getD (nodeAt g c xs .slots) j []))) o b
+      go true p (At i u z) f q ih = rw (p, f) (ih (child (getD (nodeAt g k xs .slots) i [])) u z (rw (p, f) at q))
+      go true p Nothing f q ih = absurd (never-at c r a (rw (p, f) at q))
+      go false p f _ q ih = absurd (never c r a (rw p at q))
+
+-- the node of a level at which a search from the root arrives
+pub record Arrived (s : ℕ) (t : State) (v e : ℕ) (u : ℕ → ℕ → ℕ) (root : ℕ) (C : List ℕ) (d x : ℕ) : Type 0 where
+  pub A : List ℕ
+  pub c : ℕ
+  pub B : List ℕ
+  pub r : ℕ
+  pub a : ℕ
+  pub row : C ≡ A ++ c ∷ B
+  pub got : descend v e (shapeIn s t) descent.Nothing d root x 0 (t .inners) ≡ descent.At (leafNo c) r a
+  pub sums : sumBy (λ k. u k v) A + r ≡ x
+  pub inside : r < u c v
+  pub effect : sumBy (λ k. u k e) A ≡ a
+
+module _ (s : ℕ) (t : State) (nt : Neat s t) (v e : ℕ) where
+  pub node-ok : (k : ℕ) → k < t .head .inners → (ltb k (shapeIn s t .nodes) && leb (innerIn s t k .len) (t .head .fan)) ≡ true
+  node-ok k lk =
+      let l : innerIn s t k .len ≡ length (used (innerIn s t k)) = len-used s (t .head .fan) (innerIn s t k) (nt .inner-tidy k lk) in
+      rw (lt-ltb k (shapeIn s t .nodes) (omega (arith, nt .inner-count)), le-leb (innerIn s t k .len) (t .head .fan) (omega (arith, nt .inner-tidy k lk .most)))
+
+  pub arrive : (u : ℕ → ℕ → ℕ) (low : Area) (root : ℕ) (C : List ℕ) (st : List (List ℕ)) (x : ℕ)
+      → Links u low (areaOf (shapeIn s t) (t .inners)) root C st → All (All (λ k. k < t .head .inners)) st → x < sumBy (λ k. u k v) C → Arrived s t v e u root C (length st) x
+  unfolding All sumBy descend
+  arrive u low root C [] x l h lt =
+      let lt′ : x < u root v + 0 = rw (l .0) at lt in
+      record { A = []; c = root; B = []; r = x; a = 0; row = l .0; got = refl; sums = zero-add x; inside = omega arith; effect = refl }
+  arrive u low root C (P ∷ st) x l h lt = go1 (arrive (total up) up root P st x (l .1) (h .1) (rw sums lt))
+    where
+      up : Area
+      up = areaOf (shapeIn s t) (t .inners)
+
+      sums : sumBy (λ p. total (areaOf (shapeIn s t) (t .inners)) p v) P ≡ sumBy (λ c. u c v) C
+      sums = sym (level-sum v u low (areaOf (shapeIn s t) (t .inners)) C P (l .0))
+
+      go3 : (q : Arrived s t v e (total (areaOf (shapeIn s t) (t .inners))) root P (length st) x) → q .c < t .head .inners → (z : Hit v e 0 (q .r) (q .a) (used (innerIn s t (q .c))))
+          → MapAt (said u low) C (cat (told (areaOf (shapeIn s t) (t .inners))) (q .A) ++ marks (q .c) 0 (map slotOf (z .front))) (record { num = child (z .here); par = q .c; pos = 0 + length (map slotOf (z .front)); wt = slotOf (z .here) .lens }) (marks (q .c) (suc (0 + length (map slotOf (z .front)))) (map slotOf (z .behind)) ++ cat (told (areaOf (shapeIn s t) (t .inners))) (q .B))
+          → Arrived s t v e u root C (suc (length st)) x
+      go3 q lq z m =
+          let n : Node = innerIn s t (q .c) in
+          let i : ℕ = 0 + length (z .front) in
+          let li : length (z .front) < length (used n) = (let y : length (used n) ≡ length (z .front) + suc (length (z .behind)) = ap length (z .row) ∙ length-append (z .front) (z .here ∷ z .behind) in omega arith) in
+          let kid : child (getD (n .slots) i []) ≡ m .c =
+          ap (λ (k : ℕ). child (getD (n .slots) k [])) (zero-add (length (z .front)))
+          ∙ ap child (slot-used s (t .head .fan) n (nt .inner-tidy (q .c) lq) (length (z .front)) [] li ∙ ap (λ (l : List (List ℕ)). getD l (length (z .front)) []) (z .row) ∙ getD-append-seam (z .front) (z .here) (z .behind) [])
+          ∙ sym (ap (λ (k : Mark). k .num) (m .own)) in
+          let before : (w : ℕ) → sumBy (λ k. u k w) (m .A₁) ≡ sumBy (λ p. total (areaOf (shapeIn s t) (t .inners)) p w) (q .A) + sumBy (len w) (map slotOf (z .front)) = λ w. front-sum w u low (areaOf (shapeIn s t) (t .inners)) (m .A₁) (q .A) (q .c) (map slotOf (z .front)) (m .before) in
+          record {
+            A = m .A₁;
+            c = m .c;
+            B = m .A₂;
+            r = z .offset;
+            a = q .a + node.total e (z .front);
+            row = m .row;
+            got = descend-more v e (shapeIn s t) (t .inners) (q .c) (q .r) (q .a) i (z .offset) (q .a + node.total e (z .front)) (node-ok (q .c) lq) (z .got) descent.Nothing (λ k x y w. never k x y w) (length st) root x 0 (q .got)
+                ∙ ap (λ (k : ℕ). descent.At (leafNo k) (z .offset) (q .a + node.total e (z .front))) kid;
+            sums = omega (arith, z .sums, q .sums, before v, sum-slots v (z .front));
+            inside = omega (arith, z .inside, ap (wtOf v) (m .own));
+            effect = omega (arith, q .effect, before e, sum-slots e (z .front));
+          }
+        where
+          never : (k x y : ℕ) → descent.Nothing ≡ descent.At (leafNo k) x y → ⊥
+          never k x y z = let u : _≡_ {A = ℕ} 0 1 = cc in omega arith
+
+      go2 : (q : Arrived s t v e (total (areaOf (shapeIn s t) (t .inners))) root P (length st) x) → q .c < t .head .inners → Hit v e 0 (q .r) (q .a) (used (innerIn s t (q .c))) → Arrived s t v e u root C (suc (length st)) x
+      go2 q lq z = go3 q lq z (map-split (said u low) C _ _ _ (l .0 ∙ rw (q .row, cat-append, append-assoc, ap (map slotOf) (z .row) ∙ map-append slotOf (z .front) (z .here ∷ z .behind), marks-append) (simp append-assoc)))
+
+      go1 : Arrived s t v e (total (areaOf (shapeIn s t) (t .inners))) root P (length st) x → Arrived s t v e u root C (suc (length st)) x
+      go1 q =
+          let lq : q .c < t .head .inners = All-right (λ k. k < t .head .inners) (q .A) (q .c ∷ q .B) (subst (All (λ k. k < t .head .inners)) (q .row) (h .0)) .0 in
+          go2 q lq (find-hit v e 0 (q .r) (q .a) (used (innerIn s t (q .c))) (let y = sum-slots v (used (innerIn s t (q .c))) in let z = q .inside in omega arith))

@@ -1,0 +1,190 @@
+-- Make and reset leave a sound state that stands for the row of one entry.
+use mathlib.Core.Path.{_≡_, refl, sym, ap, _∙_, subst}
+use mathlib.Core.Bool.{Bool, true, false, cond, _||_}
+use mathlib.Core.List.{List, [], _∷_, map}
+use Prim.Native.Nat.{ℕ, zero, suc, _*_, _/_, _≤_, _<_}
+use native.Mathlib.Nat.{not-suc-le-zero}
+use native.Mathlib.Numerals.{add-one}
+use native.Mathlib.Omega.{arith}
+use lib.Dec.{ltb}
+use lib.ListN.{length, length-set}
+use lib.Seq.{getD-set-same}
+use borrow.Author.Tests.{le-ltb, ltb-false}
+use Rattle.model.specs.Lists.{All, refusal}
+use Rattle.model.specs.Length.{listOf}
+use Rattle.model.specs.Node.{Node, none, half, newNode}
+use Rattle.model.specs.State.{State, nodesFor, shape, nodeAt, putNode}
+use Rattle.model.specs.Row as row
+use Rattle.model.specs.Row.{madeRow, rowStep}
+use Rattle.model.specs.Sound.{shapeIn, Sound}
+use Rattle.model.specs.Calls as calls
+use Rattle.model.specs.Calls.{begun, makeCauses}
+use Rattle.model.specs.ById.{told, treeStep}
+use Rattle.model.specs.Answer.{outcomeAnswer}
+use Rattle.model.specs.declared.node.Shape.{Shape}
+use Rattle.model.specs.declared.length.Lengths.{Lengths}
+use Rattle.model.specs.declared.answer.Outcome.{Outcome}
+use Rattle.model.specs.declared.answer.Outcome.the-variants as outcome
+use Rattle.laws.specs.Areas.{node-same}
+use Rattle.theory.specs.Fits.{fits}
+use Rattle.abstract_tree.specs.Tree as tree
+use Rattle.abstract_tree.specs.Begin.{Fresh, fresh-body, fresh-row}
+use Rattle.theory.specs.Tidy.{tidy-made, tidy-formed}
+use Rattle.theory.specs.Tree.{slotOf, slotsOf, treeOf}
+use Rattle.theory.specs.Neat.{Neat}
+use Rattle.theory.specs.Up.{sound-up}
+use Rattle.theory.specs.Put.{Keeps, put-next}
+use Rattle.theory.specs.Entries.{firsts, entryFrom}
+use Rattle.theory.specs.Open.{passed}
+use Rattle.theory.specs.Agree.{Stands, Agrees, rowOf, entries-are}
+
+-- lengths that are words
+pub record Words (l : Lengths) : Type 0 where
+  pub prepare : l .prepare < 4294967296
+  pub effect : l .effect < 4294967296
+
+-- what the causes of a make leave
+pub record Sizes (fan limit : ℕ) (ls xs hs : List ℕ) : Type 0 where
+  pub fan-low : 4 ≤ fan
+  pub fan-high : fan ≤ 32
+  pub limit-low : 1 ≤ limit
+  pub limit-high : limit ≤ 65536
+  pub leaf-area : shape 3 fan limit .nodes * shape 3 fan limit .size ≤ length ls
+  pub inner-area : shape 3 fan limit .nodes * shape 3 fan limit .size ≤ length xs
+  pub home-area : limit ≤ length hs
+
+or-left : (a b : Bool) → (a || b) ≡ false → a ≡ false
+or-left true b e = e
+or-left false b e = refl
+
+or-right : (a b : Bool) → (a || b) ≡ false → b ≡ false
+or-right true b e = absurd (let z : _≡_ {A = ℕ} 0 1 = cc in omega arith)
+or-right false b e = e
+
+pub sizes-of : (fan limit : ℕ) (ls xs hs : List ℕ) → refusal (makeCauses fan limit ls xs hs) ≡ 0 → Sizes fan limit ls xs hs
+unfolding refusal
+sizes-of fan limit ls xs hs e =
+    let a : Bool = ltb fan 4 || ltb 32 fan || ltb limit 1 || ltb 65536 limit in
+    let g : Shape = shape 3 fan limit in
+    let b : Bool = ltb (length ls) (g .nodes * g .size) || ltb (length xs) (g .nodes * g .size) || ltb (length hs) limit in
+    let r = none-of a b e in
+    record {
+      fan-low = ltb-false fan 4 (or-left (ltb fan 4) (ltb 32 fan) (or-left (ltb fan 4 || ltb 32 fan) (ltb limit 1) (or-left (ltb fan 4 || ltb 32 fan || ltb limit 1) (ltb 65536 limit) (r .0))));
+      fan-high = ltb-false 32 fan (or-right (ltb fan 4) (ltb 32 fan) (or-left (ltb fan 4 || ltb 32 fan) (ltb limit 1) (or-left (ltb fan 4 || ltb 32 fan || ltb limit 1) (ltb 65536 limit) (r .0))));
+      limit-low = ltb-false limit 1 (or-right (ltb fan 4 || ltb 32 fan) (ltb limit 1) (or-left (ltb fan 4 || ltb 32 fan || ltb limit 1) (ltb 65536 limit) (r .0)));
+      limit-high = ltb-false 65536 limit (or-right (ltb fan 4 || ltb 32 fan || ltb limit 1) (ltb 65536 limit) (r .0));
+      leaf-area = ltb-false (length ls) (g .nodes * g .size) (or-left (ltb (length ls) (g .nodes * g .size)) (ltb (length xs) (g .nodes * g .size)) (or-left (ltb (length ls) (g .nodes * g .size) || ltb (length xs) (g .nodes * g .size)) (ltb (length hs) limit) (r .1)));
+      inner-area = ltb-false (length xs) (g .nodes * g .size) (or-right (ltb (length ls) (g .nodes * g .size)) (ltb (length xs) (g .nodes * g .size)) (or-left (ltb (length ls) (g .nodes * g .size) || ltb (length xs) (g .nodes * g .size)) (ltb (length hs) limit) (r .1)));
+      home-area = ltb-false (length hs) limit (or-right (ltb (length ls) (g .nodes * g .size) || ltb (length xs) (g .nodes * g .size)) (ltb (length hs) limit) (r .1));
+    }
+  where
+    none-of : (a b : Bool) → _≡_ {A = ℕ} (cond a 1 (cond b 2 0)) 0 → (a ≡ false) × (b ≡ false)
+    none-of true b e = absurd (omega arith)
+    none-of false true e = absurd (omega arith)
+    none-of false false e = (refl, refl)
+
+pub nodes-least : (fan limit : ℕ) → 1 ≤ nodesFor fan limit
+nodes-least fan limit = go (ltb (limit / half fan) 1) refl
+  where
+    go : (b : Bool) → ltb (limit / half fan) 1 ≡ b → 1 ≤ cond b 1 (limit / half fan)
+    go true e = omega arith
+    go false e = ltb-false (limit / half fan) 1 e
+
+module _ (fan limit : ℕ) (l : Lengths) (ls xs hs : List ℕ) (z : Sizes fan limit ls xs hs) (small : Words l) where
+  g : Shape
+  g = shape 3 fan limit
+
+  x : List ℕ
+  x = 0 ∷ listOf l
+
+  -- a node of one slot at the area's start
+  first-keeps : (p : ℕ) (area : List ℕ) → g .nodes * g .size ≤ length area → Keeps g 1 (putNode g 0 (newNode 3 fan p (x ∷ [])) area)
+  unfolding g x All
+  first-keeps p area h = put-next g refl (omega arith) 0 (newNode 3 fan p (x ∷ [])) area (nodes-least fan limit) (tidy-made 3 fan p 0 (x ∷ []) (omega (arith, z .fan-low)) (refl, tt)) (record { long = h; few = omega arith; tidy = λ k lt. absurd (not-suc-le-zero lt) })
+
+  first-node : (p : ℕ) (area : List ℕ) → g .nodes * g .size ≤ length area → nodeAt g 0 (putNode g 0 (newNode 3 fan p (x ∷ [])) area) ≡ newNode 3 fan p (x ∷ [])
+  unfolding g x All
+  first-node p area h = node-same g 0 area refl (fits g 0 area (nodes-least fan limit) h) (newNode 3 fan p (x ∷ [])) (tidy-formed 3 fan (newNode 3 fan p (x ∷ [])) (tidy-made 3 fan p 0 (x ∷ []) (omega (arith, z .fan-low)) (refl, tt)) (omega arith))
+
+  lens-small : (v : ℕ) → slotOf x .lens v < 4294967296
+  unfolding x
+  lens-small zero = small .prepare
+  lens-small (suc zero) = small .effect
+  lens-small (suc (suc v)) = rw add-one (omega arith)
+
+  abbrev start : State
+  start = begun fan limit l ls xs hs
+
+  fresh : Fresh (treeOf 3 start) (slotOf x) (slotOf x)
+  unfolding begun g x
+  fresh = record {
+    fan-low = z .fan-low;
+    fan-high = z .fan-high;
+    limit-low = z .limit-low;
+    limit-high = z .limit-high;
+    root = refl;
+    next = refl;
+    levels = refl;
+    leaves = refl;
+    entries = refl;
+    leaf-slots = ap slotsOf (first-node 0 ls (z .leaf-area));
+    leaf-parent = ap (λ (n : Node). n .parent) (first-node 0 ls (z .leaf-area));
+    leaf-place = ap (λ (n : Node). n .at) (first-node 0 ls (z .leaf-area));
+    inner-slots = ap slotsOf (first-node none xs (z .inner-area));
+    inner-parent = ap (λ (n : Node). n .parent) (first-node none xs (z .inner-area));
+    inner-place = ap (λ (n : Node). n .at) (first-node none xs (z .inner-area));
+    home = getD-set-same hs 0 0 0 (omega (arith, z .limit-low, z .home-area));
+    id = refl;
+    above = refl;
+    sums = λ v. refl;
+    small = lens-small;
+  }
+
+  neat : Neat 3 start
+  unfolding begun g x
+  neat = record {
+    leaf-area = first-keeps 0 ls (z .leaf-area) .long;
+    inner-area = first-keeps none xs (z .inner-area) .long;
+    home-area = rw (length-set hs 0 0) (z .home-area);
+    leaf-count = nodes-least fan limit;
+    inner-count = nodes-least fan limit;
+    leaf-tidy = first-keeps 0 ls (z .leaf-area) .tidy;
+    inner-tidy = first-keeps none xs (z .inner-area) .tidy;
+    view = tt;
+  }
+
+  start-sound : Sound start
+  unfolding begun
+  start-sound = sound-up 3 start 1 neat (record { body = fresh-body (treeOf 3 start) (slotOf x) (slotOf x) fresh; finger = tt })
+
+  pub begun-stands : Stands (begun fan limit l ls xs hs) (madeRow limit l)
+  unfolding begun firsts x
+  begun-stands = record { sound = start-sound; entries = entries-are start start-sound ∙ ap (map (entryFrom 2)) (fresh-row (treeOf 3 start) (slotOf x) (slotOf x) fresh); limit = refl }
+
+pub step-reset : (t : State) (w : Sound t) (l : Lengths) → Words l → Agrees (treeStep t (row.reset l)) (rowStep (rowOf t) (row.reset l))
+unfolding treeStep rowStep calls.reset refusal
+step-reset t w l small =
+    let h = t .head in
+    let g : Shape = shapeIn 3 t in
+    let z : Sizes (h .fan) (h .limit) (t .leaves) (t .inners) (t .homes) = record {
+      fan-low = w .fan-least;
+      fan-high = w .fan-most;
+      limit-low = w .limit-least;
+      limit-high = w .limit-most;
+      leaf-area = w .leaf-area;
+      inner-area = w .inner-area;
+      home-area = w .home-area;
+    } in
+    let q : refusal (makeCauses (h .fan) (h .limit) (t .leaves) (t .inners) (t .homes)) ≡ 0 =
+    rw (
+      le-ltb (h .fan) 4 (w .fan-least),
+      le-ltb 32 (h .fan) (w .fan-most),
+      le-ltb (h .limit) 1 (w .limit-least),
+      le-ltb 65536 (h .limit) (w .limit-most),
+      le-ltb (length (t .leaves)) (g .nodes * g .size) (w .leaf-area),
+      le-ltb (length (t .inners)) (g .nodes * g .size) (w .inner-area),
+      le-ltb (length (t .homes)) (h .limit) (w .home-area),
+    ) in
+    subst (λ (r : calls.Reply Outcome). Agrees (told r outcomeAnswer) (rowStep (rowOf t) (row.reset l)))
+    (sym (passed (makeCauses (h .fan) (h .limit) (t .leaves) (t .inners) (t .homes)) (λ n. calls.reply t (outcome.Refused n)) (calls.reply (begun (h .fan) (h .limit) l (t .leaves) (t .inners) (t .homes)) outcome.Done) q))
+    (record { same = refl; kept = begun-stands (h .fan) (h .limit) l (t .leaves) (t .inners) (t .homes) z small })

@@ -1,0 +1,149 @@
+-- Numbers 8 and 9: on a state that stands for a row, no call answers 9, one answers 8 only where the row holds its limit, and there no call adds an entry.
+use mathlib.Core.Path.{_≡_, refl, sym, ap, _∙_}
+use mathlib.Core.Logic.{_≢_}
+use mathlib.Core.Bool.{Bool, true, false, cond, _&&_}
+use mathlib.Core.List.{List, [], _∷_}
+use Prim.Native.Nat.{ℕ, _+_, _≤_}
+use native.Mathlib.Decide.{ℕ-discrete}
+use native.Mathlib.Omega.{arith}
+use lib.Dec.{eqb, leb, ltb}
+use lib.ListN.{length}
+use borrow.Author.Tests.{eq-eqb, ne-eqb, leb-true, le-leb}
+use Rattle.model.specs.Lists.{Cause, cause, refusal}
+use Rattle.model.specs.State.{State}
+use Rattle.model.specs.Row as row
+use Rattle.model.specs.Row.{Row, Call, Entry, Answer, done, unless, found, rowStep}
+use Rattle.model.specs.ById.{treeStep}
+use Rattle.theory.specs.Agree.{Stands}
+use Rattle.theory.specs.Step.{InWords, step}
+
+-- a call that adds an entry where it isn't refused
+abbrev pub Adds : Call → Type 0
+Adds (row.insert i l) = Unit {0}
+Adds (row.add i l) = Unit {0}
+Adds (row.split flag i l) = Unit {0}
+Adds (row.reset l) = ⊥
+Adds (row.setLengths i l) = ⊥
+Adds (row.update i l) = ⊥
+Adds (row.lookup v x) = ⊥
+Adds (row.rank v i) = ⊥
+Adds (row.next i) = ⊥
+Adds (row.compare i j) = ⊥
+Adds (row.lengths i) = ⊥
+Adds row.count = ⊥
+Adds row.first = ⊥
+Adds row.malformed = ⊥
+
+number-is : (r : Row) (cs : List Cause) (es : List Entry) (vs : List ℕ) → unless r cs es (done vs) .answer .number ≡ refusal cs
+unfolding unless
+number-is r cs es vs = go (ℕ-discrete (refusal cs) 0)
+  where
+    go : Dec (refusal cs ≡ 0) → cond (eqb (refusal cs) 0) (row.moved (row.row (r .limit) es) (done vs)) (row.moved r (row.refused (refusal cs))) .answer .number ≡ refusal cs
+    go (yes e) = rw (eq-eqb (refusal cs) 0 e) (sym e)
+    go (no ne) = rw (ne-eqb (refusal cs) 0 ne)
+
+-- three causes, the last of them 8
+eight-last : (m n : ℕ) (a b c : Bool) → m ≢ 8 → n ≢ 8 → refusal (cause m a ∷ cause n b ∷ cause 8 c ∷ []) ≡ 8 → c ≡ true
+unfolding refusal
+eight-last m n true b c p q e = absurd (p e)
+eight-last m n false true c p q e = absurd (q e)
+eight-last m n false false true p q e = refl
+eight-last m n false false false p q e = absurd (omega arith)
+
+never-done : (m n : ℕ) (a b c : Bool) → m ≢ 0 → n ≢ 0 → c ≡ true → refusal (cause m a ∷ cause n b ∷ cause 8 c ∷ []) ≢ 0
+unfolding refusal
+never-done m n true b c p q e z = p z
+never-done m n false true c p q e z = q z
+never-done m n false false true p q e z = absurd (omega arith)
+never-done m n false false false p q e z = absurd (let u : _≡_ {A = ℕ} 0 1 = cc in omega arith)
+
+-- a number that is none of the causes' and not 0
+one-cause : (x m : ℕ) (a : Bool) → x ≢ 0 → m ≢ x → refusal (cause m a ∷ []) ≢ x
+unfolding refusal
+one-cause x m true o p e = p e
+one-cause x m false o p e = o (sym e)
+
+two-causes : (x m n : ℕ) (a b : Bool) → x ≢ 0 → m ≢ x → n ≢ x → refusal (cause m a ∷ cause n b ∷ []) ≢ x
+unfolding refusal
+two-causes x m n true b o p q e = p e
+two-causes x m n false true o p q e = q e
+two-causes x m n false false o p q e = o (sym e)
+
+three-causes : (x m n k : ℕ) (a b c : Bool) → x ≢ 0 → m ≢ x → n ≢ x → k ≢ x → refusal (cause m a ∷ cause n b ∷ cause k c ∷ []) ≢ x
+unfolding refusal
+three-causes x m n k true b c o p q r e = p e
+three-causes x m n k false true c o p q r e = q e
+three-causes x m n k false false true o p q r e = r e
+three-causes x m n k false false false o p q r e = o (sym e)
+
+found-number : (n : ℕ) → n ≢ 0 → n ≢ 5 → (v x s f : ℕ) (es : List Entry) → found v x s f es .number ≢ n
+unfolding found
+found-number n o p v x s f [] e = p (sym e)
+found-number n o p v x s f (y ∷ es) e = go (leb s x && ltb x (s + row.lengthIn v y)) refl (found-number n o p v x (s + row.lengthIn v y) (f + row.lengthIn 1 y) es)
+  where
+    go : (b : Bool) → (leb s x && ltb x (s + row.lengthIn v y)) ≡ b → (found v x (s + row.lengthIn v y) (f + row.lengthIn 1 y) es .number ≢ n) → ⊥
+    go true q ih = o (sym (rw q at e))
+    go false q ih = ih (rw q at e)
+
+row-eight : (r : Row) (c : Call) → rowStep r c .answer .number ≡ 8 → r .limit ≤ length (r .entries)
+unfolding rowStep
+row-eight r (row.reset l) e = absurd (omega arith)
+row-eight r (row.insert i l) e = leb-true (r .limit) (length (r .entries)) (eight-last 4 7 _ _ (leb (r .limit) (length (r .entries))) (λ z. omega arith) (λ z. omega arith) (sym (number-is r _ _ _) ∙ e))
+row-eight r (row.add i l) e = leb-true (r .limit) (length (r .entries)) (eight-last 4 7 _ _ (leb (r .limit) (length (r .entries))) (λ z. omega arith) (λ z. omega arith) (sym (number-is r _ _ _) ∙ e))
+row-eight r (row.split flag i l) e = leb-true (r .limit) (length (r .entries)) (eight-last 4 6 _ _ (leb (r .limit) (length (r .entries))) (λ z. omega arith) (λ z. omega arith) (sym (number-is r _ _ _) ∙ e))
+row-eight r (row.setLengths i l) e = absurd (two-causes 8 4 7 _ _ (λ z. omega arith) (λ z. omega arith) (λ z. omega arith) (sym (number-is r _ _ _) ∙ e))
+row-eight r (row.update i l) e = absurd (two-causes 8 4 7 _ _ (λ z. omega arith) (λ z. omega arith) (λ z. omega arith) (sym (number-is r _ _ _) ∙ e))
+row-eight r (row.lookup v x) e = absurd (found-number 8 (λ z. omega arith) (λ z. omega arith) _ x 0 0 (r .entries) e)
+row-eight r (row.rank v i) e = absurd (one-cause 8 4 _ (λ z. omega arith) (λ z. omega arith) (sym (number-is r _ _ _) ∙ e))
+row-eight r (row.next i) e = absurd (one-cause 8 4 _ (λ z. omega arith) (λ z. omega arith) (sym (number-is r _ _ _) ∙ e))
+row-eight r (row.compare i j) e = absurd (two-causes 8 4 4 _ _ (λ z. omega arith) (λ z. omega arith) (λ z. omega arith) (sym (number-is r _ _ _) ∙ e))
+row-eight r (row.lengths i) e = absurd (one-cause 8 4 _ (λ z. omega arith) (λ z. omega arith) (sym (number-is r _ _ _) ∙ e))
+row-eight r row.count e = absurd (omega arith)
+row-eight r row.first e = absurd (omega arith)
+row-eight r row.malformed e = absurd (omega arith)
+
+-- the row never answers 9
+row-nine : (r : Row) (c : Call) → rowStep r c .answer .number ≢ 9
+unfolding rowStep
+row-nine r (row.reset l) e = absurd (omega arith)
+row-nine r (row.insert i l) e = three-causes 9 4 7 8 _ _ _ (λ z. omega arith) (λ z. omega arith) (λ z. omega arith) (λ z. omega arith) (sym (number-is r _ _ _) ∙ e)
+row-nine r (row.add i l) e = three-causes 9 4 7 8 _ _ _ (λ z. omega arith) (λ z. omega arith) (λ z. omega arith) (λ z. omega arith) (sym (number-is r _ _ _) ∙ e)
+row-nine r (row.split flag i l) e = three-causes 9 4 6 8 _ _ _ (λ z. omega arith) (λ z. omega arith) (λ z. omega arith) (λ z. omega arith) (sym (number-is r _ _ _) ∙ e)
+row-nine r (row.setLengths i l) e = two-causes 9 4 7 _ _ (λ z. omega arith) (λ z. omega arith) (λ z. omega arith) (sym (number-is r _ _ _) ∙ e)
+row-nine r (row.update i l) e = two-causes 9 4 7 _ _ (λ z. omega arith) (λ z. omega arith) (λ z. omega arith) (sym (number-is r _ _ _) ∙ e)
+row-nine r (row.lookup v x) e = found-number 9 (λ z. omega arith) (λ z. omega arith) _ x 0 0 (r .entries) e
+row-nine r (row.rank v i) e = one-cause 9 4 _ (λ z. omega arith) (λ z. omega arith) (sym (number-is r _ _ _) ∙ e)
+row-nine r (row.next i) e = one-cause 9 4 _ (λ z. omega arith) (λ z. omega arith) (sym (number-is r _ _ _) ∙ e)
+row-nine r (row.lengths i) e = one-cause 9 4 _ (λ z. omega arith) (λ z. omega arith) (sym (number-is r _ _ _) ∙ e)
+row-nine r (row.compare i j) e = two-causes 9 4 4 _ _ (λ z. omega arith) (λ z. omega arith) (λ z. omega arith) (sym (number-is r _ _ _) ∙ e)
+row-nine r row.count e = absurd (omega arith)
+row-nine r row.first e = absurd (omega arith)
+row-nine r row.malformed e = absurd (omega arith)
+
+row-full : (r : Row) (c : Call) → Adds c → r .limit ≤ length (r .entries) → rowStep r c .answer .number ≢ 0
+unfolding rowStep
+row-full r (row.insert i l) h f e = never-done 4 7 _ _ (leb (r .limit) (length (r .entries))) (λ z. omega arith) (λ z. omega arith) (le-leb (r .limit) (length (r .entries)) f) (sym (number-is r _ _ _) ∙ e)
+row-full r (row.add i l) h f e = never-done 4 7 _ _ (leb (r .limit) (length (r .entries))) (λ z. omega arith) (λ z. omega arith) (le-leb (r .limit) (length (r .entries)) f) (sym (number-is r _ _ _) ∙ e)
+row-full r (row.split flag i l) h f e = never-done 4 6 _ _ (leb (r .limit) (length (r .entries))) (λ z. omega arith) (λ z. omega arith) (le-leb (r .limit) (length (r .entries)) f) (sym (number-is r _ _ _) ∙ e)
+row-full r (row.reset l) h f e = absurd h
+row-full r (row.setLengths i l) h f e = absurd h
+row-full r (row.update i l) h f e = absurd h
+row-full r (row.lookup v x) h f e = absurd h
+row-full r (row.rank v i) h f e = absurd h
+row-full r (row.next i) h f e = absurd h
+row-full r (row.compare i j) h f e = absurd h
+row-full r (row.lengths i) h f e = absurd h
+row-full r row.count h f e = absurd h
+row-full r row.first h f e = absurd h
+row-full r row.malformed h f e = absurd h
+
+-- so it is on the tree
+pub record Numbers (s : State) (r : Row) (c : Call) : Type 0 where
+  pub only : treeStep s c .answer .number ≡ 8 → r .limit ≤ length (r .entries)
+  pub nine : treeStep s c .answer .number ≢ 9
+  pub always : Adds c → r .limit ≤ length (r .entries) → treeStep s c .answer .number ≢ 0
+
+pub numbers-are : (s : State) (r : Row) → Stands s r → (c : Call) → InWords c → Numbers s r c
+numbers-are s r h c k =
+    let a : treeStep s c .answer .number ≡ rowStep r c .answer .number = ap (λ (x : Answer). x .number) (step s r h c k .same) in
+    record { nine = λ e. row-nine r c (sym a ∙ e); only = λ e. row-eight r c (sym a ∙ e); always = λ d f e. row-full r c d f (sym a ∙ e) }

@@ -1,0 +1,252 @@
+-- A state of which audit's facts hold is sound.
+use mathlib.Core.Path.{_≡_, refl, sym, ap, _∙_, subst}
+use mathlib.Core.Bool.{Bool, true, false, cond}
+use mathlib.Core.List.{List, []}
+use Prim.Native.Nat.{ℕ, _+_, _-_, _≤_, _<_}
+use native.Mathlib.Nat.{zero-add}
+use native.Mathlib.Decide.{decLt}
+use native.Mathlib.Omega.{arith}
+use lib.Dec.{eqb}
+use lib.ListN.{length, getD, take, length-map}
+use borrow.Author.Tests.{eq-eqb, ne-eqb}
+use Rattle.model.specs.Lists.{sumBy, range}
+use Rattle.model.specs.Node as node
+use Rattle.model.specs.Node.{Node, none, child, used, half, indexFrom}
+use Rattle.model.specs.State.{State}
+use Rattle.model.specs.Sound.{shapeIn, leafIn, innerIn, leastInner, Sound}
+use Rattle.model.specs.Climb.{rankUp}
+use Rattle.model.specs.Audit.{depth, depthOf}
+use Rattle.model.specs.declared.node.Place.the-variants as slot
+use Rattle.model.specs.declared.head.Held.{Held}
+use Rattle.model.specs.declared.head.Held.the-variants as held
+use Rattle.model.specs.declared.walk.Sum.the-variants as sum
+use Rattle.laws.specs.Lists.{All-at}
+use Rattle.laws.specs.Slots.{Wide}
+use Rattle.laws.specs.Nodes.{Formed}
+use Rattle.laws.specs.Areas.{formed-at}
+use Rattle.theory.specs.Fits.{fits}
+use Rattle.abstract_tree.specs.Lists.{All-map}
+use Rattle.abstract_tree.specs.Levels.{noSlot, Slot, Links, total, len, climb}
+use Rattle.abstract_tree.specs.Reach.{Kids}
+use Rattle.abstract_tree.specs.Pigeon.{In, is-in}
+use Rattle.abstract_tree.specs.Fit.{Fit}
+use Rattle.abstract_tree.specs.Tree as tree
+use Rattle.abstract_tree.specs.Tree.{Tree, order, above, Body}
+use Rattle.abstract_tree.specs.Finger.{sumBy-cong}
+use Rattle.abstract_tree.specs.Cursor.{indexOf}
+use Rattle.abstract_tree.specs.Check as check
+use Rattle.abstract_tree.specs.Check.{Checks, checks-body}
+use Rattle.theory.specs.Tidy.{Tidy, tidy-filled, len-used, slot-used, slots-before}
+use Rattle.theory.specs.Tree.{slotOf, slotsOf, treeOf, sum-slots}
+use Rattle.theory.specs.Marked.{areaFrom, Marked, total-past, every-view, marks-of, getD-slot}
+use Rattle.theory.specs.Neat.{Neat, Viewed, size-is, nodes-most}
+use Rattle.theory.specs.Down.{all-slots, sum-take}
+use Rattle.theory.specs.Up.{sound-up}
+use Rattle.theory.specs.Way.{Way, way, rank-up}
+use Rattle.theory.specs.Make.{Sizes}
+use Rattle.theory.specs.Facts.{HeldBy, ChildBy, areaBy, countBy, EntryBy, HandBy, SoundBy}
+use Rattle.theory.specs.Depth.{depth-dep, index-back, range-below, all-kids}
+
+pub start-at : (s fan v i : ℕ) (n : Node) → Tidy s fan n → i ≤ length (slotsOf n) → node.start v i n ≡ sumBy (len v) (take i (slotsOf n))
+start-at s fan v i n td h =
+    ap (node.total v) (slots-before s fan n td i (let z : length (slotsOf n) ≡ length (used n) = length-map (used n) slotOf in omega arith)) ∙ sum-take v i (used n)
+
+-- what the links above a leaf sum up to
+pub climb-of : (s : ℕ) (t : State) (nt : Neat s t) → Body (treeOf s t) → (k : ℕ) → k < t .head .leaves → (v : ℕ)
+    → rankUp (shapeIn s t) v (t .head .levels) (leafIn s t k .parent) (leafIn s t k .at) 0 (t .inners) ≡ sum.Is (0 + climb v (treeOf s t .body .leaf) (treeOf s t .body .inner) (t .head .levels) k)
+climb-of s t nt b k lk v = go (is-in k (order (treeOf s t)) (b .leaf-all k lk))
+  where
+    go : In k (order (treeOf s t)) → rankUp (shapeIn s t) v (t .head .levels) (leafIn s t k .parent) (leafIn s t k .at) 0 (t .inners) ≡ sum.Is (0 + climb v (treeOf s t .body .leaf) (treeOf s t .body .inner) (t .head .levels) k)
+    go i =
+        let T : Tree = treeOf s t in
+        rank-up s t nt v (t .head .levels) (T .body .leaf) k 0
+        (subst (λ (d : ℕ). Way (T .body .leaf) (T .body .inner) (t .head .inners) d k) (b .deep)
+        (way (total (T .body .leaf)) (T .body .leaf) (T .body .inner) (T .body .root) (t .head .inners) (i .before) k (i .after) (above T) (subst (λ (C : List ℕ). Links (total (T .body .leaf)) (T .body .leaf) (T .body .inner) (T .body .root) C (above T)) (i .row) (b .links)) (b .inner-in)))
+
+module _ (t : State) (z : Sizes (t .head .fan) (t .head .limit) (t .leaves) (t .inners) (t .homes)) (f : SoundBy t) where
+  abbrev T : Tree
+  T = treeOf 3 t
+
+  leaf-formed : (k : ℕ) → k < t .head .leaves → Formed 3 (t .head .fan) (leafIn 3 t k)
+  leaf-formed k lt = formed-at (shapeIn 3 t) k (t .leaves) refl (fits (shapeIn 3 t) k (t .leaves) (let y = f .leaf-count in omega arith) (z .leaf-area))
+
+  inner-formed : (k : ℕ) → k < t .head .inners → Formed 3 (t .head .fan) (innerIn 3 t k)
+  inner-formed k lt = formed-at (shapeIn 3 t) k (t .inners) refl (fits (shapeIn 3 t) k (t .inners) (let y = f .inner-count in omega arith) (z .inner-area))
+
+  hand-view : (h : Held) → HandBy t h → Viewed 3 h
+  hand-view held.Absent r = tt
+  hand-view (held.At g) r = (let y = r .view in omega arith)
+
+  neat : Neat 3 t
+  neat = record {
+    leaf-area = z .leaf-area;
+    inner-area = z .inner-area;
+    home-area = z .home-area;
+    leaf-count = f .leaf-count;
+    inner-count = f .inner-count;
+    leaf-tidy = λ k lt. tidy-filled 3 (t .head .fan) (leafIn 3 t k) (leaf-formed k lt) (f .leaf k lt .filled .high) (f .leaf k lt .filled .unused);
+    inner-tidy = λ k lt. tidy-filled 3 (t .head .fan) (innerIn 3 t k) (inner-formed k lt) (f .inner k lt .filled .high) (f .inner k lt .filled .unused);
+    view = hand-view (t .head .finger) (f .finger);
+  }
+
+  leaf-size : (k : ℕ) → k < t .head .leaves → length (slotsOf (leafIn 3 t k)) ≡ leafIn 3 t k .len
+  leaf-size k lt = size-is 3 (t .head .fan) (leafIn 3 t k) (neat .leaf-tidy k lt)
+
+  inner-size : (k : ℕ) → k < t .head .inners → length (slotsOf (innerIn 3 t k)) ≡ innerIn 3 t k .len
+  inner-size k lt = size-is 3 (t .head .fan) (innerIn 3 t k) (neat .inner-tidy k lt)
+
+  few : t .head .inners ≤ none
+  few = (let y = f .inner-count in let x = nodes-most (t .head .fan) (t .head .limit) (z .limit-low) in let w = z .limit-high in omega arith)
+
+  depth-is : (k : ℕ) → depthOf t k ≤ t .head .levels → check.depth T k ≡ depthOf t k
+  depth-is k h = depth-dep t (t .head .levels) k h 17 (let y = f .shallow in omega arith)
+
+  -- the children of node k, whose nodes are N
+  kids : (N : ℕ → Node) (n k : ℕ) → k < t .head .inners → ((j : ℕ) → j < n → Wide 3 (used (N j))) → ((i : ℕ) → i < innerIn 3 t k .len → ChildBy t N n k i (getD (innerIn 3 t k .slots) i []))
+      → Kids (total (areaFrom N)) (areaFrom N) n (T .body .inner) k
+  kids N n k lk wide h =
+      (marks-of N k 0 (used (innerIn 3 t k)) one, all-kids (λ c. c < n) (used (innerIn 3 t k)) (λ j lj. child-at j lj .below))
+    where
+      td : Tidy 3 (t .head .fan) (innerIn 3 t k)
+      td = neat .inner-tidy k lk
+
+      child-at : (j : ℕ) → j < length (used (innerIn 3 t k)) → ChildBy t N n k j (getD (used (innerIn 3 t k)) j [])
+      child-at j lj = subst (ChildBy t N n k j) (slot-used 3 (t .head .fan) (innerIn 3 t k) td j [] lj) (h j (rw (len-used 3 (t .head .fan) (innerIn 3 t k) td) lj))
+
+      one : (j : ℕ) → j < length (used (innerIn 3 t k)) → Marked N k (0 + j) (getD (used (innerIn 3 t k)) j [])
+      one j lj =
+          let c = child-at j lj in
+          let x : List ℕ = getD (used (innerIn 3 t k)) j [] in
+          record {
+            parent = c .parent;
+            at = c .at ∙ sym (zero-add j);
+            sums = every-view 3 x (used (N (child x))) (All-at (λ y. length y ≡ 3) j [] (used (innerIn 3 t k)) lj (td .wide)) (wide (child x) (c .below)) (λ v lv. c .sums v (omega arith));
+          }
+
+  -- where a node says that it stands
+  stands : (k : ℕ) (n : Node) → HeldBy t k n → (n .at < length (T .body .inner .slots (n .parent))) × (getD (T .body .inner .slots (n .parent)) (n .at) noSlot .child ≡ k)
+  stands k n h =
+      let p : Node = innerIn 3 t (n .parent) in
+      let td : Tidy 3 (t .head .fan) p = neat .inner-tidy (n .parent) (h .parent) in
+      let lu : n .at < length (used p) = rw (len-used 3 (t .head .fan) p td) at (h .at) in
+      ((let y = inner-size (n .parent) (h .parent) in let x = h .at in omega arith), ap (λ (y : Slot). y .child) (getD-slot (used p) (n .at) lu) ∙ ap child (sym (slot-used 3 (t .head .fan) p td (n .at) [] lu)) ∙ h .child)
+
+  fit : Fit 1 (t .head .fan) (half (t .head .fan)) (T .body)
+  fit = record {
+    most = λ k lt. (let y = inner-size k lt in let x = f .inner k lt .filled .high in omega arith);
+    least = λ k lt ne.
+        (let a : leastInner 3 t k ≤ innerIn 3 t k .len = f .inner k lt .filled .low in
+        let b : half (t .head .fan) ≤ innerIn 3 t k .len = rw (ne-eqb k (t .head .root .0) ne) at a in
+        let y = inner-size k lt in omega arith);
+    two = root-size 1 (one (eqb (t .head .levels) 1));
+    root-in = f .root-in;
+  }
+    where
+      one : (b : Bool) → 1 ≤ cond b 1 2
+      one true = omega arith
+      one false = omega arith
+
+      root-size : (m : ℕ) → m ≤ cond (eqb (t .head .levels) 1) 1 2 → m ≤ length (slotsOf (innerIn 3 t (t .head .root .0)))
+      root-size m h =
+          let r : ℕ = t .head .root .0 in
+          let a : leastInner 3 t r ≤ innerIn 3 t r .len = f .inner r (f .root-in) .filled .low in
+          let b : cond (eqb (t .head .levels) 1) 1 2 ≤ innerIn 3 t r .len = rw (eq-eqb r r refl) at a in
+          let y = inner-size r (f .root-in) in omega arith
+
+  two-of : 2 ≤ t .head .levels → 2 ≤ length (slotsOf (innerIn 3 t (t .head .root .0)))
+  two-of h =
+      let r : ℕ = t .head .root .0 in
+      let a : leastInner 3 t r ≤ innerIn 3 t r .len = f .inner r (f .root-in) .filled .low in
+      let b : 2 ≤ innerIn 3 t r .len = rw (eq-eqb r r refl, ne-eqb (t .head .levels) 1 (λ q. omega arith)) at a in
+      let y = inner-size r (f .root-in) in omega arith
+
+  leaf-low : (k : ℕ) → k < t .head .leaves → cond (eqb (t .head .leaves) 1) 1 (half (t .head .fan)) ≤ length (slotsOf (leafIn 3 t k))
+  leaf-low k lt = (let a = f .leaf k lt .filled .low in let y = leaf-size k lt in omega arith)
+
+  leaf-one : (k : ℕ) → k < t .head .leaves → 1 ≤ length (slotsOf (leafIn 3 t k))
+  leaf-one k lt = go (eqb (t .head .leaves) 1) (leaf-low k lt)
+    where
+      go : (b : Bool) → cond b 1 (half (t .head .fan)) ≤ length (slotsOf (leafIn 3 t k)) → 1 ≤ length (slotsOf (leafIn 3 t k))
+      go true h = h
+      go false h = (let y = z .fan-low in omega arith)
+
+  entry-at : (k : ℕ) (lt : k < t .head .leaves) (j : ℕ) → j < length (used (leafIn 3 t k)) → EntryBy t k (leafIn 3 t k) j
+  entry-at k lt j lj = f .leaf k lt .entries j (rw (len-used 3 (t .head .fan) (leafIn 3 t k) (neat .leaf-tidy k lt)) lj)
+
+  entry-slot : (k : ℕ) (lt : k < t .head .leaves) (j : ℕ) → j < length (used (leafIn 3 t k)) → child (getD (leafIn 3 t k .slots) j []) ≡ child (getD (used (leafIn 3 t k)) j [])
+  entry-slot k lt j lj = ap child (slot-used 3 (t .head .fan) (leafIn 3 t k) (neat .leaf-tidy k lt) j [] lj)
+
+  checks : Checks T
+  checks = record {
+    fan-low = z .fan-low;
+    fan-high = z .fan-high;
+    limit-low = z .limit-low;
+    limit-high = z .limit-high;
+    some = f .some;
+    shallow = f .shallow;
+    room = f .entry-count;
+    few = few;
+    root-parent = f .inner (t .head .root .0) (f .root-in) .root refl .0;
+    root-place = f .inner (t .head .root .0) (f .root-in) .root refl .1;
+    fit = fit;
+    two = two-of;
+    upper = λ k lk h.
+        (let d = depth-is k (f .inner k lk .deep) in
+        let e : eqb (depthOf t k) (t .head .levels) ≡ false = ne-eqb (depthOf t k) (t .head .levels) (λ q. omega arith) in
+        kids (innerIn 3 t) (t .head .inners) k lk (λ j lj. neat .inner-tidy j lj .wide) (λ i li. subst (λ (b : Bool). ChildBy t (areaBy t b) (countBy t b) k i (getD (innerIn 3 t k .slots) i [])) e (f .inner k lk .kids i li)));
+    lowest = λ k lk h.
+        (let d = depth-is k (f .inner k lk .deep) in
+        let e : eqb (depthOf t k) (t .head .levels) ≡ true = eq-eqb (depthOf t k) (t .head .levels) (sym d ∙ h) in
+        kids (leafIn 3 t) (t .head .leaves) k lk (λ j lj. neat .leaf-tidy j lj .wide) (λ i li. subst (λ (b : Bool). ChildBy t (areaBy t b) (countBy t b) k i (getD (innerIn 3 t k .slots) i [])) e (f .inner k lk .kids i li)));
+    deep = λ k lk. (let d = depth-is k (f .inner k lk .deep) in let y = f .inner k lk .deep in omega arith);
+    parent = λ k lk ne. f .inner k lk .held ne .parent;
+    held = λ k lk ne. stands k (innerIn 3 t k) (f .inner k lk .held ne);
+    leaf-parent = λ k lk. f .leaf k lk .held .parent;
+    leaf-deep = λ k lk. depth-is (leafIn 3 t k .parent) (let y = f .leaf k lk .deep in omega arith) ∙ f .leaf k lk .deep;
+    leaf-held = λ k lk. stands k (leafIn 3 t k) (f .leaf k lk .held);
+    leaf-most = λ k lt. (let y = leaf-size k lt in let x = f .leaf k lt .filled .high in omega arith);
+    leaf-least = λ k lt h. rw (ne-eqb (t .head .leaves) 1 (λ q. omega arith)) at (leaf-low k lt);
+    leaf-one = leaf-one;
+    homed = λ k lt. all-slots (λ x. getD (t .homes) (x .child) 0 ≡ k) (used (leafIn 3 t k)) (λ j lj. subst (λ (c : ℕ). getD (t .homes) c 0 ≡ k) (entry-slot k lt j lj) (entry-at k lt j lj .home));
+    below = λ k lt. all-slots (λ x. x .child < t .head .entries) (used (leafIn 3 t k)) (λ j lj. subst (λ (c : ℕ). c < t .head .entries) (entry-slot k lt j lj) (entry-at k lt j lj .below));
+    firsts = λ k lt j lj.
+        (let lu : j < length (used (leafIn 3 t k)) = (let y : length (slotsOf (leafIn 3 t k)) ≡ length (used (leafIn 3 t k)) = length-map (used (leafIn 3 t k)) slotOf in omega arith) in
+        let c : ℕ = child (getD (used (leafIn 3 t k)) j []) in
+        let i : indexFrom c 0 (used (leafIn 3 t k)) ≡ slot.Slot j = subst (λ (c : ℕ). indexFrom c 0 (used (leafIn 3 t k)) ≡ slot.Slot j) (entry-slot k lt j lu) (entry-at k lt j lu .index) in
+        ap (λ (y : Slot). indexOf (y .child) (slotsOf (leafIn 3 t k))) (getD-slot (used (leafIn 3 t k)) j lu) ∙ sym (zero-add (indexOf c (slotsOf (leafIn 3 t k)))) ∙ index-back c 0 j (used (leafIn 3 t k)) i);
+    count = sumBy-cong (λ k. length (slotsOf (leafIn 3 t k))) (λ k. leafIn 3 t k .len) (range 0 (t .head .leaves))
+        (All-map (λ k. k < t .head .leaves) (λ k. length (slotsOf (leafIn 3 t k)) ≡ leafIn 3 t k .len) leaf-size (range 0 (t .head .leaves)) (range-below 0 (t .head .leaves) (t .head .leaves) (omega arith))) ∙ f .count;
+    totals = λ v. total-small v (decLt v 2);
+  }
+    where
+      total-small : (v : ℕ) → Dec (v < 2) → sumBy (len v) (slotsOf (innerIn 3 t (t .head .root .0))) < 4294967296
+      total-small v (yes lv) = (let y = f .totals v lv in let x = sum-slots v (used (innerIn 3 t (t .head .root .0))) in omega arith)
+      total-small v (no ge) = (let x = sum-slots v (used (innerIn 3 t (t .head .root .0))) in let y = total-past 3 (used (innerIn 3 t (t .head .root .0))) v (neat .inner-tidy (t .head .root .0) (f .root-in) .wide) (omega arith) in omega arith)
+
+  body : Body T
+  body = checks-body T checks
+
+  -- the finger
+  leaf-sum : (k v : ℕ) → k < t .head .leaves → (n : ℕ) → rankUp (shapeIn 3 t) v (t .head .levels) (leafIn 3 t k .parent) (leafIn 3 t k .at) 0 (t .inners) ≡ sum.Is n → n ≡ climb v (T .body .leaf) (T .body .inner) (t .head .levels) k
+  leaf-sum k v lk n e = sum-inj (sym e ∙ climb-of 3 t neat body k lk v) ∙ zero-add (climb v (T .body .leaf) (T .body .inner) (t .head .levels) k)
+    where
+      sum-inj : {a b : ℕ} → sum.Is a ≡ sum.Is b → a ≡ b
+      sum-inj q = cc
+
+  right : (h : Held) → HandBy t h → tree.Right 1 T h
+  right held.Absent r = tt
+  right (held.At g) r =
+      let k : ℕ = g .leaf in
+      let td : Tidy 3 (t .head .fan) (leafIn 3 t k) = neat .leaf-tidy k (r .leaf) in
+      let sl : g .slot < length (slotsOf (leafIn 3 t k)) = (let y = leaf-size k (r .leaf) in let x = r .slot in omega arith) in
+      record {
+        leaf-in = r .leaf;
+        slot-in = sl;
+        start = leaf-sum k (g .view) (r .leaf) (g .start) (r .start);
+        effect = leaf-sum k 1 (r .leaf) (g .effect) (r .effect);
+        within = r .within ∙ start-at 3 (t .head .fan) (g .view) (g .slot) (leafIn 3 t k) td (omega arith);
+        effectWithin = r .effectWithin ∙ start-at 3 (t .head .fan) 1 (g .slot) (leafIn 3 t k) td (omega arith);
+      }
+
+  pub facts-sound : Sound t
+  facts-sound = sound-up 3 t 1 neat (record { body = body; finger = right (t .head .finger) (f .finger) })

@@ -1,0 +1,161 @@
+-- The list theorem (document 01, "The plain row"): from every make that isn't refused, every list of calls gets the row's answers,
+-- and the state is sound and stands for the row at each of them; two lists alike but for lookups give their other calls the same answers.
+use mathlib.Core.Path.{_≡_, refl, sym, ap, ap₂, _∙_, subst}
+use mathlib.Core.Bool.{Bool, true, false, cond}
+use mathlib.Core.List.{List, [], _∷_}
+use Prim.Native.Nat.{ℕ, zero, suc, _*_, _^_, _≤_}
+use native.Mathlib.Omega.{arith}
+use lib.ListN.{length}
+use Rattle.model.specs.Lists.{All, refusal}
+use Rattle.model.specs.Node.{half}
+use Rattle.model.specs.State.{State, state, headOf}
+use Rattle.model.specs.Row as row
+use Rattle.model.specs.Row.{Row, Call, Answer, Moved, madeRow, rowStep}
+use Rattle.model.specs.ById.{treeStep}
+use Rattle.model.specs.Sound.{Sound, entriesOf}
+use Rattle.model.specs.Calls as calls
+use Rattle.model.specs.Calls.{make, begun, makeCauses}
+use Rattle.model.specs.declared.length.Lengths.{Lengths}
+use Rattle.model.specs.declared.head.Held.the-variants as held
+use Rattle.model.specs.declared.answer.Outcome.{Outcome}
+use Rattle.model.specs.declared.answer.Outcome.the-variants as outcome
+use Rattle.abstract_tree.specs.Follows.{levels-most, entry-floor}
+use Rattle.theory.specs.Tree.{treeOf}
+use Rattle.theory.specs.Down.{body-of}
+use Rattle.theory.specs.Open.{passed, stopped}
+use Rattle.theory.specs.Agree.{Stands, Agrees, count-is}
+use Rattle.theory.specs.Make.{Words, sizes-of, begun-stands}
+use Rattle.theory.specs.Step.{InWords, step}
+use Rattle.theory.specs.Numbers.{Numbers, numbers-are}
+
+-- the answers to a list of calls, each on what the one before left, and what the last leaves
+module _ {S : Type 0} (move : S → Call → Moved S) where
+  unfoldable pub answers : S → List Call → List Answer
+  answers s [] = []
+  answers s (c ∷ cs) = move s c .answer ∷ answers (move s c .after) cs
+
+  unfoldable pub finally : S → List Call → S
+  finally s [] = s
+  finally s (c ∷ cs) = finally (move s c .after) cs
+
+-- a lookup, and the calls of a list that aren't
+abbrev pub isLookup : Call → Bool
+isLookup (row.lookup v x) = true
+isLookup (row.reset l) = false
+isLookup (row.insert i l) = false
+isLookup (row.add i l) = false
+isLookup (row.split flag i l) = false
+isLookup (row.setLengths i l) = false
+isLookup (row.update i l) = false
+isLookup (row.rank v i) = false
+isLookup (row.next i) = false
+isLookup (row.compare i j) = false
+isLookup (row.lengths i) = false
+isLookup row.count = false
+isLookup row.first = false
+isLookup row.malformed = false
+
+unfoldable pub others : List Call → List Call
+others [] = []
+others (c ∷ cs) = cond (isLookup c) (others cs) (c ∷ others cs)
+
+-- the answers that calls other than lookups get
+unfoldable pub otherAnswers : {S : Type 0} → (S → Call → Moved S) → S → List Call → List Answer
+otherAnswers move s [] = []
+otherAnswers move s (c ∷ cs) = let rest = otherAnswers move (move s c .after) cs in cond (isLookup c) rest (move s c .answer ∷ rest)
+
+-- what holds of a state that stands for the row r
+pub record Kept (s : State) (r : Row) : Type 0 where
+  pub sound : Sound s
+  pub entries : entriesOf s ≡ r .entries
+  pub limit : s .head .limit ≡ r .limit
+  pub count : s .head .entries ≡ length (r .entries)
+  pub within : length (r .entries) ≤ r .limit
+  pub levels : s .head .levels ≤ 15
+  pub floor : 2 ≤ s .head .levels → 2 * half (s .head .fan) ^ s .head .levels ≤ length (r .entries)
+  pub numbers : (c : Call) → InWords c → Numbers s r c
+
+kept-of : (s : State) (r : Row) → Stands s r → Kept s r
+kept-of s r h =
+    let n : s .head .entries ≡ length (r .entries) = sym (count-is s (h .sound)) ∙ ap length (h .entries) in
+    let b = body-of 3 s 1 (h .sound) in
+    record {
+      sound = h .sound;
+      entries = h .entries;
+      limit = h .limit;
+      count = n;
+      within = (let z = h .sound .entry-count in let y = h .limit in omega arith);
+      levels = levels-most (treeOf 3 s) b;
+      floor = λ two. (let z = entry-floor (treeOf 3 s) b two in omega arith);
+      numbers = numbers-are s r h;
+    }
+
+never : false ≡ true → ⊥
+never e = let z : _≡_ {A = ℕ} 0 1 = cc in omega arith
+
+-- a lookup leaves the row as it was
+lookup-keeps : (r : Row) (c : Call) → isLookup c ≡ true → rowStep r c .after ≡ r
+unfolding rowStep
+lookup-keeps r (row.lookup v x) e = refl
+lookup-keeps r (row.reset l) e = absurd (never e)
+lookup-keeps r (row.insert i l) e = absurd (never e)
+lookup-keeps r (row.add i l) e = absurd (never e)
+lookup-keeps r (row.split flag i l) e = absurd (never e)
+lookup-keeps r (row.setLengths i l) e = absurd (never e)
+lookup-keeps r (row.update i l) e = absurd (never e)
+lookup-keeps r (row.rank v i) e = absurd (never e)
+lookup-keeps r (row.next i) e = absurd (never e)
+lookup-keeps r (row.compare i j) e = absurd (never e)
+lookup-keeps r (row.lengths i) e = absurd (never e)
+lookup-keeps r row.count e = absurd (never e)
+lookup-keeps r row.first e = absurd (never e)
+lookup-keeps r row.malformed e = absurd (never e)
+
+runs-alike : (s : State) (r : Row) (cs : List Call) → Stands s r → All InWords cs → (answers treeStep s cs ≡ answers rowStep r cs) × Stands (finally treeStep s cs) (finally rowStep r cs)
+unfolding answers finally All
+runs-alike s r [] h k = (refl, h)
+runs-alike s r (c ∷ cs) h k =
+    let a : Agrees (treeStep s c) (rowStep r c) = step s r h c (k .0) in
+    let i = runs-alike (treeStep s c .after) (rowStep r c .after) cs (a .kept) (k .1) in
+    (ap₂ _∷_ (a .same) (i .0), i .1)
+
+others-alike : (s : State) (r : Row) (cs : List Call) → Stands s r → All InWords cs → otherAnswers treeStep s cs ≡ answers rowStep r (others cs)
+unfolding answers otherAnswers others All
+others-alike s r [] h k = refl
+others-alike s r (c ∷ cs) h k =
+    let a : Agrees (treeStep s c) (rowStep r c) = step s r h c (k .0) in
+    other (isLookup c) refl (a .same) (others-alike (treeStep s c .after) (rowStep r c .after) cs (a .kept) (k .1))
+  where
+    other : (b : Bool) → isLookup c ≡ b → treeStep s c .answer ≡ rowStep r c .answer → otherAnswers treeStep (treeStep s c .after) cs ≡ answers rowStep (rowStep r c .after) (others cs)
+        → cond (isLookup c) (otherAnswers treeStep (treeStep s c .after) cs) (treeStep s c .answer ∷ otherAnswers treeStep (treeStep s c .after) cs) ≡ answers rowStep r (cond (isLookup c) (others cs) (c ∷ others cs))
+    other true q e i = rw q (i ∙ ap (λ (z : Row). answers rowStep z (others cs)) (lookup-keeps r c q))
+    other false q e i = rw q (ap₂ _∷_ e i)
+
+-- make, not refused
+module _ (fan limit : ℕ) (l : Lengths) (ls xs hs : List ℕ) (small : Words l) (given : make fan limit l ls xs hs .answer ≡ outcome.Done) where
+  not-refused : refusal (makeCauses fan limit ls xs hs) ≡ 0
+  unfolding make
+  not-refused = go (refusal (makeCauses fan limit ls xs hs)) refl
+    where
+      go : (n : ℕ) → refusal (makeCauses fan limit ls xs hs) ≡ n → refusal (makeCauses fan limit ls xs hs) ≡ 0
+      go zero e = e
+      go (suc n) e = absurd (let q : outcome.Refused (suc n) ≡ outcome.Done = sym (ap (λ (r : calls.Reply Outcome). r .answer) (stopped (makeCauses fan limit ls xs hs) (λ n. calls.reply (state (headOf 0 0 0 0 0 0 0 held.Absent) ls xs hs) (outcome.Refused n)) (calls.reply (begun fan limit l ls xs hs) outcome.Done) n e)) ∙ given in
+          let z : _≡_ {A = ℕ} 0 1 = cc in omega arith)
+
+  made : Stands (make fan limit l ls xs hs .after) (madeRow limit l)
+  unfolding make
+  made = subst (λ (r : calls.Reply Outcome). Stands (r .after) (madeRow limit l)) (sym (passed (makeCauses fan limit ls xs hs) (λ n. calls.reply (state (headOf 0 0 0 0 0 0 0 held.Absent) ls xs hs) (outcome.Refused n)) (calls.reply (begun fan limit l ls xs hs) outcome.Done) not-refused))
+      (begun-stands fan limit l ls xs hs (sizes-of fan limit ls xs hs not-refused) small)
+
+  -- every list of calls: the answers are the row's, and the state stands for the row
+  pub whole : (cs : List Call) → All InWords cs
+      → (answers treeStep (make fan limit l ls xs hs .after) cs ≡ answers rowStep (madeRow limit l) cs)
+      × Kept (finally treeStep (make fan limit l ls xs hs .after) cs) (finally rowStep (madeRow limit l) cs)
+  whole cs k = let r = runs-alike (make fan limit l ls xs hs .after) (madeRow limit l) cs made k in (r .0, kept-of (finally treeStep (make fan limit l ls xs hs .after) cs) (finally rowStep (madeRow limit l) cs) (r .1))
+
+  -- two lists alike but for lookups
+  pub alike : (cs ds : List Call) → All InWords cs → All InWords ds → others cs ≡ others ds
+      → otherAnswers treeStep (make fan limit l ls xs hs .after) cs ≡ otherAnswers treeStep (make fan limit l ls xs hs .after) ds
+  alike cs ds k m e =
+      others-alike (make fan limit l ls xs hs .after) (madeRow limit l) cs made k ∙ ap (answers rowStep (madeRow limit l)) e
+      ∙ sym (others-alike (make fan limit l ls xs hs .after) (madeRow limit l) ds made m)
