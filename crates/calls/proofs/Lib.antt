@@ -1,9 +1,0 @@
-pub mod Bools
-pub mod Causes
-pub mod OpenLaws
-pub mod ReadyLaws
-pub mod CursorLaws
-pub mod ReadLaws
-pub mod OrderLaws
-pub mod LookupLaws
-pub mod BeginLaws

@@ -1,4 +1,0 @@
-pub mod Open
-pub mod Ready
-pub mod Read
-pub mod Lookup

@@ -1,0 +1,67 @@
+-- `calls_read::order::cmp`: both cursors are tested, the first before the second; then slots of one leaf are compared, or paths.
+use borrow.Author.Needs.{needs}
+use Rattle.open.proofs.ReadyLaws.{ready, leaf-area}
+use Rattle.calls_read.proofs.OrderLaws.{path-in, cmp-refused, cmp-first, cmp-second, cmp-slot, cmp-path}
+use Rattle.calls_read.proofs.order.cmp.Statement.{statement}
+use Rattle.calls_read.proofs.order.cmp.Tie as tie
+
+open-requires : tie.Need-open-requires
+open-requires c κs = search needs
+
+enum-known-n : tie.Need-enum-known-n
+enum-known-n c = search needs
+
+enum-known-g : tie.Need-enum-known-g
+enum-known-g c = search needs
+
+current-requires : tie.Need-current-requires
+current-requires c κs = let h = ready _ _ _ (c .before .before .before .«open» .ensures) (c .before .g .given .1) in (h .same, leaf-area _ _ h, h .leaves)
+
+returns : tie.Need-returns
+returns c = cmp-first _ (c .before .before .before .before .before .before .before .before .before .args .a) (c .before .before .before .before .before .before .before .before .before .args .b) _ (c .before .before .before .before .before .«open» .ensures) _ (c .before .before .before .g .given .1) _ (c .before .current .ensures) (c .if1 .taken)
+
+current-requires-2 : tie.Need-current-requires-2
+current-requires-2 c κs = let h = ready _ _ _ (c .before .before .before .before .before .«open» .ensures) (c .before .before .before .g .given .1) in (h .same, leaf-area _ _ h, h .leaves)
+
+returns-2 : tie.Need-returns-2
+returns-2 c = cmp-second _ (c .before .before .before .before .before .before .before .before .before .before .before .args .a) (c .before .before .before .before .before .before .before .before .before .before .before .args .b) _ (c .before .before .before .before .before .before .before .«open» .ensures) _ (c .before .before .before .before .before .g .given .1) _ (c .before .before .before .current .ensures) (c .before .before .if1 .left) _ (c .before .current2 .ensures) (c .if2 .taken)
+
+by-slot-requires : tie.Need-by-slot-requires
+by-slot-requires c κs = search needs
+
+returns-3 : tie.Need-returns-3
+returns-3 c = cmp-slot _ (c .before .before .before .before .before .before .before .before .before .before .before .before .before .before .before .args .a) (c .before .before .before .before .before .before .before .before .before .before .before .before .before .before .before .args .b) _ (c .before .before .before .before .before .before .before .before .before .before .before .«open» .ensures) _ (c .before .before .before .before .before .before .before .before .before .g .given .1) _ (c .before .before .before .before .before .before .before .current .ensures) (c .before .before .before .before .before .before .if1 .left) _ (c .before .before .before .before .before .current2 .ensures) (c .before .before .before .before .if2 .left) _ (c .before .if3 .taken) (c .by-slot .ensures)
+
+path-requires : tie.Need-path-requires
+path-requires c κs = path-in _ _ _ (c .before .before .before .before .before .before .before .before .before .before .«open» .ensures) (c .before .before .before .before .before .before .before .before .g .given .1) (c .before .before .before .before .before .before .before .before .before .before .before .before .before .before .args .a) _ (c .before .before .before .before .before .before .current .ensures) (c .before .before .before .before .before .if1 .left)
+
+path-requires-2 : tie.Need-path-requires-2
+path-requires-2 c κs = path-in _ _ _ (c .before .before .before .before .before .before .before .before .before .before .before .«open» .ensures) (c .before .before .before .before .before .before .before .before .before .g .given .1) (c .before .before .before .before .before .before .before .before .before .before .before .before .before .before .before .args .b) _ (c .before .before .before .before .before .current2 .ensures) (c .before .before .before .before .if2 .left)
+
+by-path-requires : tie.Need-by-path-requires
+by-path-requires c κs = search needs
+
+returns-4 : tie.Need-returns-4
+returns-4 c = cmp-refused _ (c .before .before .before .before .before .before .before .args .a) (c .before .before .before .before .before .before .before .args .b) _ (c .before .before .before .«open» .ensures) _ (c .before .n .given .1)
+
+returns-5 : tie.Need-returns-5
+returns-5 c = cmp-path _ (c .before .before .before .before .before .before .before .before .before .before .before .before .before .before .before .before .before .args .a) (c .before .before .before .before .before .before .before .before .before .before .before .before .before .before .before .before .before .args .b) _ (c .before .before .before .before .before .before .before .before .before .before .before .before .before .«open» .ensures) _ (c .before .before .before .before .before .before .before .before .before .before .before .g .given .1) _ (c .before .before .before .before .before .before .before .before .before .current .ensures) (c .before .before .before .before .before .before .before .before .if1 .left) _ (c .before .before .before .before .before .before .before .current2 .ensures) (c .before .before .before .before .before .before .if2 .left) _ (c .before .before .before .if3 .left) _ _ (c .before .before .path .ensures .0) (c .before .path2 .ensures .0) (c .by-path .ensures)
+
+pub cmp-spec : {M : Type 1} → statement M
+cmp-spec =
+    tie.close
+    (tie.spec
+    open-requires
+    enum-known-n
+    enum-known-g
+    current-requires
+    returns
+    current-requires-2
+    returns-2
+    by-slot-requires
+    returns-3
+    path-requires
+    path-requires-2
+    by-path-requires
+    returns-4
+    returns-5)

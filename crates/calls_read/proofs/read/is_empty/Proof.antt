@@ -1,0 +1,22 @@
+-- `calls_read::read::is_empty`: the one test gives 1, and else the answer is the definition's.
+use mathlib.Core.Path.{sym, _∙_}
+use borrow.Author.Needs.{needs}
+use Rattle.model.specs.Calls.{isEmpty}
+use Rattle.model.specs.declared.answer.Verdict.the-variants.{Refused}
+use Rattle.open.proofs.Causes.{one-refused, one-good}
+use Rattle.calls_read.proofs.read.is_empty.Statement.{statement}
+use Rattle.calls_read.proofs.read.is_empty.Tie as tie
+
+bad-size-requires : tie.Need-bad-size-requires
+bad-size-requires c κs = search needs
+
+returns : tie.Need-returns
+unfolding isEmpty
+returns c = one-refused Refused _ 0 _ (sym (c .before .bad-size .ensures) ∙ c .if1 .taken)
+
+returns-2 : tie.Need-returns-2
+unfolding isEmpty
+returns-2 c = one-good Refused _ 0 _ (sym (c .before .bad-size .ensures) ∙ c .if1 .left)
+
+pub is-empty-spec : {M : Type 1} → statement M
+is-empty-spec = tie.close (tie.spec bad-size-requires returns returns-2)

@@ -1,0 +1,52 @@
+-- `calls_read::read::slot_of`: the part that is lent holds the node's words.
+use borrow.Author.Needs.{needs}
+use Prim.Native.Nat.{_+_, _*_, _≤_}
+use native.Mathlib.Omega.{arith}
+use lib.ListN.{length}
+use Rattle.model.specs.Node.{nodeOf}
+use Rattle.laws.specs.Words.{lent}
+use Rattle.laws.specs.AreaRead.{node-end, node-length}
+use Rattle.calls_read.proofs.read.slot_of.Statement.{statement}
+use Rattle.calls_read.proofs.read.slot_of.Tie as tie
+
+-- the node ends within the area
+inside : (c : tie.After-shared-slice-known) → c .before .args .k * c .before .args .g .size + c .before .args .g .size ≤ length (c .before .args .leaves .now)
+inside c = node-end (c .before .args .g) (c .before .args .k) (length (c .before .args .leaves .now)) (c .before .pre .1) (c .before .pre .0 .room)
+
+mul-a : tie.Need-mul-a
+mul-a c = omega (arith, inside c)
+
+add-e : tie.Need-add-e
+add-e c = omega (arith, inside c)
+
+mul-index-of : tie.Need-mul-index-of
+mul-index-of c = omega (arith, inside c)
+
+sub-index-of : tie.Need-sub-index-of
+sub-index-of c = omega arith
+
+part-index-of-start : tie.Need-part-index-of-start
+part-index-of-start c = omega (arith, inside c)
+
+part-index-of-end : tie.Need-part-index-of-end
+part-index-of-end c = omega (arith, inside c)
+
+index-of-requires : tie.Need-index-of-requires
+unfolding nodeOf
+index-of-requires c κs = (c .before .before .pre .0 .shaped, rw lent (node-length (c .before .before .args .g) _ _ (c .before .before .pre .1) (c .before .before .pre .0 .room)), rw lent (c .before .before .pre .2))
+
+returns : tie.Need-returns
+returns c = rw lent at (c .index-of .ensures)
+
+pub slot-of-spec : {M : Type 1} → statement M
+slot-of-spec =
+    tie.close
+    (tie.spec
+    mul-a
+    add-e
+    mul-index-of
+    sub-index-of
+    part-index-of-start
+    part-index-of-end
+    index-of-requires
+    returns)

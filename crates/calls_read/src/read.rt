@@ -1,0 +1,180 @@
+// The calls that read a count or one entry.
+use open::open::Opened;
+use open::open::bad_size;
+use open::open::open;
+use open::open::open_at;
+use area::word::at_of;
+use area::word::child_of;
+use area::word::len_of;
+use area::word::length_of;
+use area::word::parent_of;
+use area::word::start_in;
+use model::answer::Measured;
+use model::answer::Named;
+use model::answer::Number;
+use model::answer::Standing;
+use model::answer::Verdict;
+use model::head::Cursor;
+use model::head::Head;
+use model::length::Lengths;
+use model::length::View;
+use model::node::Place;
+use model::node::Shape;
+use model::number::EntryId;
+use model::number::LeafNo;
+use model::walk::Sum;
+use walk::climb::rank_up;
+ghost use mathlib.Core.Path.{_≡_};
+ghost use Prim.Native.Nat.{_<_, _≤_};
+ghost use lib.ListN.{length};
+ghost use Rattle.model.specs.Length.{viewNumber};
+ghost use Rattle.model.specs.Node.{used, indexFrom};
+ghost use Rattle.model.specs.State.{state, nodeAt};
+ghost use Rattle.model.specs.Calls as calls;
+ghost use Rattle.area.specs.Area.{Area};
+ghost use Rattle.calls_read.specs.Read.{cursorIn};
+
+// How many entries the tree has.
+pub fn len(head: Head) -> Number
+    ensures { λ r. ⌜ r ≡ calls.len head ⌝ }
+{
+    let fan = head.fan;
+    let limit = head.limit;
+    if bad_size(fan, limit) {
+        return Number::Refused(1);
+    }
+    Number::Is(head.entries)
+}
+
+// No: a tree has at least one entry.
+pub fn is_empty(head: Head) -> Verdict
+    ensures { λ r. ⌜ r ≡ calls.isEmpty head ⌝ }
+{
+    let fan = head.fan;
+    let limit = head.limit;
+    if bad_size(fan, limit) {
+        return Verdict::Refused(1);
+    }
+    Verdict::No
+}
+
+// The id of the entry at a cursor.
+pub fn id(head: Head, leaves: &[u32], inners: &[u32], homes: &[u32], at: Cursor) -> Named
+    ensures { λ r. ⌜ r ≡ calls.id (state head (now (leaves .entry)) (now (inners .entry)) (now (homes .entry))) at ⌝ }
+{
+    match open_at(head, leaves, inners, homes, at) {
+        Opened::Refused(n) => Named::Refused(n),
+        Opened::Good(g) => {
+            let k = at.leaf.0;
+            let i = at.slot as usize;
+            Named::Entry(EntryId(child_of(leaves, g, k, i)))
+        }
+    }
+}
+
+// The lengths of the entry at a cursor.
+pub fn lengths(head: Head, leaves: &[u32], inners: &[u32], homes: &[u32], at: Cursor) -> Measured
+    ensures { λ r. ⌜ r ≡ calls.lengthsOf (state head (now (leaves .entry)) (now (inners .entry)) (now (homes .entry))) at ⌝ }
+{
+    match open_at(head, leaves, inners, homes, at) {
+        Opened::Refused(n) => Measured::Refused(n),
+        Opened::Good(g) => {
+            let k = at.leaf.0;
+            let i = at.slot as usize;
+            let prepare = length_of(leaves, g, 0, k, i);
+            let effect = length_of(leaves, g, 1, k, i);
+            Measured::Are(Lengths {
+                prepare: prepare,
+                effect: effect,
+            })
+        }
+    }
+}
+
+// A view's number: prepare is 0, effect 1.
+pub fn view_number(view: View) -> usize
+    ensures { λ r. ⌜ r ≡ viewNumber view ⌝ }
+{
+    match view {
+        View::Prepare => 0,
+        View::Effect => 1,
+    }
+}
+
+// The position in a view of the entry at a cursor: the lengths before it.
+pub fn entry_to_char_index(
+    head: Head,
+    leaves: &[u32],
+    inners: &[u32],
+    homes: &[u32],
+    view: View,
+    at: Cursor,
+) -> Number
+    ensures { λ r. ⌜ r ≡ calls.entryToCharIndex (state head (now (leaves .entry)) (now (inners .entry)) (now (homes .entry))) view at ⌝ }
+{
+    match open_at(head, leaves, inners, homes, at) {
+        Opened::Refused(n) => Number::Refused(n),
+        Opened::Good(g) => {
+            let v = view_number(view);
+            let k = at.leaf.0;
+            let before = start_in(leaves, g, v, k, at.slot);
+            let parent = parent_of(leaves, g, k);
+            let place = at_of(leaves, g, k);
+            match rank_up(inners, g, v, head.levels, parent, place, before) {
+                Sum::Is(n) => Number::Is((n % 4294967296) as u32),
+                Sum::Broken => Number::Refused(9),
+            }
+        }
+    }
+}
+
+// The slot of leaf k that holds the entry id.
+fn slot_of(leaves: &[u32], g: Shape, k: u32, id: u32) -> Place
+    requires { ⌜ Area g (length (now leaves)) × (k < g .nodes) × (nodeAt g k (now leaves) .len ≤ g .fan) ⌝ }
+    ensures { λ r. ⌜ r ≡ indexFrom id 0 (used (nodeAt g k (now (leaves .entry)))) ⌝ }
+{
+    let size = g.size;
+    let a = k as usize * size;
+    let e = a + size;
+    node::read::index_of(&leaves[a..e], g, id)
+}
+
+// The cursor of the entry id, where leaf k holds it.
+fn cursor_in(leaves: &[u32], g: Shape, k: u32, id: u32, stamp: u32) -> Standing
+    requires { ⌜ Area g (length (now leaves)) × (k < g .nodes) ⌝ }
+    ensures { λ r. ⌜ r ≡ cursorIn g (now (leaves .entry)) k id stamp ⌝ }
+{
+    let fan = g.fan;
+    if len_of(leaves, g, k) as usize > fan {
+        return Standing::Refused(9);
+    }
+    match slot_of(leaves, g, k, id) {
+        Place::Slot(i) => Standing::At(Cursor {
+            leaf: LeafNo(k),
+            slot: i as u32,
+            stamp: stamp,
+        }),
+        Place::Missing => Standing::Refused(9),
+    }
+}
+
+// The cursor of an entry.
+pub fn cursor(head: Head, leaves: &[u32], inners: &[u32], homes: &[u32], id: EntryId) -> Standing
+    ensures { λ r. ⌜ r ≡ calls.cursor (state head (now (leaves .entry)) (now (inners .entry)) (now (homes .entry))) (id .0) ⌝ }
+{
+    match open(head, leaves, inners, homes) {
+        Opened::Refused(n) => Standing::Refused(n),
+        Opened::Good(g) => {
+            let i = id.0;
+            let entries = head.entries;
+            if entries <= i {
+                return Standing::Refused(4);
+            }
+            let k = homes[i as usize];
+            if k >= head.leaves {
+                return Standing::Refused(9);
+            }
+            cursor_in(leaves, g, k, i, entries)
+        }
+    }
+}

@@ -1,0 +1,96 @@
+-- What the tests of a cursor answer, and what is known where they give no number. Assumes nothing.
+use mathlib.Core.Path.{_≡_, refl, sym, ap, _∙_}
+use mathlib.Core.Bool.{Bool, true, false, not, _&&_}
+use mathlib.Core.List.{List, [], _∷_, _++_}
+use Prim.Native.Nat.{ℕ, _+_, _≤_, _<_}
+use native.Mathlib.Omega.{arith}
+use native.Mathlib.Nat.{lt-of-lt-of-le}
+use lib.ListN.{length}
+use lib.Dec.{eqb, ltb}
+use borrow.Author.Tests.{lt-ltb, le-ltb, eq-eqb, ltb-true, ltb-false, not-true, not-false}
+use Rattle.model.specs.Lists.{Cause, All}
+use Rattle.model.specs.State.{State, nodeAt}
+use Rattle.model.specs.Refuse.{shapeOf, opening, current, atCursor, stale, overfull}
+use Rattle.model.specs.declared.node.Shape.{Shape}
+use Rattle.model.specs.declared.head.Cursor.{Cursor}
+use Rattle.area.specs.Area.{Area}
+use Rattle.open.proofs.Bools.{and-true}
+use Rattle.open.proofs.Causes.{opened-first, opened-next, opened-none, opened-stop, opened-more, good-number, good-shape, none-applies, Numbered}
+use Rattle.open.proofs.OpenLaws.{opening-numbered}
+use Rattle.open.proofs.ReadyLaws.{ready, ready-here, leaf-area, view-in}
+use Rattle.open.specs.Open.{openedBy}
+use Rattle.open.specs.Ready.{Ready, Stands}
+use Rattle.open.specs.declared.open.Opened.{Opened}
+use Rattle.open.specs.declared.open.Opened.the-variants.{Good, Refused}
+
+-- what `current` answers where stamp and leaf pass
+pub current-last : (s : State) (c : Cursor) (g : Shape) (len : ℕ) → g ≡ shapeOf (s .head) → c .stamp ≡ s .head .entries → c .leaf .0 < s .head .leaves
+    → len ≡ nodeAt g (c .leaf .0) (s .leaves) .len → ltb (c .slot) len ≡ current s c
+current-last s c g len e p q r =
+    rw (eq-eqb (c .stamp) (s .head .entries) p, lt-ltb (c .leaf .0) (s .head .leaves) q)
+    (ap (ltb (c .slot)) (r ∙ ap (λ (x : Shape). nodeAt x (c .leaf .0) (s .leaves) .len) e))
+
+-- a current cursor
+pub current-leaf : (s : State) (c : Cursor) → current s c ≡ true → (c .leaf .0 < s .head .leaves) × (c .slot < nodeAt (shapeOf (s .head)) (c .leaf .0) (s .leaves) .len)
+current-leaf s c e =
+    let stamp = eqb (c .stamp) (s .head .entries) in
+    let leaf = ltb (c .leaf .0) (s .head .leaves) in
+    let p = and-true (stamp && leaf) (ltb (c .slot) (nodeAt (shapeOf (s .head)) (c .leaf .0) (s .leaves) .len)) e in
+    (ltb-true _ _ (and-true stamp leaf (p .0) .1), ltb-true _ _ (p .1))
+
+-- what `open_at` answers, from what `open` answered
+module _ (s : State) (c : Cursor) (o : Opened) (e : o ≡ openedBy (opening s) (shapeOf (s .head))) where
+  pub at-refused : (n : ℕ) → o ≡ Refused n → Refused n ≡ openedBy (opening s ++ atCursor s c) (shapeOf (s .head))
+  at-refused n d = sym (opened-stop (opening s) (atCursor s c) _ n (sym e ∙ d))
+
+  module _ (g : Shape) (d : o ≡ Good g) (t : Bool) (et : t ≡ current s c) where
+    rest : openedBy (opening s ++ atCursor s c) (shapeOf (s .head)) ≡ openedBy (atCursor s c) (shapeOf (s .head))
+    rest = opened-more (opening s) (atCursor s c) _ g (opening-numbered s) (sym e ∙ d)
+
+    pub at-stale : not t ≡ true → Refused 3 ≡ openedBy (opening s ++ atCursor s c) (shapeOf (s .head))
+    at-stale h = sym (rest ∙ opened-first 2 _ _ _ (ap not (sym et) ∙ h))
+
+    -- the cursor is current: its leaf can be read
+    pub at-leaf : not t ≡ false → Area g (length (s .leaves)) × (c .leaf .0 < g .nodes)
+    at-leaf h =
+        let r = ready s g o e d in
+        (leaf-area s g r, lt-of-lt-of-le (current-leaf s c (sym et ∙ not-false t h) .0) (r .leaves))
+
+    -- and its len is read
+    module _ (h : not t ≡ false) (len : ℕ) (el : len ≡ nodeAt g (c .leaf .0) (s .leaves) .len) where
+      last : openedBy (opening s ++ atCursor s c) (shapeOf (s .head)) ≡ openedBy (overfull s c ∷ []) (shapeOf (s .head))
+      last = rest ∙ opened-next 3 _ _ _ (ap not (sym et) ∙ h)
+
+      same : g ≡ shapeOf (s .head)
+      same = ready s g o e d .same
+
+      length-same : nodeAt (shapeOf (s .head)) (c .leaf .0) (s .leaves) .len ≡ len
+      length-same = ap (λ (x : Shape). nodeAt x (c .leaf .0) (s .leaves) .len) (sym same) ∙ sym el
+
+      fan-same : s .head .fan ≡ g .fan
+      fan-same = ap (λ (x : Shape). x .fan) (sym same)
+
+      pub at-overfull : g .fan < len → Refused 9 ≡ openedBy (opening s ++ atCursor s c) (shapeOf (s .head))
+      at-overfull f = sym (last ∙ opened-first 8 _ _ _ (rw (length-same, fan-same) (lt-ltb (g .fan) len f)))
+
+      pub at-good : len ≤ g .fan → Good g ≡ openedBy (opening s ++ atCursor s c) (shapeOf (s .head))
+      at-good f = sym (last ∙ opened-next 9 _ _ _ (rw (length-same, fan-same) (le-ltb (g .fan) len f)) ∙ opened-none _ ∙ ap Good (sym same))
+
+-- what is known where `open_at` gives no number
+pub stands : (s : State) (c : Cursor) (g : Shape) (o : Opened) → o ≡ openedBy (opening s ++ atCursor s c) (shapeOf (s .head)) → o ≡ Good g → Stands s c g
+unfolding opening All
+stands s c g o e d =
+    let all : Numbered (opening s ++ atCursor s c) = (omega arith, (omega arith, (omega arith, (omega arith, (omega arith, tt))))) in
+    let n = none-applies (opening s ++ atCursor s c) all (good-number (opening s ++ atCursor s c) (shapeOf (s .head)) g (sym e ∙ d)) in
+    let l = current-leaf s c (not-false (current s c) (n .1 .1 .1 .0)) in
+    rw (← good-shape (opening s ++ atCursor s c) (shapeOf (s .head)) g (sym e ∙ d))
+    (record { ready = ready-here s (n .0) (n .1 .0) (n .1 .1 .0); leaf = l .0; slot = l .1; few = ltb-false _ _ (n .1 .1 .1 .1 .0) })
+
+-- the slot of a cursor can be read
+pub slot-in : (s : State) (c : Cursor) (g : Shape) → Stands s c g → Area g (length (s .leaves)) × (c .leaf .0 < g .nodes) × (c .slot < g .fan)
+slot-in s c g h = (leaf-area s g (h .ready), lt-of-lt-of-le (h .leaf) (h .ready .leaves), lt-of-lt-of-le (h .slot) (h .few))
+
+-- and so can its lengths
+pub lengths-in : (s : State) (c : Cursor) (g : Shape) (v : ℕ) → v < 2 → Stands s c g
+    → Area g (length (s .leaves)) × (v + 1 < g .stride) × (c .leaf .0 < g .nodes) × (c .slot < g .fan)
+lengths-in s c g v hv h = let i = slot-in s c g h in (i .0, view-in s g v (h .ready) hv, i .1, i .2)

@@ -1,0 +1,5 @@
+pub mod Bools
+pub mod Causes
+pub mod OpenLaws
+pub mod ReadyLaws
+pub mod CursorLaws

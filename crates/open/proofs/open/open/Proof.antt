@@ -1,0 +1,29 @@
+-- `open::open::open`: the areas are tested first, then the head's counts.
+use borrow.Author.Needs.{needs}
+use Rattle.open.proofs.OpenLaws.{open-refused, open-astray, open-good}
+use Rattle.open.proofs.open.open.Statement.{statement}
+use Rattle.open.proofs.open.open.Tie as tie
+
+open-areas-requires : tie.Need-open-areas-requires
+open-areas-requires c κs = search needs
+
+enum-known-n : tie.Need-enum-known-n
+enum-known-n c = search needs
+
+enum-known-g : tie.Need-enum-known-g
+enum-known-g c = search needs
+
+astray-requires : tie.Need-astray-requires
+astray-requires c κs = search needs
+
+returns : tie.Need-returns
+returns c = open-astray _ _ (c .before .before .before .before .before .open-areas .ensures) _ (c .before .before .before .g .given .1) _ (c .before .astray .ensures) (c .if1 .taken)
+
+returns-2 : tie.Need-returns-2
+returns-2 c = open-refused _ _ (c .before .before .before .open-areas .ensures) _ (c .before .n .given .1)
+
+returns-3 : tie.Need-returns-3
+returns-3 c = open-good _ _ (c .before .before .before .before .before .open-areas .ensures) _ (c .before .before .before .g .given .1) _ (c .before .astray .ensures) (c .if1 .left)
+
+pub open-spec : {M : Type 1} → statement M
+open-spec = tie.close (tie.spec open-areas-requires enum-known-n enum-known-g astray-requires returns returns-2 returns-3)

@@ -1,0 +1,29 @@
+-- `open::open::open_areas`: the first test that holds gives the number, and none gives the sizes.
+use mathlib.Core.Path.{sym, _∙_}
+use denote.Ref.{now}
+use borrow.Author.Needs.{needs}
+use Rattle.open.proofs.OpenLaws.{short-areas, long-areas, sized}
+use Rattle.open.proofs.Causes.{opened-first}
+use Rattle.open.proofs.open.open_areas.Statement.{statement}
+use Rattle.open.proofs.open.open_areas.Tie as tie
+
+bad-size-requires : tie.Need-bad-size-requires
+bad-size-requires c κs = search needs
+
+returns : tie.Need-returns
+returns c = sym (opened-first 0 _ _ _ (sym (c .before .bad-size .ensures) ∙ c .if1 .taken))
+
+shape-of-requires : tie.Need-shape-of-requires
+shape-of-requires c κs = let z = sized _ _ (sym (c .before .bad-size .ensures) ∙ c .if1 .left) in (z .fan-least, z .fan-most, z .limit-most)
+
+too-short-requires : tie.Need-too-short-requires
+too-short-requires c κs = search needs
+
+returns-2 : tie.Need-returns-2
+returns-2 c = short-areas _ _ (now (c .before .before .before .before .before .before .before .before .args .leaves)) (now (c .before .before .before .before .before .before .before .before .args .inners)) (now (c .before .before .before .before .before .before .before .before .args .homes)) _ _ _ (c .before .before .before .before .bad-size .ensures) (c .before .before .before .if1 .left) (c .before .before .shape-of .ensures .0) (c .before .too-short .ensures) (c .if2 .taken)
+
+returns-3 : tie.Need-returns-3
+returns-3 c = long-areas _ _ (now (c .before .before .before .before .before .before .before .before .args .leaves)) (now (c .before .before .before .before .before .before .before .before .args .inners)) (now (c .before .before .before .before .before .before .before .before .args .homes)) _ _ _ (c .before .before .before .before .bad-size .ensures) (c .before .before .before .if1 .left) (c .before .before .shape-of .ensures .0) (c .before .too-short .ensures) (c .if2 .left)
+
+pub open-areas-spec : {M : Type 1} → statement M
+open-areas-spec = tie.close (tie.spec bad-size-requires returns shape-of-requires too-short-requires returns-2 returns-3)

@@ -1,0 +1,51 @@
+-- `open::open::open_at`: the tree is tested first, then the cursor, then the len of its leaf.
+use borrow.Author.Needs.{needs}
+use Rattle.open.proofs.ReadyLaws.{ready, leaf-area}
+use Rattle.open.proofs.CursorLaws.{at-refused, at-stale, at-leaf, at-overfull, at-good}
+use Rattle.open.proofs.open.open_at.Statement.{statement}
+use Rattle.open.proofs.open.open_at.Tie as tie
+
+open-requires : tie.Need-open-requires
+open-requires c κs = search needs
+
+enum-known-n : tie.Need-enum-known-n
+enum-known-n c = search needs
+
+enum-known-g : tie.Need-enum-known-g
+enum-known-g c = search needs
+
+current-requires : tie.Need-current-requires
+current-requires c κs = let h = ready _ _ _ (c .before .before .before .«open» .ensures) (c .before .g .given .1) in (h .same, leaf-area _ _ h, h .leaves)
+
+returns : tie.Need-returns
+returns c = at-stale _ (c .before .before .before .before .before .before .before .before .before .args .c) _ (c .before .before .before .before .before .«open» .ensures) _ (c .before .before .before .g .given .1) _ (c .before .current .ensures) (c .if1 .taken)
+
+len-of-requires : tie.Need-len-of-requires
+len-of-requires c κs = at-leaf _ (c .before .before .before .before .before .before .before .before .before .args .c) _ (c .before .before .before .before .before .«open» .ensures) _ (c .before .before .before .g .given .1) _ (c .before .current .ensures) (c .if1 .left)
+
+cast-if2 : tie.Need-cast-if2
+cast-if2 c = search needs
+
+returns-2 : tie.Need-returns-2
+returns-2 c = at-overfull _ (c .before .before .before .before .before .before .before .before .before .before .before .before .args .c) _ (c .before .before .before .before .before .before .before .before .«open» .ensures) _ (c .before .before .before .before .before .before .g .given .1) _ (c .before .before .before .before .current .ensures) (c .before .before .before .if1 .left) _ (c .before .before .len-of .ensures) (c .if2 .taken)
+
+returns-3 : tie.Need-returns-3
+returns-3 c = at-refused _ (c .before .before .before .before .before .before .before .args .c) _ (c .before .before .before .«open» .ensures) _ (c .before .n .given .1)
+
+returns-4 : tie.Need-returns-4
+returns-4 c = at-good _ (c .before .before .before .before .before .before .before .before .before .before .before .before .args .c) _ (c .before .before .before .before .before .before .before .before .«open» .ensures) _ (c .before .before .before .before .before .before .g .given .1) _ (c .before .before .before .before .current .ensures) (c .before .before .before .if1 .left) _ (c .before .before .len-of .ensures) (c .if2 .left)
+
+pub open-at-spec : {M : Type 1} → statement M
+open-at-spec =
+    tie.close
+    (tie.spec
+    open-requires
+    enum-known-n
+    enum-known-g
+    current-requires
+    returns
+    len-of-requires
+    cast-if2
+    returns-2
+    returns-3
+    returns-4)
