@@ -1,6 +1,4 @@
 // The lookups: first from the finger, then from the root. The head comes back with the finger that was found.
-use open::open::Opened;
-use open::open::open;
 use calls_read::read::view_number;
 use model::answer::Located;
 use model::answer::LocatedReply;
@@ -13,6 +11,8 @@ use model::head::Held;
 use model::length::View;
 use model::number::LeafNo;
 use model::walk::Search;
+use open::open::Opened;
+use open::open::open;
 use walk::finger::served_by;
 use walk::search::from_root;
 ghost use mathlib.Core.Path.{_≡_};

@@ -1,6 +1,4 @@
 // The calls that begin a tree: one leaf with the entry 0, and one inner node above it.
-use open::open::Opened;
-use open::open::open_areas;
 use model::answer::Outcome;
 use model::answer::OutcomeReply;
 use model::head::Head;
@@ -10,6 +8,8 @@ use model::length::Slot;
 use model::node::Shape;
 use model::number::NodeNo;
 use node::split::new_one;
+use open::open::Opened;
+use open::open::open_areas;
 ghost use mathlib.Core.Path.{_≡_};
 ghost use mathlib.Core.List.{[], _∷_};
 ghost use Prim.Native.Nat.{_*_, _<_, _≤_};

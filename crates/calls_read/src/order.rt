@@ -1,8 +1,4 @@
 // The calls that follow the order of the entries.
-use open::open::Opened;
-use open::open::current;
-use open::open::open;
-use open::open::open_at;
 use area::word::at_of;
 use area::word::len_of;
 use area::word::parent_of;
@@ -15,6 +11,10 @@ use model::head::Path;
 use model::node::Shape;
 use model::number::LeafNo;
 use model::walk::Leaf;
+use open::open::Opened;
+use open::open::current;
+use open::open::open;
+use open::open::open_at;
 use walk::climb::in_order;
 use walk::climb::steps_up;
 use walk::down::first_down;

@@ -1,8 +1,4 @@
 // The calls that read a count or one entry.
-use open::open::Opened;
-use open::open::bad_size;
-use open::open::open;
-use open::open::open_at;
 use area::word::at_of;
 use area::word::child_of;
 use area::word::len_of;
@@ -23,6 +19,10 @@ use model::node::Shape;
 use model::number::EntryId;
 use model::number::LeafNo;
 use model::walk::Sum;
+use open::open::Opened;
+use open::open::bad_size;
+use open::open::open;
+use open::open::open_at;
 use walk::climb::rank_up;
 ghost use mathlib.Core.Path.{_≡_};
 ghost use Prim.Native.Nat.{_<_, _≤_};
