@@ -52,6 +52,9 @@ module _ (fan limit : ℕ) (l : Lengths) (g : Shape) (e : g ≡ shape stride fan
 pub record Room (fan limit : ℕ) (g : Shape) (ls xs hs : List ℕ) : Type 0 where
   pub same : g ≡ shape stride fan limit
   pub shaped : Shaped g
+  pub leaf-area : g .nodes * g .size ≤ length ls
+  pub inner-area : g .nodes * g .size ≤ length xs
+  pub home-area : limit ≤ length hs
   pub leaves : g .size ≤ length ls
   pub inners : g .size ≤ length xs
   pub homes : 0 < length hs
@@ -75,6 +78,9 @@ module _ (fan limit : ℕ) (ls xs hs : List ℕ) (o : Opened) (e : o ≡ openedB
       (record {
         same = refl;
         shaped = shaped fan limit z;
+        leaf-area = ltb-false _ _ (areas .0);
+        inner-area = ltb-false _ _ (areas .1);
+        home-area = ltb-false (length hs) limit (short .1);
         leaves = at ls (ltb-false _ _ (areas .0));
         inners = at xs (ltb-false _ _ (areas .1));
         homes = omega (arith, z .limit-least, ltb-false (length hs) limit (short .1));

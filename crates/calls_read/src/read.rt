@@ -129,7 +129,7 @@ pub fn entry_to_char_index(
 }
 
 // The slot of leaf k that holds the entry id.
-fn slot_of(leaves: &[u32], g: Shape, k: u32, id: u32) -> Place
+pub fn slot_of(leaves: &[u32], g: Shape, k: u32, id: u32) -> Place
     requires { ⌜ Area g (length (now leaves)) × (k < g .nodes) × (nodeAt g k (now leaves) .len ≤ g .fan) ⌝ }
     ensures { λ r. ⌜ r ≡ indexFrom id 0 (used (nodeAt g k (now (leaves .entry)))) ⌝ }
 {

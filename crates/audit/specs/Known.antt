@@ -1,0 +1,23 @@
+-- What is known of a tree whose first numbers are good: sizes, areas and counts. Assumes nothing.
+use mathlib.Core.Path.{_≡_}
+use mathlib.Core.Bool.{Bool, _&&_}
+use lib.Dec.{ltb, leb}
+use Prim.Native.Nat.{ℕ, _*_, _≤_}
+use Rattle.model.specs.Refuse.{shapeOf}
+use Rattle.model.specs.declared.node.Shape.{Shape}
+use Rattle.model.specs.declared.head.Head.{Head}
+use Rattle.area.specs.Area.{Area}
+
+-- n and m are the lengths of the leaf area and the inner area
+pub record Known (h : Head) (g : Shape) (n m : ℕ) : Type 0 where
+  pub same : g ≡ shapeOf h
+  pub leaf-area : Area g n
+  pub inner-area : Area g m
+  pub levels : h .levels ≤ 15
+  pub leaves : h .leaves ≤ g .nodes
+  pub inners : h .inners ≤ g .nodes
+
+-- the head's counts within their bounds
+abbrev pub countsBy : Head → Shape → Bool
+countsBy h g =
+    leb (h .entries) (h .limit) && leb (h .leaves) (g .nodes) && leb (h .inners) (g .nodes) && leb 1 (h .levels) && leb (h .levels) 15 && ltb (h .root .0) (h .inners)

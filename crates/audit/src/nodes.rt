@@ -1,0 +1,98 @@
+// One node of an area: sums of its lengths, and whether it is filled as it must be.
+use area::word::child_of;
+use area::word::len_of;
+use area::word::length_of;
+use area::word::start_in;
+use model::head::Head;
+use model::node::Shape;
+ghost use mathlib.Core.Path.{_≡_};
+ghost use mathlib.Core.List.{[]};
+ghost use Prim.Native.Nat.{_+_, _-_, _<_, _≤_};
+ghost use lib.ListN.{length, getD};
+ghost use Rattle.model.specs.Node.{total, used, start};
+ghost use Rattle.model.specs.State.{state, nodeAt};
+ghost use Rattle.model.specs.Refuse.{shapeOf};
+ghost use Rattle.model.specs.Audit.{every, isEmptySlot, isFilled};
+ghost use Rattle.area.specs.Area.{Area};
+
+// The lengths of the slots in use of node k.
+pub fn total_in(area: &[u32], g: Shape, view: usize, k: u32) -> u64
+    requires { ⌜ Area g (length (now area)) × (k < g .nodes) × (view + 1 < g .stride) ⌝ }
+    ensures { λ r. ⌜ r ≡ total view (used (nodeAt g k (now (area .entry)))) ⌝ }
+{
+    let size = g.size;
+    let a = k as usize * size;
+    let e = a + size;
+    node::read::used_total(&area[a..e], g, view)
+}
+
+// The lengths of all slots of node k.
+fn whole_in(area: &[u32], g: Shape, view: usize, k: u32) -> u64
+    requires { ⌜ Area g (length (now area)) × (k < g .nodes) × (view + 1 < g .stride) ⌝ }
+    ensures { λ r. ⌜ r ≡ start view (g .fan) (nodeAt g k (now (area .entry))) ⌝ }
+{
+    let size = g.size;
+    let a = k as usize * size;
+    let e = a + size;
+    node::read::start(&area[a..e], g, view, g.fan)
+}
+
+// The lengths before slot i of node k, however large i is.
+pub fn start_any(area: &[u32], g: Shape, view: usize, k: u32, i: u32) -> u64
+    requires { ⌜ Area g (length (now area)) × (k < g .nodes) × (view + 1 < g .stride) ⌝ }
+    ensures { λ r. ⌜ r ≡ start view i (nodeAt g k (now (area .entry))) ⌝ }
+{
+    let fan = g.fan;
+    if (i as usize) < fan {
+        return start_in(area, g, view, k, i);
+    }
+    whole_in(area, g, view, k)
+}
+
+fn is_empty_slot(area: &[u32], g: Shape, k: u32, i: usize) -> bool
+    requires { ⌜ Area g (length (now area)) × (k < g .nodes) × (i < g .fan) × (g .stride ≡ 3) ⌝ }
+    ensures { λ r. ⌜ r ≡ isEmptySlot (getD (nodeAt g k (now (area .entry)) .slots) i []) ⌝ }
+{
+    if child_of(area, g, k, i) != 4294967295 {
+        return false;
+    }
+    if length_of(area, g, 0, k, i) != 0 {
+        return false;
+    }
+    if length_of(area, g, 1, k, i) != 0 {
+        return false;
+    }
+    true
+}
+
+// Whether the slots of node k are empty from slot len on.
+fn is_empty_from(area: &[u32], g: Shape, k: u32, len: usize) -> bool
+    requires { ⌜ Area g (length (now area)) × (k < g .nodes) × (g .stride ≡ 3) ⌝ }
+    ensures { λ r. ⌜ r ≡ every (λ i. isEmptySlot (getD (nodeAt g k (now (area .entry)) .slots) i [])) len (g .fan - len) ⌝ }
+{
+    let fan = g.fan;
+    let mut i = len;
+    while i < fan {
+        if !is_empty_slot(area, g, k, i) {
+            return false;
+        }
+        i += 1;
+    }
+    true
+}
+
+// Whether the len of node k is within its bounds and its unused slots are empty.
+pub fn is_filled(head: Head, area: &[u32], g: Shape, k: u32, least: u32) -> bool
+    requires { ⌜ Area g (length (now area)) × (k < g .nodes) × (g ≡ shapeOf head) ⌝ }
+    ensures { λ r. ⌜ r ≡ isFilled (state head [] [] []) least (nodeAt g k (now (area .entry))) ⌝ }
+{
+    let fan = g.fan;
+    let len = len_of(area, g, k);
+    if len < least {
+        return false;
+    }
+    if len as usize > fan {
+        return false;
+    }
+    is_empty_from(area, g, k, len as usize)
+}

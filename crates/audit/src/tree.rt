@@ -1,0 +1,208 @@
+// The whole tree: its counts, every node in use, its totals and its finger.
+use crate::entry::is_leaf;
+use crate::link::is_inner;
+use crate::nodes::start_any;
+use crate::nodes::total_in;
+use area::word::at_of;
+use area::word::len_of;
+use area::word::parent_of;
+use model::answer::Verdict;
+use model::head::Finger;
+use model::head::Head;
+use model::head::Held;
+use model::node::Shape;
+use model::walk::Sum;
+use open::open::Opened;
+use open::open::open_areas;
+use walk::climb::rank_up;
+ghost use mathlib.Core.Path.{_≡_};
+ghost use mathlib.Core.List.{[]};
+ghost use Prim.Native.Nat.{_<_, _≤_};
+ghost use lib.ListN.{length};
+ghost use lib.Dec.{leb};
+ghost use Rattle.model.specs.Lists.{sumBy, range};
+ghost use Rattle.model.specs.Node.{total, used};
+ghost use Rattle.model.specs.State.{state, nodeAt};
+ghost use Rattle.model.specs.Refuse.{shapeOf};
+ghost use Rattle.model.specs.Audit.{every, inViews, isSum, isInner, isLeaf, isFinger, isHeldFinger, isSound, audit};
+ghost use Rattle.area.specs.Area.{Area};
+ghost use Rattle.audit.specs.Known.{Known, countsBy};
+
+fn is_sum(n: u32, s: Sum) -> bool
+    ensures { λ r. ⌜ r ≡ isSum n s ⌝ }
+{
+    match s {
+        Sum::Is(m) => n as u64 == m,
+        Sum::Broken => false,
+    }
+}
+
+fn is_finger(head: Head, leaves: &[u32], inners: &[u32], g: Shape, f: Finger) -> bool
+    requires { ⌜ Known head g (length (now leaves)) (length (now inners)) ⌝ }
+    ensures { λ r. ⌜ r ≡ isFinger (state head (now (leaves .entry)) (now (inners .entry)) []) f ⌝ }
+{
+    let view = f.view;
+    let leaf = f.leaf;
+    let slot = f.slot;
+    let levels = head.levels;
+    if view >= 2 {
+        return false;
+    }
+    if leaf >= head.leaves {
+        return false;
+    }
+    if slot >= len_of(leaves, g, leaf) {
+        return false;
+    }
+    let parent = parent_of(leaves, g, leaf);
+    let at = at_of(leaves, g, leaf);
+    let start = rank_up(inners, g, view as usize, levels, parent, at, 0);
+    if !is_sum(f.start, start) {
+        return false;
+    }
+    let effect = rank_up(inners, g, 1, levels, parent, at, 0);
+    if !is_sum(f.effect, effect) {
+        return false;
+    }
+    if f.within as u64 != start_any(leaves, g, view as usize, leaf, slot) {
+        return false;
+    }
+    f.effect_within as u64 == start_any(leaves, g, 1, leaf, slot)
+}
+
+fn is_held_finger(head: Head, leaves: &[u32], inners: &[u32], g: Shape, held: Held) -> bool
+    requires { ⌜ Known head g (length (now leaves)) (length (now inners)) ⌝ }
+    ensures { λ r. ⌜ r ≡ isHeldFinger (state head (now (leaves .entry)) (now (inners .entry)) []) held ⌝ }
+{
+    match held {
+        Held::Absent => true,
+        Held::At(f) => is_finger(head, leaves, inners, g, f),
+    }
+}
+
+// Counts within the limit, levels, and the root in use.
+fn counts(head: Head, g: Shape) -> bool
+    ensures { λ r. ⌜ r ≡ countsBy head g ⌝ }
+{
+    let nodes = g.nodes;
+    if head.entries > head.limit {
+        return false;
+    }
+    if head.leaves as usize > nodes {
+        return false;
+    }
+    if head.inners as usize > nodes {
+        return false;
+    }
+    if head.levels < 1 {
+        return false;
+    }
+    if head.levels > 15 {
+        return false;
+    }
+    head.root.0 < head.inners
+}
+
+fn every_inner(head: Head, leaves: &[u32], inners: &[u32], g: Shape, count: u32) -> bool
+    requires { ⌜ Known head g (length (now leaves)) (length (now inners)) × (count ≤ head .inners) ⌝ }
+    ensures { λ r. ⌜ r ≡ every (isInner (state head (now (leaves .entry)) (now (inners .entry)) [])) 0 count ⌝ }
+{
+    let mut k: u32 = 0;
+    while k < count {
+        if !is_inner(head, leaves, inners, g, k) {
+            return false;
+        }
+        k += 1;
+    }
+    true
+}
+
+fn every_leaf(
+    head: Head,
+    leaves: &[u32],
+    inners: &[u32],
+    homes: &[u32],
+    g: Shape,
+    count: u32,
+) -> bool
+    requires { ⌜ Known head g (length (now leaves)) (length (now inners)) × (head .entries ≤ length (now homes)) × (count ≤ head .leaves) ⌝ }
+    ensures { λ r. ⌜ r ≡ every (isLeaf (state head (now (leaves .entry)) (now (inners .entry)) (now (homes .entry)))) 0 count ⌝ }
+{
+    let mut k: u32 = 0;
+    while k < count {
+        if !is_leaf(head, leaves, inners, homes, g, k) {
+            return false;
+        }
+        k += 1;
+    }
+    true
+}
+
+// The slots in use of the first leaves.
+fn slots_used(leaves: &[u32], g: Shape, count: u32) -> u64
+    requires { ⌜ Area g (length (now leaves)) × (count ≤ g .nodes) ⌝ }
+    ensures { λ r. ⌜ r ≡ sumBy (λ k. nodeAt g k (now (leaves .entry)) .len) (range 0 count) ⌝ }
+{
+    let mut sum: u64 = 0;
+    let mut k: u32 = 0;
+    while k < count {
+        sum += len_of(leaves, g, k) as u64;
+        k += 1;
+    }
+    sum
+}
+
+// The totals of the root within u32.
+fn totals(inners: &[u32], g: Shape, root: u32) -> bool
+    requires { ⌜ Area g (length (now inners)) × (root < g .nodes) × (g .stride ≡ 3) ⌝ }
+    ensures { λ r. ⌜ r ≡ inViews (λ v. leb (total v (used (nodeAt g root (now (inners .entry))))) 4294967295) ⌝ }
+{
+    if total_in(inners, g, 0, root) > 4294967295 {
+        return false;
+    }
+    if total_in(inners, g, 1, root) > 4294967295 {
+        return false;
+    }
+    true
+}
+
+fn is_sound(head: Head, leaves: &[u32], inners: &[u32], homes: &[u32], g: Shape) -> bool
+    requires { ⌜ (g ≡ shapeOf head) × Area g (length (now leaves)) × Area g (length (now inners)) × (head .limit ≤ length (now homes)) ⌝ }
+    ensures { λ r. ⌜ r ≡ isSound (state head (now (leaves .entry)) (now (inners .entry)) (now (homes .entry))) ⌝ }
+{
+    let root = head.root.0;
+    let finger = head.finger;
+    if !counts(head, g) {
+        return false;
+    }
+    if !every_inner(head, leaves, inners, g, head.inners) {
+        return false;
+    }
+    if !every_leaf(head, leaves, inners, homes, g, head.leaves) {
+        return false;
+    }
+    if slots_used(leaves, g, head.leaves) != head.entries as u64 {
+        return false;
+    }
+    if !totals(inners, g, root) {
+        return false;
+    }
+    is_held_finger(head, leaves, inners, g, finger)
+}
+
+// Whether the tree is sound.
+pub fn audit(head: Head, leaves: &[u32], inners: &[u32], homes: &[u32]) -> Verdict
+    ensures { λ r. ⌜ r ≡ audit (state head (now (leaves .entry)) (now (inners .entry)) (now (homes .entry))) ⌝ }
+{
+    let fan = head.fan;
+    let limit = head.limit;
+    match open_areas(fan, limit, leaves, inners, homes) {
+        Opened::Refused(n) => Verdict::Refused(n),
+        Opened::Good(g) => {
+            if is_sound(head, leaves, inners, homes, g) {
+                return Verdict::Yes;
+            }
+            Verdict::No
+        }
+    }
+}
