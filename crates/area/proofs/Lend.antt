@@ -7,7 +7,7 @@ use borrow.Rule.Slice.PartMut.{putMid}
 use Rattle.model.specs.Lists.{part}
 use Rattle.model.specs.Node.{Node, nodeOf, wordsOf}
 use Rattle.model.specs.State.{nodeAt, putNode}
-use Rattle.model.specs.declared.node.Shape.{Shape}
+use Rattle.model.specs.declared.shape.Shape.{Shape}
 use Rattle.laws.specs.AreaRead.{node-end, node-length}
 use Rattle.laws.specs.Put.{change-back}
 use Rattle.area.specs.Area.{Area}

@@ -1,7 +1,7 @@
 -- An area that holds as many nodes as the shape says. Assumes nothing.
 use Prim.Native.Nat.{ℕ, _+_, _*_, _<_, _≤_}
 use native.Mathlib.Omega.{arith}
-use Rattle.model.specs.declared.node.Shape.{Shape}
+use Rattle.model.specs.declared.shape.Shape.{Shape}
 use Rattle.laws.specs.Lists.{row-end}
 use Rattle.node.specs.Shaped.{Shaped}
 

@@ -1,8 +1,8 @@
 -- A slot that was found, and how much was summed up on the way to it. Assumes nothing.
 use mathlib.Core.Path.{_≡_}
 use Prim.Native.Nat.{ℕ, _+_, _≤_}
-use Rattle.model.specs.declared.node.Found.{Found}
-use Rattle.model.specs.declared.node.Found.the-variants.{At}
+use Rattle.model.specs.declared.shape.Found.{Found}
+use Rattle.model.specs.declared.shape.Found.the-variants.{At}
 
 -- r is what the definition finds; at most 32 words were added to sum
 pub record FoundIn (sum : ℕ) (r found : Found) : Type 0 where

@@ -1,6 +1,6 @@
 // The words of one node of an area, and the functions over one node at that node.
-use model::node::Found;
-use model::node::Shape;
+use model::shape::Found;
+use model::shape::Shape;
 ghost use mathlib.Core.Path.{_≡_};
 ghost use mathlib.Core.List.{[]};
 ghost use Prim.Native.Nat.{_+_, _*_, _<_, _≤_};

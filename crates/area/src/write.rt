@@ -1,5 +1,5 @@
 // One node of an area changed.
-use model::node::Shape;
+use model::shape::Shape;
 ghost use mathlib.Core.Path.{_≡_};
 ghost use mathlib.Core.List.{[], _∷_};
 ghost use Prim.Native.Nat.{_+_, _*_, _<_, _≤_};

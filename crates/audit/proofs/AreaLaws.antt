@@ -12,7 +12,7 @@ use Rattle.model.specs.Node.{Node, nodeOf, start, total}
 use Rattle.model.specs.State.{state, nodeAt}
 use Rattle.model.specs.Refuse.{shapeOf}
 use Rattle.model.specs.Audit.{every, isEmptySlot, isFilled}
-use Rattle.model.specs.declared.node.Shape.{Shape}
+use Rattle.model.specs.declared.shape.Shape.{Shape}
 use Rattle.model.specs.declared.head.Head.{Head}
 use Rattle.laws.specs.Slots.{slots-length}
 use Rattle.laws.specs.Nodes.{start-all}

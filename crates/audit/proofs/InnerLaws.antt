@@ -12,7 +12,7 @@ use Rattle.model.specs.State.{State, state, nodeAt}
 use Rattle.model.specs.Refuse.{stride, shapeOf}
 use Rattle.model.specs.Sound.{leafIn, innerIn, leastInner}
 use Rattle.model.specs.Audit.{every, isEmptySlot, depth, isFilled, isHeld, isChild, isInner}
-use Rattle.model.specs.declared.node.Shape.{Shape}
+use Rattle.model.specs.declared.shape.Shape.{Shape}
 use Rattle.model.specs.declared.head.Head.{Head}
 use Rattle.open.proofs.Bools.{and-true}
 use Rattle.audit.specs.Links.{depthBy, heldBy, childBy, rootBy}

@@ -11,8 +11,8 @@ use Rattle.model.specs.State.{state, nodeAt}
 use Rattle.model.specs.Refuse.{stride, shapeOf}
 use Rattle.model.specs.Sound.{leastLeaf}
 use Rattle.model.specs.Audit.{every, isSlot, depth, isFilled, isHeld, isEntry, isLeaf}
-use Rattle.model.specs.declared.node.Shape.{Shape}
-use Rattle.model.specs.declared.node.Place.{Place}
+use Rattle.model.specs.declared.shape.Shape.{Shape}
+use Rattle.model.specs.declared.shape.Place.{Place}
 use Rattle.model.specs.declared.head.Head.{Head}
 use Rattle.audit.specs.Links.{depthBy, heldBy, entryBy}
 use Rattle.audit.proofs.InnerLaws.{filled-few, depth-same}

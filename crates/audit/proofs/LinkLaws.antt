@@ -10,7 +10,7 @@ use borrow.Author.Tests.{lt-ltb, le-ltb, le-leb, lt-leb, eq-eqb, ne-eqb}
 use Rattle.model.specs.Node.{none, child, lengthIn, total, used}
 use Rattle.model.specs.State.{State, nodeAt}
 use Rattle.model.specs.Audit.{every}
-use Rattle.model.specs.declared.node.Shape.{Shape}
+use Rattle.model.specs.declared.shape.Shape.{Shape}
 use Rattle.model.specs.declared.head.Head.{Head}
 use Rattle.audit.specs.Links.{depthBy, heldBy, childBy, rootBy}
 

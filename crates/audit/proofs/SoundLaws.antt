@@ -13,7 +13,7 @@ use Rattle.model.specs.State.{State, state, nodeAt, shape}
 use Rattle.model.specs.Refuse.{stride, shapeOf}
 use Rattle.model.specs.Calls.{makeCauses}
 use Rattle.model.specs.Audit.{every, inViews, isInner, isLeaf, isFinger, isHeldFinger, isSound, audit}
-use Rattle.model.specs.declared.node.Shape.{Shape}
+use Rattle.model.specs.declared.shape.Shape.{Shape}
 use Rattle.model.specs.declared.head.Head.{Head}
 use Rattle.model.specs.declared.head.Held.{Held}
 use Rattle.model.specs.declared.head.Held.the-variants as held

@@ -12,7 +12,7 @@ use Rattle.model.specs.State.{state, nodeAt}
 use Rattle.model.specs.Refuse.{shapeOf}
 use Rattle.model.specs.Climb.{rankUp}
 use Rattle.model.specs.Audit.{isSum, isFinger}
-use Rattle.model.specs.declared.node.Shape.{Shape}
+use Rattle.model.specs.declared.shape.Shape.{Shape}
 use Rattle.model.specs.declared.head.Head.{Head}
 use Rattle.model.specs.declared.head.Finger.{Finger}
 use Rattle.model.specs.declared.walk.Sum.{Sum}

@@ -7,7 +7,7 @@ use lib.Dec.{ltb, leb, eqb}
 use Rattle.model.specs.Node.{none, child, lengthIn, total, used, indexFrom}
 use Rattle.model.specs.State.{nodeAt}
 use Rattle.model.specs.Audit.{inViews, isSlot}
-use Rattle.model.specs.declared.node.Shape.{Shape}
+use Rattle.model.specs.declared.shape.Shape.{Shape}
 use Rattle.model.specs.declared.head.Head.{Head}
 
 -- how many inner nodes stand from the root down to node k; more than n where a climb of n links doesn't end at the root's missing parent

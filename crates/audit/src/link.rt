@@ -7,7 +7,7 @@ use area::word::len_of;
 use area::word::length_of;
 use area::word::parent_of;
 use model::head::Head;
-use model::node::Shape;
+use model::shape::Shape;
 ghost use mathlib.Core.Path.{_≡_};
 ghost use mathlib.Core.List.{[]};
 ghost use Prim.Native.Nat.{_<_, _≤_};

@@ -10,7 +10,7 @@ use model::answer::Verdict;
 use model::head::Finger;
 use model::head::Head;
 use model::head::Held;
-use model::node::Shape;
+use model::shape::Shape;
 use model::walk::Sum;
 use open::open::Opened;
 use open::open::open_areas;

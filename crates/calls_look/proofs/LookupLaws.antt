@@ -6,7 +6,7 @@ use Rattle.model.specs.State.{State, state}
 use Rattle.model.specs.Locate.{servedBy, fromRoot}
 use Rattle.model.specs.Refuse.{effect, shapeOf, opening}
 use Rattle.model.specs.Calls.{Reply, reply, byFinger, bySearch, locate, lessEffect, charIndexToEntry}
-use Rattle.model.specs.declared.node.Shape.{Shape}
+use Rattle.model.specs.declared.shape.Shape.{Shape}
 use Rattle.model.specs.declared.length.View.{View}
 use Rattle.model.specs.declared.head.Finger.{Finger}
 use Rattle.model.specs.declared.walk.Search.{Search}

@@ -14,7 +14,7 @@ use Rattle.model.specs.Length.{slotOf}
 use Rattle.model.specs.State.{State, state, headOf, shape, putNode}
 use Rattle.model.specs.Refuse.{stride, shapeOf}
 use Rattle.model.specs.Calls.{Reply, reply, begun, makeCauses, make, reset}
-use Rattle.model.specs.declared.node.Shape.{Shape}
+use Rattle.model.specs.declared.shape.Shape.{Shape}
 use Rattle.model.specs.declared.length.Lengths.{Lengths}
 use Rattle.model.specs.declared.length.Slot.{Slot}
 use Rattle.model.specs.declared.answer.Outcome.the-variants as outcome

@@ -14,7 +14,7 @@ use Rattle.model.specs.Climb.{stepsUp, firstDown, nextUp}
 use Rattle.model.specs.State.{State, nodeAt}
 use Rattle.model.specs.Refuse.{shapeOf, opening, current, stale, atCursor}
 use Rattle.model.specs.Calls.{cursorAt, firstOf, first, nextOf, nextAfter, inOrder, byPath, path, cmp}
-use Rattle.model.specs.declared.node.Shape.{Shape}
+use Rattle.model.specs.declared.shape.Shape.{Shape}
 use Rattle.model.specs.declared.head.Cursor.{Cursor}
 use Rattle.model.specs.declared.head.Path.{Path}
 use Rattle.model.specs.declared.walk.Leaf.{Leaf}

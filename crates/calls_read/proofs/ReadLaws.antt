@@ -15,13 +15,13 @@ use Rattle.model.specs.Refuse.{shapeOf, opening, atCursor, noSuchId}
 use Rattle.model.specs.Length.{viewNumber}
 use Rattle.model.specs.Climb.{rankUp}
 use Rattle.model.specs.Calls.{entryId, id, lengthsFrom, lengthsOf, rankOf, entryToCharIndex, standingIn, cursor}
-use Rattle.model.specs.declared.node.Shape.{Shape}
+use Rattle.model.specs.declared.shape.Shape.{Shape}
 use Rattle.model.specs.declared.head.Cursor.{Cursor}
 use Rattle.model.specs.declared.length.Lengths.{Lengths}
 use Rattle.model.specs.declared.length.View.{View}
 use Rattle.model.specs.declared.length.View.the-variants.{Prepare, Effect}
-use Rattle.model.specs.declared.node.Place.{Place}
-use Rattle.model.specs.declared.node.Place.the-variants as slot
+use Rattle.model.specs.declared.shape.Place.{Place}
+use Rattle.model.specs.declared.shape.Place.the-variants as slot
 use Rattle.model.specs.declared.walk.Sum.{Sum}
 use Rattle.model.specs.declared.answer.Number.{Number}
 use Rattle.model.specs.declared.answer.Number.the-variants as number

@@ -6,7 +6,7 @@ use lib.Dec.{leb}
 use Rattle.model.specs.Node.{used, indexFrom}
 use Rattle.model.specs.State.{nodeAt}
 use Rattle.model.specs.Calls.{standingIn}
-use Rattle.model.specs.declared.node.Shape.{Shape}
+use Rattle.model.specs.declared.shape.Shape.{Shape}
 use Rattle.model.specs.declared.answer.Standing.{Standing}
 use Rattle.model.specs.declared.answer.Standing.the-variants as standing
 

@@ -11,8 +11,8 @@ use Rattle.model.specs.Lists.{part}
 use Rattle.model.specs.Node.{nodeOf}
 use Rattle.model.specs.State.{nodeAt}
 use Rattle.model.specs.Grow.{Areas, areas, areaOf, nodeIn, Top, Grown, grown, Above, link, linkHalf, splitNode, addTo, aboveOf}
-use Rattle.model.specs.declared.node.Shape.{Shape}
-use Rattle.model.specs.declared.node.Place.the-variants.{Slot, Missing}
+use Rattle.model.specs.declared.shape.Shape.{Shape}
+use Rattle.model.specs.declared.shape.Place.the-variants.{Slot, Missing}
 use Rattle.laws.specs.Lens.{both, Roomy, Parted, split-room}
 use Rattle.grow.specs.Fits.{Fits, Room}
 use Rattle.grow.specs.Standing.{tests, standing}

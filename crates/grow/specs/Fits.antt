@@ -2,7 +2,7 @@
 use mathlib.Core.List.{List}
 use Prim.Native.Nat.{ℕ, _*_, _<_, _≤_}
 use Rattle.model.specs.State.{nodeAt}
-use Rattle.model.specs.declared.node.Shape.{Shape}
+use Rattle.model.specs.declared.shape.Shape.{Shape}
 use Rattle.node.specs.Shaped.{Shaped}
 
 -- an area of l words and one of n hold as many nodes each as the shape says

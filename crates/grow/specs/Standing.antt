@@ -4,9 +4,9 @@ use Prim.Native.Nat.{ℕ}
 use lib.Dec.{ltb, leb}
 use Rattle.model.specs.State.{nodeAt}
 use Rattle.model.specs.Grow.{Areas, nodeIn}
-use Rattle.model.specs.declared.node.Shape.{Shape}
-use Rattle.model.specs.declared.node.Place.{Place}
-use Rattle.model.specs.declared.node.Place.the-variants.{Slot, Missing}
+use Rattle.model.specs.declared.shape.Shape.{Shape}
+use Rattle.model.specs.declared.shape.Place.{Place}
+use Rattle.model.specs.declared.shape.Place.the-variants.{Slot, Missing}
 
 -- inner node p is one of the c in use, after and new are nodes of the level's area, and after's place is one in use of no more than there are
 abbrev pub tests : Shape → ℕ → ℕ → ℕ → ℕ → ℕ → Areas → Bool

@@ -1,8 +1,8 @@
 // A slot for a new node in an inner node that has room.
 use crate::parts::adopt_all;
 use crate::parts::word;
-use model::node::Shape;
 use model::number::NodeNo;
+use model::shape::Shape;
 ghost use mathlib.Core.Path.{_≡_};
 ghost use mathlib.Core.Bool.{false};
 ghost use Prim.Native.Nat.{_+_, _*_, _<_, _≤_};

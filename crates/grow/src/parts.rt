@@ -1,6 +1,6 @@
 // One node of the area that a level names: its words, and where it stands.
-use model::node::Shape;
 use model::number::NodeNo;
+use model::shape::Shape;
 ghost use mathlib.Core.Path.{_≡_};
 ghost use Prim.Native.Nat.{_+_, _-_, _*_, _<_, _≤_};
 ghost use lib.ListN.{length, getD, set};

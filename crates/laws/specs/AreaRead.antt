@@ -9,7 +9,7 @@ use lib.Seq.{length-take-le}
 use Rattle.model.specs.Lists.{part}
 use Rattle.model.specs.Node.{nodeOf, child, used, slotsFrom}
 use Rattle.model.specs.State.{nodeAt}
-use Rattle.model.specs.declared.node.Shape.{Shape}
+use Rattle.model.specs.declared.shape.Shape.{Shape}
 use Rattle.laws.specs.Lists.{in-row, row-end}
 use Rattle.laws.specs.Words.{length-part}
 use Rattle.laws.specs.Slots.{column, slots-length}

@@ -9,7 +9,7 @@ use lib.ListN.{length, getD, drop, length-drop}
 use Rattle.model.specs.Lists.{part, putAt}
 use Rattle.model.specs.Node.{Node, nodeOf, wordsOf, slotsFrom, half, lowerHalf, upperHalf}
 use Rattle.model.specs.State.{nodeAt, putNode}
-use Rattle.model.specs.declared.node.Shape.{Shape}
+use Rattle.model.specs.declared.shape.Shape.{Shape}
 use Rattle.laws.specs.Lists.{All-drop, rows-between, in-row, row-end}
 use Rattle.laws.specs.Words.{length-part, length-put, getD-part, part-part, part-end, part-same, part-before, part-after, part-inside, put-same, put-put, put-over}
 use Rattle.laws.specs.Slots.{Long, Wide, flat, column, slots-length, slots-wide, length-flat}

@@ -11,8 +11,8 @@ use Rattle.model.specs.Node.{child, used, findFrom}
 use Rattle.model.specs.State.{nodeAt}
 use Rattle.model.specs.Climb.{leafNo, firstDown, lastDown, nextUp}
 use Rattle.model.specs.Locate.{descend}
-use Rattle.model.specs.declared.node.Shape.{Shape}
-use Rattle.model.specs.declared.node.Found.the-variants.{At, Nothing}
+use Rattle.model.specs.declared.shape.Shape.{Shape}
+use Rattle.model.specs.declared.shape.Found.the-variants.{At, Nothing}
 use Rattle.model.specs.declared.walk.Leaf.the-variants as leaf
 use Rattle.model.specs.declared.walk.Descent.{Descent}
 use Rattle.model.specs.declared.walk.Descent.the-variants as descent

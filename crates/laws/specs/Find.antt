@@ -15,9 +15,9 @@ use Rattle.model.specs.Node.{Node, nodeOf, child, slotsFrom, lengthIn, used, fi
 use Rattle.model.specs.State.{nodeAt}
 use Rattle.model.specs.Locate.{descend, into}
 use Rattle.model.specs.Calls.{inOrder}
-use Rattle.model.specs.declared.node.Shape.{Shape}
-use Rattle.model.specs.declared.node.Found.{Found}
-use Rattle.model.specs.declared.node.Found.the-variants.{At, Nothing}
+use Rattle.model.specs.declared.shape.Shape.{Shape}
+use Rattle.model.specs.declared.shape.Found.{Found}
+use Rattle.model.specs.declared.shape.Found.the-variants.{At, Nothing}
 use Rattle.model.specs.declared.number.LeafNo.{LeafNo}
 use Rattle.model.specs.declared.walk.Descent.{Descent}
 use Rattle.model.specs.declared.walk.Descent.the-variants as descent

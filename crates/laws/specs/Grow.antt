@@ -13,7 +13,7 @@ use Rattle.model.specs.Lists.{part}
 use Rattle.model.specs.Node.{none, child, nodeOf, slotFor, childSplit, half, lowerHalf, upperHalf, newNode, adopted}
 use Rattle.model.specs.State.{nodeAt, putNode}
 use Rattle.model.specs.Grow.{Areas, areas, Linked, linked, Top, top, Grown, grown, Above, nodeIn, adopt, adoptAll, link, divide, growRoot, splitNode, linkHalf, addTo, aboveOf}
-use Rattle.model.specs.declared.node.Shape.{Shape}
+use Rattle.model.specs.declared.shape.Shape.{Shape}
 use Rattle.laws.specs.Words.{lent}
 use Rattle.laws.specs.Lists.{row-end}
 use Rattle.laws.specs.Nodes.{Formed}

@@ -14,7 +14,7 @@ use Rattle.model.specs.Lists.{All}
 use Rattle.model.specs.Node.{Node, none, child, totalsFrom, slotFor, inserted, childSplit, half, lowerHalf, upperHalf, newNode, adopted}
 use Rattle.model.specs.State.{nodeAt, putNode}
 use Rattle.model.specs.Grow.{Areas, areas, Linked, Top, top, Grown, grown, Above, nodeIn, adopt, adoptAll, link, divide, growRoot, splitNode, linkHalf, addTo, aboveOf}
-use Rattle.model.specs.declared.node.Shape.{Shape}
+use Rattle.model.specs.declared.shape.Shape.{Shape}
 use Rattle.laws.specs.Nodes.{Formed}
 use Rattle.laws.specs.Formed.{formed-adopted, formed-lower, formed-upper, formed-split, formed-new}
 use Rattle.laws.specs.AreaRead.{node-end}

@@ -12,8 +12,8 @@ use Rattle.model.specs.Node.{Node, used, lengthIn, wrap, findFrom}
 use Rattle.model.specs.State.{nodeAt}
 use Rattle.model.specs.Climb.{leafNo}
 use Rattle.model.specs.Locate.{less, stand, back, finger, walked, served, leafOf, rewound, changing}
-use Rattle.model.specs.declared.node.Shape.{Shape}
-use Rattle.model.specs.declared.node.Found.the-variants.{At, Nothing}
+use Rattle.model.specs.declared.shape.Shape.{Shape}
+use Rattle.model.specs.declared.shape.Found.the-variants.{At, Nothing}
 use Rattle.model.specs.declared.head.Finger.{Finger}
 use Rattle.model.specs.declared.head.Held.the-variants as held
 use Rattle.model.specs.declared.walk.Descent.the-variants as descent

@@ -8,7 +8,7 @@ use borrow.Rule.Slice.PartMut.{putMid}
 use Rattle.model.specs.Lists.{part, putAt}
 use Rattle.model.specs.Node.{Node, nodeOf, wordsOf}
 use Rattle.model.specs.State.{nodeAt, putNode}
-use Rattle.model.specs.declared.node.Shape.{Shape}
+use Rattle.model.specs.declared.shape.Shape.{Shape}
 use Rattle.laws.specs.Lists.{row-end}
 use Rattle.laws.specs.Words.{length-part, put-same, put-next, put-prev, lent, lent-back}
 use Rattle.laws.specs.Nodes.{Formed, length-words}

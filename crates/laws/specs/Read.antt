@@ -10,8 +10,8 @@ use lib.Seq.{take-all, take-suc-set}
 use borrow.Author.Tests.{lt-ltb, le-ltb, eq-eqb, ne-eqb}
 use Rattle.model.specs.Lists.{part, sumBy}
 use Rattle.model.specs.Node.{slotsFrom, total, totalsFrom, wrap, findFrom, indexFrom}
-use Rattle.model.specs.declared.node.Found.the-variants.{At, Nothing}
-use Rattle.model.specs.declared.node.Place.the-variants.{Slot, Missing}
+use Rattle.model.specs.declared.shape.Found.the-variants.{At, Nothing}
+use Rattle.model.specs.declared.shape.Place.the-variants.{Slot, Missing}
 use Rattle.laws.specs.Lists.{sum-append}
 use Rattle.laws.specs.Words.{getD-part}
 use Rattle.laws.specs.Slots.{slots-length, slots-add, slots-from}

@@ -12,8 +12,8 @@ use Rattle.model.specs.Climb.{rankUp}
 use Rattle.model.specs.Sound.{leafIn, innerIn, leastLeaf, leastInner}
 use Rattle.model.specs.Refuse.{stride, effect, shapeOf, totalOf}
 use Rattle.model.specs.Calls.{unless, makeCauses}
-use Rattle.model.specs.declared.node.Place.{Place}
-use Rattle.model.specs.declared.node.Place.the-variants as slot
+use Rattle.model.specs.declared.shape.Place.{Place}
+use Rattle.model.specs.declared.shape.Place.the-variants as slot
 use Rattle.model.specs.declared.head.Finger.{Finger}
 use Rattle.model.specs.declared.head.Held.{Held}
 use Rattle.model.specs.declared.head.Held.the-variants as held

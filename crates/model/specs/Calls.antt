@@ -13,8 +13,8 @@ use Rattle.model.specs.Climb.{leafNo, rankUp, stepsUp, firstDown, lastDo
 use Rattle.model.specs.Locate.{servedBy, fromRoot, effectAt}
 use Rattle.model.specs.Place.{Change, change, withFinger, place, divide, replace, climb, lengthsIn}
 use Rattle.model.specs.Refuse.{stride, effect, shapeOf, badSize, tooShort, opening, stale, atCursor, noSuchId, tooMuch, past, full}
-use Rattle.model.specs.declared.node.Place.{Place}
-use Rattle.model.specs.declared.node.Place.the-variants as slot
+use Rattle.model.specs.declared.shape.Place.{Place}
+use Rattle.model.specs.declared.shape.Place.the-variants as slot
 use Rattle.model.specs.declared.number.EntryId.{EntryId}
 use Rattle.model.specs.declared.length.View.{View}
 use Rattle.model.specs.declared.length.Lengths.{Lengths}

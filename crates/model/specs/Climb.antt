@@ -7,7 +7,7 @@ use lib.ListN.{getD}
 use lib.Dec.{ltb, leb}
 use Rattle.model.specs.Node.{Node, child, start, plus, lengthsAt, withLengths}
 use Rattle.model.specs.State.{nodeAt, putNode}
-use Rattle.model.specs.declared.node.Shape.{Shape}
+use Rattle.model.specs.declared.shape.Shape.{Shape}
 use Rattle.model.specs.declared.number.LeafNo.{LeafNo}
 use Rattle.model.specs.declared.walk.Sum.{Sum}
 use Rattle.model.specs.declared.walk.Sum.the-variants as sum

@@ -7,7 +7,7 @@ use lib.ListN.{getD}
 use lib.Dec.{ltb, leb, eqb}
 use Rattle.model.specs.Node.{Node, none, child, slotFor, childSplit, half, lowerHalf, upperHalf, newNode, adopted}
 use Rattle.model.specs.State.{nodeAt, putNode}
-use Rattle.model.specs.declared.node.Shape.{Shape}
+use Rattle.model.specs.declared.shape.Shape.{Shape}
 
 -- the two areas of nodes, and with a number
 pub record Areas : Type 0 where

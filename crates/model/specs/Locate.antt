@@ -7,9 +7,9 @@ use lib.Dec.{ltb, leb, eqb}
 use Rattle.model.specs.Node.{Node, child, used, lengthIn, findFrom, wrap}
 use Rattle.model.specs.State.{nodeAt}
 use Rattle.model.specs.Climb.{leafNo}
-use Rattle.model.specs.declared.node.Shape.{Shape}
-use Rattle.model.specs.declared.node.Found.{Found}
-use Rattle.model.specs.declared.node.Found.the-variants.{At, Nothing}
+use Rattle.model.specs.declared.shape.Shape.{Shape}
+use Rattle.model.specs.declared.shape.Found.{Found}
+use Rattle.model.specs.declared.shape.Found.the-variants.{At, Nothing}
 use Rattle.model.specs.declared.head.Finger.{Finger}
 use Rattle.model.specs.declared.head.Held.{Held}
 use Rattle.model.specs.declared.head.Held.the-variants as held

@@ -6,10 +6,10 @@ use Prim.Native.Nat.{ℕ, zero, suc, _+_, _-_, _*_, _%_, _^_, _/_}
 use lib.ListN.{length, getD, take, drop, set, replicate}
 use lib.Dec.{ltb, eqb}
 use Rattle.model.specs.Lists.{part, sumBy, range}
-use Rattle.model.specs.declared.node.Found.{Found}
-use Rattle.model.specs.declared.node.Found.the-variants.{At, Nothing}
-use Rattle.model.specs.declared.node.Place.{Place}
-use Rattle.model.specs.declared.node.Place.the-variants.{Slot, Missing}
+use Rattle.model.specs.declared.shape.Found.{Found}
+use Rattle.model.specs.declared.shape.Found.the-variants.{At, Nothing}
+use Rattle.model.specs.declared.shape.Place.{Place}
+use Rattle.model.specs.declared.shape.Place.the-variants.{Slot, Missing}
 
 -- the child that no slot in use holds; also the root's parent, "none", and the place of an insertion at the end
 abbrev pub none : ℕ

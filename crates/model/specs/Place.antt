@@ -10,7 +10,7 @@ use Rattle.model.specs.State.{State, state, headOf, nodeAt, putNode}
 use Rattle.model.specs.Climb.{climbUp}
 use Rattle.model.specs.Locate.{changing}
 use Rattle.model.specs.Grow.{Areas, areas, Top, top, Grown, addChild}
-use Rattle.model.specs.declared.node.Shape.{Shape}
+use Rattle.model.specs.declared.shape.Shape.{Shape}
 use Rattle.model.specs.declared.head.Head.{Head}
 use Rattle.model.specs.declared.head.Held.{Held}
 use Rattle.model.specs.declared.walk.Sum.{Sum}

@@ -10,7 +10,7 @@ use Rattle.model.specs.Lists.{All, times, range}
 use Rattle.model.specs.Node.{Node, none, child, lengths, lengthIn, total, used, emptySlot, half}
 use Rattle.model.specs.Row.{Entry, entry}
 use Rattle.model.specs.State.{State, shape, nodeAt}
-use Rattle.model.specs.declared.node.Shape.{Shape}
+use Rattle.model.specs.declared.shape.Shape.{Shape}
 use Rattle.model.specs.declared.head.Finger.{Finger}
 use Rattle.model.specs.declared.head.Held.{Held}
 use Rattle.model.specs.declared.head.Held.the-variants as held

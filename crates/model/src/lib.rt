@@ -4,6 +4,6 @@
 pub mod answer;
 pub mod head;
 pub mod length;
-pub mod node;
 pub mod number;
+pub mod shape;
 pub mod walk;

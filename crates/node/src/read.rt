@@ -1,7 +1,7 @@
 // What is read from one node: sums of lengths, the slot of a position, the slot of a child.
-use model::node::Found;
-use model::node::Place;
-use model::node::Shape;
+use model::shape::Found;
+use model::shape::Place;
+use model::shape::Shape;
 ghost use mathlib.Core.Path.{_≡_};
 ghost use Prim.Native.Nat.{_+_, _^_, _<_, _≤_};
 ghost use lib.ListN.{length, getD, take, drop};

@@ -2,7 +2,7 @@
 use crate::words::clear;
 use crate::words::put;
 use crate::words::shift;
-use model::node::Shape;
+use model::shape::Shape;
 ghost use mathlib.Core.Path.{_≡_};
 ghost use mathlib.Core.List.{[], _∷_};
 ghost use Prim.Native.Nat.{_+_, _*_, _<_, _≤_};

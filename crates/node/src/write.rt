@@ -2,7 +2,7 @@
 use crate::words::change_each;
 use crate::words::put;
 use crate::words::shift;
-use model::node::Shape;
+use model::shape::Shape;
 ghost use mathlib.Core.Path.{_≡_};
 ghost use Prim.Native.Nat.{_+_, _<_, _≤_};
 ghost use lib.ListN.{length, getD, set};

@@ -10,7 +10,7 @@ use Rattle.model.specs.Lists.{Cause, All}
 use Rattle.model.specs.State.{State, shape}
 use Rattle.model.specs.Refuse.{stride, badSize, tooShort, astray, shapeOf, opening}
 use Rattle.model.specs.Calls.{makeCauses}
-use Rattle.model.specs.declared.node.Shape.{Shape}
+use Rattle.model.specs.declared.shape.Shape.{Shape}
 use Rattle.node.specs.Shaped.{Shaped}
 use Rattle.open.proofs.Bools.{or-false}
 use Rattle.open.proofs.Causes.{opened-first, opened-next, opened-none, opened-stop, opened-more, good-shape, Numbered}

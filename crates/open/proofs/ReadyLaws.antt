@@ -11,7 +11,7 @@ use borrow.Author.Tests.{ltb-false, ltb-true, leb-false, not-false, eqb-true}
 use Rattle.model.specs.Lists.{Cause, refusal, All}
 use Rattle.model.specs.State.{State, nodesFor, shape, nodeAt}
 use Rattle.model.specs.Refuse.{stride, badSize, tooShort, astray, shapeOf, opening, atCursor, stale, overfull}
-use Rattle.model.specs.declared.node.Shape.{Shape}
+use Rattle.model.specs.declared.shape.Shape.{Shape}
 use Rattle.model.specs.declared.head.Cursor.{Cursor}
 use Rattle.node.specs.Shaped.{Shaped}
 use Rattle.area.specs.Area.{Area}

@@ -10,7 +10,7 @@ use Rattle.model.specs.Node.{Node, half}
 use Rattle.model.specs.State.{State, state, nodeAt, putNode}
 use Rattle.model.specs.Locate.{changing}
 use Rattle.model.specs.Place.{Change, change, withEntry, linkLeaf, splitLeaf, makeRoom, enter, entering}
-use Rattle.model.specs.declared.node.Shape.{Shape}
+use Rattle.model.specs.declared.shape.Shape.{Shape}
 use Rattle.model.specs.declared.head.Head.{Head}
 use Rattle.model.specs.declared.head.Held.{Held}
 use Rattle.place.specs.Room.{roomyIn}

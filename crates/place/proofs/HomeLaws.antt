@@ -8,7 +8,7 @@ use lib.Seq.{drop-cons, getD-take}
 use borrow.Author.Tests.{lt-ltb, le-ltb}
 use Rattle.model.specs.Node.{child, used}
 use Rattle.model.specs.State.{nodeAt}
-use Rattle.model.specs.declared.node.Shape.{Shape}
+use Rattle.model.specs.declared.shape.Shape.{Shape}
 use Rattle.laws.specs.AreaRead.{used-length}
 use Rattle.model.specs.Place.{rehome}
 

@@ -11,7 +11,7 @@ use Rattle.model.specs.Node.{Node, used, half, lowerHalf, upperHalf}
 use Rattle.model.specs.State.{state, nodeAt, putNode}
 use Rattle.model.specs.Grow.{areas, Top, top, Grown, grown, addTo, aboveOf}
 use Rattle.model.specs.Place.{Change, change, withLeaf, rehome, linkLeaf, splitLeaf, makeRoom}
-use Rattle.model.specs.declared.node.Shape.{Shape}
+use Rattle.model.specs.declared.shape.Shape.{Shape}
 use Rattle.model.specs.declared.head.Head.{Head}
 use Rattle.laws.specs.Lists.{row-end}
 use Rattle.laws.specs.Nodes.{Formed}

@@ -6,7 +6,7 @@ use Rattle.model.specs.Node.{withLengths}
 use Rattle.model.specs.State.{state, nodeAt, putNode}
 use Rattle.model.specs.Locate.{changing}
 use Rattle.model.specs.Place.{change, withFinger, replace}
-use Rattle.model.specs.declared.node.Shape.{Shape}
+use Rattle.model.specs.declared.shape.Shape.{Shape}
 use Rattle.model.specs.declared.head.Head.{Head}
 use Rattle.model.specs.declared.head.Held.{Held}
 

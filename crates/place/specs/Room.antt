@@ -4,7 +4,7 @@ use mathlib.Core.List.{List}
 use Prim.Native.Nat.{ℕ, _+_}
 use lib.Dec.{ltb, leb}
 use Rattle.model.specs.State.{nodeAt}
-use Rattle.model.specs.declared.node.Shape.{Shape}
+use Rattle.model.specs.declared.shape.Shape.{Shape}
 
 -- leaf k is in the area, at least w slots from slot i on are in use, and one isn't
 abbrev pub roomyIn : Shape → ℕ → ℕ → ℕ → List ℕ → Bool

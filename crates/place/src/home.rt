@@ -1,7 +1,7 @@
 // Which leaf an entry lives in.
 use area::word::child_of;
 use area::word::len_of;
-use model::node::Shape;
+use model::shape::Shape;
 ghost use mathlib.Core.Path.{_≡_};
 ghost use Prim.Native.Nat.{_<_, _≤_};
 ghost use lib.ListN.{length};

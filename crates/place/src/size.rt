@@ -5,7 +5,7 @@ use area::word::parent_of;
 use area::word::start_in;
 use area::write::set_lengths;
 use model::head::Head;
-use model::node::Shape;
+use model::shape::Shape;
 use model::walk::Sum;
 use walk::climb::climb_up;
 use walk::finger::changing;

@@ -12,7 +12,7 @@ use Rattle.model.specs.Lists.{All}
 use Rattle.model.specs.Node.{Node, child, adopted}
 use Rattle.model.specs.State.{nodeAt, putNode}
 use Rattle.model.specs.Grow.{Areas, linked, Top, adopt, adoptAll}
-use Rattle.model.specs.declared.node.Shape.{Shape}
+use Rattle.model.specs.declared.shape.Shape.{Shape}
 use Rattle.laws.specs.Nodes.{Formed}
 use Rattle.laws.specs.Areas.{node-same, node-other}
 use Rattle.theory.specs.Fits.{Sized, Fits, fits}

@@ -18,7 +18,7 @@ use Rattle.model.specs.Sound.{shapeIn, leafIn, innerIn, Sound, FingerRight}
 use Rattle.model.specs.Calls as calls
 use Rattle.model.specs.Calls.{makeCauses}
 use Rattle.model.specs.Audit.{depth, depthOf, isSound, audit}
-use Rattle.model.specs.declared.node.Place.the-variants as slot
+use Rattle.model.specs.declared.shape.Place.the-variants as slot
 use Rattle.model.specs.declared.head.Held.{Held}
 use Rattle.model.specs.declared.head.Held.the-variants as held
 use Rattle.model.specs.declared.walk.Sum.the-variants as sum

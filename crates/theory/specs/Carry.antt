@@ -13,7 +13,7 @@ use Rattle.model.specs.Lists.{All}
 use Rattle.model.specs.Node.{Node, child, lengths, lengthIn, used, start, plus, minus, lengthsAt, withLengths}
 use Rattle.model.specs.State.{nodeAt, putNode}
 use Rattle.model.specs.Climb.{inside, rankUp, raised, climbUp}
-use Rattle.model.specs.declared.node.Shape.{Shape}
+use Rattle.model.specs.declared.shape.Shape.{Shape}
 use Rattle.model.specs.declared.walk.Sum.{Sum}
 use Rattle.model.specs.declared.walk.Sum.the-variants as sum
 use Rattle.laws.specs.Lists.{All-at, All-set, length-zip}

@@ -12,7 +12,7 @@ use Rattle.model.specs.Node.{none, child, indexFrom}
 use Rattle.model.specs.State.{State}
 use Rattle.model.specs.Sound.{innerIn}
 use Rattle.model.specs.Audit.{depth}
-use Rattle.model.specs.declared.node.Place.the-variants as slot
+use Rattle.model.specs.declared.shape.Place.the-variants as slot
 use Rattle.abstract_tree.specs.Levels.{Slot, Area}
 use Rattle.abstract_tree.specs.Apart.{dep, dep-none, dep-step}
 use Rattle.abstract_tree.specs.Cursor.{indexOf}

@@ -15,7 +15,7 @@ use Rattle.model.specs.Node.{Node, none, child, used, emptySlots, half, lowerHa
 use Rattle.model.specs.State.{nodeAt, putNode}
 use Rattle.model.specs.Grow as grow
 use Rattle.model.specs.Grow.{Areas, areas, linked, Top, top, grown, adoptAll, divide}
-use Rattle.model.specs.declared.node.Shape.{Shape}
+use Rattle.model.specs.declared.shape.Shape.{Shape}
 use Rattle.laws.specs.Lists.{All-take, All-drop}
 use Rattle.laws.specs.Slots.{Wide}
 use Rattle.laws.specs.Areas.{node-same}

@@ -17,8 +17,8 @@ use Rattle.model.specs.Sound.{shapeIn, leafIn, innerIn, leastLeaf, leastInner}
 use Rattle.model.specs.Refuse.{totalOf}
 use Rattle.model.specs.Audit as audit
 use Rattle.model.specs.Audit.{every, isSlot, isSum, depthOf, isFilled, isHeld, isChild, isInner, isEntry, isLeaf, leafStart, isFinger, isHeldFinger, isSound}
-use Rattle.model.specs.declared.node.Place.{Place}
-use Rattle.model.specs.declared.node.Place.the-variants as slot
+use Rattle.model.specs.declared.shape.Place.{Place}
+use Rattle.model.specs.declared.shape.Place.the-variants as slot
 use Rattle.model.specs.declared.head.Finger.{Finger}
 use Rattle.model.specs.declared.head.Held.{Held}
 use Rattle.model.specs.declared.head.Held.the-variants as held

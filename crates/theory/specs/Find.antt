@@ -17,9 +17,9 @@ use Rattle.model.specs.State.{State, nodeAt}
 use Rattle.model.specs.Climb.{leafNo}
 use Rattle.model.specs.Locate.{into, descend}
 use Rattle.model.specs.Sound.{shapeIn, innerIn}
-use Rattle.model.specs.declared.node.Shape.{Shape}
-use Rattle.model.specs.declared.node.Found.{Found}
-use Rattle.model.specs.declared.node.Found.the-variants.{At, Nothing}
+use Rattle.model.specs.declared.shape.Shape.{Shape}
+use Rattle.model.specs.declared.shape.Found.{Found}
+use Rattle.model.specs.declared.shape.Found.the-variants.{At, Nothing}
 use Rattle.model.specs.declared.number.LeafNo.{LeafNo}
 use Rattle.model.specs.declared.walk.Descent.{Descent}
 use Rattle.model.specs.declared.walk.Descent.the-variants as descent

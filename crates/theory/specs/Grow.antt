@@ -17,7 +17,7 @@ use Rattle.model.specs.Node.{Node, child, lengthIn, used, half}
 use Rattle.model.specs.State.{nodeAt}
 use Rattle.model.specs.Grow as grow
 use Rattle.model.specs.Grow.{Areas, linked, Top, top, Grown, grown, Above, nodeIn, link, splitNode, linkHalf, addTo, aboveOf}
-use Rattle.model.specs.declared.node.Shape.{Shape}
+use Rattle.model.specs.declared.shape.Shape.{Shape}
 use Rattle.laws.specs.Lists.{All-drop}
 use Rattle.theory.specs.Fits.{Sized}
 use Rattle.abstract_tree.specs.Lists.{cat, sumBy-append, All-map, All-right}

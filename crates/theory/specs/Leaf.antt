@@ -19,7 +19,7 @@ use Rattle.model.specs.Grow.{Areas, areas, Top, top, aboveOf}
 use Rattle.model.specs.Place as place
 use Rattle.model.specs.Place.{change, withLeaf, linkLeaf}
 use Rattle.model.specs.Sound.{shapeIn, leafIn}
-use Rattle.model.specs.declared.node.Shape.{Shape}
+use Rattle.model.specs.declared.shape.Shape.{Shape}
 use Rattle.laws.specs.Lists.{All-take, All-drop}
 use Rattle.abstract_tree.specs.Lists.{sumBy-cat, take-map, All-map}
 use Rattle.abstract_tree.specs.Levels.{Slot, Area, total, len, none}

@@ -12,7 +12,7 @@ use Rattle.model.specs.Node as node
 use Rattle.model.specs.Node.{Node, child, lengths, lengthIn, used, minus, lengthsAt, emptySlots, slotFor, childSplit}
 use Rattle.model.specs.State.{nodeAt, putNode}
 use Rattle.model.specs.Grow.{Areas, areas, linked, Top, nodeIn, adoptAll, link}
-use Rattle.model.specs.declared.node.Shape.{Shape}
+use Rattle.model.specs.declared.shape.Shape.{Shape}
 use Rattle.laws.specs.Areas.{node-same}
 use Rattle.theory.specs.Fits.{Sized, fits}
 use Rattle.abstract_tree.specs.Lists.{map-append, take-map}

@@ -19,7 +19,7 @@ use Rattle.model.specs.Refuse.{opening}
 use Rattle.model.specs.Calls as calls
 use Rattle.model.specs.ById.{idAnswer, locatedAnswer, treeStep}
 use Rattle.model.specs.declared.length.View.{View}
-use Rattle.model.specs.declared.node.Found.the-variants.{At, Nothing}
+use Rattle.model.specs.declared.shape.Found.the-variants.{At, Nothing}
 use Rattle.model.specs.declared.head.Finger.{Finger}
 use Rattle.model.specs.declared.head.Held.the-variants as held
 use Rattle.model.specs.declared.walk.Descent.the-variants as descent

@@ -19,7 +19,7 @@ use Rattle.model.specs.Locate.{finger, served, servedBy, descend, leafOf, fromR
 use Rattle.model.specs.Row as row
 use Rattle.model.specs.Sound.{leafIn, innerIn, shapeIn, SoundAt}
 use Rattle.model.specs.Calls as calls
-use Rattle.model.specs.declared.node.Found.the-variants.{At, Nothing}
+use Rattle.model.specs.declared.shape.Found.the-variants.{At, Nothing}
 use Rattle.model.specs.declared.head.Finger.{Finger}
 use Rattle.model.specs.declared.head.Held.{Held}
 use Rattle.model.specs.declared.head.Held.the-variants as held

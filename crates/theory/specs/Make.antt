@@ -21,7 +21,7 @@ use Rattle.model.specs.Calls as calls
 use Rattle.model.specs.Calls.{begun, makeCauses}
 use Rattle.model.specs.ById.{told, treeStep}
 use Rattle.model.specs.Answer.{outcomeAnswer}
-use Rattle.model.specs.declared.node.Shape.{Shape}
+use Rattle.model.specs.declared.shape.Shape.{Shape}
 use Rattle.model.specs.declared.length.Lengths.{Lengths}
 use Rattle.model.specs.declared.answer.Outcome.{Outcome}
 use Rattle.model.specs.declared.answer.Outcome.the-variants as outcome

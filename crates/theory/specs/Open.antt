@@ -14,7 +14,7 @@ use Rattle.model.specs.Sound.{shapeIn, leafIn, Sound}
 use Rattle.model.specs.Refuse.{opening, stale, overfull, noSuchId}
 use Rattle.model.specs.Calls as calls
 use Rattle.model.specs.Calls.{unless, cursorAt}
-use Rattle.model.specs.declared.node.Place.the-variants as slot
+use Rattle.model.specs.declared.shape.Place.the-variants as slot
 use Rattle.model.specs.declared.answer.Standing.the-variants as standing
 use Rattle.abstract_tree.specs.Levels.{Slot}
 use Rattle.abstract_tree.specs.Tree.{above}

@@ -9,7 +9,7 @@ use lib.ListN.{length}
 use Rattle.model.specs.Node.{Node}
 use Rattle.model.specs.State.{State, nodeAt, putNode}
 use Rattle.model.specs.Sound.{shapeIn}
-use Rattle.model.specs.declared.node.Shape.{Shape}
+use Rattle.model.specs.declared.shape.Shape.{Shape}
 use Rattle.laws.specs.Nodes.{Formed}
 use Rattle.laws.specs.Areas.{length-putNode, node-same, node-other}
 use Rattle.theory.specs.Fits.{Sized, Fits, fits}

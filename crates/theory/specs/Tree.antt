@@ -9,7 +9,7 @@ use Rattle.model.specs.Lists.{sumBy}
 use Rattle.model.specs.Node as node
 use Rattle.model.specs.Node.{Node, child, lengthIn, used}
 use Rattle.model.specs.State.{State, shape, nodeAt, putNode}
-use Rattle.model.specs.declared.node.Shape.{Shape}
+use Rattle.model.specs.declared.shape.Shape.{Shape}
 use Rattle.laws.specs.Nodes.{Formed}
 use Rattle.laws.specs.Areas.{node-same, node-other}
 use Rattle.theory.specs.Fits.{Sized, Fits}

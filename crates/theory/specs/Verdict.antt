@@ -16,7 +16,7 @@ use Rattle.model.specs.State.{State}
 use Rattle.model.specs.Sound.{shapeIn, leafIn, innerIn, leastInner, Sound}
 use Rattle.model.specs.Climb.{rankUp}
 use Rattle.model.specs.Audit.{depth, depthOf}
-use Rattle.model.specs.declared.node.Place.the-variants as slot
+use Rattle.model.specs.declared.shape.Place.the-variants as slot
 use Rattle.model.specs.declared.head.Held.{Held}
 use Rattle.model.specs.declared.head.Held.the-variants as held
 use Rattle.model.specs.declared.walk.Sum.the-variants as sum

@@ -11,8 +11,8 @@ use Rattle.model.specs.Lists.{sumBy}
 use Rattle.model.specs.Node as node
 use Rattle.model.specs.Node.{lengthIn, findFrom}
 use Rattle.model.specs.Locate.{finger, less, Stand, back, movedTo, walked}
-use Rattle.model.specs.declared.node.Found.{Found}
-use Rattle.model.specs.declared.node.Found.the-variants.{At, Nothing}
+use Rattle.model.specs.declared.shape.Found.{Found}
+use Rattle.model.specs.declared.shape.Found.the-variants.{At, Nothing}
 use Rattle.model.specs.declared.head.Finger.{Finger}
 use Rattle.model.specs.declared.walk.Search.the-variants as search
 use Rattle.abstract_tree.specs.Lists.{sumBy-append}

@@ -7,7 +7,7 @@ use native.Mathlib.Omega.{arith}
 use Rattle.model.specs.Node.{start}
 use Rattle.model.specs.State.{nodeAt}
 use Rattle.model.specs.Climb.{inside, raised, climbUp}
-use Rattle.model.specs.declared.node.Shape.{Shape}
+use Rattle.model.specs.declared.shape.Shape.{Shape}
 use Rattle.model.specs.declared.walk.Sum.{Sum}
 use Rattle.model.specs.declared.walk.Sum.the-variants as sum
 

@@ -1,6 +1,6 @@
 // Tests of stored numbers, made before they are used.
 use area::word::len_of;
-use model::node::Shape;
+use model::shape::Shape;
 ghost use mathlib.Core.Path.{_≡_};
 ghost use lib.Dec.{ltb};
 ghost use lib.ListN.{length};

@@ -6,7 +6,7 @@ use area::word::raise_in;
 use area::word::start_in;
 use model::answer::Compared;
 use model::head::Path;
-use model::node::Shape;
+use model::shape::Shape;
 use model::walk::Sum;
 ghost use mathlib.Core.Path.{_≡_};
 ghost use mathlib.Core.List.{[]};

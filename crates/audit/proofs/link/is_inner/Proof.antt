@@ -4,7 +4,7 @@ use mathlib.Core.Path.{ap}
 use mathlib.Core.List.{[]}
 use native.Mathlib.Nat.{lt-of-lt-of-le}
 use denote.Ref.{now}
-use Rattle.model.specs.declared.node.Shape.{Shape}
+use Rattle.model.specs.declared.shape.Shape.{Shape}
 use Rattle.audit.proofs.InnerLaws.{inner-low, inner-deep, inner-unfilled, inner-few, inner-misplaced, inner-lowest, inner-higher}
 use Rattle.audit.proofs.link.is_inner.Statement.{statement}
 use Rattle.audit.proofs.link.is_inner.Tie as tie

@@ -1,7 +1,7 @@
 -- `audit::nodes::is_filled`: each test is one of the three of the definition, in its order.
 use borrow.Author.Needs.{needs}
 use mathlib.Core.Path.{ap}
-use Rattle.model.specs.declared.node.Shape.{Shape}
+use Rattle.model.specs.declared.shape.Shape.{Shape}
 use Rattle.audit.proofs.AreaLaws.{filled-low, filled-high, filled-rest}
 use Rattle.audit.proofs.nodes.is_filled.Statement.{statement}
 use Rattle.audit.proofs.nodes.is_filled.Tie as tie

@@ -5,7 +5,7 @@ use mathlib.Core.List.{[]}
 use native.Mathlib.Omega.{arith}
 use native.Mathlib.Nat.{lt-of-lt-of-le}
 use denote.Ref.{now}
-use Rattle.model.specs.declared.node.Shape.{Shape}
+use Rattle.model.specs.declared.shape.Shape.{Shape}
 use Rattle.audit.proofs.TreeLaws.{finger-view, finger-leaf, finger-slot, finger-start, finger-effect, finger-within, finger-last}
 use Rattle.audit.proofs.tree.is_finger.Statement.{statement}
 use Rattle.audit.proofs.tree.is_finger.Tie as tie

@@ -3,7 +3,7 @@ use borrow.Author.Needs.{needs}
 use mathlib.Core.Path.{ap}
 use native.Mathlib.Omega.{arith}
 use denote.Ref.{now}
-use Rattle.model.specs.declared.node.Shape.{Shape}
+use Rattle.model.specs.declared.shape.Shape.{Shape}
 use Rattle.audit.proofs.SoundLaws.{known, few-entries, root-in, good-counts, sound-counts, sound-inners, sound-leaves, sound-lens, sound-totals, sound-finger}
 use Rattle.audit.proofs.tree.is_sound.Statement.{statement}
 use Rattle.audit.proofs.tree.is_sound.Tie as tie

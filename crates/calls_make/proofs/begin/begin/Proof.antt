@@ -1,7 +1,7 @@
 -- `calls_make::begin::begin`: the first slot's words are written into node 0 of both areas, and home 0 is leaf 0.
 use borrow.Author.Needs.{needs}
 use mathlib.Core.Path.{sym, ap}
-use Rattle.model.specs.declared.node.Shape.{Shape}
+use Rattle.model.specs.declared.shape.Shape.{Shape}
 use Rattle.calls_make.proofs.BeginLaws.{begin-words}
 use Rattle.calls_make.proofs.begin.begin.Statement.{statement}
 use Rattle.calls_make.proofs.begin.begin.Tie as tie

@@ -7,8 +7,8 @@ use Rattle.model.specs.Node.{slotsFrom, indexFrom}
 use mathlib.Core.Bool.{cond}
 use lib.Dec.{ltb}
 use borrow.Author.Tests.{lt-ltb, le-ltb}
-use Rattle.model.specs.declared.node.Place.{Place}
-use Rattle.model.specs.declared.node.Place.the-variants.{Slot, Missing}
+use Rattle.model.specs.declared.shape.Place.{Place}
+use Rattle.model.specs.declared.shape.Place.the-variants.{Slot, Missing}
 use Rattle.laws.specs.Lists.{rows-le, one-more}
 use Rattle.laws.specs.Read.{index-here, index-back, index-none}
 use Rattle.node.proofs.read.index_far.Statement.{statement}
