@@ -3,3 +3,4 @@ pub mod Causes
 pub mod OpenLaws
 pub mod ReadyLaws
 pub mod CursorLaws
+pub mod LengthLaws

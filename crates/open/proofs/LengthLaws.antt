@@ -1,0 +1,60 @@
+-- The lengths of a slot of three words, and which of the two totals passes u32. Assumes nothing.
+use mathlib.Core.Path.{_≡_, refl, sym, ap, _∙_}
+use mathlib.Core.Bool.{Bool, true, false, _||_}
+use mathlib.Core.List.{List, [], _∷_}
+use Prim.Native.Nat.{ℕ, _+_, _*_, _<_, _≤_}
+use native.Mathlib.Omega.{arith}
+use lib.ListN.{length, getD, drop}
+use lib.Dec.{ltb}
+use Rattle.model.specs.Lists.{some, part}
+use Rattle.model.specs.Length.{listOf}
+use Rattle.model.specs.Node.{nodeOf, lengths, lengthIn, total, used}
+use Rattle.model.specs.State.{state, nodeAt}
+use Rattle.model.specs.Refuse.{shapeOf, past}
+use Rattle.model.specs.declared.shape.Shape.{Shape}
+use Rattle.model.specs.declared.head.Head.{Head}
+use Rattle.model.specs.declared.length.Lengths.{Lengths}
+use Rattle.laws.specs.Lists.{row-end}
+use Rattle.laws.specs.Words.{length-part}
+use Rattle.laws.specs.Slots.{slots-at}
+use Rattle.laws.specs.Areas.{length-node}
+use Rattle.laws.specs.AreaRead.{node-end}
+use Rattle.area.specs.Area.{Area}
+
+behind : (x : List ℕ) → length x ≡ 3 → lengths x ≡ getD x 1 0 ∷ getD x 2 0 ∷ []
+behind [] e = absurd (omega arith)
+behind (x ∷ []) e = absurd (omega arith)
+behind (x ∷ y ∷ []) e = absurd (omega arith)
+behind (x ∷ y ∷ z ∷ []) e = refl
+behind (x ∷ y ∷ z ∷ w ∷ xs) e = absurd (omega arith)
+
+-- the two lengths that are read are all that the slot has
+module _ (g : Shape) (xs : List ℕ) (k i : ℕ) (a : Area g (length xs)) (three : g .stride ≡ 3) (hk : k < g .nodes) (hi : i < g .fan) where
+  width : length (getD (nodeAt g k xs .slots) i []) ≡ 3
+  unfolding nodeOf
+  width =
+      let ws : List ℕ = part (k * g .size) (g .size) xs in
+      let l : length ws ≡ 3 + g .fan * g .stride = length-node g k xs (a .shaped .words) (node-end g k (length xs) hk (a .room)) in
+      ap length (slots-at (g .stride) (g .fan) i 3 ws hi) ∙ length-part (3 + i * g .stride) (g .stride) ws (omega (arith, l, row-end i (g .fan) (g .stride) hi)) ∙ three
+
+  pub lengths-read : (p e : ℕ) → p ≡ lengthIn 0 (getD (nodeAt g k xs .slots) i []) → e ≡ lengthIn 1 (getD (nodeAt g k xs .slots) i [])
+      → lengths (getD (nodeAt g k xs .slots) i []) ≡ p ∷ e ∷ []
+  lengths-read p e ep ee = rw (ep, ee) (behind (getD (nodeAt g k xs .slots) i []) width)
+
+last : (b : Bool) → b ≡ (b || false)
+last true = refl
+last false = refl
+
+module _ (h : Head) (xs : List ℕ) (g : Shape) (old new : Lengths) (b : Bool) (eg : g ≡ shapeOf h)
+    (eb : b ≡ ltb (4294967295 + old .prepare) (total 0 (used (nodeAt g (h .root .0) xs)) + new .prepare)) where
+  own : (v o n : ℕ) → ltb (4294967295 + o) (total v (used (nodeAt g (h .root .0) xs)) + n) ≡ ltb (4294967295 + o) (total v (used (nodeAt (shapeOf h) (h .root .0) xs)) + n)
+  own v o n = ap (λ (x : Shape). ltb (4294967295 + o) (total v (used (nodeAt x (h .root .0) xs)) + n)) eg
+
+  pub past-first : b ≡ true → true ≡ past (state h [] xs []) (listOf old) (listOf new) .applies
+  unfolding some
+  past-first e = rw (sym (own 0 (old .prepare) (new .prepare)) ∙ sym eb ∙ e)
+
+  pub past-second : b ≡ false → (c : Bool) → c ≡ ltb (4294967295 + old .effect) (total 1 (used (nodeAt g (h .root .0) xs)) + new .effect)
+      → c ≡ past (state h [] xs []) (listOf old) (listOf new) .applies
+  unfolding some
+  past-second e c ec = rw (sym (own 0 (old .prepare) (new .prepare)) ∙ sym eb ∙ e) (ec ∙ own 1 (old .effect) (new .effect) ∙ last (ltb (4294967295 + old .effect) (total 1 (used (nodeAt (shapeOf h) (h .root .0) xs)) + new .effect)))
