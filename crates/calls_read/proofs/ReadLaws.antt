@@ -5,14 +5,13 @@ use mathlib.Core.List.{List, [], _∷_, _++_}
 use Prim.Native.Nat.{ℕ, suc, _+_, _*_, _<_, _≤_}
 use native.Mathlib.Omega.{arith}
 use lib.ListN.{length, getD}
-use lib.Seq.{getD-drop}
 use lib.Dec.{ltb, leb, eqb}
 use borrow.Author.Tests.{lt-ltb, le-ltb, lt-leb, le-leb}
 use Rattle.model.specs.Lists.{part}
-use Rattle.model.specs.Node.{nodeOf, child, lengths, lengthIn, used, start, indexFrom}
+use Rattle.model.specs.Node.{nodeOf, child, lengths, used, start, indexFrom}
 use Rattle.model.specs.State.{State, nodeAt}
 use Rattle.model.specs.Refuse.{shapeOf, opening, atCursor, noSuchId}
-use Rattle.model.specs.Length.{viewNumber}
+use Rattle.model.specs.Length.{viewNumber, listOf}
 use Rattle.model.specs.Climb.{rankUp}
 use Rattle.model.specs.Calls.{entryId, id, lengthsFrom, lengthsOf, rankOf, entryToCharIndex, standingIn, cursor}
 use Rattle.model.specs.declared.shape.Shape.{Shape}
@@ -78,11 +77,9 @@ module _ (s : State) (c : Cursor) (o : Opened) (e : o ≡ openedBy (opening s ++
     unfolding id
     id-good x q = call-good named.Refused (idBy s c) _ (shapeOf (s .head)) o e g d _ (ap (λ (y : ℕ). named.Entry (entryId y)) q)
 
-    pub lengths-good : (x y : ℕ) → x ≡ lengthIn 0 (slotBy s c g) → y ≡ lengthIn 1 (slotBy s c g) → measured.Are (record { prepare = x; effect = y }) ≡ lengthsOf s c
+    pub lengths-good : (l : Lengths) → lengths (slotBy s c g) ≡ listOf l → measured.Are l ≡ lengthsOf s c
     unfolding lengthsOf
-    lengths-good x y p q =
-        call-good measured.Refused (lengthsBy s c) _ (shapeOf (s .head)) o e g d _
-        (rw (p ∙ sym (getD-drop 1 (slotBy s c g) 0 0), q ∙ sym (getD-drop 1 (slotBy s c g) 1 0)))
+    lengths-good l p = call-good measured.Refused (lengthsBy s c) _ (shapeOf (s .head)) o e g d _ (rw p)
 
     -- the climb starts with the leaf's own place and what stands before the slot in it
     pub rank-good : (v : View) (w p a b : ℕ) (r q : Sum) → w ≡ viewNumber v → b ≡ start w (c .slot) (nodeAt g (c .leaf .0) (s .leaves))

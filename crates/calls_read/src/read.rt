@@ -2,7 +2,6 @@
 use area::word::at_of;
 use area::word::child_of;
 use area::word::len_of;
-use area::word::length_of;
 use area::word::parent_of;
 use area::word::start_in;
 use model::answer::Measured;
@@ -12,13 +11,13 @@ use model::answer::Standing;
 use model::answer::Verdict;
 use model::head::Cursor;
 use model::head::Head;
-use model::length::Lengths;
 use model::length::View;
 use model::number::EntryId;
 use model::number::LeafNo;
 use model::shape::Place;
 use model::shape::Shape;
 use model::walk::Sum;
+use open::lengths::lengths_at;
 use open::open::Opened;
 use open::open::bad_size;
 use open::open::open;
@@ -67,7 +66,8 @@ pub fn id(head: Head, leaves: &[u32], inners: &[u32], homes: &[u32], at: Cursor)
         Opened::Good(g) => {
             let k = at.leaf.0;
             let i = at.slot as usize;
-            Named::Entry(EntryId(child_of(leaves, g, k, i)))
+            let id = child_of(leaves, g, k, i);
+            Named::Entry(EntryId(id))
         }
     }
 }
@@ -79,14 +79,8 @@ pub fn lengths(head: Head, leaves: &[u32], inners: &[u32], homes: &[u32], at: Cu
     match open_at(head, leaves, inners, homes, at) {
         Opened::Refused(n) => Measured::Refused(n),
         Opened::Good(g) => {
-            let k = at.leaf.0;
-            let i = at.slot as usize;
-            let prepare = length_of(leaves, g, 0, k, i);
-            let effect = length_of(leaves, g, 1, k, i);
-            Measured::Are(Lengths {
-                prepare: prepare,
-                effect: effect,
-            })
+            let own = lengths_at(leaves, g, at.leaf.0, at.slot);
+            Measured::Are(own)
         }
     }
 }

@@ -1,7 +1,8 @@
 -- `calls_read::read::lengths`: a current cursor's slot holds the lengths behind its child.
 use borrow.Author.Needs.{needs}
-use native.Mathlib.Omega.{arith}
-use Rattle.open.proofs.CursorLaws.{stands, lengths-in}
+use mathlib.Core.Path.{ap}
+use Rattle.model.specs.declared.shape.Shape.{Shape}
+use Rattle.open.proofs.CursorLaws.{stands, slot-in}
 use Rattle.calls_read.proofs.ReadLaws.{lengths-refused, lengths-good}
 use Rattle.calls_read.proofs.read.lengths.Statement.{statement}
 use Rattle.calls_read.proofs.read.lengths.Tie as tie
@@ -15,30 +16,17 @@ enum-known-n c = search needs
 enum-known-g : tie.Need-enum-known-g
 enum-known-g c = search needs
 
-cast-i : tie.Need-cast-i
-cast-i c = search needs
-
-length-of-requires : tie.Need-length-of-requires
-length-of-requires c κs = lengths-in _ (c .before .before .before .before .before .before .before .before .args .at) _ 0 (omega arith) (stands _ (c .before .before .before .before .before .before .before .before .args .at) _ _ (c .before .before .before .before .open-at .ensures) (c .before .before .g .given .1))
-
-length-of-requires-2 : tie.Need-length-of-requires-2
-length-of-requires-2 c κs = lengths-in _ (c .before .before .before .before .before .before .before .before .before .args .at) _ 1 (omega arith) (stands _ (c .before .before .before .before .before .before .before .before .before .args .at) _ _ (c .before .before .before .before .before .open-at .ensures) (c .before .before .before .g .given .1))
+lengths-at-requires : tie.Need-lengths-at-requires
+lengths-at-requires c κs =
+    let st = stands _ (c .before .before .before .before .before .before .before .args .at) _ _ (c .before .before .before .open-at .ensures) (c .before .g .given .1) in
+    let i = slot-in _ (c .before .before .before .before .before .before .before .args .at) _ st in
+    (i .0, ap (λ (x : Shape). x .stride) (st .ready .same), i .1, i .2)
 
 returns : tie.Need-returns
 returns c = lengths-refused _ (c .before .before .before .before .before .before .before .args .at) _ (c .before .before .before .open-at .ensures) _ (c .before .n .given .1)
 
 returns-2 : tie.Need-returns-2
-returns-2 c = lengths-good _ (c .before .before .before .before .before .before .before .before .before .before .args .at) _ (c .before .before .before .before .before .before .open-at .ensures) _ (c .before .before .before .before .g .given .1) _ _ (c .before .length-of .ensures) (c .length-of2 .ensures)
+returns-2 c = lengths-good _ (c .before .before .before .before .before .before .before .before .args .at) _ (c .before .before .before .before .open-at .ensures) _ (c .before .before .g .given .1) _ (c .lengths-at .ensures)
 
 pub lengths-spec : {M : Type 1} → statement M
-lengths-spec =
-    tie.close
-    (tie.spec
-    open-at-requires
-    enum-known-n
-    enum-known-g
-    cast-i
-    length-of-requires
-    length-of-requires-2
-    returns
-    returns-2)
+lengths-spec = tie.close (tie.spec open-at-requires enum-known-n enum-known-g lengths-at-requires returns returns-2)
