@@ -1,14 +1,14 @@
 // A slot for a new node in an inner node that has room.
 use crate::parts::adopt_all;
 use crate::parts::word;
+use area::write::split_child;
 use model::number::NodeNo;
 use model::shape::Shape;
 ghost use mathlib.Core.Path.{_≡_};
-ghost use mathlib.Core.Bool.{false};
 ghost use Prim.Native.Nat.{_+_, _*_, _<_, _≤_};
 ghost use lib.ListN.{length};
-ghost use Rattle.model.specs.Node.{slotFor, childSplit};
-ghost use Rattle.model.specs.State.{nodeAt, putNode};
+ghost use Rattle.model.specs.Node.{slotFor};
+ghost use Rattle.model.specs.State.{nodeAt};
 ghost use Rattle.model.specs.Grow.{areas, linked, nodeIn, link};
 ghost use Rattle.node.specs.Shaped.{Shaped};
 ghost use Rattle.grow.specs.Fits.{Fits, Room};
@@ -36,17 +36,6 @@ pub fn slot_of(leaves: &[u32], inners: &[u32], g: Shape, level: u32, k: u32, x: 
     }
 }
 
-// The slot x comes behind place i of inner node p, and its lengths leave the slot there.
-fn hang(inners: &mut [u32], g: Shape, p: NodeNo, i: usize, x: &[u32])
-    requires { ⌜ Shaped g × (p .0 < g .nodes) × (g .nodes * g .size ≤ length (now inners)) × Room g (p .0) i (now inners) × (length (now x) ≡ g .stride) ⌝ }
-    ensures { λ _. ⌜ now (inners .exit) ≡ putNode g (p .0) (childSplit false i (now (x .entry)) (nodeAt g (p .0) (now (inners .entry)))) (now (inners .entry)) ⌝ }
-{
-    let size = g.size;
-    let a = p.0 as usize * size;
-    let e = a + size;
-    node::write::split_child(&mut inners[a..e], g, false, i, x);
-}
-
 // Node new of the level's area gets its slot behind place i of inner node p.
 pub fn link(
     leaves: &mut [u32],
@@ -65,6 +54,6 @@ pub fn link(
     let len = word(inners, g, k, 0) as usize;
     let mut x: [u32; 4] = [0; 4];
     slot_of(leaves, inners, g, level, new, &mut x[0..stride]);
-    hang(inners, g, p, i, &x[0..stride]);
+    split_child(inners, g, p.0, false, i, &x[0..stride]);
     adopt_all(leaves, inners, g, level, p, i + 1, len + 1)
 }

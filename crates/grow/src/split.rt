@@ -2,6 +2,7 @@
 use crate::link::sum_node;
 use crate::parts::adopt_all;
 use crate::top::Top;
+use area::write::new_two;
 use model::length::Slot;
 use model::number::NodeNo;
 use model::shape::Shape;
@@ -31,18 +32,6 @@ pub fn divide(
     let fan = g.fan;
     node::split::split_off(inners, g, k.0 as usize, m.0 as usize);
     adopt_all(leaves, inners, g, level, m, 0, fan - fan / 2)
-}
-
-// Node j becomes a root with the slots x and y; no node is its parent.
-fn crown(inners: &mut [u32], g: Shape, j: NodeNo, x: &[u32], y: &[u32])
-    requires { ⌜ Shaped g × (j .0 < g .nodes) × (g .nodes * g .size ≤ length (now inners)) × (length (now x) ≡ g .stride) × (length (now y) ≡ g .stride) ⌝ }
-    ensures { λ _. ⌜ now (inners .exit) ≡ putNode g (j .0) (newNode (g .stride) (g .fan) none (now (x .entry) ∷ now (y .entry) ∷ [])) (now (inners .entry)) ⌝ }
-{
-    let size = g.size;
-    let a = j.0 as usize * size;
-    let e = a + size;
-    let empty = Slot::EMPTY;
-    node::split::new_two(&mut inners[a..e], g, empty.child, x, y);
 }
 
 // A new root above the inner nodes k and m, which are its children.
@@ -75,7 +64,8 @@ pub fn grow_root(
     let j = NodeNo(used);
     sum_node(inners, g, k.0, &mut x[0..stride]);
     sum_node(inners, g, m.0, &mut y[0..stride]);
-    crown(inners, g, j, &x[0..stride], &y[0..stride]);
+    let empty = Slot::EMPTY;
+    new_two(inners, g, used, empty.child, &x[0..stride], &y[0..stride]);
     let n = adopt_all(leaves, inners, g, 2, j, 0, 2);
     Top {
         number: n,

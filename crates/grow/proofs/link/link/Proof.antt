@@ -32,17 +32,17 @@ part-x-end c = search needs
 slot-of-requires : tie.Need-slot-of-requires
 slot-of-requires c κs = search needs
 
-sub-hang : tie.Need-sub-hang
-sub-hang c = search needs
+sub-split-child : tie.Need-sub-split-child
+sub-split-child c = search needs
 
-part-hang-start : tie.Need-part-hang-start
-part-hang-start c = search needs
+part-split-child-start : tie.Need-part-split-child-start
+part-split-child-start c = search needs
 
-part-hang-end : tie.Need-part-hang-end
-part-hang-end c = front-in (c .before .before .before .before .before .before .before .before .before .before .before .before .args .g .stride) (c .before .before .before .slot-of .last .1 .1 .1 .1 .1 .0) _ (0 ∷ 0 ∷ 0 ∷ 0 ∷ []) (c .before .before .before .slot-of .kept .1 .1 .1 .1 .1 .0) (c .before .before .before .before .before .before .before .before .before .before .before .before .pre .0 .shaped .narrow)
+part-split-child-end : tie.Need-part-split-child-end
+part-split-child-end c = front-in (c .before .before .before .before .before .before .before .before .before .before .before .before .args .g .stride) (c .before .before .before .slot-of .last .1 .1 .1 .1 .1 .0) _ (0 ∷ 0 ∷ 0 ∷ 0 ∷ []) (c .before .before .before .slot-of .kept .1 .1 .1 .1 .1 .0) (c .before .before .before .before .before .before .before .before .before .before .before .before .pre .0 .shaped .narrow)
 
-hang-requires : tie.Need-hang-requires
-hang-requires c κs = (c .before .before .before .before .before .before .before .before .before .before .before .before .before .pre .0 .shaped, c .before .before .before .before .before .before .before .before .before .before .before .before .before .pre .1, c .before .before .before .before .before .before .before .before .before .before .before .before .before .pre .0 .inners, c .before .before .before .before .before .before .before .before .before .before .before .before .before .pre .3, front-again (c .before .before .before .before .before .before .before .before .before .before .before .before .before .args .g .stride) (c .before .before .before .before .slot-of .last .1 .1 .1 .1 .1 .0) _ (0 ∷ 0 ∷ 0 ∷ 0 ∷ []) (c .before .before .before .before .slot-of .kept .1 .1 .1 .1 .1 .0) (c .before .before .before .before .before .before .before .before .before .before .before .before .before .pre .0 .shaped .narrow))
+split-child-requires : tie.Need-split-child-requires
+split-child-requires c κs = (record { shaped = c .before .before .before .before .before .before .before .before .before .before .before .before .before .pre .0 .shaped; room = c .before .before .before .before .before .before .before .before .before .before .before .before .before .pre .0 .inners }, c .before .before .before .before .before .before .before .before .before .before .before .before .before .pre .1, c .before .before .before .before .before .before .before .before .before .before .before .before .before .pre .3 .place, c .before .before .before .before .before .before .before .before .before .before .before .before .before .pre .3 .space, front-again (c .before .before .before .before .before .before .before .before .before .before .before .before .before .args .g .stride) (c .before .before .before .before .slot-of .last .1 .1 .1 .1 .1 .0) _ (0 ∷ 0 ∷ 0 ∷ 0 ∷ []) (c .before .before .before .before .slot-of .kept .1 .1 .1 .1 .1 .0) (c .before .before .before .before .before .before .before .before .before .before .before .before .before .pre .0 .shaped .narrow))
 
 add-adopt-all : tie.Need-add-adopt-all
 add-adopt-all c = search needs
@@ -52,7 +52,7 @@ add-adopt-all-2 c = search needs
 
 adopt-all-requires : tie.Need-adopt-all-requires
 unfolding nodeOf
-adopt-all-requires c κs = (rw (c .before .before .before .before .hang .kept .0) (c .before .before .before .before .before .before .before .before .before .before .before .before .before .before .before .before .before .before .pre .0), c .before .before .before .before .before .before .before .before .before .before .before .before .before .before .before .before .before .before .pre .1, omega (arith, c .before .before .before .before .before .before .before .before .before .before .before .before .before .word .ensures, c .before .before .before .before .before .before .before .before .before .before .before .before .before .before .before .before .before .before .pre .3 .space))
+adopt-all-requires c κs = (rw (c .before .before .before .before .split-child .kept .0) (c .before .before .before .before .before .before .before .before .before .before .before .before .before .before .before .before .before .before .pre .0), c .before .before .before .before .before .before .before .before .before .before .before .before .before .before .before .before .before .before .pre .1, omega (arith, c .before .before .before .before .before .before .before .before .before .before .before .before .before .word .ensures, c .before .before .before .before .before .before .before .before .before .before .before .before .before .before .before .before .before .before .pre .3 .space))
 
 same-length : tie.Need-same-length
 same-length c = search needs
@@ -61,7 +61,7 @@ same-length-2 : tie.Need-same-length-2
 same-length-2 c = search needs
 
 returns : tie.Need-returns
-returns c = link-as _ _ _ _ _ _ _ _ (c .before .before .before .before .before .before .before .before .before .before .before .before .before .before .slot-of .last .1 .1 .1 .1 .1 .0) _ _ _ (c .before .before .before .before .before .before .before .before .before .before .before .before .before .before .before .before .before .before .word .ensures) (c .before .before .before .before .before .before .before .before .before .before .before .before .before .before .slot-of .ensures) (front-back (c .before .before .before .before .before .before .before .before .before .before .before .before .before .before .before .before .before .before .before .before .before .before .before .args .g .stride) (c .before .before .before .before .before .before .before .before .before .before .before .before .before .before .slot-of .last .1 .1 .1 .1 .1 .0) _ (0 ∷ 0 ∷ 0 ∷ 0 ∷ []) (c .before .before .before .before .before .before .before .before .before .before .before .before .before .before .slot-of .kept .1 .1 .1 .1 .1 .0) (c .before .before .before .before .before .before .before .before .before .before .before .before .before .before .before .before .before .before .before .before .before .before .before .pre .0 .shaped .narrow)) (c .before .before .before .before .before .before .before .before .before .hang .ensures) (c .before .before .before .before .adopt-all .ensures)
+returns c = link-as _ _ _ _ _ _ _ _ (c .before .before .before .before .before .before .before .before .before .before .before .before .before .before .slot-of .last .1 .1 .1 .1 .1 .0) _ _ _ (c .before .before .before .before .before .before .before .before .before .before .before .before .before .before .before .before .before .before .word .ensures) (c .before .before .before .before .before .before .before .before .before .before .before .before .before .before .slot-of .ensures) (front-back (c .before .before .before .before .before .before .before .before .before .before .before .before .before .before .before .before .before .before .before .before .before .before .before .args .g .stride) (c .before .before .before .before .before .before .before .before .before .before .before .before .before .before .slot-of .last .1 .1 .1 .1 .1 .0) _ (0 ∷ 0 ∷ 0 ∷ 0 ∷ []) (c .before .before .before .before .before .before .before .before .before .before .before .before .before .before .slot-of .kept .1 .1 .1 .1 .1 .0) (c .before .before .before .before .before .before .before .before .before .before .before .before .before .before .before .before .before .before .before .before .before .before .before .pre .0 .shaped .narrow)) (c .before .before .before .before .before .before .before .before .before .split-child .ensures) (c .before .before .before .before .adopt-all .ensures)
 
 pub link-spec : {M : Type 1} → statement M
 link-spec =
@@ -74,10 +74,10 @@ link-spec =
     part-x-start
     part-x-end
     slot-of-requires
-    sub-hang
-    part-hang-start
-    part-hang-end
-    hang-requires
+    sub-split-child
+    part-split-child-start
+    part-split-child-end
+    split-child-requires
     add-adopt-all
     add-adopt-all-2
     adopt-all-requires

@@ -39,35 +39,35 @@ part-y-end c = search needs
 sum-node-requires-2 : tie.Need-sum-node-requires-2
 sum-node-requires-2 c κs = search needs
 
-sub-crown : tie.Need-sub-crown
-sub-crown c = search needs
+sub-new-two : tie.Need-sub-new-two
+sub-new-two c = search needs
 
-part-crown-start : tie.Need-part-crown-start
-part-crown-start c = search needs
+part-new-two-start : tie.Need-part-new-two-start
+part-new-two-start c = search needs
 
-part-crown-end : tie.Need-part-crown-end
-part-crown-end c = front-in (c .before .before .before .before .before .before .before .before .before .before .before .before .before .before .args .g .stride) (c .before .before .before .before .before .before .before .sum-node .last .1 .1 .1 .0) _ (0 ∷ 0 ∷ 0 ∷ 0 ∷ []) (c .before .before .before .before .before .before .before .sum-node .kept .1 .1 .1 .0) (c .before .before .before .before .before .before .before .before .before .before .before .before .before .before .pre .0 .shaped .narrow)
+part-new-two-end : tie.Need-part-new-two-end
+part-new-two-end c = front-in (c .before .before .before .before .before .before .before .before .before .before .before .before .before .before .args .g .stride) (c .before .before .before .before .before .before .before .sum-node .last .1 .1 .1 .0) _ (0 ∷ 0 ∷ 0 ∷ 0 ∷ []) (c .before .before .before .before .before .before .before .sum-node .kept .1 .1 .1 .0) (c .before .before .before .before .before .before .before .before .before .before .before .before .before .before .pre .0 .shaped .narrow)
 
-sub-crown-2 : tie.Need-sub-crown-2
-sub-crown-2 c = search needs
+sub-new-two-2 : tie.Need-sub-new-two-2
+sub-new-two-2 c = search needs
 
-part-crown-start-2 : tie.Need-part-crown-start-2
-part-crown-start-2 c = search needs
+part-new-two-start-2 : tie.Need-part-new-two-start-2
+part-new-two-start-2 c = search needs
 
-part-crown-end-2 : tie.Need-part-crown-end-2
-part-crown-end-2 c = front-in (c .before .before .before .before .before .before .before .before .before .before .before .before .before .before .before .before .args .g .stride) (c .before .before .before .before .before .sum-node2 .last .1 .1 .1 .0) _ (0 ∷ 0 ∷ 0 ∷ 0 ∷ []) (c .before .before .before .before .before .sum-node2 .kept .1 .1 .1 .0) (c .before .before .before .before .before .before .before .before .before .before .before .before .before .before .before .before .pre .0 .shaped .narrow)
+part-new-two-end-2 : tie.Need-part-new-two-end-2
+part-new-two-end-2 c = front-in (c .before .before .before .before .before .before .before .before .before .before .before .before .before .before .before .before .args .g .stride) (c .before .before .before .before .before .sum-node2 .last .1 .1 .1 .0) _ (0 ∷ 0 ∷ 0 ∷ 0 ∷ []) (c .before .before .before .before .before .sum-node2 .kept .1 .1 .1 .0) (c .before .before .before .before .before .before .before .before .before .before .before .before .before .before .before .before .pre .0 .shaped .narrow)
 
-crown-requires : tie.Need-crown-requires
-crown-requires c κs = (c .before .before .before .before .before .before .before .before .before .before .before .before .before .before .before .before .before .pre .0 .shaped, c .before .before .before .before .before .before .before .before .before .before .before .before .before .if1 .left, c .before .before .before .before .before .before .before .before .before .before .before .before .before .before .before .before .before .pre .0 .inners, front-again (c .before .before .before .before .before .before .before .before .before .before .before .before .before .before .before .before .before .args .g .stride) (c .before .before .before .before .before .before .before .before .before .before .sum-node .last .1 .1 .1 .0) _ (0 ∷ 0 ∷ 0 ∷ 0 ∷ []) (c .before .before .before .before .before .before .before .before .before .before .sum-node .kept .1 .1 .1 .0) (c .before .before .before .before .before .before .before .before .before .before .before .before .before .before .before .before .before .pre .0 .shaped .narrow), front-again (c .before .before .before .before .before .before .before .before .before .before .before .before .before .before .before .before .before .args .g .stride) (c .before .before .before .before .before .before .sum-node2 .last .1 .1 .1 .0) _ (0 ∷ 0 ∷ 0 ∷ 0 ∷ []) (c .before .before .before .before .before .before .sum-node2 .kept .1 .1 .1 .0) (c .before .before .before .before .before .before .before .before .before .before .before .before .before .before .before .before .before .pre .0 .shaped .narrow))
+new-two-requires : tie.Need-new-two-requires
+new-two-requires c κs = (record { shaped = c .before .before .before .before .before .before .before .before .before .before .before .before .before .before .before .before .before .pre .0 .shaped; room = c .before .before .before .before .before .before .before .before .before .before .before .before .before .before .before .before .before .pre .0 .inners }, c .before .before .before .before .before .before .before .before .before .before .before .before .before .if1 .left, front-again (c .before .before .before .before .before .before .before .before .before .before .before .before .before .before .before .before .before .args .g .stride) (c .before .before .before .before .before .before .before .before .before .before .sum-node .last .1 .1 .1 .0) _ (0 ∷ 0 ∷ 0 ∷ 0 ∷ []) (c .before .before .before .before .before .before .before .before .before .before .sum-node .kept .1 .1 .1 .0) (c .before .before .before .before .before .before .before .before .before .before .before .before .before .before .before .before .before .pre .0 .shaped .narrow), front-again (c .before .before .before .before .before .before .before .before .before .before .before .before .before .before .before .before .before .args .g .stride) (c .before .before .before .before .before .before .sum-node2 .last .1 .1 .1 .0) _ (0 ∷ 0 ∷ 0 ∷ 0 ∷ []) (c .before .before .before .before .before .before .sum-node2 .kept .1 .1 .1 .0) (c .before .before .before .before .before .before .before .before .before .before .before .before .before .before .before .before .before .pre .0 .shaped .narrow))
 
 adopt-all-requires : tie.Need-adopt-all-requires
-adopt-all-requires c κs = (rw (c .before .before .before .before .crown .kept .0) (c .before .before .before .before .before .before .before .before .before .before .before .before .before .before .before .before .before .before .before .before .before .before .pre .0), c .before .before .before .before .before .before .before .before .before .before .before .before .before .before .before .before .before .before .if1 .left, omega (arith, c .before .before .before .before .before .before .before .before .before .before .before .before .before .before .before .before .before .before .before .before .before .before .pre .0 .shaped .slots))
-
-add-t46 : tie.Need-add-t46
-add-t46 c = search needs
+adopt-all-requires c κs = (rw (c .before .before .before .before .new-two .kept .0) (c .before .before .before .before .before .before .before .before .before .before .before .before .before .before .before .before .before .before .before .before .before .before .pre .0), c .before .before .before .before .before .before .before .before .before .before .before .before .before .before .before .before .before .before .if1 .left, omega (arith, c .before .before .before .before .before .before .before .before .before .before .before .before .before .before .before .before .before .before .before .before .before .before .pre .0 .shaped .slots))
 
 add-t47 : tie.Need-add-t47
-add-t47 c = search needs
+add-t47 c = omega (arith, c .before .before .before .before .before .before .before .before .before .before .before .before .before .before .before .before .before .before .before .before .before .before .before .if1 .left, c .before .before .before .before .before .before .before .before .before .before .before .before .before .before .before .before .before .before .before .before .before .before .before .before .before .before .before .pre .0 .shaped .areas)
+
+add-t48 : tie.Need-add-t48
+add-t48 c = search needs
 
 same-length : tie.Need-same-length
 same-length c = search needs
@@ -76,7 +76,7 @@ same-length-2 : tie.Need-same-length-2
 same-length-2 c = search needs
 
 returns-2 : tie.Need-returns-2
-returns-2 c = root-as (c .before .before .before .before .before .before .before .before .before .before .before .before .before .before .before .before .before .before .before .before .before .before .before .before .before .before .before .args .g) (topOf (c .before .before .before .before .before .before .before .before .before .before .before .before .before .before .before .before .before .before .before .before .before .before .before .before .before .before .before .args .t)) (c .before .before .before .before .before .before .before .before .before .before .before .before .before .before .before .before .before .before .before .before .before .before .before .before .before .before .before .args .k .0) (c .before .before .before .before .before .before .before .before .before .before .before .before .before .before .before .before .before .before .before .before .before .before .before .before .before .before .before .args .m .0) _ _ (c .before .before .before .before .before .before .before .before .before .before .before .before .before .before .before .before .before .before .before .before .sum-node .last .1 .1 .1 .0) (c .before .before .before .before .before .before .before .before .before .before .before .before .before .before .before .before .sum-node2 .last .1 .1 .1 .0) _ _ _ _ _ (c .before .before .before .before .before .before .before .before .before .before .before .before .before .before .before .before .before .before .before .before .before .before .before .if1 .left) (c .before .before .before .before .before .before .before .before .before .before .before .before .before .before .before .before .before .before .before .before .sum-node .ensures) (c .before .before .before .before .before .before .before .before .before .before .before .before .before .before .before .before .sum-node2 .ensures) (front-back (c .before .before .before .before .before .before .before .before .before .before .before .before .before .before .before .before .before .before .before .before .before .before .before .before .before .before .before .args .g .stride) (c .before .before .before .before .before .before .before .before .before .before .before .before .before .before .before .before .before .before .before .before .sum-node .last .1 .1 .1 .0) _ (0 ∷ 0 ∷ 0 ∷ 0 ∷ []) (c .before .before .before .before .before .before .before .before .before .before .before .before .before .before .before .before .before .before .before .before .sum-node .kept .1 .1 .1 .0) (c .before .before .before .before .before .before .before .before .before .before .before .before .before .before .before .before .before .before .before .before .before .before .before .before .before .before .before .pre .0 .shaped .narrow)) (front-back (c .before .before .before .before .before .before .before .before .before .before .before .before .before .before .before .before .before .before .before .before .before .before .before .before .before .before .before .args .g .stride) (c .before .before .before .before .before .before .before .before .before .before .before .before .before .before .before .before .sum-node2 .last .1 .1 .1 .0) _ (0 ∷ 0 ∷ 0 ∷ 0 ∷ []) (c .before .before .before .before .before .before .before .before .before .before .before .before .before .before .before .before .sum-node2 .kept .1 .1 .1 .0) (c .before .before .before .before .before .before .before .before .before .before .before .before .before .before .before .before .before .before .before .before .before .before .before .before .before .before .before .pre .0 .shaped .narrow)) (c .before .before .before .before .before .before .before .before .before .crown .ensures) (c .before .before .before .before .adopt-all .ensures)
+returns-2 c = root-as (c .before .before .before .before .before .before .before .before .before .before .before .before .before .before .before .before .before .before .before .before .before .before .before .before .before .before .before .args .g) (topOf (c .before .before .before .before .before .before .before .before .before .before .before .before .before .before .before .before .before .before .before .before .before .before .before .before .before .before .before .args .t)) (c .before .before .before .before .before .before .before .before .before .before .before .before .before .before .before .before .before .before .before .before .before .before .before .before .before .before .before .args .k .0) (c .before .before .before .before .before .before .before .before .before .before .before .before .before .before .before .before .before .before .before .before .before .before .before .before .before .before .before .args .m .0) _ _ (c .before .before .before .before .before .before .before .before .before .before .before .before .before .before .before .before .before .before .before .before .sum-node .last .1 .1 .1 .0) (c .before .before .before .before .before .before .before .before .before .before .before .before .before .before .before .before .sum-node2 .last .1 .1 .1 .0) _ _ _ _ _ (c .before .before .before .before .before .before .before .before .before .before .before .before .before .before .before .before .before .before .before .before .before .before .before .if1 .left) (c .before .before .before .before .before .before .before .before .before .before .before .before .before .before .before .before .before .before .before .before .sum-node .ensures) (c .before .before .before .before .before .before .before .before .before .before .before .before .before .before .before .before .sum-node2 .ensures) (front-back (c .before .before .before .before .before .before .before .before .before .before .before .before .before .before .before .before .before .before .before .before .before .before .before .before .before .before .before .args .g .stride) (c .before .before .before .before .before .before .before .before .before .before .before .before .before .before .before .before .before .before .before .before .sum-node .last .1 .1 .1 .0) _ (0 ∷ 0 ∷ 0 ∷ 0 ∷ []) (c .before .before .before .before .before .before .before .before .before .before .before .before .before .before .before .before .before .before .before .before .sum-node .kept .1 .1 .1 .0) (c .before .before .before .before .before .before .before .before .before .before .before .before .before .before .before .before .before .before .before .before .before .before .before .before .before .before .before .pre .0 .shaped .narrow)) (front-back (c .before .before .before .before .before .before .before .before .before .before .before .before .before .before .before .before .before .before .before .before .before .before .before .before .before .before .before .args .g .stride) (c .before .before .before .before .before .before .before .before .before .before .before .before .before .before .before .before .sum-node2 .last .1 .1 .1 .0) _ (0 ∷ 0 ∷ 0 ∷ 0 ∷ []) (c .before .before .before .before .before .before .before .before .before .before .before .before .before .before .before .before .sum-node2 .kept .1 .1 .1 .0) (c .before .before .before .before .before .before .before .before .before .before .before .before .before .before .before .before .before .before .before .before .before .before .before .before .before .before .before .pre .0 .shaped .narrow)) (c .before .before .before .before .before .before .before .before .before .new-two .ensures) (c .before .before .before .before .adopt-all .ensures)
 
 pub grow-root-spec : {M : Type 1} → statement M
 grow-root-spec =
@@ -92,16 +92,16 @@ grow-root-spec =
     part-y-start
     part-y-end
     sum-node-requires-2
-    sub-crown
-    part-crown-start
-    part-crown-end
-    sub-crown-2
-    part-crown-start-2
-    part-crown-end-2
-    crown-requires
+    sub-new-two
+    part-new-two-start
+    part-new-two-end
+    sub-new-two-2
+    part-new-two-start-2
+    part-new-two-end-2
+    new-two-requires
     adopt-all-requires
-    add-t46
     add-t47
+    add-t48
     same-length
     same-length-2
     returns-2)
