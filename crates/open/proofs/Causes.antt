@@ -105,3 +105,23 @@ opened-stop xs ys g n e =
 
 pub opened-more : (xs ys : List Cause) (g g′ : Shape) → Numbered xs → openedBy xs g ≡ Good g′ → openedBy (xs ++ ys) g ≡ openedBy ys g
 opened-more xs ys g g′ p e = rw (refusal-more xs ys p (good-number xs g g′ e))
+
+-- a longer list that gives no number: its front gives none, nor do the others
+front-step : (b : Bool) (n r t : ℕ) → (t ≡ 0 → r ≡ 0) → cond b n t ≡ 0 → cond b n r ≡ 0
+front-step true n r t f h = h
+front-step false n r t f h = f h
+
+refusal-front : (xs ys : List Cause) → refusal (xs ++ ys) ≡ 0 → refusal xs ≡ 0
+unfolding refusal
+refusal-front [] ys h = refl
+refusal-front (x ∷ xs) ys h = front-step (x .applies) (x .number) (refusal xs) (refusal (xs ++ ys)) (refusal-front xs ys) h
+
+module _ (xs ys : List Cause) (g g′ : Shape) (e : openedBy (xs ++ ys) g ≡ Good g′) where
+  front-none : refusal xs ≡ 0
+  front-none = refusal-front xs ys (good-number (xs ++ ys) g g′ e)
+
+  pub good-front : openedBy xs g ≡ Good g′
+  good-front = rw front-none (ap Good (good-shape (xs ++ ys) g g′ e))
+
+  pub good-rest : Numbered xs → Numbered ys → All (λ c. c .applies ≡ false) ys
+  good-rest p q = none-applies ys q (sym (refusal-more xs ys p front-none) ∙ good-number (xs ++ ys) g g′ e)

@@ -1,4 +1,4 @@
--- The lengths of a slot of three words, and which of the two totals passes u32. Assumes nothing.
+-- The lengths of a slot of three words, whether others are more, and which of the two totals passes u32. Assumes nothing.
 use mathlib.Core.Path.{_≡_, refl, sym, ap, _∙_}
 use mathlib.Core.Bool.{Bool, true, false, _||_}
 use mathlib.Core.List.{List, [], _∷_}
@@ -6,11 +6,12 @@ use Prim.Native.Nat.{ℕ, _+_, _*_, _<_, _≤_}
 use native.Mathlib.Omega.{arith}
 use lib.ListN.{length, getD, drop}
 use lib.Dec.{ltb}
+use borrow.Author.Tests.{lt-ltb, le-ltb}
 use Rattle.model.specs.Lists.{some, part}
 use Rattle.model.specs.Length.{listOf}
 use Rattle.model.specs.Node.{nodeOf, lengths, lengthIn, total, used}
 use Rattle.model.specs.State.{state, nodeAt}
-use Rattle.model.specs.Refuse.{shapeOf, past}
+use Rattle.model.specs.Refuse.{shapeOf, tooMuch, past}
 use Rattle.model.specs.declared.shape.Shape.{Shape}
 use Rattle.model.specs.declared.head.Head.{Head}
 use Rattle.model.specs.declared.length.Lengths.{Lengths}
@@ -44,6 +45,15 @@ module _ (g : Shape) (xs : List ℕ) (k i : ℕ) (a : Area g (length xs)) (three
 last : (b : Bool) → b ≡ (b || false)
 last true = refl
 last false = refl
+
+module _ (given ls : Lengths) where
+  pub more-first : ls .prepare < given .prepare → true ≡ tooMuch (listOf given) (listOf ls) .applies
+  unfolding some
+  more-first h = rw (lt-ltb (ls .prepare) (given .prepare) h)
+
+  pub more-second : given .prepare ≤ ls .prepare → ltb (ls .effect) (given .effect) ≡ tooMuch (listOf given) (listOf ls) .applies
+  unfolding some
+  more-second h = rw (le-ltb (ls .prepare) (given .prepare) h) (last (ltb (ls .effect) (given .effect)))
 
 module _ (h : Head) (xs : List ℕ) (g : Shape) (old new : Lengths) (b : Bool) (eg : g ≡ shapeOf h)
     (eb : b ≡ ltb (4294967295 + old .prepare) (total 0 (used (nodeAt g (h .root .0) xs)) + new .prepare)) where

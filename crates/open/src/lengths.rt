@@ -11,7 +11,7 @@ ghost use lib.ListN.{length, getD};
 ghost use Rattle.model.specs.Length.{listOf};
 ghost use Rattle.model.specs.Node.{lengths, total, used};
 ghost use Rattle.model.specs.State.{state, nodeAt};
-ghost use Rattle.model.specs.Refuse.{shapeOf, past};
+ghost use Rattle.model.specs.Refuse.{shapeOf, tooMuch, past};
 ghost use Rattle.area.specs.Area.{Area};
 
 // The lengths in slot i of leaf k.
@@ -25,6 +25,16 @@ pub fn lengths_at(leaves: &[u32], g: Shape, k: u32, i: u32) -> Lengths
         prepare: prepare,
         effect: effect,
     }
+}
+
+// Whether lengths are more than an entry has, in either view.
+pub fn too_much(given: Lengths, own: Lengths) -> bool
+    ensures { λ r. ⌜ r ≡ tooMuch (listOf given) (listOf own) .applies ⌝ }
+{
+    if own.prepare < given.prepare {
+        return true;
+    }
+    own.effect < given.effect
 }
 
 // The lengths of all slots in use of node k: at most 32 words.

@@ -8,7 +8,7 @@ ghost use mathlib.Core.List.{[], _++_};
 ghost use Prim.Native.Nat.{_+_, _*_, _<_, _≤_};
 ghost use lib.ListN.{length, getD};
 ghost use Rattle.model.specs.State.{state, shape, nodesFor, nodeAt};
-ghost use Rattle.model.specs.Refuse.{stride, badSize, tooShort, astray, shapeOf, opening, current, atCursor};
+ghost use Rattle.model.specs.Refuse.{stride, badSize, tooShort, astray, shapeOf, opening, current, atCursor, full};
 ghost use Rattle.model.specs.Calls.{makeCauses};
 ghost use Rattle.node.specs.Shaped.{Shaped};
 ghost use Rattle.area.specs.Area.{Area};
@@ -143,6 +143,13 @@ pub fn current(head: Head, leaves: &[u32], g: Shape, c: Cursor) -> bool
     }
     let len = len_of(leaves, g, k);
     c.slot < len
+}
+
+// Whether the tree holds its limit.
+pub fn full(head: Head) -> bool
+    ensures { λ r. ⌜ r ≡ full (state head [] [] []) .applies ⌝ }
+{
+    head.limit <= head.entries
 }
 
 // What every call tests that takes a cursor.

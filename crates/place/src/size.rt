@@ -7,6 +7,7 @@ use area::write::set_lengths;
 use model::head::Head;
 use model::shape::Shape;
 use model::walk::Sum;
+use walk::climb::add_up;
 use walk::climb::climb_up;
 use walk::finger::changing;
 ghost use mathlib.Core.Path.{_≡_};
@@ -18,6 +19,7 @@ ghost use Rattle.model.specs.State.{state, nodeAt};
 ghost use Rattle.model.specs.Climb.{climbUp};
 ghost use Rattle.model.specs.Place.{change, replace};
 ghost use Rattle.area.specs.Area.{Area};
+ghost use Rattle.walk.specs.Raise.{raiseUp};
 
 // Other lengths in slot i of leaf k; the head as it is then.
 pub fn replace(head: Head, leaves: &mut [u32], g: Shape, k: u32, i: u32, ls: &[u32]) -> Head
@@ -48,4 +50,14 @@ pub fn climb(
     let parent = parent_of(leaves, g, k);
     let at = at_of(leaves, g, k);
     climb_up(inners, g, effect, delta, levels, parent, at, sum)
+}
+
+// The same without the sum; whether the way came to the root (add_to_ancestors).
+pub fn add_to_ancestors(leaves: &[u32], inners: &mut [u32], g: Shape, delta: &[u32], levels: u32, k: u32) -> bool
+    requires { ⌜ Area g (length (now leaves)) × Area g (length (now inners)) × (length (now delta) + 1 ≡ g .stride) × (k < g .nodes) ⌝ }
+    ensures { λ r. ⌜ (r, now (inners .exit)) ≡ raiseUp g (now (delta .entry)) levels (nodeAt g k (now (leaves .entry)) .parent) (nodeAt g k (now (leaves .entry)) .at) (now (inners .entry)) ⌝ }
+{
+    let parent = parent_of(leaves, g, k);
+    let at = at_of(leaves, g, k);
+    add_up(inners, g, delta, levels, parent, at)
 }
