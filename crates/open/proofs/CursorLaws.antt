@@ -76,12 +76,15 @@ module _ (s : State) (c : Cursor) (o : Opened) (e : o ≡ openedBy (opening s) (
       pub at-good : len ≤ g .fan → Good g ≡ openedBy (opening s ++ atCursor s c) (shapeOf (s .head))
       at-good f = sym (last ∙ opened-next 9 _ _ _ (rw (length-same, fan-same) (le-ltb (g .fan) len f)) ∙ opened-none _ ∙ ap Good (sym same))
 
+pub at-numbered : (s : State) (c : Cursor) → Numbered (opening s ++ atCursor s c)
+unfolding opening All
+at-numbered s c = (omega arith, (omega arith, (omega arith, (omega arith, (omega arith, tt)))))
+
 -- what is known where `open_at` gives no number
 pub stands : (s : State) (c : Cursor) (g : Shape) (o : Opened) → o ≡ openedBy (opening s ++ atCursor s c) (shapeOf (s .head)) → o ≡ Good g → Stands s c g
 unfolding opening All
 stands s c g o e d =
-    let all : Numbered (opening s ++ atCursor s c) = (omega arith, (omega arith, (omega arith, (omega arith, (omega arith, tt))))) in
-    let n = none-applies (opening s ++ atCursor s c) all (good-number (opening s ++ atCursor s c) (shapeOf (s .head)) g (sym e ∙ d)) in
+    let n = none-applies (opening s ++ atCursor s c) (at-numbered s c) (good-number (opening s ++ atCursor s c) (shapeOf (s .head)) g (sym e ∙ d)) in
     let l = current-leaf s c (not-false (current s c) (n .1 .1 .1 .0)) in
     rw (← good-shape (opening s ++ atCursor s c) (shapeOf (s .head)) g (sym e ∙ d))
     (record { ready = ready-here s (n .0) (n .1 .0) (n .1 .1 .0); leaf = l .0; slot = l .1; few = ltb-false _ _ (n .1 .1 .1 .1 .0) })
@@ -94,3 +97,6 @@ slot-in s c g h = (leaf-area s g (h .ready), lt-of-lt-of-le (h .leaf) (h .ready 
 pub lengths-in : (s : State) (c : Cursor) (g : Shape) (v : ℕ) → v < 2 → Stands s c g
     → Area g (length (s .leaves)) × (v + 1 < g .stride) × (c .leaf .0 < g .nodes) × (c .slot < g .fan)
 lengths-in s c g v hv h = let i = slot-in s c g h in (i .0, view-in s g v (h .ready) hv, i .1, i .2)
+
+pub both-in : (s : State) (c : Cursor) (g : Shape) → Stands s c g → Area g (length (s .leaves)) × (g .stride ≡ 3) × (c .leaf .0 < g .nodes) × (c .slot < g .fan)
+both-in s c g h = let i = slot-in s c g h in (i .0, ap (λ (x : Shape). x .stride) (h .ready .same), i .1, i .2)

@@ -53,7 +53,14 @@ pub fn climb(
 }
 
 // The same without the sum; whether the way came to the root (add_to_ancestors).
-pub fn add_to_ancestors(leaves: &[u32], inners: &mut [u32], g: Shape, delta: &[u32], levels: u32, k: u32) -> bool
+pub fn add_to_ancestors(
+    leaves: &[u32],
+    inners: &mut [u32],
+    g: Shape,
+    delta: &[u32],
+    levels: u32,
+    k: u32,
+) -> bool
     requires { ⌜ Area g (length (now leaves)) × Area g (length (now inners)) × (length (now delta) + 1 ≡ g .stride) × (k < g .nodes) ⌝ }
     ensures { λ r. ⌜ (r, now (inners .exit)) ≡ raiseUp g (now (delta .entry)) levels (nodeAt g k (now (leaves .entry)) .parent) (nodeAt g k (now (leaves .entry)) .at) (now (inners .entry)) ⌝ }
 {

@@ -1,0 +1,180 @@
+-- What the calls answer that give an entry other lengths. Assumes nothing.
+use mathlib.Core.Path.{_≡_, refl, sym, ap, ap₂, _∙_}
+use mathlib.Core.Bool.{Bool, true, false, true≢false}
+use mathlib.Core.List.{List, [], _∷_, _++_, zipWith}
+use Prim.Native.Nat.{ℕ, _+_, _-_, _%_, _^_, _<_, _≤_}
+use native.Mathlib.Omega.{arith}
+use lib.ListN.{length, getD}
+use Rattle.model.specs.Length.{listOf}
+use Rattle.model.specs.Node.{wrap, lengths, minus, start}
+use Rattle.model.specs.State.{State, state, nodeAt}
+use Rattle.model.specs.Climb.{climbUp}
+use Rattle.model.specs.Place.{Change, change, replace, summed, climb}
+use Rattle.model.specs.Refuse.{effect, shapeOf, opening, atCursor, past}
+use Rattle.model.specs.Calls.{Reply, reply, settled, slotAt, resizeCauses, setLengths, update}
+use Rattle.model.specs.declared.shape.Shape.{Shape}
+use Rattle.model.specs.declared.head.Head.{Head}
+use Rattle.model.specs.declared.head.Cursor.{Cursor}
+use Rattle.model.specs.declared.length.Lengths.{Lengths}
+use Rattle.model.specs.declared.walk.Sum.{Sum}
+use Rattle.model.specs.declared.walk.Sum.the-variants as sum
+use Rattle.model.specs.declared.answer.Number.{Number}
+use Rattle.model.specs.declared.answer.Number.the-variants as number
+use Rattle.model.specs.declared.answer.Outcome.{Outcome}
+use Rattle.model.specs.declared.answer.Outcome.the-variants as outcome
+use Rattle.area.specs.Area.{Area}
+use Rattle.walk.specs.Raise.{raiseUp, whole, raise-climb}
+use Rattle.open.proofs.Causes.{opened-first, opened-next, opened-none, opened-stop, opened-more, good-shape, good-front, call-refused, call-good}
+use Rattle.open.proofs.CursorLaws.{at-numbered, stands, slot-in}
+use Rattle.open.proofs.ReadyLaws.{inner-area, view-in}
+use Rattle.open.specs.Open.{openedBy}
+use Rattle.open.specs.Ready.{Stands}
+use Rattle.open.specs.declared.open.Opened.{Opened}
+use Rattle.open.specs.declared.open.Opened.the-variants.{Good, Refused}
+use Rattle.calls_size.specs.Size.{replaced}
+
+-- the two differences are those of the lists
+pub differences : (new old : Lengths) (p e : ℕ) → p ≡ wrap (new .prepare + (2 ^ 32 - old .prepare)) → e ≡ wrap (new .effect + (2 ^ 32 - old .effect))
+    → p ∷ e ∷ [] ≡ minus (listOf new) (listOf old)
+unfolding minus zipWith
+differences new old p e ep ee = ap₂ (λ (a b : ℕ). a ∷ b ∷ []) ep ee
+
+-- what `open_resize` answers, from what `open_at` answered
+module _ (s : State) (c : Cursor) (l : Lengths) (o : Opened) (e : o ≡ openedBy (opening s ++ atCursor s c) (shapeOf (s .head))) where
+  pub resize-refused : (n : ℕ) → o ≡ Refused n → Refused n ≡ openedBy (resizeCauses s c l) (shapeOf (s .head))
+  resize-refused n d = sym (opened-stop (opening s ++ atCursor s c) _ _ n (sym e ∙ d))
+
+  module _ (g : Shape) (d : o ≡ Good g) (old : Lengths) (eo : lengths (getD (nodeAt g (c .leaf .0) (s .leaves) .slots) (c .slot) []) ≡ listOf old)
+      (t : Bool) (et : t ≡ past s (listOf old) (listOf l) .applies) where
+    same : shapeOf (s .head) ≡ g
+    same = good-shape (opening s ++ atCursor s c) _ g (sym e ∙ d)
+
+    here : t ≡ past s (lengths (slotAt s c)) (listOf l) .applies
+    here =
+        et
+        ∙ ap (λ (ls : List ℕ). past s ls (listOf l) .applies)
+        (sym eo ∙ ap (λ (x : Shape). lengths (getD (nodeAt x (c .leaf .0) (s .leaves) .slots) (c .slot) [])) (sym same))
+
+    last : openedBy (resizeCauses s c l) (shapeOf (s .head)) ≡ openedBy (past s (lengths (slotAt s c)) (listOf l) ∷ []) (shapeOf (s .head))
+    last = opened-more (opening s ++ atCursor s c) _ _ g (at-numbered s c) (sym e ∙ d)
+
+    pub resize-past : t ≡ true → Refused 7 ≡ openedBy (resizeCauses s c l) (shapeOf (s .head))
+    resize-past h = sym (last ∙ opened-first 6 _ [] _ (sym here ∙ h))
+
+    pub resize-good : t ≡ false → Good g ≡ openedBy (resizeCauses s c l) (shapeOf (s .head))
+    resize-good h = sym (last ∙ opened-next 7 _ [] _ (sym here ∙ h) ∙ opened-none _ ∙ ap Good same)
+
+-- what is known where `open_resize` gives no number
+pub resize-stands : (s : State) (c : Cursor) (l : Lengths) (g : Shape) (o : Opened) → o ≡ openedBy (resizeCauses s c l) (shapeOf (s .head)) → o ≡ Good g → Stands s c g
+resize-stands s c l g o e d = stands s c g _ refl (good-front (opening s ++ atCursor s c) _ (shapeOf (s .head)) g (sym e ∙ d))
+
+-- the way up from a leaf of n words is in the areas
+module _ (s : State) (c : Cursor) (g : Shape) (h : Stands s c g) (n : ℕ) (en : n ≡ length (s .leaves)) where
+  kept : Area g n
+  kept = rw en (slot-in s c g h .0)
+
+  three : g .stride ≡ 3
+  three = ap (λ (x : Shape). x .stride) (h .ready .same)
+
+  pub add-in : Area g n × Area g (length (s .inners)) × (2 + 1 ≡ g .stride) × (c .leaf .0 < g .nodes)
+  add-in = (kept, inner-area s g (h .ready), sym three, slot-in s c g h .1)
+
+  pub climb-in : Area g n × Area g (length (s .inners)) × (1 + 1 < g .stride) × (2 + 1 ≡ g .stride) × (s .head .levels ≤ 15) × (c .leaf .0 < g .nodes) × (c .slot < g .fan)
+  climb-in = (kept, inner-area s g (h .ready), view-in s g 1 (h .ready) (omega arith), sym three, h .ready .levels-most, slot-in s c g h .1, slot-in s c g h .2)
+
+-- a leaf with other lengths, and the difference
+pub replaced-is : (g : Shape) (h h1 : Head) (c : Cursor) (l old : Lengths) (ls ls1 xs hs delta : List ℕ)
+    → lengths (getD (nodeAt g (c .leaf .0) ls .slots) (c .slot) []) ≡ listOf old
+    → change 0 (state h1 ls1 xs hs) (c .leaf .0) (c .slot) ≡ replace g (state h ls xs hs) (c .leaf .0) (c .slot) (listOf l)
+    → delta ≡ minus (listOf l) (listOf old)
+    → (change 0 (state h1 ls1 xs hs) (c .leaf .0) (c .slot), delta) ≡ replaced g (state h ls xs hs) c l
+replaced-is g h h1 c l old ls ls1 xs hs delta eo er ed = ap₂ (λ (r : Change) (d : List ℕ). (r, d)) er (ed ∙ ap (minus (listOf l)) (sym eo))
+
+-- replacing keeps the levels
+levels-kept : (g : Shape) (s : State) (k i : ℕ) (new : List ℕ) → replace g s k i new .state .head .levels ≡ s .head .levels
+unfolding replace
+levels-kept g s k i new = refl
+
+climbed : (g : Shape) (e : ℕ) (delta : List ℕ) (h : Head) (ls xs hs : List ℕ) (k i n : ℕ) → h .levels ≡ n
+    → climb g e delta (change 0 (state h ls xs hs) k i)
+    ≡ summed g (change 0 (state h ls xs hs) k i) (climbUp g e delta n (nodeAt g k ls .parent) (nodeAt g k ls .at) (start e i (nodeAt g k ls)) xs)
+unfolding climb
+climbed g e delta h ls xs hs k i n el = rw el
+
+-- the way up from a leaf of ls, and the same without its sum
+abbrev wayFrom : Shape → State → Cursor → List ℕ → List ℕ → Sum × List ℕ
+wayFrom g s c ls delta =
+    let m = nodeAt g (c .leaf .0) ls in
+    climbUp g effect delta (s .head .levels) (m .parent) (m .at) (start effect (c .slot) m) (s .inners)
+
+abbrev unsummed : Sum × List ℕ → Bool × List ℕ
+unsummed t = (whole (t .0), t .1)
+
+whole-way : (b : Bool) (xs : List ℕ) (t : Sum × List ℕ) → (b, xs) ≡ unsummed t → b ≡ true → (n : ℕ) × ((sum.Is n, xs) ≡ t)
+whole-way b xs (sum.Is n, ys) e h = (n, ap (λ (p : Bool × List ℕ). (sum.Is n, p .1)) e)
+whole-way b xs (sum.Broken, ys) e h = absurd (true≢false (sym h ∙ ap (λ (p : Bool × List ℕ). p .0) e))
+
+broken-way : (b : Bool) (xs : List ℕ) (t : Sum × List ℕ) → (b, xs) ≡ unsummed t → b ≡ false → (sum.Broken, xs) ≡ t
+broken-way b xs (sum.Is n, ys) e h = absurd (true≢false (sym (ap (λ (p : Bool × List ℕ). p .0) e) ∙ h))
+broken-way b xs (sum.Broken, ys) e h = ap (λ (p : Bool × List ℕ). (sum.Broken, p .1)) e
+
+-- the replies, by what the way up gave: refuse makes the answer of a number, a that of a position
+module _ (s : State) (c : Cursor) (l : Lengths) {A : Type 0} (refuse : ℕ → A) (a : ℕ → A) where
+  abbrev resizedBy : Shape → Reply A
+  resizedBy g = let p = replaced g s c l in let r = climb g effect (p .1) (p .0) in settled s (r .0) refuse (a (r .1))
+
+  module _ (g : Shape) (h1 : Head) (ls1 xs1 delta : List ℕ) (er : (change 0 (state h1 ls1 (s .inners) (s .homes)) (c .leaf .0) (c .slot), delta) ≡ replaced g s c l) where
+    abbrev replyBy : Sum × List ℕ → Reply A
+    replyBy t = let r = summed g (change 0 (state h1 ls1 (s .inners) (s .homes)) (c .leaf .0) (c .slot)) t in settled s (r .0) refuse (a (r .1))
+
+    way-up : replyBy (wayFrom g s c ls1 delta) ≡ resizedBy g
+    way-up =
+        let el : h1 .levels ≡ s .head .levels = ap (λ (x : Change × List ℕ). x .0 .state .head .levels) er ∙ levels-kept g s (c .leaf .0) (c .slot) (listOf l) in
+        ap (λ (r : Change × ℕ). settled s (r .0) refuse (a (r .1)))
+        (sym (climbed g effect delta h1 ls1 (s .inners) (s .homes) (c .leaf .0) (c .slot) (s .head .levels) el)
+        ∙ ap (λ (x : Change × List ℕ). climb g effect (x .1) (x .0)) er)
+
+    whole-reply : (n : ℕ) → (sum.Is n, xs1) ≡ wayFrom g s c ls1 delta → reply (state h1 ls1 xs1 (s .homes)) (a (wrap n)) ≡ resizedBy g
+    whole-reply n e = ap replyBy e ∙ way-up
+
+    broken-reply : (sum.Broken, xs1) ≡ wayFrom g s c ls1 delta → reply (state (s .head) ls1 xs1 (s .homes)) (refuse 9) ≡ resizedBy g
+    broken-reply e = ap replyBy e ∙ way-up
+
+module _ (s : State) (c : Cursor) (l : Lengths) (o : Opened) (e : o ≡ openedBy (resizeCauses s c l) (shapeOf (s .head))) where
+  pub update-refused : (n : ℕ) → o ≡ Refused n → reply s (number.Refused n) ≡ update s c l
+  unfolding update
+  update-refused n d = call-refused (λ (m : ℕ). reply s (number.Refused m)) (resizedBy s c l number.Refused number.Is) (resizeCauses s c l) (shapeOf (s .head)) o e n d
+
+  pub set-refused : (n : ℕ) → o ≡ Refused n → reply s (outcome.Refused n) ≡ setLengths s c l
+  unfolding setLengths
+  set-refused n d = call-refused (λ (m : ℕ). reply s (outcome.Refused m)) (resizedBy s c l outcome.Refused (λ m. outcome.Done)) (resizeCauses s c l) (shapeOf (s .head)) o e n d
+
+  module _ (g : Shape) (d : o ≡ Good g) (h1 : Head) (ls1 xs1 delta : List ℕ) (er : (change 0 (state h1 ls1 (s .inners) (s .homes)) (c .leaf .0) (c .slot), delta) ≡ replaced g s c l) where
+    update-good : (x : Reply Number) → x ≡ resizedBy s c l number.Refused number.Is g → x ≡ update s c l
+    unfolding update
+    update-good x q = call-good (λ (m : ℕ). reply s (number.Refused m)) (resizedBy s c l number.Refused number.Is) (resizeCauses s c l) (shapeOf (s .head)) o e g d x q
+
+    set-good : (x : Reply Outcome) → x ≡ resizedBy s c l outcome.Refused (λ m. outcome.Done) g → x ≡ setLengths s c l
+    unfolding setLengths
+    set-good x q = call-good (λ (m : ℕ). reply s (outcome.Refused m)) (resizedBy s c l outcome.Refused (λ m. outcome.Done)) (resizeCauses s c l) (shapeOf (s .head)) o e g d x q
+
+    module _ (r : Sum) (ec : (r, xs1) ≡ wayFrom g s c ls1 delta) where
+      pub update-whole : (n : ℕ) → r ≡ sum.Is n → reply (state h1 ls1 xs1 (s .homes)) (number.Is (wrap n)) ≡ update s c l
+      update-whole n q = update-good _ (whole-reply s c l number.Refused number.Is g h1 ls1 xs1 delta er n (ap (λ (t : Sum). (t, xs1)) (sym q) ∙ ec))
+
+      pub update-broken : r ≡ sum.Broken → reply (state (s .head) ls1 xs1 (s .homes)) (number.Refused 9) ≡ update s c l
+      update-broken q = update-good _ (broken-reply s c l number.Refused number.Is g h1 ls1 xs1 delta er (ap (λ (t : Sum). (t, xs1)) (sym q) ∙ ec))
+
+    module _ (b : Bool) (eb : (b, xs1) ≡ raiseUp g delta (s .head .levels) (nodeAt g (c .leaf .0) ls1 .parent) (nodeAt g (c .leaf .0) ls1 .at) (s .inners)) where
+      raised-way : (b, xs1) ≡ unsummed (wayFrom g s c ls1 delta)
+      raised-way =
+          eb
+          ∙ raise-climb g effect delta (s .head .levels) (nodeAt g (c .leaf .0) ls1 .parent) (nodeAt g (c .leaf .0) ls1 .at) (start effect (c .slot) (nodeAt g (c .leaf .0) ls1)) (s .inners)
+
+      pub set-whole : b ≡ true → reply (state h1 ls1 xs1 (s .homes)) outcome.Done ≡ setLengths s c l
+      set-whole q =
+          let w = whole-way b xs1 _ raised-way q in
+          set-good _ (whole-reply s c l outcome.Refused (λ m. outcome.Done) g h1 ls1 xs1 delta er (w .0) (w .1))
+
+      pub set-broken : b ≡ false → reply (state (s .head) ls1 xs1 (s .homes)) (outcome.Refused 9) ≡ setLengths s c l
+      set-broken q = set-good _ (broken-reply s c l outcome.Refused (λ m. outcome.Done) g h1 ls1 xs1 delta er (broken-way b xs1 _ raised-way q))

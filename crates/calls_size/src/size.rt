@@ -1,0 +1,162 @@
+// Other lengths for an entry: set_lengths and update.
+use model::answer::Number;
+use model::answer::NumberReply;
+use model::answer::Outcome;
+use model::answer::OutcomeReply;
+use model::head::Cursor;
+use model::head::Head;
+use model::length::Lengths;
+use model::shape::Shape;
+use model::walk::Sum;
+use open::lengths::lengths_at;
+use open::lengths::past;
+use open::open::Opened;
+use open::open::open_at;
+use place::size::add_to_ancestors;
+use place::size::climb;
+ghost use mathlib.Core.Path.{_≡_};
+ghost use mathlib.Core.List.{List, []};
+ghost use Prim.Native.Nat.{ℕ, _<_, _≤_};
+ghost use lib.ListN.{length};
+ghost use Rattle.model.specs.Length.{listOf};
+ghost use Rattle.model.specs.Node.{minus};
+ghost use Rattle.model.specs.State.{state};
+ghost use Rattle.model.specs.Place.{change};
+ghost use Rattle.model.specs.Refuse.{shapeOf};
+ghost use Rattle.model.specs.Calls as calls;
+ghost use Rattle.model.specs.Calls.{reply, resizeCauses};
+ghost use Rattle.area.specs.Area.{Area};
+ghost use Rattle.open.specs.Open.{openedBy};
+ghost use Rattle.calls_size.specs.Size.{replaced};
+
+// The head with other lengths in a leaf, and the difference that goes up.
+pub struct Replaced {
+    pub head: Head,
+    pub delta: Lengths,
+}
+
+// What both calls test.
+fn open_resize(
+    head: Head,
+    leaves: &[u32],
+    inners: &[u32],
+    homes: &[u32],
+    at: Cursor,
+    lengths: Lengths,
+) -> Opened
+    ensures { λ r. ⌜ r ≡ openedBy (resizeCauses (state head (now (leaves .entry)) (now (inners .entry)) (now (homes .entry))) at lengths) (shapeOf head) ⌝ }
+{
+    match open_at(head, leaves, inners, homes, at) {
+        Opened::Refused(n) => Opened::Refused(n),
+        Opened::Good(g) => {
+            let old = lengths_at(leaves, g, at.leaf.0, at.slot);
+            if past(head, inners, g, old, lengths) {
+                return Opened::Refused(7);
+            }
+            Opened::Good(g)
+        }
+    }
+}
+
+// The difference of lengths, modulo 2 ^ 32.
+fn minus(new: Lengths, old: Lengths) -> Lengths
+    ensures { λ r. ⌜ listOf r ≡ minus (listOf new) (listOf old) ⌝ }
+{
+    Lengths {
+        prepare: std::num::wrapping_sub_u32(new.prepare, old.prepare),
+        effect: std::num::wrapping_sub_u32(new.effect, old.effect),
+    }
+}
+
+// Other lengths for the entry at a cursor (replace).
+fn replace(head: Head, leaves: &mut [u32], g: Shape, at: Cursor, lengths: Lengths) -> Replaced
+    requires { ⌜ Area g (length (now leaves)) × (g .stride ≡ 3) × (at .leaf .0 < g .nodes) × (at .slot < g .fan) ⌝ }
+    ensures { λ r. ⌜ ((xs hs : List ℕ) → (change 0 (state (r .head) (now (leaves .exit)) xs hs) (at .leaf .0) (at .slot), listOf (r .delta)) ≡ replaced g (state head (now (leaves .entry)) xs hs) at lengths) ⌝ }
+{
+    let k = at.leaf.0;
+    let i = at.slot;
+    let old = lengths_at(leaves, g, k, i);
+    let ls: [u32; 2] = [lengths.prepare, lengths.effect];
+    let after = place::size::replace(head, leaves, g, k, i, &ls);
+    Replaced {
+        head: after,
+        delta: minus(lengths, old),
+    }
+}
+
+// Other lengths for the entry at a cursor, and its effect position.
+pub fn update(
+    head: Head,
+    leaves: &mut [u32],
+    inners: &mut [u32],
+    homes: &[u32],
+    at: Cursor,
+    lengths: Lengths,
+) -> NumberReply
+    ensures { λ r. ⌜ reply (state (r .head) (now (leaves .exit)) (now (inners .exit)) (now (homes .exit))) (r .answer) ≡ calls.update (state head (now (leaves .entry)) (now (inners .entry)) (now (homes .entry))) at lengths ⌝ }
+{
+    match open_resize(head, leaves, inners, homes, at, lengths) {
+        Opened::Refused(n) => NumberReply {
+            head: head,
+            answer: Number::Refused(n),
+        },
+        Opened::Good(g) => {
+            let r = replace(head, leaves, g, at, lengths);
+            let after = r.head;
+            let delta: [u32; 2] = [r.delta.prepare, r.delta.effect];
+            match climb(
+                leaves,
+                inners,
+                g,
+                1,
+                &delta,
+                head.levels,
+                at.leaf.0,
+                at.slot,
+            ) {
+                Sum::Is(n) => NumberReply {
+                    head: after,
+                    answer: Number::Is((n % 4294967296) as u32),
+                },
+                Sum::Broken => NumberReply {
+                    head: head,
+                    answer: Number::Refused(9),
+                },
+            }
+        }
+    }
+}
+
+// The same without the position.
+pub fn set_lengths(
+    head: Head,
+    leaves: &mut [u32],
+    inners: &mut [u32],
+    homes: &[u32],
+    at: Cursor,
+    lengths: Lengths,
+) -> OutcomeReply
+    ensures { λ r. ⌜ reply (state (r .head) (now (leaves .exit)) (now (inners .exit)) (now (homes .exit))) (r .answer) ≡ calls.setLengths (state head (now (leaves .entry)) (now (inners .entry)) (now (homes .entry))) at lengths ⌝ }
+{
+    match open_resize(head, leaves, inners, homes, at, lengths) {
+        Opened::Refused(n) => OutcomeReply {
+            head: head,
+            answer: Outcome::Refused(n),
+        },
+        Opened::Good(g) => {
+            let r = replace(head, leaves, g, at, lengths);
+            let after = r.head;
+            let delta: [u32; 2] = [r.delta.prepare, r.delta.effect];
+            if !add_to_ancestors(leaves, inners, g, &delta, head.levels, at.leaf.0) {
+                return OutcomeReply {
+                    head: head,
+                    answer: Outcome::Refused(9),
+                };
+            }
+            OutcomeReply {
+                head: after,
+                answer: Outcome::Done,
+            }
+        }
+    }
+}
