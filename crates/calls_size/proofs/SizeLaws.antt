@@ -2,7 +2,7 @@
 use mathlib.Core.Path.{_≡_, refl, sym, ap, ap₂, _∙_}
 use mathlib.Core.Bool.{Bool, true, false, true≢false}
 use mathlib.Core.List.{List, [], _∷_, _++_, zipWith}
-use Prim.Native.Nat.{ℕ, _+_, _-_, _%_, _^_, _<_, _≤_}
+use Prim.Native.Nat.{ℕ, _+_, _-_, _^_, _<_, _≤_}
 use native.Mathlib.Omega.{arith}
 use lib.ListN.{length, getD}
 use Rattle.model.specs.Length.{listOf}
@@ -25,7 +25,7 @@ use Rattle.model.specs.declared.answer.Outcome.the-variants as outcome
 use Rattle.area.specs.Area.{Area}
 use Rattle.walk.specs.Raise.{raiseUp, whole, raise-climb}
 use Rattle.open.proofs.Causes.{opened-first, opened-next, opened-none, opened-stop, opened-more, good-shape, good-front, call-refused, call-good}
-use Rattle.open.proofs.CursorLaws.{at-numbered, stands, slot-in}
+use Rattle.open.proofs.CursorLaws.{at-numbered, stands, slot-in, own-lengths}
 use Rattle.open.proofs.ReadyLaws.{inner-area, view-in}
 use Rattle.open.specs.Open.{openedBy}
 use Rattle.open.specs.Ready.{Stands}
@@ -50,10 +50,7 @@ module _ (s : State) (c : Cursor) (l : Lengths) (o : Opened) (e : o ≡ openedBy
     same = good-shape (opening s ++ atCursor s c) _ g (sym e ∙ d)
 
     here : t ≡ past s (lengths (slotAt s c)) (listOf l) .applies
-    here =
-        et
-        ∙ ap (λ (ls : List ℕ). past s ls (listOf l) .applies)
-        (sym eo ∙ ap (λ (x : Shape). lengths (getD (nodeAt x (c .leaf .0) (s .leaves) .slots) (c .slot) [])) (sym same))
+    here = et ∙ ap (λ (ls : List ℕ). past s ls (listOf l) .applies) (own-lengths s c g (listOf old) same eo)
 
     last : openedBy (resizeCauses s c l) (shapeOf (s .head)) ≡ openedBy (past s (lengths (slotAt s c)) (listOf l) ∷ []) (shapeOf (s .head))
     last = opened-more (opening s ++ atCursor s c) _ _ g (at-numbered s c) (sym e ∙ d)

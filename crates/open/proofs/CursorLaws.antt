@@ -5,12 +5,14 @@ use mathlib.Core.List.{List, [], _∷_, _++_}
 use Prim.Native.Nat.{ℕ, _+_, _≤_, _<_}
 use native.Mathlib.Omega.{arith}
 use native.Mathlib.Nat.{lt-of-lt-of-le}
-use lib.ListN.{length}
+use lib.ListN.{length, getD}
 use lib.Dec.{eqb, ltb}
 use borrow.Author.Tests.{lt-ltb, le-ltb, eq-eqb, ltb-true, ltb-false, not-true, not-false}
 use Rattle.model.specs.Lists.{Cause, All}
+use Rattle.model.specs.Node.{lengths}
 use Rattle.model.specs.State.{State, nodeAt}
 use Rattle.model.specs.Refuse.{shapeOf, opening, current, atCursor, stale, overfull}
+use Rattle.model.specs.Calls.{slotAt}
 use Rattle.model.specs.declared.shape.Shape.{Shape}
 use Rattle.model.specs.declared.head.Cursor.{Cursor}
 use Rattle.area.specs.Area.{Area}
@@ -100,3 +102,8 @@ lengths-in s c g v hv h = let i = slot-in s c g h in (i .0, view-in s g v (h .re
 
 pub both-in : (s : State) (c : Cursor) (g : Shape) → Stands s c g → Area g (length (s .leaves)) × (g .stride ≡ 3) × (c .leaf .0 < g .nodes) × (c .slot < g .fan)
 both-in s c g h = let i = slot-in s c g h in (i .0, ap (λ (x : Shape). x .stride) (h .ready .same), i .1, i .2)
+
+-- the lengths that were read are those of the cursor's slot
+pub own-lengths : (s : State) (c : Cursor) (g : Shape) (ls : List ℕ) → shapeOf (s .head) ≡ g → lengths (getD (nodeAt g (c .leaf .0) (s .leaves) .slots) (c .slot) []) ≡ ls
+    → ls ≡ lengths (slotAt s c)
+own-lengths s c g ls e h = sym h ∙ ap (λ (x : Shape). lengths (getD (nodeAt x (c .leaf .0) (s .leaves) .slots) (c .slot) [])) (sym e)

@@ -1,0 +1,82 @@
+-- `calls_split::split::split_entry`: the entry is divided, and the answer is made of where it stands then; a 9 on the way gives the head as it was.
+use borrow.Author.Needs.{needs}
+use Rattle.calls_split.proofs.SplitLaws.{divide-in, answer-in, entry-refused, entry-broken, entry-whole}
+use Rattle.calls_split.proofs.split.split_entry.Statement.{statement}
+use Rattle.calls_split.proofs.split.split_entry.Tie as tie
+
+open-split-requires : tie.Need-open-split-requires
+open-split-requires c κs = search needs
+
+enum-known-n : tie.Need-enum-known-n
+enum-known-n c = search needs
+
+enum-known-g : tie.Need-enum-known-g
+enum-known-g c = search needs
+
+slice-aggregate-divide : tie.Need-slice-aggregate-divide
+slice-aggregate-divide c = search needs
+
+divide-requires : tie.Need-divide-requires
+divide-requires c κs = divide-in _ (c .before .before .before .before .before .before .before .before .before .before .before .before .before .before .args .at) (c .before .before .before .before .before .before .before .before .before .before .before .before .before .before .args .lengths) _ _ (c .before .before .before .before .before .before .before .open-split .ensures) (c .before .before .before .before .before .g .given .1)
+
+same-length : tie.Need-same-length
+same-length c = search needs
+
+same-length-2 : tie.Need-same-length-2
+same-length-2 c = search needs
+
+same-length-3 : tie.Need-same-length-3
+same-length-3 c = search needs
+
+returns : tie.Need-returns
+returns c = entry-broken _ (c .before .before .before .before .before .before .before .before .before .before .before .before .before .before .before .before .before .before .before .before .before .before .before .args .at) (c .before .before .before .before .before .before .before .before .before .before .before .before .before .before .before .before .before .before .before .before .before .before .before .args .lengths) (c .before .before .before .before .before .before .before .before .before .before .before .before .before .before .before .before .before .before .before .before .before .before .before .args .before) _ (c .before .before .before .before .before .before .before .before .before .before .before .before .before .before .before .before .open-split .ensures) _ (c .before .before .before .before .before .before .before .before .before .before .before .before .before .before .g .given .1) _ (c .before .before .before .before .before .before .before .before .divide .ensures) (c .if1 .taken)
+
+divided-at-requires : tie.Need-divided-at-requires
+divided-at-requires c κs = answer-in _ (c .before .before .before .before .before .before .before .before .before .before .before .before .before .before .before .before .before .before .before .before .before .before .before .before .before .args .at) (c .before .before .before .before .before .before .before .before .before .before .before .before .before .before .before .before .before .before .before .before .before .before .before .before .before .args .lengths) (c .before .before .before .before .before .before .before .before .before .before .before .before .before .before .before .before .before .before .before .before .before .before .before .before .before .args .before) _ (c .before .before .before .before .before .before .before .before .before .before .before .before .before .before .before .before .before .before .open-split .ensures) _ (c .before .before .before .before .before .before .before .before .before .before .before .before .before .before .before .before .g .given .1) _ (c .before .before .before .before .before .before .before .before .before .before .divide .ensures) (c .before .before .if1 .left)
+
+same-length-4 : tie.Need-same-length-4
+same-length-4 c = search needs
+
+same-length-5 : tie.Need-same-length-5
+same-length-5 c = search needs
+
+same-length-6 : tie.Need-same-length-6
+same-length-6 c = search needs
+
+returns-2 : tie.Need-returns-2
+returns-2 c = entry-refused _ (c .before .before .before .before .before .before .before .before .before .before .args .at) (c .before .before .before .before .before .before .before .before .before .before .args .lengths) (c .before .before .before .before .before .before .before .before .before .before .args .before) _ (c .before .before .before .open-split .ensures) _ (c .before .n .given .1)
+
+same-length-7 : tie.Need-same-length-7
+same-length-7 c = search needs
+
+same-length-8 : tie.Need-same-length-8
+same-length-8 c = search needs
+
+same-length-9 : tie.Need-same-length-9
+same-length-9 c = search needs
+
+returns-3 : tie.Need-returns-3
+returns-3 c = entry-whole _ (c .before .before .before .before .before .before .before .before .before .before .before .before .before .before .before .before .before .before .before .before .before .before .before .before .before .before .args .at) (c .before .before .before .before .before .before .before .before .before .before .before .before .before .before .before .before .before .before .before .before .before .before .before .before .before .before .args .lengths) (c .before .before .before .before .before .before .before .before .before .before .before .before .before .before .before .before .before .before .before .before .before .before .before .before .before .before .args .before) _ (c .before .before .before .before .before .before .before .before .before .before .before .before .before .before .before .before .before .before .before .open-split .ensures) _ (c .before .before .before .before .before .before .before .before .before .before .before .before .before .before .before .before .before .g .given .1) _ (c .before .before .before .before .before .before .before .before .before .before .before .divide .ensures) (c .before .before .before .if1 .left) _ (c .divided-at .ensures)
+
+pub split-entry-spec : {M : Type 1} → statement M
+split-entry-spec =
+    tie.close
+    (tie.spec
+    open-split-requires
+    enum-known-n
+    enum-known-g
+    slice-aggregate-divide
+    divide-requires
+    same-length
+    same-length-2
+    same-length-3
+    returns
+    divided-at-requires
+    same-length-4
+    same-length-5
+    same-length-6
+    returns-2
+    same-length-7
+    same-length-8
+    same-length-9
+    returns-3)
