@@ -43,7 +43,7 @@ pub fn climb(
     k: u32,
     i: u32,
 ) -> Sum
-    requires { ⌜ Area g (length (now leaves)) × Area g (length (now inners)) × (effect + 1 < g .stride) × (length (now delta) + 1 ≡ g .stride) × (levels ≤ 15) × (k < g .nodes) × (i < g .fan) ⌝ }
+    requires { ⌜ Area g (length (now leaves)) × Area g (length (now inners)) × (effect + 1 < g .stride) × (length (now delta) + 1 ≡ g .stride) × (levels ≤ 16) × (k < g .nodes) × (i < g .fan) ⌝ }
     ensures { λ r. ⌜ (r, now (inners .exit)) ≡ climbUp g effect (now (delta .entry)) levels (nodeAt g k (now (leaves .entry)) .parent) (nodeAt g k (now (leaves .entry)) .at) (start effect i (nodeAt g k (now (leaves .entry)))) (now (inners .entry)) ⌝ }
 {
     let sum = start_in(leaves, g, effect, k, i);

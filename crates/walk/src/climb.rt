@@ -51,7 +51,7 @@ pub fn climb_up(
     i: u32,
     sum: u64,
 ) -> Sum
-    requires { ⌜ Area g (length (now inners)) × (view + 1 < g .stride) × (length (now delta) + 1 ≡ g .stride) × (left ≤ 15) × (sum ≤ 137438953440) ⌝ }
+    requires { ⌜ Area g (length (now inners)) × (view + 1 < g .stride) × (length (now delta) + 1 ≡ g .stride) × (left ≤ 16) × (sum ≤ 137438953440) ⌝ }
     ensures { λ r. ⌜ (r, now (inners .exit)) ≡ climbUp g view (now (delta .entry)) left k i sum (now (inners .entry)) ⌝ }
 {
     let mut index = sum;
