@@ -1,0 +1,162 @@
+// One entry more: insert and add.
+use crate::target::aim;
+use crate::target::open_insert;
+use area::word::at_of;
+use area::word::parent_of;
+use model::answer::Inserted;
+use model::answer::InsertedReply;
+use model::answer::Named;
+use model::answer::NamedReply;
+use model::answer::Target;
+use model::head::Head;
+use model::length::Lengths;
+use model::number::EntryId;
+use model::shape::Shape;
+use model::walk::Sum;
+use open::open::Opened;
+use place::change::Change;
+use place::entry::place;
+use place::size::climb;
+use walk::climb::add_up;
+ghost use mathlib.Core.Path.{_≡_};
+ghost use Prim.Native.Nat.{_<_};
+ghost use Rattle.model.specs.State.{state};
+ghost use Rattle.model.specs.Place.{change};
+ghost use Rattle.model.specs.Calls as calls;
+ghost use Rattle.model.specs.Calls.{reply};
+ghost use Rattle.open.specs.Ready.{Ready};
+ghost use Rattle.calls_insert.specs.Put.{put, insertedBy, addedBy};
+
+// The entry in its leaf, with the next id; nothing goes up yet (place).
+fn put(
+    head: Head,
+    leaves: &mut [u32],
+    inners: &mut [u32],
+    homes: &mut [u32],
+    g: Shape,
+    before: Target,
+    lengths: Lengths,
+) -> Change
+    requires { ⌜ Ready (state head (now leaves) (now inners) (now homes)) g × (head .entries < head .limit) ⌝ }
+    ensures { λ r. ⌜ change (r .number) (state (r .head) (now (leaves .exit)) (now (inners .exit)) (now (homes .exit))) (r .leaf .0) (r .slot) ≡ put g (state head (now (leaves .entry)) (now (inners .entry)) (now (homes .entry))) before lengths ⌝ }
+{
+    let r = aim(head, leaves, inners, g, before);
+    if r.number != 0 {
+        return r;
+    }
+    let x: [u32; 3] = [head.entries, lengths.prepare, lengths.effect];
+    place(head, leaves, inners, homes, g, r.leaf.0, r.slot, &x)
+}
+
+// The entry in its leaf and its lengths above it; its effect position is summed up on the way.
+fn insert_open(
+    head: Head,
+    leaves: &mut [u32],
+    inners: &mut [u32],
+    homes: &mut [u32],
+    g: Shape,
+    before: Target,
+    lengths: Lengths,
+) -> InsertedReply
+    requires { ⌜ Ready (state head (now leaves) (now inners) (now homes)) g × (head .entries < head .limit) ⌝ }
+    ensures { λ r. ⌜ reply (state (r .head) (now (leaves .exit)) (now (inners .exit)) (now (homes .exit))) (r .answer) ≡ insertedBy g (state head (now (leaves .entry)) (now (inners .entry)) (now (homes .entry))) before lengths ⌝ }
+{
+    let r = put(head, leaves, inners, homes, g, before, lengths);
+    let number = r.number;
+    if number != 0 {
+        return InsertedReply {
+            head: head,
+            answer: Inserted::Refused(number),
+        };
+    }
+    let after = r.head;
+    let delta: [u32; 2] = [lengths.prepare, lengths.effect];
+    match climb(leaves, inners, g, 1, &delta, after.levels, r.leaf.0, r.slot) {
+        Sum::Is(n) => InsertedReply {
+            head: after,
+            answer: Inserted::At(EntryId(head.entries), (n % 4294967296) as u32),
+        },
+        Sum::Broken => InsertedReply {
+            head: head,
+            answer: Inserted::Refused(9),
+        },
+    }
+}
+
+// The same without the position (add_to_ancestors).
+fn add_open(
+    head: Head,
+    leaves: &mut [u32],
+    inners: &mut [u32],
+    homes: &mut [u32],
+    g: Shape,
+    before: Target,
+    lengths: Lengths,
+) -> NamedReply
+    requires { ⌜ Ready (state head (now leaves) (now inners) (now homes)) g × (head .entries < head .limit) ⌝ }
+    ensures { λ r. ⌜ reply (state (r .head) (now (leaves .exit)) (now (inners .exit)) (now (homes .exit))) (r .answer) ≡ addedBy g (state head (now (leaves .entry)) (now (inners .entry)) (now (homes .entry))) before lengths ⌝ }
+{
+    let r = put(head, leaves, inners, homes, g, before, lengths);
+    let number = r.number;
+    if number != 0 {
+        return NamedReply {
+            head: head,
+            answer: Named::Refused(number),
+        };
+    }
+    let after = r.head;
+    let k = r.leaf.0;
+    let delta: [u32; 2] = [lengths.prepare, lengths.effect];
+    let parent = parent_of(leaves, g, k);
+    let at = at_of(leaves, g, k);
+    if !add_up(inners, g, &delta, after.levels, parent, at) {
+        return NamedReply {
+            head: head,
+            answer: Named::Refused(9),
+        };
+    }
+    NamedReply {
+        head: after,
+        answer: Named::Entry(EntryId(head.entries)),
+    }
+}
+
+// An entry before a cursor's or at the end: its id and its effect position.
+pub fn insert(
+    head: Head,
+    leaves: &mut [u32],
+    inners: &mut [u32],
+    homes: &mut [u32],
+    before: Target,
+    lengths: Lengths,
+) -> InsertedReply
+    ensures { λ r. ⌜ reply (state (r .head) (now (leaves .exit)) (now (inners .exit)) (now (homes .exit))) (r .answer) ≡ calls.insert (state head (now (leaves .entry)) (now (inners .entry)) (now (homes .entry))) before lengths ⌝ }
+{
+    match open_insert(head, leaves, inners, homes, before, lengths) {
+        Opened::Refused(n) => InsertedReply {
+            head: head,
+            answer: Inserted::Refused(n),
+        },
+        Opened::Good(g) => insert_open(head, leaves, inners, homes, g, before, lengths),
+    }
+}
+
+// The same, and its id alone.
+pub fn add(
+    head: Head,
+    leaves: &mut [u32],
+    inners: &mut [u32],
+    homes: &mut [u32],
+    before: Target,
+    lengths: Lengths,
+) -> NamedReply
+    ensures { λ r. ⌜ reply (state (r .head) (now (leaves .exit)) (now (inners .exit)) (now (homes .exit))) (r .answer) ≡ calls.add (state head (now (leaves .entry)) (now (inners .entry)) (now (homes .entry))) before lengths ⌝ }
+{
+    match open_insert(head, leaves, inners, homes, before, lengths) {
+        Opened::Refused(n) => NamedReply {
+            head: head,
+            answer: Named::Refused(n),
+        },
+        Opened::Good(g) => add_open(head, leaves, inners, homes, g, before, lengths),
+    }
+}
