@@ -1,10 +1,14 @@
 -- `calls_insert::insert::add`: the tests, then the change with the shape that they gave.
-use Rattle.model.specs.State.{state}
+use Rattle.model.specs.State.{State, state}
 use Rattle.calls_insert.proofs.TargetLaws.{insert-room}
 use Rattle.calls_insert.proofs.PutLaws.{add-refused, add-done}
 use borrow.Author.Needs.{needs}
 use Rattle.calls_insert.proofs.insert.add.Statement.{statement}
 use Rattle.calls_insert.proofs.insert.add.Tie as tie
+
+-- the tree as it was lent
+abbrev entry : tie.Start → State
+entry a = state (a .args .head) (a .args .leaves .now) (a .args .inners .now) (a .args .homes .now)
 
 open-insert-requires : tie.Need-open-insert-requires
 open-insert-requires c κs = search needs
@@ -16,7 +20,9 @@ enum-known-g : tie.Need-enum-known-g
 enum-known-g c = search needs
 
 add-open-requires : tie.Need-add-open-requires
-add-open-requires c κs = insert-room (state (c .before .before .before .before .before .before .before .before .before .before .before .before .before .args .head) (c .before .before .before .before .before .before .before .before .before .before .before .before .before .args .leaves .now) (c .before .before .before .before .before .before .before .before .before .before .before .before .before .args .inners .now) (c .before .before .before .before .before .before .before .before .before .before .before .before .before .args .homes .now)) (c .before .before .before .before .before .before .before .before .before .before .before .before .before .args .before) (c .before .before .before .before .before .before .before .before .before .before .before .before .before .args .lengths) _ _ (c .before .before .before .before .before .before .open-insert .ensures) (c .before .before .before .before .g .given .1)
+add-open-requires c κs =
+    let a = c .before .before .before .before .before .before .before .before .before .before .before .before .before in
+    insert-room (entry a) (a .args .before) (a .args .lengths) _ _ (c .before .before .before .before .before .before .open-insert .ensures) (c .before .before .before .before .g .given .1)
 
 same-length : tie.Need-same-length
 same-length c = search needs
@@ -28,7 +34,9 @@ same-length-3 : tie.Need-same-length-3
 same-length-3 c = search needs
 
 returns : tie.Need-returns
-returns c = add-refused (state (c .before .before .before .before .before .before .before .before .before .before .args .head) (c .before .before .before .before .before .before .before .before .before .before .args .leaves .now) (c .before .before .before .before .before .before .before .before .before .before .args .inners .now) (c .before .before .before .before .before .before .before .before .before .before .args .homes .now)) (c .before .before .before .before .before .before .before .before .before .before .args .before) (c .before .before .before .before .before .before .before .before .before .before .args .lengths) _ (c .before .before .before .open-insert .ensures) _ (c .before .n .given .1)
+returns c =
+    let a = c .before .before .before .before .before .before .before .before .before .before in
+    add-refused (entry a) (a .args .before) (a .args .lengths) _ (c .before .before .before .open-insert .ensures) _ (c .before .n .given .1)
 
 same-length-4 : tie.Need-same-length-4
 same-length-4 c = search needs
@@ -40,7 +48,9 @@ same-length-6 : tie.Need-same-length-6
 same-length-6 c = search needs
 
 returns-2 : tie.Need-returns-2
-returns-2 c = add-done (state (c .before .before .before .before .before .before .before .before .before .before .before .before .before .before .before .before .before .before .before .before .args .head) (c .before .before .before .before .before .before .before .before .before .before .before .before .before .before .before .before .before .before .before .before .args .leaves .now) (c .before .before .before .before .before .before .before .before .before .before .before .before .before .before .before .before .before .before .before .before .args .inners .now) (c .before .before .before .before .before .before .before .before .before .before .before .before .before .before .before .before .before .before .before .before .args .homes .now)) (c .before .before .before .before .before .before .before .before .before .before .before .before .before .before .before .before .before .before .before .before .args .before) (c .before .before .before .before .before .before .before .before .before .before .before .before .before .before .before .before .before .before .before .before .args .lengths) _ (c .before .before .before .before .before .before .before .before .before .before .before .before .before .open-insert .ensures) _ (c .before .before .before .before .before .before .before .before .before .before .before .g .given .1) _ (c .before .before .before .before .before .before .add-open .ensures)
+returns-2 c =
+    let a = c .before .before .before .before .before .before .before .before .before .before .before .before .before .before .before .before .before .before .before .before in
+    add-done (entry a) (a .args .before) (a .args .lengths) _ (c .before .before .before .before .before .before .before .before .before .before .before .before .before .open-insert .ensures) _ (c .before .before .before .before .before .before .before .before .before .before .before .g .given .1) _ (c .before .before .before .before .before .before .add-open .ensures)
 
 pub add-spec : {M : Type 1} → statement M
 add-spec =

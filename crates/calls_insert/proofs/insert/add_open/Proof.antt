@@ -2,7 +2,7 @@
 use mathlib.Core.Path.{_≡_, ap}
 use native.Mathlib.Omega.{arith}
 use borrow.Author.Tests.{not-true, not-false}
-use Rattle.model.specs.State.{state}
+use Rattle.model.specs.State.{State, state}
 use Rattle.model.specs.declared.shape.Shape.{Shape}
 use Rattle.model.specs.declared.answer.Named.the-variants as named
 use Rattle.calls_insert.specs.Put.{addedAs}
@@ -10,6 +10,10 @@ use Rattle.calls_insert.proofs.PutLaws.{still, put-in, done-lost, added
 use borrow.Author.Needs.{needs}
 use Rattle.calls_insert.proofs.insert.add_open.Statement.{statement}
 use Rattle.calls_insert.proofs.insert.add_open.Tie as tie
+
+-- the tree as it was lent
+abbrev entry : tie.Start → State
+entry a = state (a .args .head) (a .args .leaves .now) (a .args .inners .now) (a .args .homes .now)
 
 put-requires : tie.Need-put-requires
 put-requires c κs = search needs
@@ -24,19 +28,36 @@ same-length-3 : tie.Need-same-length-3
 same-length-3 c = search needs
 
 returns : tie.Need-returns
-returns c = let s = state (c .before .before .before .before .before .before .before .before .before .before .before .before .before .before .args .head) (c .before .before .before .before .before .before .before .before .before .before .before .before .before .before .args .leaves .now) (c .before .before .before .before .before .before .before .before .before .before .before .before .before .before .args .inners .now) (c .before .before .before .before .before .before .before .before .before .before .before .before .before .before .args .homes .now) in done-lost (c .before .before .before .before .before .before .before .before .before .before .before .before .before .before .args .g) s (c .before .before .before .before .before .before .before .before .before .before .before .before .before .before .args .before) (c .before .before .before .before .before .before .before .before .before .before .before .before .before .before .args .lengths) _ (c .before .before .before .before .before .before .before .put .ensures) named.Refused (λ _. addedAs s) (c .if1 .taken)
+returns c =
+    let a = c .before .before .before .before .before .before .before .before .before .before .before .before .before .before in
+    let s = entry a in
+    done-lost (a .args .g) s (a .args .before) (a .args .lengths) _ (c .before .before .before .before .before .before .before .put .ensures) named.Refused (λ _. addedAs s) (c .if1 .taken)
 
 parent-of-requires : tie.Need-parent-of-requires
-parent-of-requires c κs = let s = state (c .before .before .before .before .before .before .before .before .before .before .before .before .before .before .before .before .args .head) (c .before .before .before .before .before .before .before .before .before .before .before .before .before .before .before .before .args .leaves .now) (c .before .before .before .before .before .before .before .before .before .before .before .before .before .before .before .before .args .inners .now) (c .before .before .before .before .before .before .before .before .before .before .before .before .before .before .before .before .args .homes .now) in let h = c .before .before .before .before .before .before .before .before .before .before .before .before .before .before .before .before .pre .0 in (still (c .before .before .before .before .before .before .before .before .before .before .before .before .before .before .before .before .args .g) _ _ (h .shaped) (h .leaf-area) (c .before .before .before .before .before .before .before .before .before .put .kept .1 .0), put-in (c .before .before .before .before .before .before .before .before .before .before .before .before .before .before .before .before .args .g) s (c .before .before .before .before .before .before .before .before .before .before .before .before .before .before .before .before .args .before) (c .before .before .before .before .before .before .before .before .before .before .before .before .before .before .before .before .args .lengths) _ (c .before .before .before .before .before .before .before .before .before .put .ensures) (c .before .before .if1 .left) .0)
+parent-of-requires c κs =
+    let a = c .before .before .before .before .before .before .before .before .before .before .before .before .before .before .before .before in
+    let p = c .before .before .before .before .before .before .before .before .before .put in
+    let s = entry a in
+    let h = a .pre .0 in
+    (still (a .args .g) _ _ (h .shaped) (h .leaf-area) (p .kept .1 .0), put-in (a .args .g) s (a .args .before) (a .args .lengths) _ (p .ensures) (c .before .before .if1 .left) .0)
 
 at-of-requires : tie.Need-at-of-requires
-at-of-requires c κs = let s = state (c .before .before .before .before .before .before .before .before .before .before .before .before .before .before .before .before .before .before .args .head) (c .before .before .before .before .before .before .before .before .before .before .before .before .before .before .before .before .before .before .args .leaves .now) (c .before .before .before .before .before .before .before .before .before .before .before .before .before .before .before .before .before .before .args .inners .now) (c .before .before .before .before .before .before .before .before .before .before .before .before .before .before .before .before .before .before .args .homes .now) in let h = c .before .before .before .before .before .before .before .before .before .before .before .before .before .before .before .before .before .before .pre .0 in (still (c .before .before .before .before .before .before .before .before .before .before .before .before .before .before .before .before .before .before .args .g) _ _ (h .shaped) (h .leaf-area) (c .before .before .before .before .before .before .before .before .before .before .before .put .kept .1 .0), put-in (c .before .before .before .before .before .before .before .before .before .before .before .before .before .before .before .before .before .before .args .g) s (c .before .before .before .before .before .before .before .before .before .before .before .before .before .before .before .before .before .before .args .before) (c .before .before .before .before .before .before .before .before .before .before .before .before .before .before .before .before .before .before .args .lengths) _ (c .before .before .before .before .before .before .before .before .before .before .before .put .ensures) (c .before .before .before .before .if1 .left) .0)
+at-of-requires c κs =
+    let a = c .before .before .before .before .before .before .before .before .before .before .before .before .before .before .before .before .before .before in
+    let p = c .before .before .before .before .before .before .before .before .before .before .before .put in
+    let s = entry a in
+    let h = a .pre .0 in
+    (still (a .args .g) _ _ (h .shaped) (h .leaf-area) (p .kept .1 .0), put-in (a .args .g) s (a .args .before) (a .args .lengths) _ (p .ensures) (c .before .before .before .before .if1 .left) .0)
 
 slice-aggregate-add-up : tie.Need-slice-aggregate-add-up
 slice-aggregate-add-up c = search needs
 
 add-up-requires : tie.Need-add-up-requires
-add-up-requires c κs = let h = c .before .before .before .before .before .before .before .before .before .before .before .before .before .before .before .before .before .before .before .before .before .pre .0 in let e : c .before .before .before .before .before .before .before .before .before .before .before .before .before .before .before .before .before .before .before .before .before .args .g .stride ≡ 3 = ap (λ (x : Shape). x .stride) (h .same) in (still (c .before .before .before .before .before .before .before .before .before .before .before .before .before .before .before .before .before .before .before .before .before .args .g) _ _ (h .shaped) (h .inner-area) (c .before .before .before .before .before .before .before .before .before .before .before .before .before .before .put .kept .1 .1 .0), omega arith)
+add-up-requires c κs =
+    let a = c .before .before .before .before .before .before .before .before .before .before .before .before .before .before .before .before .before .before .before .before .before in
+    let h = a .pre .0 in
+    let e : a .args .g .stride ≡ 3 = ap (λ (x : Shape). x .stride) (h .same) in
+    (still (a .args .g) _ _ (h .shaped) (h .inner-area) (c .before .before .before .before .before .before .before .before .before .before .before .before .before .before .put .kept .1 .1 .0), omega arith)
 
 same-length-4 : tie.Need-same-length-4
 same-length-4 c = search needs
@@ -48,7 +69,10 @@ same-length-6 : tie.Need-same-length-6
 same-length-6 c = search needs
 
 returns-2 : tie.Need-returns-2
-returns-2 c = let s = state (c .before .before .before .before .before .before .before .before .before .before .before .before .before .before .before .before .before .before .before .before .before .before .before .before .before .args .head) (c .before .before .before .before .before .before .before .before .before .before .before .before .before .before .before .before .before .before .before .before .before .before .before .before .before .args .leaves .now) (c .before .before .before .before .before .before .before .before .before .before .before .before .before .before .before .before .before .before .before .before .before .before .before .before .before .args .inners .now) (c .before .before .before .before .before .before .before .before .before .before .before .before .before .before .before .before .before .before .before .before .before .before .before .before .before .args .homes .now) in added-broken (c .before .before .before .before .before .before .before .before .before .before .before .before .before .before .before .before .before .before .before .before .before .before .before .before .before .args .g) s (c .before .before .before .before .before .before .before .before .before .before .before .before .before .before .before .before .before .before .before .before .before .before .before .before .before .args .before) (c .before .before .before .before .before .before .before .before .before .before .before .before .before .before .before .before .before .before .before .before .before .before .before .before .before .args .lengths) _ (c .before .before .before .before .before .before .before .before .before .before .before .before .before .before .before .before .before .before .put .ensures) named.Refused (addedAs s) _ (c .before .before .before .before .before .before .before .before .before .before .before .if1 .left) _ _ (c .before .before .before .before .before .before .before .before .parent-of .ensures) (c .before .before .before .before .before .before .at-of .ensures) _ (c .before .before .before .add-up .ensures) (not-true _ (c .if2 .taken))
+returns-2 c =
+    let a = c .before .before .before .before .before .before .before .before .before .before .before .before .before .before .before .before .before .before .before .before .before .before .before .before .before in
+    let s = entry a in
+    added-broken (a .args .g) s (a .args .before) (a .args .lengths) _ (c .before .before .before .before .before .before .before .before .before .before .before .before .before .before .before .before .before .before .put .ensures) named.Refused (addedAs s) _ (c .before .before .before .before .before .before .before .before .before .before .before .if1 .left) _ _ (c .before .before .before .before .before .before .before .before .parent-of .ensures) (c .before .before .before .before .before .before .at-of .ensures) _ (c .before .before .before .add-up .ensures) (not-true _ (c .if2 .taken))
 
 same-length-7 : tie.Need-same-length-7
 same-length-7 c = search needs
@@ -60,7 +84,10 @@ same-length-9 : tie.Need-same-length-9
 same-length-9 c = search needs
 
 returns-3 : tie.Need-returns-3
-returns-3 c = let s = state (c .before .before .before .before .before .before .before .before .before .before .before .before .before .before .before .before .before .before .before .before .before .before .before .before .before .args .head) (c .before .before .before .before .before .before .before .before .before .before .before .before .before .before .before .before .before .before .before .before .before .before .before .before .before .args .leaves .now) (c .before .before .before .before .before .before .before .before .before .before .before .before .before .before .before .before .before .before .before .before .before .before .before .before .before .args .inners .now) (c .before .before .before .before .before .before .before .before .before .before .before .before .before .before .before .before .before .before .before .before .before .before .before .before .before .args .homes .now) in added-whole (c .before .before .before .before .before .before .before .before .before .before .before .before .before .before .before .before .before .before .before .before .before .before .before .before .before .args .g) s (c .before .before .before .before .before .before .before .before .before .before .before .before .before .before .before .before .before .before .before .before .before .before .before .before .before .args .before) (c .before .before .before .before .before .before .before .before .before .before .before .before .before .before .before .before .before .before .before .before .before .before .before .before .before .args .lengths) _ (c .before .before .before .before .before .before .before .before .before .before .before .before .before .before .before .before .before .before .put .ensures) named.Refused (addedAs s) _ (c .before .before .before .before .before .before .before .before .before .before .before .if1 .left) _ _ (c .before .before .before .before .before .before .before .before .parent-of .ensures) (c .before .before .before .before .before .before .at-of .ensures) _ (c .before .before .before .add-up .ensures) (not-false _ (c .if2 .left))
+returns-3 c =
+    let a = c .before .before .before .before .before .before .before .before .before .before .before .before .before .before .before .before .before .before .before .before .before .before .before .before .before in
+    let s = entry a in
+    added-whole (a .args .g) s (a .args .before) (a .args .lengths) _ (c .before .before .before .before .before .before .before .before .before .before .before .before .before .before .before .before .before .before .put .ensures) named.Refused (addedAs s) _ (c .before .before .before .before .before .before .before .before .before .before .before .if1 .left) _ _ (c .before .before .before .before .before .before .before .before .parent-of .ensures) (c .before .before .before .before .before .before .at-of .ensures) _ (c .before .before .before .add-up .ensures) (not-false _ (c .if2 .left))
 
 pub add-open-spec : {M : Type 1} → statement M
 add-open-spec =

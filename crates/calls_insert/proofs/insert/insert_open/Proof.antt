@@ -1,7 +1,7 @@
 -- `calls_insert::insert::insert_open`: what `put` leaves, then the climb; the head is as it was where either met 9.
 use mathlib.Core.Path.{_≡_, ap}
 use native.Mathlib.Omega.{arith}
-use Rattle.model.specs.State.{state}
+use Rattle.model.specs.State.{State, state}
 use Rattle.model.specs.declared.shape.Shape.{Shape}
 use Rattle.model.specs.declared.answer.Inserted.the-variants as inserted
 use Rattle.calls_insert.specs.Put.{insertedAt}
@@ -9,6 +9,10 @@ use Rattle.calls_insert.proofs.PutLaws.{still, tied, put-levels, put-in
 use borrow.Author.Needs.{needs}
 use Rattle.calls_insert.proofs.insert.insert_open.Statement.{statement}
 use Rattle.calls_insert.proofs.insert.insert_open.Tie as tie
+
+-- the tree as it was lent
+abbrev entry : tie.Start → State
+entry a = state (a .args .head) (a .args .leaves .now) (a .args .inners .now) (a .args .homes .now)
 
 put-requires : tie.Need-put-requires
 put-requires c κs = search needs
@@ -23,13 +27,23 @@ same-length-3 : tie.Need-same-length-3
 same-length-3 c = search needs
 
 returns : tie.Need-returns
-returns c = let s = state (c .before .before .before .before .before .before .before .before .before .before .before .before .before .before .args .head) (c .before .before .before .before .before .before .before .before .before .before .before .before .before .before .args .leaves .now) (c .before .before .before .before .before .before .before .before .before .before .before .before .before .before .args .inners .now) (c .before .before .before .before .before .before .before .before .before .before .before .before .before .before .args .homes .now) in done-lost (c .before .before .before .before .before .before .before .before .before .before .before .before .before .before .args .g) s (c .before .before .before .before .before .before .before .before .before .before .before .before .before .before .args .before) (c .before .before .before .before .before .before .before .before .before .before .before .before .before .before .args .lengths) _ (c .before .before .before .before .before .before .before .put .ensures) inserted.Refused (insertedAt s) (c .if1 .taken)
+returns c =
+    let a = c .before .before .before .before .before .before .before .before .before .before .before .before .before .before in
+    let s = entry a in
+    done-lost (a .args .g) s (a .args .before) (a .args .lengths) _ (c .before .before .before .before .before .before .before .put .ensures) inserted.Refused (insertedAt s) (c .if1 .taken)
 
 slice-aggregate-climb : tie.Need-slice-aggregate-climb
 slice-aggregate-climb c = search needs
 
 climb-requires : tie.Need-climb-requires
-climb-requires c κs = let s = state (c .before .before .before .before .before .before .before .before .before .before .before .before .before .before .before .before .before .before .args .head) (c .before .before .before .before .before .before .before .before .before .before .before .before .before .before .before .before .before .before .args .leaves .now) (c .before .before .before .before .before .before .before .before .before .before .before .before .before .before .before .before .before .before .args .inners .now) (c .before .before .before .before .before .before .before .before .before .before .before .before .before .before .before .before .before .before .args .homes .now) in let h = c .before .before .before .before .before .before .before .before .before .before .before .before .before .before .before .before .before .before .pre .0 in let e : c .before .before .before .before .before .before .before .before .before .before .before .before .before .before .before .before .before .before .args .g .stride ≡ 3 = ap (λ (x : Shape). x .stride) (h .same) in let i = put-in (c .before .before .before .before .before .before .before .before .before .before .before .before .before .before .before .before .before .before .args .g) s (c .before .before .before .before .before .before .before .before .before .before .before .before .before .before .before .before .before .before .args .before) (c .before .before .before .before .before .before .before .before .before .before .before .before .before .before .before .before .before .before .args .lengths) _ (c .before .before .before .before .before .before .before .before .before .before .before .put .ensures) (c .before .before .before .before .if1 .left) in (still (c .before .before .before .before .before .before .before .before .before .before .before .before .before .before .before .before .before .before .args .g) _ _ (h .shaped) (h .leaf-area) (c .before .before .before .before .before .before .before .before .before .before .before .put .kept .1 .0), still (c .before .before .before .before .before .before .before .before .before .before .before .before .before .before .before .before .before .before .args .g) _ _ (h .shaped) (h .inner-area) (c .before .before .before .before .before .before .before .before .before .before .before .put .kept .1 .1 .0), omega arith, omega arith, omega (arith, put-levels (c .before .before .before .before .before .before .before .before .before .before .before .before .before .before .before .before .before .before .args .g) s (c .before .before .before .before .before .before .before .before .before .before .before .before .before .before .before .before .before .before .args .before) (c .before .before .before .before .before .before .before .before .before .before .before .before .before .before .before .before .before .before .args .lengths) _ (c .before .before .before .before .before .before .before .before .before .before .before .put .ensures), h .levels-most), i .0, i .1)
+climb-requires c κs =
+    let a = c .before .before .before .before .before .before .before .before .before .before .before .before .before .before .before .before .before .before in
+    let p = c .before .before .before .before .before .before .before .before .before .before .before .put in
+    let s = entry a in
+    let h = a .pre .0 in
+    let e : a .args .g .stride ≡ 3 = ap (λ (x : Shape). x .stride) (h .same) in
+    let i = put-in (a .args .g) s (a .args .before) (a .args .lengths) _ (p .ensures) (c .before .before .before .before .if1 .left) in
+    (still (a .args .g) _ _ (h .shaped) (h .leaf-area) (p .kept .1 .0), still (a .args .g) _ _ (h .shaped) (h .inner-area) (p .kept .1 .1 .0), omega arith, omega arith, omega (arith, put-levels (a .args .g) s (a .args .before) (a .args .lengths) _ (p .ensures), h .levels-most), i .0, i .1)
 
 enum-known-n : tie.Need-enum-known-n
 enum-known-n c = search needs
@@ -50,7 +64,10 @@ same-length-6 : tie.Need-same-length-6
 same-length-6 c = search needs
 
 returns-2 : tie.Need-returns-2
-returns-2 c = let s = state (c .before .before .before .before .before .before .before .before .before .before .before .before .before .before .before .before .before .before .before .before .before .before .before .before .args .head) (c .before .before .before .before .before .before .before .before .before .before .before .before .before .before .before .before .before .before .before .before .before .before .before .before .args .leaves .now) (c .before .before .before .before .before .before .before .before .before .before .before .before .before .before .before .before .before .before .before .before .before .before .before .before .args .inners .now) (c .before .before .before .before .before .before .before .before .before .before .before .before .before .before .before .before .before .before .before .before .before .before .before .before .args .homes .now) in done-whole (c .before .before .before .before .before .before .before .before .before .before .before .before .before .before .before .before .before .before .before .before .before .before .before .before .args .g) s (c .before .before .before .before .before .before .before .before .before .before .before .before .before .before .before .before .before .before .before .before .before .before .before .before .args .before) (c .before .before .before .before .before .before .before .before .before .before .before .before .before .before .before .before .before .before .before .before .before .before .before .before .args .lengths) _ (c .before .before .before .before .before .before .before .before .before .before .before .before .before .before .before .before .before .put .ensures) inserted.Refused (insertedAt s) _ (c .before .before .before .before .before .before .before .before .before .before .if1 .left) _ (tied _ _ _ _ (c .before .n .given .1) (c .before .before .before .before .before .climb .ensures))
+returns-2 c =
+    let a = c .before .before .before .before .before .before .before .before .before .before .before .before .before .before .before .before .before .before .before .before .before .before .before .before in
+    let s = entry a in
+    done-whole (a .args .g) s (a .args .before) (a .args .lengths) _ (c .before .before .before .before .before .before .before .before .before .before .before .before .before .before .before .before .before .put .ensures) inserted.Refused (insertedAt s) _ (c .before .before .before .before .before .before .before .before .before .before .if1 .left) _ (tied _ _ _ _ (c .before .n .given .1) (c .before .before .before .before .before .climb .ensures))
 
 same-length-7 : tie.Need-same-length-7
 same-length-7 c = search needs
@@ -62,7 +79,10 @@ same-length-9 : tie.Need-same-length-9
 same-length-9 c = search needs
 
 returns-3 : tie.Need-returns-3
-returns-3 c = let s = state (c .before .before .before .before .before .before .before .before .before .before .before .before .before .before .before .before .before .before .before .before .before .before .before .args .head) (c .before .before .before .before .before .before .before .before .before .before .before .before .before .before .before .before .before .before .before .before .before .before .before .args .leaves .now) (c .before .before .before .before .before .before .before .before .before .before .before .before .before .before .before .before .before .before .before .before .before .before .before .args .inners .now) (c .before .before .before .before .before .before .before .before .before .before .before .before .before .before .before .before .before .before .before .before .before .before .before .args .homes .now) in done-broken (c .before .before .before .before .before .before .before .before .before .before .before .before .before .before .before .before .before .before .before .before .before .before .before .args .g) s (c .before .before .before .before .before .before .before .before .before .before .before .before .before .before .before .before .before .before .before .before .before .before .before .args .before) (c .before .before .before .before .before .before .before .before .before .before .before .before .before .before .before .before .before .before .before .before .before .before .before .args .lengths) _ (c .before .before .before .before .before .before .before .before .before .before .before .before .before .before .before .before .put .ensures) inserted.Refused (insertedAt s) _ (c .before .before .before .before .before .before .before .before .before .if1 .left) (tied _ _ _ _ (c .enum-told .given .1) (c .before .before .before .before .climb .ensures))
+returns-3 c =
+    let a = c .before .before .before .before .before .before .before .before .before .before .before .before .before .before .before .before .before .before .before .before .before .before .before in
+    let s = entry a in
+    done-broken (a .args .g) s (a .args .before) (a .args .lengths) _ (c .before .before .before .before .before .before .before .before .before .before .before .before .before .before .before .before .put .ensures) inserted.Refused (insertedAt s) _ (c .before .before .before .before .before .before .before .before .before .if1 .left) (tied _ _ _ _ (c .enum-told .given .1) (c .before .before .before .before .climb .ensures))
 
 pub insert-open-spec : {M : Type 1} → statement M
 insert-open-spec =
