@@ -104,16 +104,9 @@ pub fn update(
             let r = replace(head, leaves, g, at, lengths);
             let after = r.head;
             let delta: [u32; 2] = [r.delta.prepare, r.delta.effect];
-            match climb(
-                leaves,
-                inners,
-                g,
-                1,
-                &delta,
-                head.levels,
-                at.leaf.0,
-                at.slot,
-            ) {
+            let k = at.leaf.0;
+            let i = at.slot;
+            match climb(leaves, inners, g, 1, &delta, head.levels, k, i) {
                 Sum::Is(n) => NumberReply {
                     head: after,
                     answer: Number::Is((n % 4294967296) as u32),

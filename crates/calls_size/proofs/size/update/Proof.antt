@@ -26,8 +26,8 @@ climb-requires c κs = climb-in _ (c .before .before .before .before .before .be
 enum-known-n-2 : tie.Need-enum-known-n-2
 enum-known-n-2 c = search needs
 
-cast-t31 : tie.Need-cast-t31
-cast-t31 c = search needs
+cast-t33 : tie.Need-cast-t33
+cast-t33 c = search needs
 
 enum-told : tie.Need-enum-told
 enum-told c = search needs
@@ -70,7 +70,7 @@ update-spec =
     slice-aggregate-climb
     climb-requires
     enum-known-n-2
-    cast-t31
+    cast-t33
     enum-told
     same-length
     same-length-2
