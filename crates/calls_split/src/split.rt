@@ -86,17 +86,9 @@ pub fn split_entry(
         Opened::Good(g) => {
             let id = head.entries;
             let x: [u32; 3] = [id, lengths.prepare, lengths.effect];
-            let r = divide(
-                head,
-                leaves,
-                inners,
-                homes,
-                g,
-                before,
-                at.leaf.0,
-                at.slot,
-                &x,
-            );
+            let k = at.leaf.0;
+            let i = at.slot;
+            let r = divide(head, leaves, inners, homes, g, before, k, i, &x);
             if r.number != 0 {
                 return DividedReply {
                     head: head,
