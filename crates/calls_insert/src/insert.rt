@@ -1,6 +1,6 @@
 // One entry more: insert and add.
-use crate::target::aim;
-use crate::target::open_insert;
+use crate::aim::aim;
+use crate::aim::open_insert;
 use area::word::at_of;
 use area::word::parent_of;
 use model::answer::Inserted;

@@ -76,8 +76,8 @@ module _ (s : State) (c : Cursor) (g : Shape) (h : Stands s c g) (n : ℕ) (en :
   pub add-in : Area g n × Area g (length (s .inners)) × (2 + 1 ≡ g .stride) × (c .leaf .0 < g .nodes)
   add-in = (kept, inner-area s g (h .ready), sym three, slot-in s c g h .1)
 
-  pub climb-in : Area g n × Area g (length (s .inners)) × (1 + 1 < g .stride) × (2 + 1 ≡ g .stride) × (s .head .levels ≤ 15) × (c .leaf .0 < g .nodes) × (c .slot < g .fan)
-  climb-in = (kept, inner-area s g (h .ready), view-in s g 1 (h .ready) (omega arith), sym three, h .ready .levels-most, slot-in s c g h .1, slot-in s c g h .2)
+  pub climb-in : Area g n × Area g (length (s .inners)) × (1 + 1 < g .stride) × (2 + 1 ≡ g .stride) × (s .head .levels ≤ 16) × (c .leaf .0 < g .nodes) × (c .slot < g .fan)
+  climb-in = (kept, inner-area s g (h .ready), view-in s g 1 (h .ready) (omega arith), sym three, (let m = h .ready .levels-most in omega arith), slot-in s c g h .1, slot-in s c g h .2)
 
 -- a leaf with other lengths, and the difference
 pub replaced-is : (g : Shape) (h h1 : Head) (c : Cursor) (l old : Lengths) (ls ls1 xs hs delta : List ℕ)
