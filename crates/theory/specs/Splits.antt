@@ -3,11 +3,12 @@ use mathlib.Core.Path.{_≡_, refl, sym, ap, ap₂, _∙_, subst}
 use mathlib.Core.Bool.{Bool, true, false, cond, _||_}
 use mathlib.Core.List.{List, [], _∷_, _++_, map, zipWith, head-eq-of-cons-eq, append-assoc}
 use Prim.Native.Nat.{ℕ, zero, suc, _+_, _-_, _<_, _≤_}
+use native.Mathlib.Nat.{add-zero}
 use native.Mathlib.Decide.{decLt}
 use native.Mathlib.Omega.{arith}
 use lib.Dec.{ltb, leb}
-use lib.ListN.{length, getD, drop, length-map, List·getD-eq-default}
-use lib.Seq.{drop-cons}
+use lib.ListN.{length, getD, take, drop, length-map, length-append, List·getD-eq-default}
+use lib.Seq.{drop-cons, getD-append-add, length-take-le}
 use borrow.Author.Tests.{lt-ltb, le-leb, ltb-false, leb-false}
 use Rattle.model.specs.Lists.{sumBy, some, Cause, refusal}
 use Rattle.model.specs.Length.{listOf}
@@ -15,9 +16,9 @@ use Rattle.model.specs.Node.{Node, lengths, lengthIn, used, childSplit}
 use Rattle.model.specs.State.{State}
 use Rattle.model.specs.Locate.{changing}
 use Rattle.model.specs.Place as place
-use Rattle.model.specs.Place.{Change, change, enter}
+use Rattle.model.specs.Place.{change, enter}
 use Rattle.model.specs.Row as row
-use Rattle.model.specs.Row.{Entry, entry, Answer, done, newEntry, unless, after, divided, rowStep}
+use Rattle.model.specs.Row.{Row, Entry, entry, Answer, done, refused, Moved, moved, newEntry, unless, after, divided, rowStep}
 use Rattle.model.specs.Sound.{leafIn, shapeIn, Sound, entriesOf}
 use Rattle.model.specs.Refuse.{opening, stale, overfull}
 use Rattle.model.specs.Refuse as refuse′
@@ -36,7 +37,7 @@ use Rattle.abstract_tree.specs.Tree.{Tree, above}
 use Rattle.abstract_tree.specs.Edit as ops
 use Rattle.abstract_tree.specs.Edit.{leaf-here}
 use Rattle.abstract_tree.specs.Change.{withLeaf}
-use Rattle.abstract_tree.specs.Calls.{spot, Room, Made, Done, divideIn, divide-done}
+use Rattle.abstract_tree.specs.Calls.{slotAt, spot, Room, Made, Done, divideIn, divide-done}
 use Rattle.abstract_tree.specs.Place.{front, behind}
 use Rattle.theory.specs.Tidy.{Tidy}
 use Rattle.theory.specs.Tree.{slotOf, slotsOf, areaOf, treeOf}
@@ -50,9 +51,31 @@ use Rattle.theory.specs.Open.{passed, stopped, opens, fresh-at, Seat}
 use Rattle.theory.specs.Carry.{slot-of, lengths-at}
 use Rattle.theory.specs.Resize.{some-views}
 use Rattle.theory.specs.Room.{grownState, Roomed, roomed}
-use Rattle.theory.specs.Enter.{entered, entered-neat, entered-tree}
+use Rattle.theory.specs.Enter.{entered, entered-read, entered-neat, entered-tree}
 use Rattle.theory.specs.Halved.{halved-tidy, halved-parent, halved-at, halved-slots}
 use Rattle.theory.specs.Agree.{Stands, Agrees, rowOf, row-passed, row-stopped, own, entries-are, count-is, by-id, before-is, from-is, slot-is}
+
+-- the children of a divided entry's two parts
+first-part : (flag : Bool) (e : Slot) (u : ℕ → ℕ) (n : ℕ) (S : List Slot) → getD (ops.divided flag e u n S) 0 noSlot .child ≡ cond flag n (e .child)
+first-part true e u n S = refl
+first-part false e u n S = refl
+
+second-part : (flag : Bool) (e : Slot) (u : ℕ → ℕ) (n : ℕ) (S : List Slot) → getD (ops.divided flag e u n S) 1 noSlot .child ≡ cond flag (e .child) n
+second-part true e u n S = refl
+second-part false e u n S = refl
+
+two-parts : (flag : Bool) (e : Slot) (u : ℕ → ℕ) (n : ℕ) (S : List Slot) → 2 ≤ length (ops.divided flag e u n S)
+two-parts true e u n S = omega arith
+two-parts false e u n S = omega arith
+
+-- a sound state in which a divided entry's parts stand in slot j of leaf k and in the slot after it; n is the new id
+pub record Parted (flag : Bool) (i n : ℕ) (s : State) (k j : ℕ) : Type 0 where
+  pub sound : Sound s
+  pub count : s .head .entries ≡ n + 1
+  pub leaf-in : k < s .head .leaves
+  pub slot-in : j + 1 < leafIn 3 s k .len
+  pub first : slotAt (treeOf 3 s) k j .child ≡ cond flag n i
+  pub second : slotAt (treeOf 3 s) k (j + 1) .child ≡ cond flag i n
 
 module _ (t : State) (w : Sound t) (i : ℕ) (c : Seat t w i) (l : Lengths) (flag : Bool) where
   abbrev new : ℕ → ℕ
@@ -188,6 +211,31 @@ module _ (t : State) (w : Sound t) (i : ℕ) (c : Seat t w i) (l : Lengths) (fla
       lt-ltb (leafIn 3 t₁ (q .leaf) .len) (t .head .fan) (let z = md₁ .space in omega (arith, ll)),
     )
 
+    -- the leaf of the entry in it
+    slots₃ : slotsOf (leafIn 3 t₃ (q .leaf)) ≡ take (q .slot) (slotsOf m) ++ ops.divided flag (getD (slotsOf m) (q .slot) noSlot) new (t .head .entries) (drop (suc (q .slot)) (slotsOf m))
+    unfolding t₃ m₂ m x
+    slots₃ = ap slotsOf (entered-read 3 (omega arith) t₁ (q .neat) (q .leaf) (q .slot) lk m₂ td₂ pa at few) ∙ halved-slots 3 (t .head .fan) (omega arith) m td (q .slot) x lj lr refl le small flag (t .head .entries) new x-is
+
+    parted₃ : Parted flag i (t .head .entries) t₃ (q .leaf) (q .slot)
+    unfolding t₃ m
+    parted₃ =
+        let F : List Slot = take (q .slot) (slotsOf m) in
+        let y : Slot = getD (slotsOf m) (q .slot) noSlot in
+        let S : List Slot = drop (suc (q .slot)) (slotsOf m) in
+        let D : List Slot = ops.divided flag y new (t .head .entries) S in
+        let own : y .child ≡ i = ap (λ (z : Slot). z .child) (getD-slot (used m) (q .slot) lj ∙ here) ∙ c .cur .own in
+        let lf : length F ≡ q .slot = length-take-le (q .slot) (slotsOf m) (let z = ins in omega arith) in
+        let at : (n : ℕ) → slotAt (treeOf 3 t₃) (q .leaf) (q .slot + n) ≡ getD D n noSlot = λ n. ap₂ (λ (l : List Slot) (k : ℕ). getD l (k + n) noSlot) slots₃ (sym lf) ∙ getD-append-add F D n noSlot in
+        let sz : length (slotsOf (leafIn 3 t₃ (q .leaf))) ≡ leafIn 3 t₃ (q .leaf) .len = size-is 3 (t .head .fan) (leafIn 3 t₃ (q .leaf)) (neat-of 3 t₃ 1 sound₃ .leaf-tidy (q .leaf) lk) in
+        record {
+          sound = sound₃;
+          count = refl;
+          leaf-in = lk;
+          slot-in = (let z = ap length slots₃ ∙ length-append F D in omega (arith, two-parts flag y new (t .head .entries) S));
+          first = ap (λ (n : ℕ). slotAt (treeOf 3 t₃) (q .leaf) n .child) (sym (add-zero (q .slot))) ∙ ap (λ (z : Slot). z .child) (at 0) ∙ first-part flag y new (t .head .entries) S ∙ ap (cond flag (t .head .entries)) own;
+          second = ap (λ (z : Slot). z .child) (at 1) ∙ second-part flag y new (t .head .entries) S ∙ ap (λ (k : ℕ). cond flag k (t .head .entries)) own;
+        }
+
     stands₃ : Stands t₃ (row.row (t .head .limit) (divided flag i (newEntry (rowOf t) l) (entriesOf t)))
     unfolding t₃
     stands₃ = record { sound = sound₃; entries = entries₃; limit = refl }
@@ -238,40 +286,40 @@ module _ (t : State) (w : Sound t) (i : ℕ) (c : Seat t w i) (l : Lengths) (fla
       ∙ fresh-at t w (c .leaf) (c .slot) (refuse′.tooMuch (listOf l) (lengths (getD (leafIn 3 t (c .leaf) .slots) (c .slot) [])) ∷ refuse′.full t ∷ []) (c .leaf-in) (c .slot-in)
       ∙ ap₂ (λ (a b : Bool). cond a 6 (cond b 8 0)) short-is (ap (leb (t .head .limit)) (sym (count-is t w)))
 
-  pub split-at : Agrees (told (calls.splitEntry t (cursorAt (t .head .entries) (c .leaf) (c .slot)) l flag) dividedAnswer)
-      (unless (rowOf t) rowCauses (divided flag i (newEntry (rowOf t) l) (entriesOf t)) (done (length (entriesOf t) ∷ [])))
+  abbrev entries′ : List Entry
+  entries′ = divided flag i (newEntry (rowOf t) l) (entriesOf t)
+
+  abbrev rowAnswer : Answer
+  rowAnswer = done (length (entriesOf t) ∷ [])
+
+  -- where both stop at the same number, or the entry is parted and the state stands for the row
+  pub split-by : (P : calls.Reply Divided → Moved Row → Type 0) → ((n : ℕ) → P (calls.reply t (division.Refused n)) (moved (rowOf t) (refused n)))
+      → ((s : State) (k j : ℕ) → Parted flag i (t .head .entries) s k j → Stands s (row.row (t .head .limit) entries′)
+      → P (calls.reply s (division.At (entryId (t .head .entries)) (cursorAt (t .head .entries + 1) k j) (cursorAt (t .head .entries + 1) k (j + 1)))) (moved (row.row (t .head .limit) entries′) rowAnswer))
+      → P (calls.splitEntry t (cursorAt (t .head .entries) (c .leaf) (c .slot)) l flag) (unless (rowOf t) rowCauses entries′ rowAnswer)
   unfolding refusal calls.splitEntry
-  split-at = go short refl (leb (t .head .limit) (length (entriesOf t))) refl
+  split-by P refusing parting = go short refl (leb (t .head .limit) (length (entriesOf t))) refl
     where
-      es′ : List Entry
-      es′ = divided flag i (newEntry (rowOf t) l) (entriesOf t)
+      answered : calls.Reply Divided
+      answered = let r = place.divide (shapeIn 3 t) flag t (c .leaf) (c .slot) (listOf l) in
+          calls.settled t r division.Refused (division.At (entryId (t .head .entries)) (cursorAt (t .head .entries + 1) (r .leaf) (r .slot)) (cursorAt (t .head .entries + 1) (r .leaf) (r .slot + 1)))
 
-      a : Answer
-      a = done (length (entriesOf t) ∷ [])
+      refuse : ℕ → calls.Reply Divided
+      refuse n = calls.reply t (division.Refused n)
 
-      rp : Change
-      rp = place.divide (shapeIn 3 t) flag t (c .leaf) (c .slot) (listOf l)
+      stop : (n : ℕ) → refusal rowCauses ≡ suc n → P (calls.unless causes refuse answered) (unless (rowOf t) rowCauses entries′ rowAnswer)
+      stop n z = rw (stopped causes refuse answered n (both-causes ∙ z), row-stopped (rowOf t) rowCauses entries′ rowAnswer n z) (refusing (suc n))
 
-      yes-answer : Change → Divided
-      yes-answer r = division.At (entryId (t .head .entries)) (cursorAt (t .head .entries + 1) (r .leaf) (r .slot)) (cursorAt (t .head .entries + 1) (r .leaf) (r .slot + 1))
-
-      go : (p : Bool) → short ≡ p → (q : Bool) → leb (t .head .limit) (length (entriesOf t)) ≡ q
-          → Agrees (told (calls.unless causes (λ n. calls.reply t (division.Refused n)) (calls.settled t rp division.Refused (yes-answer rp))) dividedAnswer) (unless (rowOf t) rowCauses es′ a)
-      go true e′ q f =
-          let z : refusal rowCauses ≡ 6 = ap₂ (λ (a b : Bool). cond a 6 (cond b 8 0)) e′ f in
-          rw (stopped causes (λ n. calls.reply t (division.Refused n)) (calls.settled t rp division.Refused (yes-answer rp)) 5 (both-causes ∙ z), row-stopped (rowOf t) rowCauses es′ a 5 z)
-          (record { same = refl; kept = own t w })
-      go false e′ true f =
-          let z : refusal rowCauses ≡ 8 = ap₂ (λ (a b : Bool). cond a 6 (cond b 8 0)) e′ f in
-          rw (stopped causes (λ n. calls.reply t (division.Refused n)) (calls.settled t rp division.Refused (yes-answer rp)) 7 (both-causes ∙ z), row-stopped (rowOf t) rowCauses es′ a 7 z)
-          (record { same = refl; kept = own t w })
+      go : (p : Bool) → short ≡ p → (q : Bool) → leb (t .head .limit) (length (entriesOf t)) ≡ q → P (calls.unless causes refuse answered) (unless (rowOf t) rowCauses entries′ rowAnswer)
+      go true e′ q f = stop 5 (ap₂ (λ (a b : Bool). cond a 6 (cond b 8 0)) e′ f)
+      go false e′ true f = stop 7 (ap₂ (λ (a b : Bool). cond a 6 (cond b 8 0)) e′ f)
       go false e′ false f =
           let z : refusal rowCauses ≡ 0 = ap₂ (λ (a b : Bool). cond a 6 (cond b 8 0)) e′ f in
           let few : t .head .entries < t .head .limit = (let y = leb-false (t .head .limit) (length (entriesOf t)) f in omega (arith, count-is t w)) in
-          rw (passed causes (λ n. calls.reply t (division.Refused n)) (calls.settled t rp division.Refused (yes-answer rp)) (both-causes ∙ z), row-passed (rowOf t) rowCauses es′ a z, divide-is (enough-of e′) few)
-          (record { same = ap (λ (n : ℕ). done (n ∷ [])) (sym (count-is t w)); kept = stands₃ (enough-of e′) few })
+          rw (passed causes refuse answered (both-causes ∙ z), row-passed (rowOf t) rowCauses entries′ rowAnswer z, divide-is (enough-of e′) few)
+          (parting (t₃ (enough-of e′) few) (q (enough-of e′) few .leaf) (q (enough-of e′) few .slot) (parted₃ (enough-of e′) few) (stands₃ (enough-of e′) few))
 
 pub step-split : (t : State) (w : Sound t) (flag : Bool) (i : ℕ) (l : Lengths) → Agrees (treeStep t (row.split flag i l)) (rowStep (rowOf t) (row.split flag i l))
 unfolding treeStep rowStep
 step-split t w flag i l = by-id t w i (λ c. told (calls.splitEntry t c l flag) dividedAnswer) (row.tooMuch (listOf l) (row.lengthsOf i (entriesOf t)) ∷ row.full (rowOf t) ∷ []) (divided flag i (newEntry (rowOf t) l) (entriesOf t)) (done (length (entriesOf t) ∷ []))
-    (λ c. split-at t w i c l flag)
+    (λ c. split-by t w i c l flag (λ m n. Agrees (told m dividedAnswer) n) (λ n. record { same = refl; kept = own t w }) (λ s k j p h. record { same = ap (λ (n : ℕ). done (n ∷ [])) (sym (count-is t w)); kept = h }))
