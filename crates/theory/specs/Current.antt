@@ -2,7 +2,7 @@
 use mathlib.Core.Path.{_≡_, sym, ap, ap₂, _∙_}
 use mathlib.Core.Bool.{true, false, _&&_}
 use mathlib.Core.List.{List, [], _∷_, _++_}
-use Prim.Native.Nat.{ℕ, _+_, _<_}
+use Prim.Native.Nat.{ℕ, _<_}
 use native.Mathlib.Omega.{arith}
 use lib.Dec.{ltb, eqb}
 use lib.ListN.{length, getD, length-map}
@@ -33,17 +33,23 @@ module _ (t : State) (w : Sound t) (c : Cursor) where
   unfolding refusal
   not-current cs e = opens t w (stale t c ∷ cs) ∙ rw e
 
+  pub current-is : current t c ≡ true → (c .stamp ≡ t .head .entries) × (c .leaf .0 < t .head .leaves) × (c .slot < leafIn 3 t (c .leaf .0) .len)
+  current-is e =
+      let k : ℕ = c .leaf .0 in
+      let n : Node = leafIn 3 t k in
+      let r = both (eqb (c .stamp) (t .head .entries) && ltb k (t .head .leaves)) (ltb (c .slot) (n .len)) e in
+      let s = both (eqb (c .stamp) (t .head .entries)) (ltb k (t .head .leaves)) (r .0) in
+      (eqb-true (c .stamp) (t .head .entries) (s .0), ltb-true k (t .head .leaves) (s .1), ltb-true (c .slot) (n .len) (r .1))
+
   pub is-current : current t c ≡ true → (child (slotAt t c) < t .head .entries) × (calls.cursor t (child (slotAt t c)) ≡ standing.At c)
   is-current e =
       let k : ℕ = c .leaf .0 in
       let j : ℕ = c .slot in
       let n : Node = leafIn 3 t k in
-      let r = both (eqb (c .stamp) (t .head .entries) && ltb k (t .head .leaves)) (ltb j (n .len)) e in
-      let s = both (eqb (c .stamp) (t .head .entries)) (ltb k (t .head .leaves)) (r .0) in
-      let lk : k < t .head .leaves = ltb-true k (t .head .leaves) (s .1) in
-      let st : c .stamp ≡ t .head .entries = eqb-true (c .stamp) (t .head .entries) (s .0) in
+      let r = current-is e in
+      let lk : k < t .head .leaves = r .1 in
       let td : Tidy 3 (t .head .fan) n = neat-of 3 t 1 w .leaf-tidy k lk in
-      let lu : j < length (used n) = rw (len-used 3 (t .head .fan) n td) at (ltb-true j (n .len) (r .1)) in
+      let lu : j < length (used n) = rw (len-used 3 (t .head .fan) n td) at (r .2) in
       let ls : j < length (slotsOf n) = (let z = length-map (used n) slotOf in omega arith) in
       let x : child (slotAt t c) ≡ child (getD (used n) j []) = ap child (slot-used 3 (t .head .fan) n td j [] lu) in
       let i : ℕ = child (getD (used n) j []) in
@@ -54,5 +60,5 @@ module _ (t : State) (w : Sound t) (c : Cursor) where
         rw x below,
         ap (calls.cursor t) x ∙ cursor-is t w i below
             ∙ ap₂ (λ (l s : ℕ). standing.At (cursorAt (t .head .entries) l s)) home (ap (λ (m : ℕ). indexOf i (slotsOf (leafIn 3 t m))) home ∙ first)
-            ∙ ap (λ (m : ℕ). standing.At (cursorAt m k j)) (sym st),
+            ∙ ap (λ (m : ℕ). standing.At (cursorAt m k j)) (sym (r .0)),
       )

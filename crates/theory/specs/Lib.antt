@@ -43,4 +43,5 @@ pub mod Depth
 pub mod Verdict
 pub mod Audited
 pub mod Current
+pub mod Cursors
 pub mod Example
