@@ -9,11 +9,11 @@ use lib.Dec.{ltb, leb}
 use lib.ListN.{length, getD}
 use borrow.Author.Tests.{eq-eqb, lt-ltb}
 use Rattle.model.specs.Lists.{refusal}
-use Rattle.model.specs.Length.{viewNumber}
+use Rattle.model.specs.Length.{viewNumber, listOf}
 use Rattle.model.specs.Node.{child}
 use Rattle.model.specs.State.{State}
 use Rattle.model.specs.Row as row
-use Rattle.model.specs.Row.{Row, Entry, lengthIn, Answer, done, refused, Moved, moved, noEntry, after, firstId, found, rowStep}
+use Rattle.model.specs.Row.{Row, Entry, lengthIn, Answer, done, refused, Moved, moved, unless, noEntry, after, firstId, found, rowStep}
 use Rattle.model.specs.Sound.{leafIn, Sound, entriesOf}
 use Rattle.model.specs.Refuse.{opening, overfull, atCursor, current}
 use Rattle.model.specs.Calls as calls
@@ -38,7 +38,7 @@ use Rattle.abstract_tree.specs.Levels.{Slot}
 use Rattle.abstract_tree.specs.Calls as tree
 use Rattle.theory.specs.Tree.{treeOf}
 use Rattle.theory.specs.Open.{passed, stopped, opens, fresh-at, seat}
-use Rattle.theory.specs.Agree.{rowOf, row-known, row-passed}
+use Rattle.theory.specs.Agree.{rowOf, row-known, row-passed, count-is}
 use Rattle.theory.specs.Read.{id-at, step-first, step-next}
 use Rattle.theory.specs.Looks.{step-lookup}
 use Rattle.theory.specs.Splits.{Parted, split-by}
@@ -49,7 +49,7 @@ pub record At (s : State) (c : Cursor) (i : ℕ) : Type 0 where
   pub current : current s c ≡ true
   pub id : calls.id s c ≡ named.Entry (entryId i)
 
--- what the answers say, none of them a refusal but where the row refuses
+-- what an answer says; it is a refusal only where the row's is
 abbrev pub StandsAt : State → Standing → ℕ → Type 0
 StandsAt s (standing.At c) i = At s c i
 StandsAt s (standing.Refused n) i = ⊥
@@ -67,10 +67,10 @@ abbrev pub SelectedAt : State → Selected → Answer → Type 0
 SelectedAt s (selected.At c offset) a = (i : ℕ) × (position : ℕ) × (a ≡ done (i ∷ offset ∷ position ∷ [])) × At s c i
 SelectedAt s (selected.Refused n) a = a ≡ refused n
 
--- the entry i divided, a new one of id n
-abbrev pub DividedAt : State → Divided → Bool → ℕ → ℕ → Type 0
-DividedAt s (divided.At k a b) flag i n = (k ≡ entryId n) × At s a (cond flag n i) × At s b (cond flag i n)
-DividedAt s (divided.Refused m) flag i n = Unit {0}
+-- the entry i divided: the new one has the id n and stands before it if so flagged, else after
+abbrev pub DividedAt : Bool → ℕ → ℕ → State → Divided → Answer → Type 0
+DividedAt flag i n s (divided.At k c d) a = (a ≡ done (n ∷ [])) × (k ≡ entryId n) × At s c (cond flag n i) × At s d (cond flag i n)
+DividedAt flag i n s (divided.Refused m) a = a ≡ refused m
 
 -- the cursor of an answer, and the first of an answer's values
 abbrev cursorOf : Cursor → Standing → Cursor
@@ -97,10 +97,10 @@ module _ (s : State) (w : Sound s) where
   at-slot : (k j : ℕ) → k < s .head .leaves → j < leafIn 3 s k .len → At s (cursorAt (s .head .entries) k j) (tree.slotAt (treeOf 3 s) k j .child)
   at-slot k j lk lj = record { current = rw (eq-eqb (s .head .entries) (s .head .entries) refl, lt-ltb k (s .head .leaves) lk, lt-ltb j (leafIn 3 s k .len) lj); id = id-at s w k j lk lj }
 
-  -- a current cursor has the id of its entry, any other none
-  id-is : (c : Cursor) → current s c ≡ true → At s c (child (slotAt s c))
+  -- every current cursor stands at an entry, any other has no id
+  pub current-at : (c : Cursor) → current s c ≡ true → At s c (child (slotAt s c))
   unfolding calls.id refusal
-  id-is c e =
+  current-at c e =
       let r = current-is s w c e in
       let ok : refusal (atCursor s c) ≡ 0 = subst (λ (m : ℕ). refusal (atCursor s (cursorAt m (c .leaf .0) (c .slot))) ≡ 0) (sym (r .0)) (fresh-at s w (c .leaf .0) (c .slot) [] (r .1) (r .2)) in
       record { current = e; id = passed (opening s ++ atCursor s c) named.Refused _ (opens s w (atCursor s c) ∙ ok) }
@@ -114,7 +114,7 @@ module _ (s : State) (w : Sound s) where
   answered-at c vs a ok e = go (current s c) refl
     where
       go : (b : Bool) → current s c ≡ b → (i : ℕ) × (a ≡ done (i ∷ vs)) × At s c i
-      go true q = (child (slotAt s c), sym e ∙ ap (λ (n : Named). idAnswer n vs) (id-is c q .id), id-is c q)
+      go true q = (child (slotAt s c), sym e ∙ ap (λ (n : Named). idAnswer n vs) (current-at c q .id), current-at c q)
       go false q = absurd (ok (ap (λ (z : Answer). z .number) (sym e) ∙ ap (λ (n : Named). idAnswer n vs .number) (no-id c q)))
 
   named-at : (c : Cursor) (i : ℕ) → idAnswer (calls.id s c) [] ≡ done (i ∷ []) → At s c i
@@ -123,7 +123,7 @@ module _ (s : State) (w : Sound s) where
   -- a cursor at an entry is the entry's
   own-cursor : (c : Cursor) (i : ℕ) → At s c i → (i < s .head .entries) × (calls.cursor s i ≡ standing.At c)
   own-cursor c i h =
-      let e : child (slotAt s c) ≡ i = ap (λ (n : Named). value (idAnswer n [])) (sym (id-is c (h .current) .id) ∙ h .id) in
+      let e : child (slotAt s c) ≡ i = ap (λ (n : Named). value (idAnswer n [])) (sym (current-at c (h .current) .id) ∙ h .id) in
       subst (λ (k : ℕ). (k < s .head .entries) × (calls.cursor s k ≡ standing.At c)) e (is-current s w c (h .current))
 
 module _ (s : State) (w : Sound s) where
@@ -171,13 +171,16 @@ module _ (s : State) (w : Sound s) where
       go (located.At c offset position) h = (h .0, position, h .1, h .2)
       go (located.Refused n) h = h
 
-  pub split-at : (c : Cursor) (i : ℕ) → At s c i → (l : Lengths) (flag : Bool) → (let r = calls.splitEntry s c l flag in DividedAt (r .after) (r .answer) flag i (s .head .entries))
+  pub split-at : (c : Cursor) (i : ℕ) → At s c i → (l : Lengths) (flag : Bool)
+      → (let r = calls.splitEntry s c l flag in DividedAt flag i (s .head .entries) (r .after) (r .answer) (rowStep (rowOf s) (row.split flag i l) .answer))
+  unfolding rowStep unless
   split-at c i h l flag =
       let o = own-cursor s w c i h in
       let e = seat s w i (o .0) in
       let here : cursorAt (s .head .entries) (e .leaf) (e .slot) ≡ c = ap (cursorOf c) (sym (e .is) ∙ o .1) in
-      subst (λ (d : Cursor). let r = calls.splitEntry s d l flag in DividedAt (r .after) (r .answer) flag i (s .head .entries)) here
-      (split-by s w i e l flag (λ m n. DividedAt (m .after) (m .answer) flag i (s .head .entries)) (λ n. tt) (λ t k j p g. (refl, first-part t k j p, second-part t k j p)))
+      subst (λ (d : Cursor). let r = calls.splitEntry s d l flag in DividedAt flag i (s .head .entries) (r .after) (r .answer) (rowStep (rowOf s) (row.split flag i l) .answer)) here
+      (rw (row-known s w i (row.tooMuch (listOf l) (row.lengthsOf i (entriesOf s)) ∷ row.full (rowOf s) ∷ []) (o .0))
+      (split-by s w i e l flag (λ m n. DividedAt flag i (s .head .entries) (m .after) (m .answer) (n .answer)) (λ n. refl) (λ t k j p g. (ap (λ (n : ℕ). done (n ∷ [])) (count-is s w), refl, first-part t k j p, second-part t k j p))))
     where
       first-part : (t : State) (k j : ℕ) → Parted flag i (s .head .entries) t k j → At t (cursorAt (s .head .entries + 1) k j) (cond flag (s .head .entries) i)
       first-part t k j p = subst (λ (m : ℕ). At t (cursorAt m k j) (cond flag (s .head .entries) i)) (p .count) (subst (At t (cursorAt (t .head .entries) k j)) (p .first) (at-slot t (p .sound) k j (p .leaf-in) (let z = p .slot-in in omega arith)))
