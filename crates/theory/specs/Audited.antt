@@ -43,7 +43,7 @@ use Rattle.theory.specs.Marked.{areaFrom, Marked, of-marks, getD-slot}
 use Rattle.theory.specs.Neat.{Neat, size-is, neat-of}
 use Rattle.theory.specs.Down.{body-of, finger-of, kid-at}
 use Rattle.theory.specs.Up.{slots-all}
-use Rattle.theory.specs.Open.{passed, stopped, index-lift}
+use Rattle.theory.specs.Open.{passed, stopped, index-lift, good-areas}
 use Rattle.theory.specs.Make.{Sizes, sizes-of}
 use Rattle.theory.specs.Facts.{HeldBy, ChildBy, areaBy, countBy, InnerBy, LeafBy, HandBy, SoundBy, sound-by, sound-test}
 use Rattle.theory.specs.Depth.{dep-depth, range-below}
@@ -168,18 +168,8 @@ audit-sound : (t : State) → Sound t → audit t ≡ verdict.Yes
 unfolding audit refusal
 audit-sound t w =
     let h = t .head in
-    let g = shapeIn 3 t in
     passed (makeCauses (h .fan) (h .limit) (t .leaves) (t .inners) (t .homes)) verdict.Refused (cond (isSound t) verdict.Yes verdict.No)
-    (rw (
-      le-ltb (h .fan) 4 (w .fan-least),
-      le-ltb 32 (h .fan) (w .fan-most),
-      le-ltb (h .limit) 1 (w .limit-least),
-      le-ltb 65536 (h .limit) (w .limit-most),
-      le-ltb (length (t .leaves)) (g .nodes * g .size) (w .leaf-area),
-      le-ltb (length (t .inners)) (g .nodes * g .size) (w .inner-area),
-      le-ltb (length (t .homes)) (h .limit) (w .home-area),
-    ))
-    ∙ rw (sound-test t (sound-facts t w))
+    (good-areas t w []) ∙ rw (sound-test t (sound-facts t w))
 
 -- and on no other
 audit-yes : (t : State) → audit t ≡ verdict.Yes → Sound t

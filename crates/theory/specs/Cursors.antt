@@ -41,7 +41,7 @@ use Rattle.theory.specs.Open.{passed, stopped, opens, fresh-at, seat}
 use Rattle.theory.specs.Agree.{rowOf, row-known, row-passed, count-is}
 use Rattle.theory.specs.Read.{id-at, step-first, step-next}
 use Rattle.theory.specs.Looks.{step-lookup}
-use Rattle.theory.specs.Splits.{Parted, split-by}
+use Rattle.theory.specs.Splits.{TwoParts, split-by}
 use Rattle.theory.specs.Current.{not-current, current-is, is-current}
 
 -- a cursor that is current and stands at the entry of that id
@@ -182,8 +182,8 @@ module _ (s : State) (w : Sound s) where
       (rw (row-known s w i (row.tooMuch (listOf l) (row.lengthsOf i (entriesOf s)) ∷ row.full (rowOf s) ∷ []) (o .0))
       (split-by s w i e l flag (λ m n. DividedAt flag i (s .head .entries) (m .after) (m .answer) (n .answer)) (λ n. refl) (λ t k j p g. (ap (λ (n : ℕ). done (n ∷ [])) (count-is s w), refl, first-part t k j p, second-part t k j p))))
     where
-      first-part : (t : State) (k j : ℕ) → Parted flag i (s .head .entries) t k j → At t (cursorAt (s .head .entries + 1) k j) (cond flag (s .head .entries) i)
+      first-part : (t : State) (k j : ℕ) → TwoParts flag i (s .head .entries) t k j → At t (cursorAt (s .head .entries + 1) k j) (cond flag (s .head .entries) i)
       first-part t k j p = subst (λ (m : ℕ). At t (cursorAt m k j) (cond flag (s .head .entries) i)) (p .count) (subst (At t (cursorAt (t .head .entries) k j)) (p .first) (at-slot t (p .sound) k j (p .leaf-in) (let z = p .slot-in in omega arith)))
 
-      second-part : (t : State) (k j : ℕ) → Parted flag i (s .head .entries) t k j → At t (cursorAt (s .head .entries + 1) k (j + 1)) (cond flag i (s .head .entries))
+      second-part : (t : State) (k j : ℕ) → TwoParts flag i (s .head .entries) t k j → At t (cursorAt (s .head .entries + 1) k (j + 1)) (cond flag i (s .head .entries))
       second-part t k j p = subst (λ (m : ℕ). At t (cursorAt m k (j + 1)) (cond flag i (s .head .entries))) (p .count) (subst (At t (cursorAt (t .head .entries) k (j + 1))) (p .second) (at-slot t (p .sound) k (j + 1) (p .leaf-in) (p .slot-in)))

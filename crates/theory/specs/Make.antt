@@ -35,7 +35,7 @@ use Rattle.theory.specs.Neat.{Neat}
 use Rattle.theory.specs.Up.{sound-up}
 use Rattle.theory.specs.Put.{Keeps, put-next}
 use Rattle.theory.specs.Entries.{firsts, entryFrom}
-use Rattle.theory.specs.Open.{passed}
+use Rattle.theory.specs.Open.{passed, good-areas}
 use Rattle.theory.specs.Agree.{Stands, Agrees, rowOf, entries-are}
 
 -- lengths that are words
@@ -165,7 +165,6 @@ pub step-reset : (t : State) (w : Sound t) (l : Lengths) → Words l → Agrees 
 unfolding treeStep rowStep calls.reset refusal
 step-reset t w l small =
     let h = t .head in
-    let g : Shape = shapeIn 3 t in
     let z : Sizes (h .fan) (h .limit) (t .leaves) (t .inners) (t .homes) = record {
       fan-low = w .fan-least;
       fan-high = w .fan-most;
@@ -175,16 +174,6 @@ step-reset t w l small =
       inner-area = w .inner-area;
       home-area = w .home-area;
     } in
-    let q : refusal (makeCauses (h .fan) (h .limit) (t .leaves) (t .inners) (t .homes)) ≡ 0 =
-    rw (
-      le-ltb (h .fan) 4 (w .fan-least),
-      le-ltb 32 (h .fan) (w .fan-most),
-      le-ltb (h .limit) 1 (w .limit-least),
-      le-ltb 65536 (h .limit) (w .limit-most),
-      le-ltb (length (t .leaves)) (g .nodes * g .size) (w .leaf-area),
-      le-ltb (length (t .inners)) (g .nodes * g .size) (w .inner-area),
-      le-ltb (length (t .homes)) (h .limit) (w .home-area),
-    ) in
     subst (λ (r : calls.Reply Outcome). Agrees (told r outcomeAnswer) (rowStep (rowOf t) (row.reset l)))
-    (sym (passed (makeCauses (h .fan) (h .limit) (t .leaves) (t .inners) (t .homes)) (λ n. calls.reply t (outcome.Refused n)) (calls.reply (begun (h .fan) (h .limit) l (t .leaves) (t .inners) (t .homes)) outcome.Done) q))
+    (sym (passed (makeCauses (h .fan) (h .limit) (t .leaves) (t .inners) (t .homes)) (λ n. calls.reply t (outcome.Refused n)) (calls.reply (begun (h .fan) (h .limit) l (t .leaves) (t .inners) (t .homes)) outcome.Done) (good-areas t w [])))
     (record { same = refl; kept = begun-stands (h .fan) (h .limit) l (t .leaves) (t .inners) (t .homes) z small })

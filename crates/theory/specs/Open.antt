@@ -11,7 +11,7 @@ use Rattle.model.specs.Lists.{Cause, refusal}
 use Rattle.model.specs.Node.{Node, child, used, indexFrom}
 use Rattle.model.specs.State.{State}
 use Rattle.model.specs.Sound.{shapeIn, leafIn, Sound}
-use Rattle.model.specs.Refuse.{opening, stale, overfull, noSuchId}
+use Rattle.model.specs.Refuse.{opening, badSize, tooShort, astray, stale, overfull, noSuchId}
 use Rattle.model.specs.Calls as calls
 use Rattle.model.specs.Calls.{unless, cursorAt}
 use Rattle.model.specs.declared.shape.Place.the-variants as slot
@@ -44,6 +44,18 @@ index-lift c k (x ∷ xs) h = elim (ℕ-discrete (child x) c) [
 ]
 
 module _ (t : State) (w : Sound t) where
+  -- good fan, limit and areas
+  pub good-size : (cs : List Cause) → refusal (badSize (t .head .fan) (t .head .limit) ∷ cs) ≡ refusal cs
+  unfolding refusal
+  good-size cs = rw (le-ltb (t .head .fan) 4 (w .fan-least), le-ltb 32 (t .head .fan) (w .fan-most), le-ltb (t .head .limit) 1 (w .limit-least), le-ltb 65536 (t .head .limit) (w .limit-most))
+
+  pub good-areas : (cs : List Cause) → refusal (badSize (t .head .fan) (t .head .limit) ∷ tooShort (shapeIn 3 t) (t .head .limit) (t .leaves) (t .inners) (t .homes) ∷ cs) ≡ refusal cs
+  unfolding refusal
+  good-areas cs =
+      let g = shapeIn 3 t in
+      good-size (tooShort g (t .head .limit) (t .leaves) (t .inners) (t .homes) ∷ cs)
+      ∙ rw (le-ltb (length (t .leaves)) (g .nodes * g .size) (w .leaf-area), le-ltb (length (t .inners)) (g .nodes * g .size) (w .inner-area), le-ltb (length (t .homes)) (t .head .limit) (w .home-area))
+
   pub opens : (cs : List Cause) → refusal (opening t ++ cs) ≡ refusal cs
   unfolding opening refusal
   opens cs =
@@ -51,14 +63,7 @@ module _ (t : State) (w : Sound t) where
       let g = shapeIn 3 t in
       let lv = levels-most (treeOf 3 t) (body-of 3 t 1 w) in
       let rt : h .root .0 < h .inners = body-of 3 t 1 w .fit .root-in in
-      rw (
-        le-ltb (h .fan) 4 (w .fan-least),
-        le-ltb 32 (h .fan) (w .fan-most),
-        le-ltb (h .limit) 1 (w .limit-least),
-        le-ltb 65536 (h .limit) (w .limit-most),
-        le-ltb (length (t .leaves)) (g .nodes * g .size) (w .leaf-area),
-        le-ltb (length (t .inners)) (g .nodes * g .size) (w .inner-area),
-        le-ltb (length (t .homes)) (h .limit) (w .home-area),
+      good-areas (astray g h ∷ cs) ∙ rw (
         lt-leb (g .nodes) (h .root .0) (omega (arith, w .inner-count)),
         le-ltb (h .levels) 1 (w .levels-least),
         le-ltb 15 (h .levels) lv,

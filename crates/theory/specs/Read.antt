@@ -48,7 +48,7 @@ use Rattle.theory.specs.Marked.{getD-slot}
 use Rattle.theory.specs.Neat.{size-is, neat-of}
 use Rattle.theory.specs.Down.{body-of}
 use Rattle.theory.specs.Entries.{firsts, entryFrom}
-use Rattle.theory.specs.Open.{passed, opens, fresh-at, Seat}
+use Rattle.theory.specs.Open.{good-size, passed, opens, fresh-at, Seat}
 use Rattle.theory.specs.Way.{Way, way, start-leaf, rank-up}
 use Rattle.theory.specs.Edge.{first-top, first-down, leafHead, next-leaf}
 use Rattle.theory.specs.Agree.{Agrees, rowOf, row-passed, own, entries-are, count-is, by-id, from-is, slot-is, total-before}
@@ -87,7 +87,7 @@ module _ (t : State) (w : Sound t) where
   unfolding treeStep rowStep calls.len refusal
   step-count = record {
     same = ap numberAnswer (passed (badSize (t .head .fan) (t .head .limit) ∷ []) number.Refused (number.Is (t .head .entries))
-        (rw (le-ltb (t .head .fan) 4 (w .fan-least), le-ltb 32 (t .head .fan) (w .fan-most), le-ltb (t .head .limit) 1 (w .limit-least), le-ltb 65536 (t .head .limit) (w .limit-most))))
+        (good-size t w []))
         ∙ ap (λ (n : ℕ). done (n ∷ [])) (sym (count-is t w));
     kept = own t w;
   }

@@ -69,7 +69,7 @@ two-parts true e u n S = omega arith
 two-parts false e u n S = omega arith
 
 -- a sound state in which a divided entry's parts stand in slot j of leaf k and in the slot after it; n is the new id
-pub record Parted (flag : Bool) (i n : ℕ) (s : State) (k j : ℕ) : Type 0 where
+pub record TwoParts (flag : Bool) (i n : ℕ) (s : State) (k j : ℕ) : Type 0 where
   pub sound : Sound s
   pub count : s .head .entries ≡ n + 1
   pub leaf-in : k < s .head .leaves
@@ -216,7 +216,7 @@ module _ (t : State) (w : Sound t) (i : ℕ) (c : Seat t w i) (l : Lengths) (fla
     unfolding t₃ m₂ m x
     slots₃ = ap slotsOf (entered-read 3 (omega arith) t₁ (q .neat) (q .leaf) (q .slot) lk m₂ td₂ pa at few) ∙ halved-slots 3 (t .head .fan) (omega arith) m td (q .slot) x lj lr refl le small flag (t .head .entries) new x-is
 
-    parted₃ : Parted flag i (t .head .entries) t₃ (q .leaf) (q .slot)
+    parted₃ : TwoParts flag i (t .head .entries) t₃ (q .leaf) (q .slot)
     unfolding t₃ m
     parted₃ =
         let F : List Slot = take (q .slot) (slotsOf m) in
@@ -294,7 +294,7 @@ module _ (t : State) (w : Sound t) (i : ℕ) (c : Seat t w i) (l : Lengths) (fla
 
   -- where both stop at the same number, or the entry is parted and the state stands for the row
   pub split-by : (P : calls.Reply Divided → Moved Row → Type 0) → ((n : ℕ) → P (calls.reply t (division.Refused n)) (moved (rowOf t) (refused n)))
-      → ((s : State) (k j : ℕ) → Parted flag i (t .head .entries) s k j → Stands s (row.row (t .head .limit) entries′)
+      → ((s : State) (k j : ℕ) → TwoParts flag i (t .head .entries) s k j → Stands s (row.row (t .head .limit) entries′)
       → P (calls.reply s (division.At (entryId (t .head .entries)) (cursorAt (t .head .entries + 1) k j) (cursorAt (t .head .entries + 1) k (j + 1)))) (moved (row.row (t .head .limit) entries′) rowAnswer))
       → P (calls.splitEntry t (cursorAt (t .head .entries) (c .leaf) (c .slot)) l flag) (unless (rowOf t) rowCauses entries′ rowAnswer)
   unfolding refusal calls.splitEntry
