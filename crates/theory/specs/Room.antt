@@ -1,6 +1,6 @@
 -- Room for one entry more: the model's `makeRoom` is the abstract one; and the climb above a leaf of a neat state.
-use mathlib.Core.Path.{_≡_, refl, ap, _∙_, subst}
-use mathlib.Core.Bool.{cond}
+use mathlib.Core.Path.{_≡_, refl, sym, ap, _∙_, subst}
+use mathlib.Core.Bool.{Bool, true, false, cond}
 use mathlib.Core.List.{List, _∷_, _++_}
 use Prim.Native.Nat.{ℕ, _+_, _-_, _<_, _≤_}
 use native.Mathlib.Decide.{decLt}
@@ -18,7 +18,7 @@ use Rattle.model.specs.Sound.{shapeIn, leafIn}
 use Rattle.model.specs.declared.walk.Sum.the-variants as sum
 use Rattle.abstract_tree.specs.Lists.{cat}
 use Rattle.abstract_tree.specs.Levels.{total, len, climb}
-use Rattle.abstract_tree.specs.Tree.{Tree, BodyAt}
+use Rattle.abstract_tree.specs.Tree.{Tree, leafSlots, BodyAt}
 use Rattle.abstract_tree.specs.Follows.{reals}
 use Rattle.abstract_tree.specs.Edit.{leaf-here}
 use Rattle.abstract_tree.specs.Split.{splitFull}
@@ -33,6 +33,18 @@ use Rattle.theory.specs.Leaf.{parted-is}
 -- a state that differs from t in the nodes and the counts of nodes only
 abbrev pub grownState : State → ℕ → ℕ → ℕ → ℕ → List ℕ → List ℕ → List ℕ → State
 grownState t root levels leaves inners ls xs hs = state (headOf (t .head .fan) (t .head .limit) root levels leaves inners (t .head .entries) (t .head .finger)) ls xs hs
+
+-- a full leaf is split, and the slot is one of a half
+full-room : (T : Tree) (k i : ℕ) → T .fan ≤ length (leafSlots T k) → makeRoom T k i ≡ (let low : Bool = ltb i (half (T .fan)) in spot (splitFull T k) (cond low k (T .leaves)) (cond low i (i - half (T .fan))))
+full-room T k i ge = go (ltb i (half (T .fan))) refl
+  where
+    go : (low : Bool) → ltb i (half (T .fan)) ≡ low → makeRoom T k i ≡ spot (splitFull T k) (cond (ltb i (half (T .fan))) k (T .leaves)) (cond (ltb i (half (T .fan))) i (i - half (T .fan)))
+    go true q = rw (le-ltb (length (leafSlots T k)) (T .fan) ge, q, makeRoom)
+    go false q = rw (le-ltb (length (leafSlots T k)) (T .fan) ge, q, makeRoom)
+
+half-change : (low : Bool) (t : State) (k n i j : ℕ) → cond low (change 0 t k i) (change 0 t n j) ≡ change 0 t (cond low k n) (cond low i j)
+half-change true t k n i j = refl
+half-change false t k n i j = refl
 
 pub record Roomed (s : ℕ) (t : State) (k i : ℕ) : Type 0 where
   pub root : ℕ
@@ -51,7 +63,7 @@ pub record Roomed (s : ℕ) (t : State) (k i : ℕ) : Type 0 where
 module _ (s : ℕ) (pos : 0 < s) (t : State) (nt : Neat s t) (A : List ℕ) (k : ℕ) (B : List ℕ) (st : List (List ℕ)) (b : BodyAt (treeOf s t) (A ++ k ∷ B) st) where
   pub roomed : (i : ℕ) → i ≤ length (slotsOf (leafIn s t k)) → Roomed s t k i
   unfolding place.makeRoom
-  roomed i le = go (decLt (length (slotsOf (leafIn s t k))) (t .head .fan)) (decLt i (half (t .head .fan)))
+  roomed i le = go (decLt (length (slotsOf (leafIn s t k))) (t .head .fan))
     where
       lk : k < t .head .leaves
       lk = leaf-here (treeOf s t) A k B st b
@@ -65,8 +77,8 @@ module _ (s : ℕ) (pos : 0 < s) (t : State) (nt : Neat s t) (A : List ℕ) (k :
       ok : place.makeRoom (shapeIn s t) t k i ≡ cond (ltb (leafIn s t k .len) (t .head .fan)) (change 0 t k i) (place.splitLeaf (shapeIn s t) t k i)
       ok = rw (lt-ltb k (t .head .leaves) lk, le-leb i (leafIn s t k .len) (omega (arith, sz)), le-leb (leafIn s t k .len) (t .head .fan) (omega (arith, sz, lm)))
 
-      go : Dec (length (slotsOf (leafIn s t k)) < t .head .fan) → Dec (i < half (t .head .fan)) → Roomed s t k i
-      go (yes lt) d = record {
+      go : Dec (length (slotsOf (leafIn s t k)) < t .head .fan) → Roomed s t k i
+      go (yes lt) = record {
         root = t .head .root .0;
         levels = t .head .levels;
         leaves = t .head .leaves;
@@ -80,9 +92,12 @@ module _ (s : ℕ) (pos : 0 < s) (t : State) (nt : Neat s t) (A : List ℕ) (k :
         spot = rw (lt-ltb (length (slotsOf (leafIn s t k))) (t .head .fan) lt, makeRoom);
         neat = record { leaf-area = nt .leaf-area; inner-area = nt .inner-area; home-area = nt .home-area; leaf-count = nt .leaf-count; inner-count = nt .inner-count; leaf-tidy = nt .leaf-tidy; inner-tidy = nt .inner-tidy; view = nt .view };
       }
-      go (no ge) (yes lt) =
+      go (no ge) =
           let q = parted-is s pos t nt A k B st b (omega (arith, lm)) i in
           let T′ : Tree = splitFull (treeOf s t) k in
+          let low : Bool = ltb i (half (t .head .fan)) in
+          let leaf : ℕ = cond low k (t .head .leaves) in
+          let slot : ℕ = cond low i (i - half (t .head .fan)) in
           record {
             root = T′ .body .root;
             levels = T′ .body .levels;
@@ -91,27 +106,10 @@ module _ (s : ℕ) (pos : 0 < s) (t : State) (nt : Neat s t) (A : List ℕ) (k :
             ls = q .leaves;
             xs = q .inners;
             hs = q .homes;
-            leaf = k;
-            slot = i;
-            is = ok ∙ rw (le-ltb (leafIn s t k .len) (t .head .fan) (omega (arith, sz))) (q .is ∙ rw (lt-ltb i (half (t .head .fan)) lt));
-            spot = rw (le-ltb (length (slotsOf (leafIn s t k))) (t .head .fan) (omega arith), lt-ltb i (half (t .head .fan)) lt, makeRoom) (ap (λ (z : Tree). spot z k i) (q .tree));
-            neat = q .neat;
-          }
-      go (no ge) (no le′) =
-          let q = parted-is s pos t nt A k B st b (omega (arith, lm)) i in
-          let T′ : Tree = splitFull (treeOf s t) k in
-          record {
-            root = T′ .body .root;
-            levels = T′ .body .levels;
-            leaves = t .head .leaves + 1;
-            inners = T′ .body .next;
-            ls = q .leaves;
-            xs = q .inners;
-            hs = q .homes;
-            leaf = t .head .leaves;
-            slot = i - half (t .head .fan);
-            is = ok ∙ rw (le-ltb (leafIn s t k .len) (t .head .fan) (omega (arith, sz))) (q .is ∙ rw (le-ltb i (half (t .head .fan)) (omega arith)));
-            spot = rw (le-ltb (length (slotsOf (leafIn s t k))) (t .head .fan) (omega arith), le-ltb i (half (t .head .fan)) (omega arith), makeRoom) (ap (λ (z : Tree). spot z (t .head .leaves) (i - half (t .head .fan))) (q .tree));
+            leaf = leaf;
+            slot = slot;
+            is = ok ∙ rw (le-ltb (leafIn s t k .len) (t .head .fan) (omega (arith, sz))) (q .is ∙ half-change low (grownState t (T′ .body .root) (T′ .body .levels) (t .head .leaves + 1) (T′ .body .next) (q .leaves) (q .inners) (q .homes)) k (t .head .leaves) i (i - half (t .head .fan)));
+            spot = ap (λ (z : Tree). spot z leaf slot) (q .tree) ∙ sym (full-room (treeOf s t) k i (omega arith));
             neat = q .neat;
           }
 
