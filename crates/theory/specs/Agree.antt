@@ -1,7 +1,7 @@
 -- A tree's call and the row's: the same answer, and what each leaves belongs together again. A sound state's row, and the row at a seat.
 use mathlib.Core.Path.{_≡_, refl, sym, ap, _∙_}
 use mathlib.Core.List.{List, [], _∷_, _++_, map}
-use Prim.Native.Nat.{ℕ, suc, _+_, _-_, _≤_, _<_}
+use Prim.Native.Nat.{ℕ, suc, _≤_, _<_}
 use native.Mathlib.Decide.{decLt}
 use native.Mathlib.Omega.{arith}
 use lib.ListN.{length, getD, length-map}
@@ -15,7 +15,6 @@ use Rattle.model.specs.Sound.{leafIn, Sound, entriesOf}
 use Rattle.model.specs.Calls as calls
 use Rattle.model.specs.ById.{withCursor}
 use Rattle.model.specs.declared.head.Cursor.{Cursor}
-use Rattle.model.specs.declared.answer.Standing.the-variants as standing
 use Rattle.abstract_tree.specs.Lists.{cat}
 use Rattle.abstract_tree.specs.Levels.{len}
 use Rattle.abstract_tree.specs.Tree as tree

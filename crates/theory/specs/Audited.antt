@@ -2,20 +2,18 @@
 use mathlib.Core.Path.{_≡_, refl, sym, ap, _∙_, subst}
 use mathlib.Core.Bool.{Bool, true, false, cond}
 use mathlib.Core.List.{List, []}
-use Prim.Native.Nat.{ℕ, zero, suc, _+_, _-_, _*_, _≤_, _<_}
+use Prim.Native.Nat.{ℕ, zero, suc, _+_, _≤_, _<_}
 use native.Mathlib.Nat.{zero-add}
 use native.Mathlib.Decide.{ℕ-discrete}
 use native.Mathlib.Omega.{arith}
 use lib.Dec.{eqb}
 use lib.ListN.{length, getD, length-map}
-use borrow.Author.Tests.{eq-eqb, ne-eqb, le-ltb}
+use borrow.Author.Tests.{eq-eqb, ne-eqb}
 use Rattle.model.specs.Lists.{range, refusal}
-use Rattle.model.specs.Node as node
 use Rattle.model.specs.Node.{Node, child, used, indexFrom}
 use Rattle.model.specs.State.{State}
 use Rattle.model.specs.Climb.{rankUp}
 use Rattle.model.specs.Sound.{shapeIn, leafIn, innerIn, Sound, FingerRight}
-use Rattle.model.specs.Calls as calls
 use Rattle.model.specs.Calls.{makeCauses}
 use Rattle.model.specs.Audit.{depth, depthOf, isSound, audit}
 use Rattle.model.specs.declared.shape.Place.the-variants as slot
@@ -28,7 +26,6 @@ use Rattle.theory.specs.Fits.{fits}
 use Rattle.abstract_tree.specs.Lists.{All-map}
 use Rattle.abstract_tree.specs.Levels.{noSlot, Slot, total, len, climb}
 use Rattle.abstract_tree.specs.Reach.{Kids}
-use Rattle.abstract_tree.specs.Tree as tree
 use Rattle.abstract_tree.specs.Tree.{Tree, Body}
 use Rattle.abstract_tree.specs.Follows.{levels-most}
 use Rattle.abstract_tree.specs.Finger.{sumBy-cong}

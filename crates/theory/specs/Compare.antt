@@ -3,7 +3,7 @@ use mathlib.Core.Path.{_≡_, refl, ap, ap₂, _∙_, subst}
 use mathlib.Core.Logic.{_⊎_, inl, inr}
 use mathlib.Core.Bool.{cond}
 use mathlib.Core.List.{List, [], _∷_, _++_, append-nil}
-use Prim.Native.Nat.{ℕ, _+_, _-_, _<_}
+use Prim.Native.Nat.{ℕ, _+_, _<_}
 use native.Mathlib.Decide.{ℕ-discrete, decLt}
 use native.Mathlib.Omega.{arith}
 use lib.Dec.{ltb, eqb}
@@ -19,20 +19,11 @@ use Rattle.model.specs.Calls as calls
 use Rattle.model.specs.Calls.{cursorAt, inOrder, byPath}
 use Rattle.model.specs.ById.{withCursor, treeStep}
 use Rattle.model.specs.Answer.{comparedAnswer}
-use Rattle.model.specs.declared.length.View.the-variants as view
 use Rattle.model.specs.declared.head.Cursor.{Cursor}
-use Rattle.model.specs.declared.walk.Sum.the-variants as sum
 use Rattle.model.specs.declared.walk.Leaf.the-variants as leaf
-use Rattle.model.specs.declared.answer.Number.the-variants as number
-use Rattle.model.specs.declared.answer.Named.the-variants as named
-use Rattle.model.specs.declared.answer.Next.the-variants as next
-use Rattle.model.specs.declared.answer.Standing.the-variants as standing
-use Rattle.model.specs.declared.answer.Measured.the-variants as measured
 use Rattle.model.specs.declared.answer.Compared.the-variants as compared
 use Rattle.abstract_tree.specs.Levels.{total}
-use Rattle.abstract_tree.specs.Next as follow
 use Rattle.abstract_tree.specs.Next.{Lex}
-use Rattle.abstract_tree.specs.Tree as tree
 use Rattle.abstract_tree.specs.Tree.{Tree, above}
 use Rattle.abstract_tree.specs.Place.{front}
 use Rattle.abstract_tree.specs.Order.{pathTo, First, by-path, by-slot}

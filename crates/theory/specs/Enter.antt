@@ -1,7 +1,7 @@
 -- One entry more in a leaf: the state that `enter` leaves, as a tree and in its words; and the leaf with the entry in it.
 use mathlib.Core.Path.{_≡_, refl, sym, ap, ap₂, _∙_, subst}
 use mathlib.Core.List.{List, _∷_, _++_, map}
-use Prim.Native.Nat.{ℕ, suc, _+_, _-_, _<_, _≤_}
+use Prim.Native.Nat.{ℕ, suc, _-_, _<_, _≤_}
 use native.Mathlib.Numerals.{add-one}
 use native.Mathlib.Omega.{arith}
 use lib.ListN.{length, take, drop, set, length-append, length-drop, length-set}
@@ -11,7 +11,6 @@ use Rattle.model.specs.Node as node
 use Rattle.model.specs.Node.{Node, used, start, inserted, emptySlots}
 use Rattle.model.specs.State.{State, state, nodeAt, putNode}
 use Rattle.model.specs.Locate.{changing}
-use Rattle.model.specs.Place as place
 use Rattle.model.specs.Place.{withEntry}
 use Rattle.model.specs.Sound.{shapeIn, leafIn}
 use Rattle.laws.specs.Lists.{All-take, All-drop, All-append}
@@ -20,7 +19,6 @@ use Rattle.theory.specs.Fits.{fits}
 use Rattle.abstract_tree.specs.Lists.{map-append, take-map}
 use Rattle.abstract_tree.specs.Levels.{Slot, Area}
 use Rattle.abstract_tree.specs.Update.{upd}
-use Rattle.abstract_tree.specs.Insert as insert
 use Rattle.abstract_tree.specs.Change.{withLeaf}
 use Rattle.theory.specs.Tidy.{Tidy, made, tidy-made, tidy-formed, used-made, inserted-made}
 use Rattle.theory.specs.Tree.{slotOf, slotsOf, areaOf, treeOf}

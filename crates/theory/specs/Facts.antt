@@ -3,7 +3,7 @@ use mathlib.Core.Path.{_≡_, refl, sym, ap}
 use mathlib.Core.Logic.{_≢_}
 use mathlib.Core.Bool.{Bool, true, cond, _&&_}
 use mathlib.Core.List.{List, []}
-use Prim.Native.Nat.{ℕ, _-_, _≤_, _<_}
+use Prim.Native.Nat.{ℕ, _≤_, _<_}
 use native.Mathlib.Decide.{ℕ-discrete}
 use native.Mathlib.Omega.{arith}
 use lib.Dec.{ltb, leb, eqb}
@@ -15,7 +15,6 @@ use Rattle.model.specs.Node as node
 use Rattle.model.specs.State.{State}
 use Rattle.model.specs.Sound.{shapeIn, leafIn, innerIn, leastLeaf, leastInner}
 use Rattle.model.specs.Refuse.{totalOf}
-use Rattle.model.specs.Audit as audit
 use Rattle.model.specs.Audit.{every, isSlot, isSum, depthOf, isFilled, isHeld, isChild, isInner, isEntry, isLeaf, leafStart, isFinger, isHeldFinger, isSound}
 use Rattle.model.specs.declared.shape.Place.{Place}
 use Rattle.model.specs.declared.shape.Place.the-variants as slot

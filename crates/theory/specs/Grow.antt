@@ -15,7 +15,6 @@ use Rattle.model.specs.Lists.{All, sumBy}
 use Rattle.model.specs.Node as node
 use Rattle.model.specs.Node.{Node, child, lengthIn, used, half}
 use Rattle.model.specs.State.{nodeAt}
-use Rattle.model.specs.Grow as grow
 use Rattle.model.specs.Grow.{Areas, linked, Top, top, Grown, grown, Above, nodeIn, link, splitNode, linkHalf, addTo, aboveOf}
 use Rattle.model.specs.declared.shape.Shape.{Shape}
 use Rattle.laws.specs.Lists.{All-drop}

@@ -3,7 +3,7 @@ use mathlib.Core.Path.{_≡_, refl, sym, ap, ap₂, _∙_, subst}
 use mathlib.Core.Logic.{_≢_}
 use mathlib.Core.Bool.{Bool, true, false, cond, _&&_, _||_, not}
 use mathlib.Core.List.{List, [], _∷_, _++_, map, append-nil, append-assoc}
-use Prim.Native.Nat.{ℕ, zero, suc, _+_, _-_, _<_}
+use Prim.Native.Nat.{ℕ, zero, suc, _+_, _<_}
 use native.Mathlib.Decide.{decLt}
 use native.Mathlib.Omega.{arith}
 use lib.Dec.{ltb, leb, eqb}
@@ -39,7 +39,6 @@ use Rattle.abstract_tree.specs.Tree.{order, above, BodyAt}
 use Rattle.abstract_tree.specs.Row as plain
 use Rattle.abstract_tree.specs.Row.{before-end, from-end}
 use Rattle.abstract_tree.specs.Edit.{leaf-here}
-use Rattle.abstract_tree.specs.Cursor as cursor
 use Rattle.abstract_tree.specs.Cursor.{last-of}
 use Rattle.abstract_tree.specs.Place.{front, behind, full, lastLeaf, end-made, total-is}
 use Rattle.theory.specs.Tree.{slotOf, slotsOf, treeOf, sum-slots}

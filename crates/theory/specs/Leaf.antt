@@ -23,7 +23,6 @@ use Rattle.model.specs.declared.shape.Shape.{Shape}
 use Rattle.laws.specs.Lists.{All-take, All-drop}
 use Rattle.abstract_tree.specs.Lists.{sumBy-cat, take-map, All-map}
 use Rattle.abstract_tree.specs.Levels.{Slot, Area, total, len, none}
-use Rattle.abstract_tree.specs.Update as add
 use Rattle.abstract_tree.specs.Update.{upd, upd-same, upd-other, setSlots}
 use Rattle.abstract_tree.specs.Insert as insert
 use Rattle.abstract_tree.specs.Insert.{Trunk, get, Into}

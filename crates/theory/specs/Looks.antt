@@ -2,12 +2,11 @@
 use mathlib.Core.Path.{_≡_, refl, sym, ap, _∙_, subst}
 use mathlib.Core.Logic.{_⊎_, inl, inr}
 use mathlib.Core.List.{[], _∷_, _++_, map}
-use Prim.Native.Nat.{ℕ, suc, _+_, _-_, _%_, _^_, _≤_, _<_}
+use Prim.Native.Nat.{ℕ, suc, _+_, _%_, _^_, _≤_, _<_}
 use native.Mathlib.Decide.{decLt}
 use native.Mathlib.Omega.{arith}
 use Rattle.model.specs.Lists.{sumBy, refusal}
 use Rattle.model.specs.Length.{viewNumber}
-use Rattle.model.specs.Node as node
 use Rattle.model.specs.Node.{child}
 use Rattle.model.specs.State.{State, state}
 use Rattle.model.specs.Locate.{finger, effectAt, servedBy, fromRoot}
@@ -22,7 +21,6 @@ use Rattle.model.specs.declared.length.View.{View}
 use Rattle.model.specs.declared.shape.Found.the-variants.{At, Nothing}
 use Rattle.model.specs.declared.head.Finger.{Finger}
 use Rattle.model.specs.declared.head.Held.the-variants as held
-use Rattle.model.specs.declared.walk.Descent.the-variants as descent
 use Rattle.model.specs.declared.walk.Search.{Search}
 use Rattle.model.specs.declared.walk.Search.the-variants as search
 use Rattle.model.specs.declared.answer.Named.{Named}

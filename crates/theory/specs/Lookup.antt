@@ -18,7 +18,6 @@ use Rattle.model.specs.State.{State}
 use Rattle.model.specs.Locate.{finger, served, servedBy, descend, leafOf, fromRoot}
 use Rattle.model.specs.Row as row
 use Rattle.model.specs.Sound.{leafIn, innerIn, shapeIn, SoundAt}
-use Rattle.model.specs.Calls as calls
 use Rattle.model.specs.declared.shape.Found.the-variants.{At, Nothing}
 use Rattle.model.specs.declared.head.Finger.{Finger}
 use Rattle.model.specs.declared.head.Held.{Held}
@@ -26,7 +25,6 @@ use Rattle.model.specs.declared.head.Held.the-variants as held
 use Rattle.model.specs.declared.walk.Descent.the-variants as descent
 use Rattle.model.specs.declared.walk.Search.{Search}
 use Rattle.model.specs.declared.walk.Search.the-variants as search
-use Rattle.model.specs.declared.answer.Located.the-variants as located
 use Rattle.abstract_tree.specs.Lists.{cat, cat-append, sumBy-append, sumBy-cat}
 use Rattle.abstract_tree.specs.Levels.{Slot, Area, total, len, climb}
 use Rattle.abstract_tree.specs.Pigeon.{In, is-in}

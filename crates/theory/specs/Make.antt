@@ -9,14 +9,14 @@ use native.Mathlib.Omega.{arith}
 use lib.Dec.{ltb}
 use lib.ListN.{length, length-set}
 use lib.Seq.{getD-set-same}
-use borrow.Author.Tests.{le-ltb, ltb-false}
+use borrow.Author.Tests.{ltb-false}
 use Rattle.model.specs.Lists.{All, refusal}
 use Rattle.model.specs.Length.{listOf}
 use Rattle.model.specs.Node.{Node, none, half, newNode}
 use Rattle.model.specs.State.{State, nodesFor, shape, nodeAt, putNode}
 use Rattle.model.specs.Row as row
 use Rattle.model.specs.Row.{madeRow, rowStep}
-use Rattle.model.specs.Sound.{shapeIn, Sound}
+use Rattle.model.specs.Sound.{Sound}
 use Rattle.model.specs.Calls as calls
 use Rattle.model.specs.Calls.{begun, makeCauses}
 use Rattle.model.specs.ById.{told, treeStep}
@@ -27,7 +27,6 @@ use Rattle.model.specs.declared.answer.Outcome.{Outcome}
 use Rattle.model.specs.declared.answer.Outcome.the-variants as outcome
 use Rattle.laws.specs.Areas.{node-same}
 use Rattle.theory.specs.Fits.{fits}
-use Rattle.abstract_tree.specs.Tree as tree
 use Rattle.abstract_tree.specs.Begin.{Fresh, fresh-body, fresh-row}
 use Rattle.theory.specs.Tidy.{tidy-made, tidy-formed}
 use Rattle.theory.specs.Tree.{slotOf, slotsOf, treeOf}

@@ -6,7 +6,6 @@ use native.Mathlib.Nat.{div-le-self}
 use native.Mathlib.Omega.{arith}
 use lib.Dec.{ltb}
 use lib.ListN.{length, length-map}
-use Rattle.model.specs.Node as node
 use Rattle.model.specs.Node.{Node, used, half}
 use Rattle.model.specs.State.{State, nodesFor}
 use Rattle.model.specs.Sound.{shapeIn, leafIn, innerIn, SoundAt, FingerRight}

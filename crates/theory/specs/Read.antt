@@ -2,7 +2,7 @@
 use mathlib.Core.Path.{_≡_, refl, sym, ap, ap₂, _∙_, subst}
 use mathlib.Core.Bool.{Bool, true, false, cond}
 use mathlib.Core.List.{List, [], _∷_, _++_, map}
-use Prim.Native.Nat.{ℕ, suc, _+_, _-_, _%_, _^_, _≤_, _<_}
+use Prim.Native.Nat.{ℕ, suc, _+_, _%_, _^_, _≤_, _<_}
 use native.Mathlib.Numerals.{add-one}
 use native.Mathlib.Omega.{arith}
 use lib.Dec.{ltb}
@@ -32,7 +32,6 @@ use Rattle.model.specs.declared.answer.Named.the-variants as named
 use Rattle.model.specs.declared.answer.Next.the-variants as next
 use Rattle.model.specs.declared.answer.Standing.the-variants as standing
 use Rattle.model.specs.declared.answer.Measured.the-variants as measured
-use Rattle.model.specs.declared.answer.Compared.the-variants as compared
 use Rattle.abstract_tree.specs.Lists.{sumBy-append, All-right}
 use Rattle.abstract_tree.specs.Levels.{Slot, total, len, climb}
 use Rattle.abstract_tree.specs.Next as follow

@@ -16,7 +16,6 @@ use Rattle.model.specs.Node.{Node, child, lengths, used, start, minus, withLeng
 use Rattle.model.specs.State.{State, state, nodeAt, putNode}
 use Rattle.model.specs.Climb.{climbUp}
 use Rattle.model.specs.Locate.{changing, rewound}
-use Rattle.model.specs.Place as place
 use Rattle.model.specs.Place.{Change, change, withFinger, replace, climb, summed}
 use Rattle.model.specs.Row as row
 use Rattle.model.specs.Row.{Entry, entry, Answer, done, refused, unless, before, changed, rowStep}
@@ -30,7 +29,6 @@ use Rattle.model.specs.declared.length.Lengths.{Lengths}
 use Rattle.model.specs.declared.head.Held.{Held}
 use Rattle.model.specs.declared.head.Held.the-variants as held
 use Rattle.model.specs.declared.walk.Sum.{Sum}
-use Rattle.model.specs.declared.walk.Sum.the-variants as sum
 use Rattle.model.specs.declared.answer.Outcome.the-variants as outcome
 use Rattle.model.specs.declared.answer.Number.the-variants as number
 use Rattle.laws.specs.Lists.{All-at, length-zip}

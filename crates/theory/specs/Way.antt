@@ -2,7 +2,7 @@
 use mathlib.Core.Path.{_≡_, refl, sym, ap, _∙_, subst}
 use mathlib.Core.Bool.{true}
 use mathlib.Core.List.{List, [], _∷_, _++_, append-assoc}
-use Prim.Native.Nat.{ℕ, zero, suc, _+_, _-_, _≤_, _<_}
+use Prim.Native.Nat.{ℕ, zero, suc, _+_, _≤_, _<_}
 use native.Mathlib.Omega.{arith}
 use lib.ListN.{length, take, length-append, length-map}
 use borrow.Author.Tests.{lt-ltb}
@@ -13,7 +13,6 @@ use Rattle.model.specs.State.{State}
 use Rattle.model.specs.Climb.{inside, rankUp, stepsUp}
 use Rattle.model.specs.Sound.{shapeIn, leafIn, innerIn}
 use Rattle.model.specs.declared.walk.Sum.the-variants as sum
-use Rattle.model.specs.declared.walk.Leaf.the-variants as leaf
 use Rattle.abstract_tree.specs.Lists.{All-right}
 use Rattle.abstract_tree.specs.Levels.{Area, Links, total, len, climb, Parent, find-parent}
 use Rattle.abstract_tree.specs.Next.{path}
