@@ -132,16 +132,22 @@ split-out h s s₁ s₂ t t′ A a B sn P₁ p P₂ st io cp e1 hv o =
       leafs = leaf-trans h s s₁ (insertChild h s₂ a sn) (hv .leafs) (leaf-trans h s₁ s₂ (insertChild h s₂ a sn) (inner-leaf h s₁ s₂ (o .leafs)) (i .leafs));
     }
 
--- `add_child`: sn put behind a, d levels above a; a full parent is halved first, its upper half put behind it in turn; a full root gets a root above
+-- the trunk with a node halved, with a's parent halved, and the slot of the half that is new
 abbrev pub halve : ℕ → ℕ → Trunk → ℕ → Trunk
 halve half h s p = halveAt h s p (take half (s .inner .slots p)) (drop half (s .inner .slots p))
 
+abbrev pub parentHalved : ℕ → ℕ → Trunk → ℕ → Trunk
+parentHalved half h s a = halve half h s ((get h s) .parent a)
+
+abbrev pub upperSlot : ℕ → ℕ → Trunk → ℕ → Slot
+upperSlot half h s a = slotOf (s .next) (total ((parentHalved half h s a) .inner) (s .next))
+
+-- `add_child`: sn put behind a, d levels above a; a full parent is halved first, its upper half put behind it in turn; a full root gets a root above
 abbrev pub addChild : (fan half : ℕ) → ℕ → ℕ → Trunk → ℕ → Slot → Trunk
 addChild fan half zero h s a sn = growRoot h s a sn
 addChild fan half (suc d) h s a sn =
     elim (eqb (length (s .inner .slots ((get h s) .parent a))) fan) [
-      | true ↦ insertChild h (addChild fan half d (suc h) (halve half h s ((get h s) .parent a)) ((get h s) .parent a)
-          (slotOf (s .next) (total ((halve half h s ((get h s) .parent a)) .inner) (s .next)))) a sn
+      | true ↦ insertChild h (addChild fan half d (suc h) (parentHalved half h s a) ((get h s) .parent a) (upperSlot half h s a)) a sn
       | false ↦ insertChild h s a sn
     ]
 
@@ -151,17 +157,13 @@ pub add-links : (fan half h : ℕ) (s : Trunk) (t t′ : ℕ → ℕ → ℕ) (A
 add-links fan half h s t t′ A a B sn [] io kept room = grow-out h s t t′ A a B sn io kept (omega arith)
 add-links fan half h s t t′ A a B sn (P ∷ st) io kept room =
     go (eqb (length (s .inner .slots ((get h s) .parent a))) fan) refl (find-parent t (get h s) (s .inner) A a B P (io .links .0))
-    (λ P₁ P₂ i r. add-links fan half (suc h) (halve half h s ((get h s) .parent a)) (total (s .inner)) (total ((halve half h s ((get h s) .parent a)) .inner)) P₁ ((get h s) .parent a) P₂
-    (slotOf (s .next) (total ((halve half h s ((get h s) .parent a)) .inner) (s .next))) st i refl r)
+    (λ P₁ P₂ i r. add-links fan half (suc h) (parentHalved half h s a) (total (s .inner)) (total ((parentHalved half h s a) .inner)) P₁ ((get h s) .parent a) P₂ (upperSlot half h s a) st i refl r)
   where
     full : Parent t (get h s) (s .inner) A a B P
-        → ((P₁ P₂ : List ℕ) → Into (suc h) (halve half h s ((get h s) .parent a)) (total (s .inner)) (total ((halve half h s ((get h s) .parent a)) .inner)) P₁ ((get h s) .parent a) P₂
-        (slotOf (s .next) (total ((halve half h s ((get h s) .parent a)) .inner) (s .next))) st
+        → ((P₁ P₂ : List ℕ) → Into (suc h) (parentHalved half h s a) (total (s .inner)) (total ((parentHalved half h s a) .inner)) P₁ ((get h s) .parent a) P₂ (upperSlot half h s a) st
         → suc (s .next) + length st < none
-        → Out (suc h) (halve half h s ((get h s) .parent a)) (addChild fan half (length st) (suc h) (halve half h s ((get h s) .parent a)) ((get h s) .parent a)
-        (slotOf (s .next) (total ((halve half h s ((get h s) .parent a)) .inner) (s .next)))) (total ((halve half h s ((get h s) .parent a)) .inner)) P₁ ((get h s) .parent a) P₂ (s .next) st)
-        → Out h s (insertChild h (addChild fan half (length st) (suc h) (halve half h s ((get h s) .parent a)) ((get h s) .parent a)
-        (slotOf (s .next) (total ((halve half h s ((get h s) .parent a)) .inner) (s .next)))) a sn) t′ A a B (sn .child) (P ∷ st)
+        → Out (suc h) (parentHalved half h s a) (addChild fan half (length st) (suc h) (parentHalved half h s a) ((get h s) .parent a) (upperSlot half h s a)) (total ((parentHalved half h s a) .inner)) P₁ ((get h s) .parent a) P₂ (s .next) st)
+        → Out h s (insertChild h (addChild fan half (length st) (suc h) (parentHalved half h s a) ((get h s) .parent a) (upperSlot half h s a)) a sn) t′ A a B (sn .child) (P ∷ st)
     full r ih =
         let p : ℕ = (get h s) .parent a in
         let io′ : Into h s t t′ A a B sn ((r .P₁ ++ p ∷ r .P₂) ∷ st) = subst (λ (Q : List ℕ). Into h s t t′ A a B sn (Q ∷ st)) (r .row) io in
@@ -173,11 +175,9 @@ add-links fan half h s t t′ A a B sn (P ∷ st) io kept room =
         (split-out h s (halve half h s p) (addChild fan half (length st) (suc h) (halve half h s p) p (slotOf (s .next) (total ((halve half h s p) .inner) (s .next)))) t t′ A a B sn (r .P₁) p (r .P₂) st io′ (omega arith) refl hv (ih (r .P₁) (r .P₂) (hv .into) (omega arith)))
 
     go : (b : Bool) → eqb (length (s .inner .slots ((get h s) .parent a))) fan ≡ b → Parent t (get h s) (s .inner) A a B P
-        → ((P₁ P₂ : List ℕ) → Into (suc h) (halve half h s ((get h s) .parent a)) (total (s .inner)) (total ((halve half h s ((get h s) .parent a)) .inner)) P₁ ((get h s) .parent a) P₂
-        (slotOf (s .next) (total ((halve half h s ((get h s) .parent a)) .inner) (s .next))) st
+        → ((P₁ P₂ : List ℕ) → Into (suc h) (parentHalved half h s a) (total (s .inner)) (total ((parentHalved half h s a) .inner)) P₁ ((get h s) .parent a) P₂ (upperSlot half h s a) st
         → suc (s .next) + length st < none
-        → Out (suc h) (halve half h s ((get h s) .parent a)) (addChild fan half (length st) (suc h) (halve half h s ((get h s) .parent a)) ((get h s) .parent a)
-        (slotOf (s .next) (total ((halve half h s ((get h s) .parent a)) .inner) (s .next)))) (total ((halve half h s ((get h s) .parent a)) .inner)) P₁ ((get h s) .parent a) P₂ (s .next) st)
+        → Out (suc h) (parentHalved half h s a) (addChild fan half (length st) (suc h) (parentHalved half h s a) ((get h s) .parent a) (upperSlot half h s a)) (total ((parentHalved half h s a) .inner)) P₁ ((get h s) .parent a) P₂ (s .next) st)
         → Out h s (addChild fan half (suc (length st)) h s a sn) t′ A a B (sn .child) (P ∷ st)
     go false e r ih = rw (e, addChild) (insert-out h s t t′ A a B sn P st io (omega arith))
     go true e r ih = rw (e, addChild) (full r ih)

@@ -14,7 +14,7 @@ use Rattle.abstract_tree.specs.Apart.{apart}
 use Rattle.abstract_tree.specs.Update.{upd, upd-same, upd-other, adopt, adoptAll, SameOwn}
 use Rattle.abstract_tree.specs.Insert.{Trunk, get, adoptAt, Num, num-map, at-slots, at-next, at-root, lessen, slotOf, insertAt, insertChild, insert-is, Into, Out, real, reals}
 use Rattle.abstract_tree.specs.Halve.{growAt, growRoot, halveAt, hv-own, hv-slots, hv-lower, hv-upper, Halved, halve-step}
-use Rattle.abstract_tree.specs.AddChild.{flips, own-kept, mid-into, halve, addChild, add-links}
+use Rattle.abstract_tree.specs.AddChild.{flips, own-kept, mid-into, halve, addChild, add-links, parentHalved, upperSlot}
 
 -- the sizes of the inner nodes in use
 abbrev pub size : Trunk → ℕ → ℕ
@@ -118,17 +118,13 @@ unfolding All
 fit-add m fan half h s t t′ A a B sn [] m2 h2 hf io kept room f big = fit-grow m fan half h s a sn m2 (omega arith) f (big refl)
 fit-add m fan half h s t t′ A a B sn (P ∷ st) m2 h2 hf io kept room f big =
     go (ℕ-discrete (length (s .inner .slots ((get h s) .parent a))) fan) (find-parent t (get h s) (s .inner) A a B P (io .links .0))
-    (λ P₁ P₂ i r f′ big′. fit-add m fan half (suc h) (halve half h s ((get h s) .parent a)) (total (s .inner)) (total ((halve half h s ((get h s) .parent a)) .inner)) P₁ ((get h s) .parent a) P₂
-    (slotOf (s .next) (total ((halve half h s ((get h s) .parent a)) .inner) (s .next))) st m2 h2 hf i refl r f′ big′)
+    (λ P₁ P₂ i r f′ big′. fit-add m fan half (suc h) (parentHalved half h s a) (total (s .inner)) (total ((parentHalved half h s a) .inner)) P₁ ((get h s) .parent a) P₂ (upperSlot half h s a) st m2 h2 hf i refl r f′ big′)
   where
     full : length (s .inner .slots ((get h s) .parent a)) ≡ fan → Parent t (get h s) (s .inner) A a B P
-        → ((P₁ P₂ : List ℕ) → Into (suc h) (halve half h s ((get h s) .parent a)) (total (s .inner)) (total ((halve half h s ((get h s) .parent a)) .inner)) P₁ ((get h s) .parent a) P₂
-        (slotOf (s .next) (total ((halve half h s ((get h s) .parent a)) .inner) (s .next))) st
-        → suc (s .next) + length st < none → Fit m fan half (halve half h s ((get h s) .parent a)) → (st ≡ [] → half ≤ size (halve half h s ((get h s) .parent a)) (s .root))
-        → Fit m fan half (addChild fan half (length st) (suc h) (halve half h s ((get h s) .parent a)) ((get h s) .parent a)
-        (slotOf (s .next) (total ((halve half h s ((get h s) .parent a)) .inner) (s .next)))))
-        → Fit m fan half (insertChild h (addChild fan half (length st) (suc h) (halve half h s ((get h s) .parent a)) ((get h s) .parent a)
-        (slotOf (s .next) (total ((halve half h s ((get h s) .parent a)) .inner) (s .next)))) a sn)
+        → ((P₁ P₂ : List ℕ) → Into (suc h) (parentHalved half h s a) (total (s .inner)) (total ((parentHalved half h s a) .inner)) P₁ ((get h s) .parent a) P₂ (upperSlot half h s a) st
+        → suc (s .next) + length st < none → Fit m fan half (parentHalved half h s a) → (st ≡ [] → half ≤ size (parentHalved half h s a) (s .root))
+        → Fit m fan half (addChild fan half (length st) (suc h) (parentHalved half h s a) ((get h s) .parent a) (upperSlot half h s a)))
+        → Fit m fan half (insertChild h (addChild fan half (length st) (suc h) (parentHalved half h s a) ((get h s) .parent a) (upperSlot half h s a)) a sn)
     full ef r ih =
         let p : ℕ = (get h s) .parent a in
         let q : ℕ = s .next in
@@ -173,11 +169,9 @@ fit-add m fan half h s t t′ A a B sn (P ∷ st) m2 h2 hf io kept room f big =
         fit-child m fan half h s₂ t A a B sn (r .P₁ ++ p ∷ q ∷ r .P₂) (md .links .0) (md .below .0) lt f₂
 
     go : Dec (length (s .inner .slots ((get h s) .parent a)) ≡ fan) → Parent t (get h s) (s .inner) A a B P
-        → ((P₁ P₂ : List ℕ) → Into (suc h) (halve half h s ((get h s) .parent a)) (total (s .inner)) (total ((halve half h s ((get h s) .parent a)) .inner)) P₁ ((get h s) .parent a) P₂
-        (slotOf (s .next) (total ((halve half h s ((get h s) .parent a)) .inner) (s .next))) st
-        → suc (s .next) + length st < none → Fit m fan half (halve half h s ((get h s) .parent a)) → (st ≡ [] → half ≤ size (halve half h s ((get h s) .parent a)) (s .root))
-        → Fit m fan half (addChild fan half (length st) (suc h) (halve half h s ((get h s) .parent a)) ((get h s) .parent a)
-        (slotOf (s .next) (total ((halve half h s ((get h s) .parent a)) .inner) (s .next)))))
+        → ((P₁ P₂ : List ℕ) → Into (suc h) (parentHalved half h s a) (total (s .inner)) (total ((parentHalved half h s a) .inner)) P₁ ((get h s) .parent a) P₂ (upperSlot half h s a) st
+        → suc (s .next) + length st < none → Fit m fan half (parentHalved half h s a) → (st ≡ [] → half ≤ size (parentHalved half h s a) (s .root))
+        → Fit m fan half (addChild fan half (length st) (suc h) (parentHalved half h s a) ((get h s) .parent a) (upperSlot half h s a)))
         → Fit m fan half (addChild fan half (suc (length st)) h s a sn)
     go (no ne) r ih = rw (ne-eqb (length (s .inner .slots ((get h s) .parent a))) fan ne, addChild)
         (fit-child m fan half h s t A a B sn P (io .links .0) (io .below .0)

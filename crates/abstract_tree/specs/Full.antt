@@ -14,7 +14,7 @@ use Rattle.abstract_tree.specs.Apart.{links-nodup, apart}
 use Rattle.abstract_tree.specs.Update.{SameOwn, adoptAll, total-same}
 use Rattle.abstract_tree.specs.Insert.{Trunk, get, Into, Out, Num, num-map, slotOf, real, reals}
 use Rattle.abstract_tree.specs.Halve.{Halved, halve-step, hv-own, hv-lower, hv-upper}
-use Rattle.abstract_tree.specs.AddChild.{flips, own-kept, mid-into, halve, addChild, add-links}
+use Rattle.abstract_tree.specs.AddChild.{flips, own-kept, mid-into, halve, addChild, add-links, parentHalved, upperSlot}
 use Rattle.abstract_tree.specs.Fit.{either-parent}
 
 -- the mark at a place
@@ -62,8 +62,8 @@ new-kept (suc h) s s₁ s₂ t C P₁ p P₂ st c hv o e n =
 
 pub full-step : (fan half h : ℕ) (s : Trunk) (t t′ : ℕ → ℕ → ℕ) (A : List ℕ) (a : ℕ) (B : List ℕ) (sn : Slot) (P : List ℕ) (st : List (List ℕ))
     → 2 ≤ half → half + half ≤ fan → Into h s t t′ A a B sn (P ∷ st) → s .next + length (P ∷ st) < none → length (s .inner .slots ((get h s) .parent a)) ≡ fan
-    → Full fan half h s (halve half h s ((get h s) .parent a))
-    (addChild fan half (length st) (suc h) (halve half h s ((get h s) .parent a)) ((get h s) .parent a) (slotOf (s .next) (total ((halve half h s ((get h s) .parent a)) .inner) (s .next))))
+    → Full fan half h s (parentHalved half h s a)
+    (addChild fan half (length st) (suc h) (parentHalved half h s a) ((get h s) .parent a) (upperSlot half h s a))
     t t′ A a B sn ((get h s) .parent a) P st
 unfolding All
 full-step fan half h s t t′ A a B sn P st h2 hf io room ef = go (find-parent t (get h s) (s .inner) A a B P (io .links .0))
@@ -78,7 +78,7 @@ full-step fan half h s t t′ A a B sn P st h2 hf io room ef = go (find-parent t
     s₁ = halve half h s ((get h s) .parent a)
 
     s₂ : Trunk
-    s₂ = addChild fan half (length st) (suc h) (halve half h s ((get h s) .parent a)) ((get h s) .parent a) (slotOf (s .next) (total ((halve half h s ((get h s) .parent a)) .inner) (s .next)))
+    s₂ = addChild fan half (length st) (suc h) (parentHalved half h s a) ((get h s) .parent a) (upperSlot half h s a)
 
     go : Parent t (get h s) (s .inner) A a B P → Full fan half h s s₁ s₂ t t′ A a B sn p P st
     go r =
