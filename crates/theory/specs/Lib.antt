@@ -29,6 +29,7 @@ pub mod Divide
 pub mod Grow
 pub mod Leaf
 pub mod Room
+pub mod Gap
 pub mod Enter
 pub mod Placed
 pub mod Inserts

@@ -4,7 +4,7 @@ use mathlib.Core.List.{List, _∷_, _++_, map}
 use Prim.Native.Nat.{ℕ, suc, _%_, _^_, _<_, _≤_}
 use native.Mathlib.Nat.{add-zero}
 use native.Mathlib.Omega.{arith}
-use lib.ListN.{length, getD, take, drop, length-map}
+use lib.ListN.{length, getD, take, drop}
 use borrow.Author.Tests.{lt-ltb, le-leb}
 use Rattle.model.specs.Lists.{sumBy}
 use Rattle.model.specs.Length.{listOf}
@@ -25,16 +25,15 @@ use Rattle.abstract_tree.specs.Insert as insert
 use Rattle.abstract_tree.specs.Update.{upd}
 use Rattle.abstract_tree.specs.Tree as tree
 use Rattle.abstract_tree.specs.Tree.{Tree, above, BodyAt}
-use Rattle.abstract_tree.specs.Edit.{leaf-here}
 use Rattle.abstract_tree.specs.Change.{withLeaf}
-use Rattle.abstract_tree.specs.Calls.{spot, makeRoom, Room, Made, Done, putIn, put-done}
+use Rattle.abstract_tree.specs.Calls.{spot, makeRoom, Made, Done, putIn, put-done}
 use Rattle.theory.specs.Tidy.{Tidy}
 use Rattle.theory.specs.Tree.{slotOf, slotsOf, treeOf}
-use Rattle.theory.specs.Neat.{size-is, neat-of}
 use Rattle.theory.specs.Up.{sound-up}
 use Rattle.theory.specs.Entries.{firsts, entryFrom, split-entries}
 use Rattle.theory.specs.Carry.{slot-of, Carried}
-use Rattle.theory.specs.Room.{grownState, Roomed, roomed, climbed, rank-sum}
+use Rattle.theory.specs.Room.{Roomed, climbed, rank-sum}
+use Rattle.theory.specs.Gap.{opened, leafWith, Gap, gap}
 use Rattle.theory.specs.Enter.{entered, entered-read, entered-neat, entered-tree, put-is, put-tidy, put-slots-are, put-start}
 use Rattle.theory.specs.Agree.{entries-are}
 
@@ -54,42 +53,21 @@ module _ (t : State) (w : Sound t) (A : List ℕ) (k : ℕ) (B : List ℕ) (b : 
   abbrev new : ℕ → ℕ
   new u = getD (listOf l) u 0
 
-  q : Roomed 3 t k i
-  q = roomed 3 (omega arith) t (neat-of 3 t 1 w) A k B (above (treeOf 3 t)) b i le
+  gp : Gap t k i R₁ R₂
+  gp = gap t k i w A B b le R₁ R₂ md
+
+  abbrev q : Roomed 3 t k i
+  q = gp .room
 
   abbrev t₁ : State
-  t₁ = grownState t (q .root) (q .levels) (q .leaves) (q .inners) (q .ls) (q .xs) (q .hs)
+  t₁ = opened t k i q
 
-  md₁ : Made 1 (treeOf 3 t) k i (spot (treeOf 3 t₁) (q .leaf) (q .slot)) R₁ R₂
-  md₁ = subst (λ p. Made 1 (treeOf 3 t) k i p R₁ R₂) (sym (q .spot)) md
-
-  r : Room 1 (treeOf 3 t) (spot (treeOf 3 t₁) (q .leaf) (q .slot)) R₁ R₂
-  r = md₁ .room
-
-  lk : q .leaf < q .leaves
-  lk = leaf-here (treeOf 3 t₁) (r .A) (q .leaf) (r .B) (r .st) (r .body)
-
-  m : Node
-  m = leafIn 3 t₁ (q .leaf)
-
-  td : Tidy 3 (t .head .fan) m
-  unfolding m
-  td = q .neat .leaf-tidy (q .leaf) lk
-
-  sz : length (slotsOf m) ≡ length (used m)
-  sz = length-map (used m) slotOf
+  abbrev m : Node
+  m = leafWith t k i q
 
   lj : q .slot ≤ length (used m)
-  unfolding m
-  lj = (let z = r .fits in omega (arith, sz))
-
-  lr : length (used m) < t .head .fan
-  unfolding m
-  lr = (let z = md₁ .space in omega (arith, sz))
-
-  ll : length (slotsOf m) ≡ m .len
-  unfolding m
-  ll = size-is 3 (t .head .fan) (leafIn 3 t₁ (q .leaf)) (q .neat .leaf-tidy (q .leaf) lk)
+  unfolding leafWith
+  lj = (let z = gp .made .room .fits in omega (arith, gp .count))
 
   x : List ℕ
   x = t .head .entries ∷ listOf l
@@ -99,36 +77,36 @@ module _ (t : State) (w : Sound t) (A : List ℕ) (k : ℕ) (B : List ℕ) (b : 
 
   td₂ : Tidy 3 (t .head .fan) m₂
   unfolding m₂ x
-  td₂ = put-tidy 3 (t .head .fan) (omega arith) m td (q .slot) x lj lr refl
+  td₂ = put-tidy 3 (t .head .fan) (omega arith) m (gp .tidy) (q .slot) x lj (gp .free) refl
 
   pa : leafIn 3 t₁ (q .leaf) .parent ≡ m₂ .parent
-  unfolding m₂ m x
-  pa = sym (ap (λ (n : Node). n .parent) (put-is 3 (t .head .fan) (omega arith) m td (q .slot) x lj lr refl))
+  unfolding m₂ leafWith x
+  pa = sym (ap (λ (n : Node). n .parent) (put-is 3 (t .head .fan) (omega arith) m (gp .tidy) (q .slot) x lj (gp .free) refl))
 
   at : leafIn 3 t₁ (q .leaf) .at ≡ m₂ .at
-  unfolding m₂ m x
-  at = sym (ap (λ (n : Node). n .at) (put-is 3 (t .head .fan) (omega arith) m td (q .slot) x lj lr refl))
+  unfolding m₂ leafWith x
+  at = sym (ap (λ (n : Node). n .at) (put-is 3 (t .head .fan) (omega arith) m (gp .tidy) (q .slot) x lj (gp .free) refl))
 
   cr : Carried (shapeIn 3 t₁) (listOf l) (q .inners) 1 (q .levels) (leafIn 3 t₁ (q .leaf) .parent) (leafIn 3 t₁ (q .leaf) .at) (start 1 (q .slot) (leafIn 3 t₁ (q .leaf))) (q .xs)
-  cr = climbed 3 (omega arith) t₁ (q .neat) (r .A) (q .leaf) (r .B) (r .st) (r .body) (listOf l) refl 1 (start 1 (q .slot) (leafIn 3 t₁ (q .leaf)))
+  cr = climbed 3 (omega arith) t₁ (q .neat) (gp .made .room .A) (q .leaf) (gp .made .room .B) (gp .made .room .st) (gp .made .room .body) (listOf l) refl 1 (start 1 (q .slot) (leafIn 3 t₁ (q .leaf)))
 
   t₃ : State
   t₃ = entered 3 t₁ (q .leaf) (q .slot) m₂ (cr .words)
 
   tree-is : treeOf 3 t₃ ≡ putIn (treeOf 3 t₁) (q .leaf) (q .slot) new
-  unfolding t₃ m₂ m x
+  unfolding t₃ m₂ leafWith x
   tree-is =
-      entered-tree 3 (omega arith) t₁ (q .neat) (q .leaf) (q .slot) lk m₂ td₂ pa at few (cr .words)
+      entered-tree 3 (omega arith) t₁ (q .neat) (q .leaf) (q .slot) (gp .leaf-in) m₂ td₂ pa at few (cr .words)
       ∙ ap₂ (λ (ss : List Slot) (up : Area). withLeaf (treeOf 3 t₁) (q .leaf) ss up (upd (treeOf 3 t₁ .homes) (t .head .entries) (q .leaf)) (suc (t .head .entries)) (changing (q .leaf) (q .slot) (t .head .finger)))
-      (put-slots-are 3 (t .head .fan) (omega arith) m td (q .slot) x lj lr refl ∙ ap (λ (y : Slot). take (q .slot) (slotsOf m) ++ y ∷ drop (q .slot) (slotsOf m)) (slot-of (t .head .entries) (listOf l)))
+      (put-slots-are 3 (t .head .fan) (omega arith) m (gp .tidy) (q .slot) x lj (gp .free) refl ∙ ap (λ (y : Slot). take (q .slot) (slotsOf m) ++ y ∷ drop (q .slot) (slotsOf m)) (slot-of (t .head .entries) (listOf l)))
       (cr .area)
 
   done-is : Done 1 (spot (treeOf 3 t₁) (q .leaf) (q .slot)) R₁ (putIn (treeOf 3 t₁) (q .leaf) (q .slot) new) (R₁ ++ insert.slotOf (t .head .entries) new ∷ R₂)
-  done-is = put-done 1 (treeOf 3 t) (spot (treeOf 3 t₁) (q .leaf) (q .slot)) R₁ R₂ r new (md₁ .space) few tot
+  done-is = put-done 1 (treeOf 3 t) (spot (treeOf 3 t₁) (q .leaf) (q .slot)) R₁ R₂ (gp .made .room) new (gp .made .space) few tot
 
   sound₃ : Sound t₃
   unfolding t₃
-  sound₃ = sound-up 3 t₃ 1 (entered-neat 3 (omega arith) t₁ (q .neat) (q .leaf) (q .slot) lk m₂ td₂ pa at few (cr .words) (cr .keeps)) (subst (tree.Sound 1) (sym tree-is) (done-is .sound))
+  sound₃ = sound-up 3 t₃ 1 (entered-neat 3 (omega arith) t₁ (q .neat) (q .leaf) (q .slot) (gp .leaf-in) m₂ td₂ pa at few (cr .words) (cr .keeps)) (subst (tree.Sound 1) (sym tree-is) (done-is .sound))
 
   entries₃ : entriesOf t₃ ≡ map (entryFrom 2) R₁ ++ entry (t .head .entries) (listOf l) ∷ map (entryFrom 2) R₂
   unfolding firsts
@@ -136,21 +114,21 @@ module _ (t : State) (w : Sound t) (A : List ℕ) (k : ℕ) (B : List ℕ) (b : 
 
   -- the model's steps
   entered-is : place.place (shapeIn 3 t) t k i (listOf l) ≡ change 0 (entered 3 t₁ (q .leaf) (q .slot) m₂ (q .xs)) (q .leaf) (q .slot)
-  unfolding place.place enter m₂ m x
+  unfolding place.place enter m₂ leafWith x
   entered-is = rw (
     q .is,
-    lt-ltb (q .leaf) (shapeIn 3 t .nodes) (let z = q .neat .leaf-count in let y = lk in omega arith),
+    lt-ltb (q .leaf) (shapeIn 3 t .nodes) (let z = q .neat .leaf-count in let y = gp .leaf-in in omega arith),
     add-zero (q .slot),
-    le-leb (q .slot) (leafIn 3 t₁ (q .leaf) .len) (let z = r .fits in omega (arith, ll)),
-    lt-ltb (leafIn 3 t₁ (q .leaf) .len) (t .head .fan) (let z = md₁ .space in omega (arith, ll)),
+    le-leb (q .slot) (leafIn 3 t₁ (q .leaf) .len) (let z = gp .made .room .fits in omega (arith, gp .len)),
+    lt-ltb (leafIn 3 t₁ (q .leaf) .len) (t .head .fan) (let z = gp .made .space in omega (arith, gp .len)),
   )
 
   front-small : sumBy (len 1) R₁ < 4294967296
   front-small = (let z = sumBy-append (len 1) R₁ (insert.slotOf (t .head .entries) new ∷ R₂) in omega (arith, tot 1))
 
   start-same : start 1 (q .slot) m₂ ≡ start 1 (q .slot) (leafIn 3 t₁ (q .leaf))
-  unfolding m₂ m x
-  start-same = put-start 3 (t .head .fan) (omega arith) m td (q .slot) x lj lr refl 1
+  unfolding m₂ leafWith x
+  start-same = put-start 3 (t .head .fan) (omega arith) m (gp .tidy) (q .slot) x lj (gp .free) refl 1
 
   climb-is : climb (shapeIn 3 t) 1 (listOf l) (change 0 (entered 3 t₁ (q .leaf) (q .slot) m₂ (q .xs)) (q .leaf) (q .slot)) ≡ (change 0 t₃ (q .leaf) (q .slot), sumBy (len 1) R₁)
   unfolding climb t₃
@@ -159,10 +137,10 @@ module _ (t : State) (w : Sound t) (A : List ℕ) (k : ℕ) (B : List ℕ) (b : 
       let c : Change = change 0 (entered 3 t₁ (q .leaf) (q .slot) m₂ (q .xs)) (q .leaf) (q .slot) in
       let n : ℕ = sumBy (len 1) R₁ in
       let small : n % 2 ^ 32 ≡ n = (let z = front-small in omega arith) in
-      ap (λ (y : Node). summed g c (climbUp g 1 (listOf l) (q .levels) (y .parent) (y .at) (start 1 (q .slot) y) (q .xs))) (entered-read 3 (omega arith) t₁ (q .neat) (q .leaf) (q .slot) lk m₂ td₂ pa at few)
+      ap (λ (y : Node). summed g c (climbUp g 1 (listOf l) (q .levels) (y .parent) (y .at) (start 1 (q .slot) y) (q .xs))) (entered-read 3 (omega arith) t₁ (q .neat) (q .leaf) (q .slot) (gp .leaf-in) m₂ td₂ pa at few)
       ∙ ap₂ (λ (u v : ℕ). summed g c (climbUp g 1 (listOf l) (q .levels) u v (start 1 (q .slot) m₂) (q .xs))) (sym pa) (sym at)
       ∙ ap (λ (a : ℕ). summed g c (climbUp g 1 (listOf l) (q .levels) (leafIn 3 t₁ (q .leaf) .parent) (leafIn 3 t₁ (q .leaf) .at) a (q .xs))) start-same
-      ∙ ap (summed g c) (cr .is ∙ ap (λ (z : Sum). (z, cr .words)) (rank-sum 3 (omega arith) t₁ (q .neat) (r .A) (q .leaf) (r .B) (r .st) (r .body) 1 (q .slot) (r .fits) ∙ ap (λ (R : List Slot). sum.Is (sumBy (len 1) R)) (r .front)))
+      ∙ ap (summed g c) (cr .is ∙ ap (λ (z : Sum). (z, cr .words)) (rank-sum 3 (omega arith) t₁ (q .neat) (gp .made .room .A) (q .leaf) (gp .made .room .B) (gp .made .room .st) (gp .made .room .body) 1 (q .slot) (gp .made .room .fits) ∙ ap (λ (R : List Slot). sum.Is (sumBy (len 1) R)) (gp .made .room .front)))
       ∙ ap (λ (z : ℕ). (change 0 (state (c .state .head) (c .state .leaves) (cr .words) (c .state .homes)) (q .leaf) (q .slot), z)) small
 
   pub placed-is : Placed t k i R₁ R₂ l

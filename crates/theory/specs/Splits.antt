@@ -7,7 +7,7 @@ use native.Mathlib.Nat.{add-zero}
 use native.Mathlib.Decide.{decLt}
 use native.Mathlib.Omega.{arith}
 use lib.Dec.{ltb, leb}
-use lib.ListN.{length, getD, take, drop, length-map, length-append, List·getD-eq-default}
+use lib.ListN.{length, getD, take, drop, length-append, List·getD-eq-default}
 use lib.Seq.{drop-cons, getD-append-add, length-take-le}
 use borrow.Author.Tests.{lt-ltb, le-leb, ltb-false, leb-false}
 use Rattle.model.specs.Lists.{sumBy, some, Cause, refusal}
@@ -33,11 +33,10 @@ use Rattle.abstract_tree.specs.Levels.{noSlot, Slot, len}
 use Rattle.abstract_tree.specs.Insert as insert
 use Rattle.abstract_tree.specs.Update.{upd}
 use Rattle.abstract_tree.specs.Tree as tree
-use Rattle.abstract_tree.specs.Tree.{Tree, above}
+use Rattle.abstract_tree.specs.Tree.{Tree}
 use Rattle.abstract_tree.specs.Edit as ops
-use Rattle.abstract_tree.specs.Edit.{leaf-here}
 use Rattle.abstract_tree.specs.Change.{withLeaf}
-use Rattle.abstract_tree.specs.Calls.{slotAt, spot, Room, Made, Done, divideIn, divide-done}
+use Rattle.abstract_tree.specs.Calls.{slotAt, spot, Done, divideIn, divide-done}
 use Rattle.abstract_tree.specs.Place.{front, behind}
 use Rattle.theory.specs.Tidy.{Tidy}
 use Rattle.theory.specs.Tree.{slotOf, slotsOf, areaOf, treeOf}
@@ -50,7 +49,8 @@ use Rattle.theory.specs.Entries.{firsts, getD-firsts, entryFrom}
 use Rattle.theory.specs.Open.{passed, stopped, opens, fresh-at, Seat}
 use Rattle.theory.specs.Carry.{slot-of, lengths-at}
 use Rattle.theory.specs.Resize.{some-views}
-use Rattle.theory.specs.Room.{grownState, Roomed, roomed}
+use Rattle.theory.specs.Room.{Roomed}
+use Rattle.theory.specs.Gap.{opened, leafWith, Gap, gap}
 use Rattle.theory.specs.Enter.{entered, entered-read, entered-neat, entered-tree}
 use Rattle.theory.specs.Halved.{halved-tidy, halved-parent, halved-at, halved-slots}
 use Rattle.theory.specs.Agree.{Stands, Agrees, rowOf, row-passed, row-stopped, own, entries-are, count-is, by-id, before-is, from-is, slot-is}
@@ -92,50 +92,29 @@ module _ (t : State) (w : Sound t) (i : ℕ) (c : Seat t w i) (l : Lengths) (fla
 
   -- where the entry has the lengths that leave it, and the tree has room for one entry more
   module _ (enough : (v : ℕ) → new v ≤ e .lens v) (few : t .head .entries < t .head .limit) where
-    q : Roomed 3 t (c .leaf) (c .slot)
-    q = roomed 3 (omega arith) t (neat-of 3 t 1 w) (c .cur .A) (c .leaf) (c .cur .B) (above (treeOf 3 t)) (c .cur .body) (c .slot) (let z = c .cur .inside in omega arith)
+    gp : Gap t (c .leaf) (c .slot) R₁ (e ∷ R₃)
+    gp = gap t (c .leaf) (c .slot) w (c .cur .A) (c .cur .B) (c .cur .body) (let z = c .cur .inside in omega arith) R₁ (e ∷ R₃) (c .cur .made)
+
+    abbrev q : Roomed 3 t (c .leaf) (c .slot)
+    q = gp .room
 
     abbrev t₁ : State
-    t₁ = grownState t (q .root) (q .levels) (q .leaves) (q .inners) (q .ls) (q .xs) (q .hs)
+    t₁ = opened t (c .leaf) (c .slot) q
 
-    md₁ : Made 1 (treeOf 3 t) (c .leaf) (c .slot) (spot (treeOf 3 t₁) (q .leaf) (q .slot)) R₁ (e ∷ R₃)
-    md₁ = subst (λ p. Made 1 (treeOf 3 t) (c .leaf) (c .slot) p R₁ (e ∷ R₃)) (sym (q .spot)) (c .cur .made)
-
-    r : Room 1 (treeOf 3 t) (spot (treeOf 3 t₁) (q .leaf) (q .slot)) R₁ (e ∷ R₃)
-    r = md₁ .room
-
-    lk : q .leaf < q .leaves
-    lk = leaf-here (treeOf 3 t₁) (r .A) (q .leaf) (r .B) (r .st) (r .body)
-
-    m : Node
-    m = leafIn 3 t₁ (q .leaf)
-
-    td : Tidy 3 (t .head .fan) m
-    unfolding m
-    td = q .neat .leaf-tidy (q .leaf) lk
-
-    sz : length (slotsOf m) ≡ length (used m)
-    sz = length-map (used m) slotOf
+    abbrev m : Node
+    m = leafWith t (c .leaf) (c .slot) q
 
     ins : q .slot < length (slotsOf (leafIn 3 t₁ (q .leaf)))
-    ins = md₁ .inside (c .cur .inside)
+    ins = gp .made .inside (c .cur .inside)
 
     lj : q .slot < length (used m)
-    unfolding m
-    lj = (let z = ins in omega (arith, sz))
-
-    lr : length (used m) < t .head .fan
-    unfolding m
-    lr = (let z = md₁ .space in omega (arith, sz))
-
-    ll : length (slotsOf m) ≡ m .len
-    unfolding m
-    ll = size-is 3 (t .head .fan) (leafIn 3 t₁ (q .leaf)) (q .neat .leaf-tidy (q .leaf) lk)
+    unfolding leafWith
+    lj = (let z = ins in omega (arith, gp .count))
 
     -- the slot there is the entry's
     here : slotOf (getD (used m) (q .slot) []) ≡ e
-    unfolding m
-    here = sym (getD-slot (used m) (q .slot) lj) ∙ head-eq-of-cons-eq (ap (λ (y : List Slot). y ++ cat (treeOf 3 t₁ .body .leaf .slots) (r .B)) (sym (drop-cons (slotsOf m) (q .slot) noSlot ins)) ∙ r .rest)
+    unfolding leafWith
+    here = sym (getD-slot (used m) (q .slot) lj) ∙ head-eq-of-cons-eq (ap (λ (y : List Slot). y ++ cat (treeOf 3 t₁ .body .leaf .slots) (gp .made .room .B)) (sym (drop-cons (slotsOf m) (q .slot) noSlot ins)) ∙ gp .made .room .rest)
 
     x : List ℕ
     x = t .head .entries ∷ listOf l
@@ -157,31 +136,31 @@ module _ (t : State) (w : Sound t) (i : ℕ) (c : Seat t w i) (l : Lengths) (fla
 
     td₂ : Tidy 3 (t .head .fan) m₂
     unfolding m₂ x
-    td₂ = halved-tidy 3 (t .head .fan) (omega arith) m td (q .slot) x lj lr refl le small flag
+    td₂ = halved-tidy 3 (t .head .fan) (omega arith) m (gp .tidy) (q .slot) x lj (gp .free) refl le small flag
 
     pa : leafIn 3 t₁ (q .leaf) .parent ≡ m₂ .parent
-    unfolding m₂ m x
-    pa = halved-parent 3 (t .head .fan) (omega arith) m td (q .slot) x lj lr refl le small flag
+    unfolding m₂ leafWith x
+    pa = halved-parent 3 (t .head .fan) (omega arith) m (gp .tidy) (q .slot) x lj (gp .free) refl le small flag
 
     at : leafIn 3 t₁ (q .leaf) .at ≡ m₂ .at
-    unfolding m₂ m x
-    at = halved-at 3 (t .head .fan) (omega arith) m td (q .slot) x lj lr refl le small flag
+    unfolding m₂ leafWith x
+    at = halved-at 3 (t .head .fan) (omega arith) m (gp .tidy) (q .slot) x lj (gp .free) refl le small flag
 
     t₃ : State
     t₃ = entered 3 t₁ (q .leaf) (q .slot) m₂ (q .xs)
 
     tree-is : treeOf 3 t₃ ≡ divideIn flag (treeOf 3 t₁) (q .leaf) (q .slot) new
-    unfolding t₃ m₂ m x
-    tree-is = entered-tree 3 (omega arith) t₁ (q .neat) (q .leaf) (q .slot) lk m₂ td₂ pa at few (q .xs)
+    unfolding t₃ m₂ leafWith x
+    tree-is = entered-tree 3 (omega arith) t₁ (q .neat) (q .leaf) (q .slot) (gp .leaf-in) m₂ td₂ pa at few (q .xs)
         ∙ ap (λ (ss : List Slot). withLeaf (treeOf 3 t₁) (q .leaf) ss (areaOf (shapeIn 3 t₁) (q .xs)) (upd (treeOf 3 t₁ .homes) (t .head .entries) (q .leaf)) (suc (t .head .entries)) (changing (q .leaf) (q .slot) (t .head .finger)))
-        (halved-slots 3 (t .head .fan) (omega arith) m td (q .slot) x lj lr refl le small flag (t .head .entries) new x-is)
+        (halved-slots 3 (t .head .fan) (omega arith) m (gp .tidy) (q .slot) x lj (gp .free) refl le small flag (t .head .entries) new x-is)
 
     done-is : Done 1 (spot (treeOf 3 t₁) (q .leaf) (q .slot)) R₁ (divideIn flag (treeOf 3 t₁) (q .leaf) (q .slot) new) (R₁ ++ ops.divided flag e new (t .head .entries) R₃)
-    done-is = divide-done 1 flag (treeOf 3 t) (spot (treeOf 3 t₁) (q .leaf) (q .slot)) R₁ e R₃ r new ins (md₁ .space) few enough
+    done-is = divide-done 1 flag (treeOf 3 t) (spot (treeOf 3 t₁) (q .leaf) (q .slot)) R₁ e R₃ (gp .made .room) new ins (gp .made .space) few enough
 
     sound₃ : Sound t₃
     unfolding t₃
-    sound₃ = sound-up 3 t₃ 1 (entered-neat 3 (omega arith) t₁ (q .neat) (q .leaf) (q .slot) lk m₂ td₂ pa at few (q .xs) (inner-keeps 3 t₁ (q .neat))) (subst (tree.Sound 1) (sym tree-is) (done-is .sound))
+    sound₃ = sound-up 3 t₃ 1 (entered-neat 3 (omega arith) t₁ (q .neat) (q .leaf) (q .slot) (gp .leaf-in) m₂ td₂ pa at few (q .xs) (inner-keeps 3 t₁ (q .neat))) (subst (tree.Sound 1) (sym tree-is) (done-is .sound))
 
     -- the row's entries, divided
     divided-entries : (b : Bool) → map (entryFrom 2) (ops.divided b e new (t .head .entries) R₃)
@@ -203,21 +182,21 @@ module _ (t : State) (w : Sound t) (i : ℕ) (c : Seat t w i) (l : Lengths) (fla
 
     -- the model's step
     divide-is : place.divide (shapeIn 3 t) flag t (c .leaf) (c .slot) (listOf l) ≡ change 0 t₃ (q .leaf) (q .slot)
-    unfolding place.divide enter m₂ m x t₃
+    unfolding place.divide enter m₂ leafWith x t₃
     divide-is = rw (
       q .is,
-      lt-ltb (q .leaf) (shapeIn 3 t .nodes) (let z = q .neat .leaf-count in let y = lk in omega arith),
-      le-leb (q .slot + 1) (leafIn 3 t₁ (q .leaf) .len) (let z = ins in omega (arith, ll)),
-      lt-ltb (leafIn 3 t₁ (q .leaf) .len) (t .head .fan) (let z = md₁ .space in omega (arith, ll)),
+      lt-ltb (q .leaf) (shapeIn 3 t .nodes) (let z = q .neat .leaf-count in let y = gp .leaf-in in omega arith),
+      le-leb (q .slot + 1) (leafIn 3 t₁ (q .leaf) .len) (let z = ins in omega (arith, gp .len)),
+      lt-ltb (leafIn 3 t₁ (q .leaf) .len) (t .head .fan) (let z = gp .made .space in omega (arith, gp .len)),
     )
 
     -- the leaf of the entry in it
     slots₃ : slotsOf (leafIn 3 t₃ (q .leaf)) ≡ take (q .slot) (slotsOf m) ++ ops.divided flag (getD (slotsOf m) (q .slot) noSlot) new (t .head .entries) (drop (suc (q .slot)) (slotsOf m))
-    unfolding t₃ m₂ m x
-    slots₃ = ap slotsOf (entered-read 3 (omega arith) t₁ (q .neat) (q .leaf) (q .slot) lk m₂ td₂ pa at few) ∙ halved-slots 3 (t .head .fan) (omega arith) m td (q .slot) x lj lr refl le small flag (t .head .entries) new x-is
+    unfolding t₃ m₂ leafWith x
+    slots₃ = ap slotsOf (entered-read 3 (omega arith) t₁ (q .neat) (q .leaf) (q .slot) (gp .leaf-in) m₂ td₂ pa at few) ∙ halved-slots 3 (t .head .fan) (omega arith) m (gp .tidy) (q .slot) x lj (gp .free) refl le small flag (t .head .entries) new x-is
 
     parted₃ : TwoParts flag i (t .head .entries) t₃ (q .leaf) (q .slot)
-    unfolding t₃ m
+    unfolding t₃ leafWith
     parted₃ =
         let F : List Slot = take (q .slot) (slotsOf m) in
         let y : Slot = getD (slotsOf m) (q .slot) noSlot in
@@ -226,11 +205,11 @@ module _ (t : State) (w : Sound t) (i : ℕ) (c : Seat t w i) (l : Lengths) (fla
         let own : y .child ≡ i = ap (λ (z : Slot). z .child) (getD-slot (used m) (q .slot) lj ∙ here) ∙ c .cur .own in
         let lf : length F ≡ q .slot = length-take-le (q .slot) (slotsOf m) (let z = ins in omega arith) in
         let at : (n : ℕ) → slotAt (treeOf 3 t₃) (q .leaf) (q .slot + n) ≡ getD D n noSlot = λ n. ap₂ (λ (l : List Slot) (k : ℕ). getD l (k + n) noSlot) slots₃ (sym lf) ∙ getD-append-add F D n noSlot in
-        let sz : length (slotsOf (leafIn 3 t₃ (q .leaf))) ≡ leafIn 3 t₃ (q .leaf) .len = size-is 3 (t .head .fan) (leafIn 3 t₃ (q .leaf)) (neat-of 3 t₃ 1 sound₃ .leaf-tidy (q .leaf) lk) in
+        let sz : length (slotsOf (leafIn 3 t₃ (q .leaf))) ≡ leafIn 3 t₃ (q .leaf) .len = size-is 3 (t .head .fan) (leafIn 3 t₃ (q .leaf)) (neat-of 3 t₃ 1 sound₃ .leaf-tidy (q .leaf) (gp .leaf-in)) in
         record {
           sound = sound₃;
           count = refl;
-          leaf-in = lk;
+          leaf-in = gp .leaf-in;
           slot-in = (let z = ap length slots₃ ∙ length-append F D in omega (arith, two-parts flag y new (t .head .entries) S));
           first = ap (λ (n : ℕ). slotAt (treeOf 3 t₃) (q .leaf) n .child) (sym (add-zero (q .slot))) ∙ ap (λ (z : Slot). z .child) (at 0) ∙ first-part flag y new (t .head .entries) S ∙ ap (cond flag (t .head .entries)) own;
           second = ap (λ (z : Slot). z .child) (at 1) ∙ second-part flag y new (t .head .entries) S ∙ ap (λ (k : ℕ). cond flag k (t .head .entries)) own;
