@@ -1,5 +1,5 @@
 -- The premises of the theorems are met: a make of fan 4 and limit 5 that isn't refused, a list of calls in words with every kind in it,
--- and two lists alike but for lookups.
+-- two lists alike but for lookups, and a cursor at an entry.
 use mathlib.Core.Path.{_≡_, refl}
 use mathlib.Core.Bool.{true}
 use mathlib.Core.List.{List, [], _∷_}
@@ -12,7 +12,7 @@ use Rattle.model.specs.Row as row
 use Rattle.model.specs.Row.{Call, noEntry, madeRow, rowStep}
 use Rattle.model.specs.ById.{treeStep}
 use Rattle.model.specs.Sound.{Sound}
-use Rattle.model.specs.Calls.{make}
+use Rattle.model.specs.Calls.{begun, make, cursor}
 use Rattle.model.specs.Audit.{audit}
 use Rattle.model.specs.declared.length.View.the-variants as view
 use Rattle.model.specs.declared.length.Lengths.{Lengths}
@@ -22,6 +22,7 @@ use Rattle.theory.specs.Make.{Words}
 use Rattle.theory.specs.Step.{InWords}
 use Rattle.theory.specs.Whole.{answers, finally, others, otherAnswers, whole, alike}
 use Rattle.theory.specs.Audited.{audit-exactly}
+use Rattle.theory.specs.Cursors.{StandsAt, cursor-at}
 
 abbrev pair : ℕ → ℕ → Lengths
 pair p e = record { prepare = p; effect = e }
@@ -75,3 +76,8 @@ sound-start = whole 4 5 (pair 3 3) areaWords areaWords (replicate 5 7) first-wor
 
 pub audited-start : audit start ≡ verdict.Yes
 audited-start = audit-exactly start .1 sound-start
+
+-- and its entry has a cursor, at which next and split_entry can start
+pub cursor-start : StandsAt start (cursor start 0) 0
+unfolding make begun refusal
+cursor-start = cursor-at start sound-start 0 (omega arith)
