@@ -111,15 +111,15 @@ module _ (g : Shape) (s : State) (t : Target) (l : Lengths) (c : Change) (e : c 
       done-broken q = rw (← e, eq-eqb _ _ d, ← q)
 
   -- the same where the way up isn't summed: b says whether it was whole
-  module _ {A : Type 0} (refuse : ℕ → A) (x : A) (xs : List ℕ) (d : c .number ≡ 0) (p i : ℕ) (ep : p ≡ nodeAt g (c .leaf) (c .state .leaves) .parent) (ei : i ≡ nodeAt g (c .leaf) (c .state .leaves) .at)
-      (b : Bool) (eb : (b, xs) ≡ raiseUp g (listOf l) (c .state .head .levels) p i (c .state .inners)) where
+  module _ {A : Type 0} (refuse : ℕ → A) (x : A) (xs : List ℕ) (d : c .number ≡ 0) (b : Bool)
+      (eb : (b, xs) ≡ raiseUp g (listOf l) (c .state .head .levels) (nodeAt g (c .leaf) (c .state .leaves) .parent) (nodeAt g (c .leaf) (c .state .leaves) .at) (c .state .inners)) where
     abbrev up : Sum × List ℕ
     up = way refuse (λ _. x) xs d
 
     told : _≡_ {A = Bool × List ℕ} (b, xs) (whole (up .0), up .1)
     told =
         let m = nodeAt g (c .leaf) (c .state .leaves) in
-        eb ∙ rw (ep, ei) (raise-climb g effect (listOf l) (c .state .head .levels) (m .parent) (m .at) (start effect (c .slot) m) (c .state .inners))
+        eb ∙ raise-climb g effect (listOf l) (c .state .head .levels) (m .parent) (m .at) (start effect (c .slot) m) (c .state .inners)
 
     pub added-whole : b ≡ true → reply (state (c .state .head) (c .state .leaves) xs (c .state .homes)) x ≡ doneBy refuse (λ _. x) g s t l
     added-whole h = go up refl told

@@ -1,8 +1,6 @@
 // One entry more: insert and add.
 use crate::aim::aim;
 use crate::aim::open_insert;
-use area::word::at_of;
-use area::word::parent_of;
 use model::answer::Inserted;
 use model::answer::InsertedReply;
 use model::answer::Named;
@@ -16,8 +14,8 @@ use model::walk::Sum;
 use open::open::Opened;
 use place::change::Change;
 use place::entry::place;
+use place::size::add_to_ancestors;
 use place::size::climb;
-use walk::climb::add_up;
 ghost use mathlib.Core.Path.{_≡_};
 ghost use Prim.Native.Nat.{_<_};
 ghost use Rattle.model.specs.State.{state};
@@ -83,7 +81,7 @@ fn insert_open(
     }
 }
 
-// The same without the position (add_to_ancestors).
+// The same without the position.
 fn add_open(
     head: Head,
     leaves: &mut [u32],
@@ -105,11 +103,8 @@ fn add_open(
         };
     }
     let after = r.head;
-    let k = r.leaf.0;
     let delta: [u32; 2] = [lengths.prepare, lengths.effect];
-    let parent = parent_of(leaves, g, k);
-    let at = at_of(leaves, g, k);
-    if !add_up(inners, g, &delta, after.levels, parent, at) {
+    if !add_to_ancestors(leaves, inners, g, &delta, after.levels, r.leaf.0) {
         return NamedReply {
             head: head,
             answer: Named::Refused(9),

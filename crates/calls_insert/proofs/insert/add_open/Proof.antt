@@ -33,31 +33,16 @@ returns c =
     let s = entry a in
     done-lost (a .args .g) s (a .args .before) (a .args .lengths) _ (c .before .before .before .before .before .before .before .put .ensures) named.Refused (λ _. addedAs s) (c .if1 .taken)
 
-parent-of-requires : tie.Need-parent-of-requires
-parent-of-requires c κs =
-    let a = c .before .before .before .before .before .before .before .before .before .before .before .before .before .before .before .before in
-    let p = c .before .before .before .before .before .before .before .before .before .put in
-    let s = entry a in
-    let h = a .pre .0 in
-    (still (a .args .g) _ _ (h .shaped) (h .leaf-area) (p .kept .1 .0), put-in (a .args .g) s (a .args .before) (a .args .lengths) _ (p .ensures) (c .before .before .if1 .left) .0)
+slice-aggregate-add-to-ancestors : tie.Need-slice-aggregate-add-to-ancestors
+slice-aggregate-add-to-ancestors c = search needs
 
-at-of-requires : tie.Need-at-of-requires
-at-of-requires c κs =
+add-to-ancestors-requires : tie.Need-add-to-ancestors-requires
+add-to-ancestors-requires c κs =
     let a = c .before .before .before .before .before .before .before .before .before .before .before .before .before .before .before .before .before .before in
     let p = c .before .before .before .before .before .before .before .before .before .before .before .put in
-    let s = entry a in
-    let h = a .pre .0 in
-    (still (a .args .g) _ _ (h .shaped) (h .leaf-area) (p .kept .1 .0), put-in (a .args .g) s (a .args .before) (a .args .lengths) _ (p .ensures) (c .before .before .before .before .if1 .left) .0)
-
-slice-aggregate-add-up : tie.Need-slice-aggregate-add-up
-slice-aggregate-add-up c = search needs
-
-add-up-requires : tie.Need-add-up-requires
-add-up-requires c κs =
-    let a = c .before .before .before .before .before .before .before .before .before .before .before .before .before .before .before .before .before .before .before .before .before in
     let h = a .pre .0 in
     let e : a .args .g .stride ≡ 3 = ap (λ (x : Shape). x .stride) (h .same) in
-    (still (a .args .g) _ _ (h .shaped) (h .inner-area) (c .before .before .before .before .before .before .before .before .before .before .before .before .before .before .put .kept .1 .1 .0), omega arith)
+    (still (a .args .g) _ _ (h .shaped) (h .leaf-area) (p .kept .1 .0), still (a .args .g) _ _ (h .shaped) (h .inner-area) (p .kept .1 .1 .0), omega arith, put-in (a .args .g) (entry a) (a .args .before) (a .args .lengths) _ (p .ensures) (c .before .before .before .before .if1 .left) .0)
 
 same-length-4 : tie.Need-same-length-4
 same-length-4 c = search needs
@@ -70,9 +55,9 @@ same-length-6 c = search needs
 
 returns-2 : tie.Need-returns-2
 returns-2 c =
-    let a = c .before .before .before .before .before .before .before .before .before .before .before .before .before .before .before .before .before .before .before .before .before .before .before .before .before in
+    let a = c .before .before .before .before .before .before .before .before .before .before .before .before .before .before .before .before .before .before .before .before .before .before in
     let s = entry a in
-    added-broken (a .args .g) s (a .args .before) (a .args .lengths) _ (c .before .before .before .before .before .before .before .before .before .before .before .before .before .before .before .before .before .before .put .ensures) named.Refused (addedAs s) _ (c .before .before .before .before .before .before .before .before .before .before .before .if1 .left) _ _ (c .before .before .before .before .before .before .before .before .parent-of .ensures) (c .before .before .before .before .before .before .at-of .ensures) _ (c .before .before .before .add-up .ensures) (not-true _ (c .if2 .taken))
+    added-broken (a .args .g) s (a .args .before) (a .args .lengths) _ (c .before .before .before .before .before .before .before .before .before .before .before .before .before .before .before .put .ensures) named.Refused (addedAs s) _ (c .before .before .before .before .before .before .before .before .if1 .left) _ (c .before .before .before .add-to-ancestors .ensures) (not-true _ (c .if2 .taken))
 
 same-length-7 : tie.Need-same-length-7
 same-length-7 c = search needs
@@ -85,9 +70,9 @@ same-length-9 c = search needs
 
 returns-3 : tie.Need-returns-3
 returns-3 c =
-    let a = c .before .before .before .before .before .before .before .before .before .before .before .before .before .before .before .before .before .before .before .before .before .before .before .before .before in
+    let a = c .before .before .before .before .before .before .before .before .before .before .before .before .before .before .before .before .before .before .before .before .before .before in
     let s = entry a in
-    added-whole (a .args .g) s (a .args .before) (a .args .lengths) _ (c .before .before .before .before .before .before .before .before .before .before .before .before .before .before .before .before .before .before .put .ensures) named.Refused (addedAs s) _ (c .before .before .before .before .before .before .before .before .before .before .before .if1 .left) _ _ (c .before .before .before .before .before .before .before .before .parent-of .ensures) (c .before .before .before .before .before .before .at-of .ensures) _ (c .before .before .before .add-up .ensures) (not-false _ (c .if2 .left))
+    added-whole (a .args .g) s (a .args .before) (a .args .lengths) _ (c .before .before .before .before .before .before .before .before .before .before .before .before .before .before .before .put .ensures) named.Refused (addedAs s) _ (c .before .before .before .before .before .before .before .before .if1 .left) _ (c .before .before .before .add-to-ancestors .ensures) (not-false _ (c .if2 .left))
 
 pub add-open-spec : {M : Type 1} → statement M
 add-open-spec =
@@ -98,10 +83,8 @@ add-open-spec =
     same-length-2
     same-length-3
     returns
-    parent-of-requires
-    at-of-requires
-    slice-aggregate-add-up
-    add-up-requires
+    slice-aggregate-add-to-ancestors
+    add-to-ancestors-requires
     same-length-4
     same-length-5
     same-length-6
