@@ -1,5 +1,4 @@
 // The lookups: first from the finger, then from the root. The head comes back with the finger that was found.
-use calls_read::read::view_number;
 use model::answer::Located;
 use model::answer::LocatedReply;
 use model::answer::Selected;
@@ -82,7 +81,7 @@ pub fn locate(
             answer: Located::Refused(n),
         },
         Opened::Good(g) => {
-            let v = view_number(view);
+            let v = view.number();
             let finger = head.finger;
             match served_by(leaves, g, v, 1, finger, head.leaves, index) {
                 Search::At(f, offset) => hit(head, f, offset),

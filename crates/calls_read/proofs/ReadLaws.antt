@@ -18,7 +18,6 @@ use Rattle.model.specs.declared.shape.Shape.{Shape}
 use Rattle.model.specs.declared.head.Cursor.{Cursor}
 use Rattle.model.specs.declared.length.Lengths.{Lengths}
 use Rattle.model.specs.declared.length.View.{View}
-use Rattle.model.specs.declared.length.View.the-variants.{Prepare, Effect}
 use Rattle.model.specs.declared.shape.Place.{Place}
 use Rattle.model.specs.declared.shape.Place.the-variants as slot
 use Rattle.model.specs.declared.walk.Sum.{Sum}
@@ -89,10 +88,6 @@ module _ (s : State) (c : Cursor) (o : Opened) (e : o ≡ openedBy (opening s ++
     rank-good v w p a b r q ew eb ep ea er eq =
         let whole : rankUp g w (s .head .levels) p a b (s .inners) ≡ climbBy s c v g = rw (ep, ea, eb, ew) in
         call-good number.Refused (λ (x : Shape). rankOf (climbBy s c v x)) _ (shapeOf (s .head)) o e g d _ (ap rankOf (sym eq ∙ er ∙ whole))
-
-pub view-few : (v : View) → viewNumber v < 2
-view-few Prepare = omega arith
-view-few Effect = omega arith
 
 -- the slot that holds a child is one of those that were searched
 index-step : (b : Bool) (k n j : ℕ) (p : Place) → (p ≡ slot.Slot j → j < k + 1 + n) → cond b (slot.Slot k) p ≡ slot.Slot j → j < k + suc n

@@ -26,7 +26,6 @@ use walk::climb::rank_up;
 ghost use mathlib.Core.Path.{_≡_};
 ghost use Prim.Native.Nat.{_<_, _≤_};
 ghost use lib.ListN.{length};
-ghost use Rattle.model.specs.Length.{viewNumber};
 ghost use Rattle.model.specs.Node.{used, indexFrom};
 ghost use Rattle.model.specs.State.{state, nodeAt};
 ghost use Rattle.model.specs.Calls as calls;
@@ -85,16 +84,6 @@ pub fn lengths(head: Head, leaves: &[u32], inners: &[u32], homes: &[u32], at: Cu
     }
 }
 
-// A view's number: prepare is 0, effect 1.
-pub fn view_number(view: View) -> usize
-    ensures { λ r. ⌜ r ≡ viewNumber view ⌝ }
-{
-    match view {
-        View::Prepare => 0,
-        View::Effect => 1,
-    }
-}
-
 // The position in a view of the entry at a cursor: the lengths before it.
 pub fn entry_to_char_index(
     head: Head,
@@ -109,7 +98,7 @@ pub fn entry_to_char_index(
     match open_at(head, leaves, inners, homes, at) {
         Opened::Refused(n) => Number::Refused(n),
         Opened::Good(g) => {
-            let v = view_number(view);
+            let v = view.number();
             let k = at.leaf.0;
             let before = start_in(leaves, g, v, k, at.slot);
             let parent = parent_of(leaves, g, k);

@@ -16,12 +16,6 @@ lengthsOf l Effect = l .effect
 abbrev pub slotOf : ℕ → Lengths → Slot
 slotOf c l = record { child = c; «prepare_len» = l .prepare; «effect_len» = l .effect }
 
-abbrev pub emptySlot : Slot
-emptySlot = record { child = 4294967295; «prepare_len» = 0; «effect_len» = 0 }
-
-abbrev pub slotLengths : Slot → Lengths
-slotLengths s = record { prepare = s .«prepare_len»; effect = s .«effect_len» }
-
 -- one length a view
 abbrev pub listOf : Lengths → List ℕ
 listOf l = l .prepare ∷ l .effect ∷ []

@@ -1,11 +1,23 @@
 // Views, lengths and slots.
 ghost use mathlib.Core.Path.{_≡_};
-ghost use Rattle.model.specs.Length.{viewNumber, lengthsOf, slotOf, emptySlot, slotLengths};
+ghost use Rattle.model.specs.Length.{viewNumber, lengthsOf, slotOf};
 
 // The version in which a length or a position is measured.
 pub enum View {
     Prepare,
     Effect,
+}
+
+impl View {
+    // The column of a slot's lengths that holds this view's.
+    pub fn number(self) -> usize
+        ensures { λ r. ⌜ r ≡ viewNumber self ⌝ }
+    {
+        match self {
+            View::Prepare => 0,
+            View::Effect => 1,
+        }
+    }
 }
 
 // A length in each view.
@@ -47,21 +59,6 @@ impl Slot {
             child: child,
             prepare_len: lengths.prepare,
             effect_len: lengths.effect,
-        }
-    }
-
-    pub fn empty() -> Slot
-        ensures { λ r. ⌜ r ≡ emptySlot ⌝ }
-    {
-        Slot::EMPTY
-    }
-
-    pub fn lengths(self) -> Lengths
-        ensures { λ r. ⌜ r ≡ slotLengths self ⌝ }
-    {
-        Lengths {
-            prepare: self.prepare_len,
-            effect: self.effect_len,
         }
     }
 }

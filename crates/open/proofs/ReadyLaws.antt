@@ -9,9 +9,12 @@ use lib.ListN.{length}
 use lib.Dec.{ltb}
 use borrow.Author.Tests.{ltb-false, ltb-true, leb-false, not-false, eqb-true}
 use Rattle.model.specs.Lists.{Cause, refusal, All}
+use Rattle.model.specs.Length.{viewNumber}
 use Rattle.model.specs.State.{State, nodesFor, shape, nodeAt}
 use Rattle.model.specs.Refuse.{stride, badSize, tooShort, astray, shapeOf, opening, atCursor, stale, overfull}
 use Rattle.model.specs.declared.shape.Shape.{Shape}
+use Rattle.model.specs.declared.length.View.{View}
+use Rattle.model.specs.declared.length.View.the-variants.{Prepare, Effect}
 use Rattle.model.specs.declared.head.Cursor.{Cursor}
 use Rattle.node.specs.Shaped.{Shaped}
 use Rattle.area.specs.Area.{Area}
@@ -84,3 +87,7 @@ inner-area s g h = record { shaped = h .shaped; room = h .inner-area }
 -- a view is a column of every slot
 pub view-in : (s : State) (g : Shape) (v : ℕ) → Ready s g → v < 2 → v + 1 < g .stride
 view-in s g v h hv = rw (ap (λ (x : Shape). x .stride) (h .same)) (omega arith)
+
+pub view-few : (v : View) → viewNumber v < 2
+view-few Prepare = omega arith
+view-few Effect = omega arith

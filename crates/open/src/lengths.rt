@@ -2,13 +2,14 @@
 use area::word::length_of;
 use model::head::Head;
 use model::length::Lengths;
+use model::length::View;
 use model::shape::Shape;
 ghost use mathlib.Core.Path.{_≡_};
 ghost use mathlib.Core.List.{[]};
 ghost use Prim.Native.Nat.{_+_, _<_, _≤_};
 ghost use lib.Dec.{ltb};
 ghost use lib.ListN.{length, getD};
-ghost use Rattle.model.specs.Length.{listOf};
+ghost use Rattle.model.specs.Length.{viewNumber, lengthsOf, listOf};
 ghost use Rattle.model.specs.Node.{lengths, total, used};
 ghost use Rattle.model.specs.State.{state, nodeAt};
 ghost use Rattle.model.specs.Refuse.{shapeOf, tooMuch, past};
@@ -48,14 +49,14 @@ fn total_in(area: &[u32], g: Shape, view: usize, k: u32) -> u64
     node::read::used_total(&area[a..e], g, view)
 }
 
-// Whether the root's total in one view would pass u32 with new for old.
-fn past_in(inners: &[u32], g: Shape, view: usize, root: u32, old: u32, new: u32) -> bool
-    requires { ⌜ Area g (length (now inners)) × (root < g .nodes) × (view + 1 < g .stride) ⌝ }
-    ensures { λ r. ⌜ r ≡ ltb (4294967295 + old) (total view (used (nodeAt g root (now (inners .entry)))) + new) ⌝ }
+// Whether the root's total in a view would pass u32 with new for old.
+fn past_in(inners: &[u32], g: Shape, view: View, root: u32, old: Lengths, new: Lengths) -> bool
+    requires { ⌜ Area g (length (now inners)) × (g .stride ≡ 3) × (root < g .nodes) ⌝ }
+    ensures { λ r. ⌜ r ≡ ltb (4294967295 + lengthsOf old view) (total (viewNumber view) (used (nodeAt g root (now (inners .entry)))) + lengthsOf new view) ⌝ }
 {
-    let sum = total_in(inners, g, view, root);
-    let most = 4294967295 + (old as u64);
-    most < sum + (new as u64)
+    let sum = total_in(inners, g, view.number(), root);
+    let most = 4294967295 + (old.of(view) as u64);
+    most < sum + (new.of(view) as u64)
 }
 
 // Whether either total would.
@@ -64,8 +65,8 @@ pub fn past(head: Head, inners: &[u32], g: Shape, old: Lengths, new: Lengths) ->
     ensures { λ r. ⌜ r ≡ past (state head [] (now (inners .entry)) []) (listOf old) (listOf new) .applies ⌝ }
 {
     let root = head.root.0;
-    if past_in(inners, g, 0, root, old.prepare, new.prepare) {
+    if past_in(inners, g, View::Prepare, root, old, new) {
         return true;
     }
-    past_in(inners, g, 1, root, old.effect, new.effect)
+    past_in(inners, g, View::Effect, root, old, new)
 }

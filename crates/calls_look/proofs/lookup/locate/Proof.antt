@@ -1,8 +1,7 @@
 -- `calls_look::lookup::locate`: the finger serves, or is broken, or the search goes from the root.
 use borrow.Author.Needs.{needs}
 use native.Mathlib.Omega.{arith}
-use Rattle.open.proofs.ReadyLaws.{ready, leaf-area, inner-area, view-in}
-use Rattle.calls_read.proofs.ReadLaws.{view-few}
+use Rattle.open.proofs.ReadyLaws.{ready, leaf-area, inner-area, view-in, view-few}
 use Rattle.calls_look.proofs.LookupLaws.{locate-refused, locate-hit, locate-again, locate-broken}
 use Rattle.calls_look.proofs.lookup.locate.Statement.{statement}
 use Rattle.calls_look.proofs.lookup.locate.Tie as tie
@@ -16,11 +15,11 @@ enum-known-n c = search needs
 enum-known-g : tie.Need-enum-known-g
 enum-known-g c = search needs
 
-view-number-requires : tie.Need-view-number-requires
-view-number-requires c κs = search needs
+number-requires : tie.Need-number-requires
+number-requires c κs = search needs
 
 served-by-requires : tie.Need-served-by-requires
-served-by-requires c κs = let h = ready _ _ _ (c .before .before .before .before .«open» .ensures) (c .before .before .g .given .1) in (leaf-area _ _ h, view-in _ _ _ h (rw (c .view-number .ensures) (view-few (c .before .before .before .before .before .before .before .before .args .view))), view-in _ _ 1 h (omega arith), h .leaves)
+served-by-requires c κs = let h = ready _ _ _ (c .before .before .before .before .«open» .ensures) (c .before .before .g .given .1) in (leaf-area _ _ h, view-in _ _ _ h (rw (c .number .ensures) (view-few (c .before .before .before .before .before .before .before .before .args .view))), view-in _ _ 1 h (omega arith), h .leaves)
 
 enum-known-f : tie.Need-enum-known-f
 enum-known-f c = search needs
@@ -32,7 +31,7 @@ enum-told : tie.Need-enum-told
 enum-told c = search needs
 
 from-root-requires : tie.Need-from-root-requires
-from-root-requires c κs = let h = ready _ _ _ (c .before .before .before .before .before .before .before .«open» .ensures) (c .before .before .before .before .before .g .given .1) in (leaf-area _ _ h, inner-area _ _ h, view-in _ _ _ h (rw (c .before .before .before .view-number .ensures) (view-few (c .before .before .before .before .before .before .before .before .before .before .before .args .view))), view-in _ _ 1 h (omega arith), h .levels-most)
+from-root-requires c κs = let h = ready _ _ _ (c .before .before .before .before .before .before .before .«open» .ensures) (c .before .before .before .before .before .g .given .1) in (leaf-area _ _ h, inner-area _ _ h, view-in _ _ _ h (rw (c .before .before .before .number .ensures) (view-few (c .before .before .before .before .before .before .before .before .before .before .before .args .view))), view-in _ _ 1 h (omega arith), h .levels-most)
 
 by-search-requires : tie.Need-by-search-requires
 by-search-requires c κs = search needs
@@ -44,13 +43,13 @@ returns : tie.Need-returns
 returns c = locate-refused _ (c .before .before .before .before .before .before .before .args .view) _ _ (c .before .before .before .«open» .ensures) _ (c .before .n .given .1)
 
 returns-2 : tie.Need-returns-2
-returns-2 c = locate-hit _ (c .before .before .before .before .before .before .before .before .before .before .before .before .before .args .view) _ _ (c .before .before .before .before .before .before .before .before .before .«open» .ensures) _ (c .before .before .before .before .before .before .before .g .given .1) _ (c .before .before .before .before .before .view-number .ensures) _ (c .before .before .before .before .served-by .ensures) _ _ (c .before .before .f .given .1) _ (c .hit .ensures)
+returns-2 c = locate-hit _ (c .before .before .before .before .before .before .before .before .before .before .before .before .before .args .view) _ _ (c .before .before .before .before .before .before .before .before .before .«open» .ensures) _ (c .before .before .before .before .before .before .before .g .given .1) _ (c .before .before .before .before .before .number .ensures) _ (c .before .before .before .before .served-by .ensures) _ _ (c .before .before .f .given .1) _ (c .hit .ensures)
 
 returns-3 : tie.Need-returns-3
-returns-3 c = locate-again _ (c .before .before .before .before .before .before .before .before .before .before .before .before .before .args .view) _ _ (c .before .before .before .before .before .before .before .before .before .«open» .ensures) _ (c .before .before .before .before .before .before .before .g .given .1) _ (c .before .before .before .before .before .view-number .ensures) _ (c .before .before .before .before .served-by .ensures) (c .before .before .enum-told .given .1) _ (c .before .from-root .ensures) _ (c .by-search .ensures)
+returns-3 c = locate-again _ (c .before .before .before .before .before .before .before .before .before .before .before .before .before .args .view) _ _ (c .before .before .before .before .before .before .before .before .before .«open» .ensures) _ (c .before .before .before .before .before .before .before .g .given .1) _ (c .before .before .before .before .before .number .ensures) _ (c .before .before .before .before .served-by .ensures) (c .before .before .enum-told .given .1) _ (c .before .from-root .ensures) _ (c .by-search .ensures)
 
 returns-4 : tie.Need-returns-4
-returns-4 c = locate-broken _ (c .before .before .before .before .before .before .before .before .before .before .before .args .view) _ _ (c .before .before .before .before .before .before .before .«open» .ensures) _ (c .before .before .before .before .before .g .given .1) _ (c .before .before .before .view-number .ensures) _ (c .before .before .served-by .ensures) (c .enum-told2 .given .1)
+returns-4 c = locate-broken _ (c .before .before .before .before .before .before .before .before .before .before .before .args .view) _ _ (c .before .before .before .before .before .before .before .«open» .ensures) _ (c .before .before .before .before .before .g .given .1) _ (c .before .before .before .number .ensures) _ (c .before .before .served-by .ensures) (c .enum-told2 .given .1)
 
 pub locate-spec : {M : Type 1} → statement M
 locate-spec =
@@ -59,7 +58,7 @@ locate-spec =
     open-requires
     enum-known-n
     enum-known-g
-    view-number-requires
+    number-requires
     served-by-requires
     enum-known-f
     hit-requires

@@ -2,8 +2,8 @@
 use borrow.Author.Needs.{needs}
 use native.Mathlib.Omega.{arith}
 use Rattle.open.proofs.CursorLaws.{stands, slot-in}
-use Rattle.open.proofs.ReadyLaws.{inner-area, view-in}
-use Rattle.calls_read.proofs.ReadLaws.{rank-refused, rank-good, view-few}
+use Rattle.open.proofs.ReadyLaws.{inner-area, view-in, view-few}
+use Rattle.calls_read.proofs.ReadLaws.{rank-refused, rank-good}
 use Rattle.calls_read.proofs.read.entry_to_char_index.Statement.{statement}
 use Rattle.calls_read.proofs.read.entry_to_char_index.Tie as tie
 
@@ -16,11 +16,11 @@ enum-known-n c = search needs
 enum-known-g : tie.Need-enum-known-g
 enum-known-g c = search needs
 
-view-number-requires : tie.Need-view-number-requires
-view-number-requires c κs = search needs
+number-requires : tie.Need-number-requires
+number-requires c κs = search needs
 
 start-in-requires : tie.Need-start-in-requires
-start-in-requires c κs = let h = stands _ (c .before .before .before .before .before .before .before .before .args .at) _ _ (c .before .before .before .before .open-at .ensures) (c .before .before .g .given .1) in let i = slot-in _ (c .before .before .before .before .before .before .before .before .args .at) _ h in (i .0, i .1, view-in _ _ _ (h .ready) (rw (c .view-number .ensures) (view-few (c .before .before .before .before .before .before .before .before .args .view))), i .2)
+start-in-requires c κs = let h = stands _ (c .before .before .before .before .before .before .before .before .args .at) _ _ (c .before .before .before .before .open-at .ensures) (c .before .before .g .given .1) in let i = slot-in _ (c .before .before .before .before .before .before .before .before .args .at) _ h in (i .0, i .1, view-in _ _ _ (h .ready) (rw (c .number .ensures) (view-few (c .before .before .before .before .before .before .before .before .args .view))), i .2)
 
 parent-of-requires : tie.Need-parent-of-requires
 parent-of-requires c κs = let i = slot-in _ (c .before .before .before .before .before .before .before .before .before .args .at) _ (stands _ (c .before .before .before .before .before .before .before .before .before .args .at) _ _ (c .before .before .before .before .before .open-at .ensures) (c .before .before .before .g .given .1)) in (i .0, i .1)
@@ -29,7 +29,7 @@ at-of-requires : tie.Need-at-of-requires
 at-of-requires c κs = let i = slot-in _ (c .before .before .before .before .before .before .before .before .before .before .args .at) _ (stands _ (c .before .before .before .before .before .before .before .before .before .before .args .at) _ _ (c .before .before .before .before .before .before .open-at .ensures) (c .before .before .before .before .g .given .1)) in (i .0, i .1)
 
 rank-up-requires : tie.Need-rank-up-requires
-rank-up-requires c κs = let h = stands _ (c .before .before .before .before .before .before .before .before .before .before .before .args .at) _ _ (c .before .before .before .before .before .before .before .open-at .ensures) (c .before .before .before .before .before .g .given .1) in (inner-area _ _ (h .ready), view-in _ _ _ (h .ready) (rw (c .before .before .before .view-number .ensures) (view-few (c .before .before .before .before .before .before .before .before .before .before .before .args .view))), h .ready .levels-most, c .before .before .start-in .ensures .1)
+rank-up-requires c κs = let h = stands _ (c .before .before .before .before .before .before .before .before .before .before .before .args .at) _ _ (c .before .before .before .before .before .before .before .open-at .ensures) (c .before .before .before .before .before .g .given .1) in (inner-area _ _ (h .ready), view-in _ _ _ (h .ready) (rw (c .before .before .before .number .ensures) (view-few (c .before .before .before .before .before .before .before .before .before .before .before .args .view))), h .ready .levels-most, c .before .before .start-in .ensures .1)
 
 enum-known-n-2 : tie.Need-enum-known-n-2
 enum-known-n-2 c = search needs
@@ -44,10 +44,10 @@ returns : tie.Need-returns
 returns c = rank-refused _ (c .before .before .before .before .before .before .before .args .at) _ (c .before .before .before .open-at .ensures) (c .before .before .before .before .before .before .before .args .view) _ (c .before .n .given .1)
 
 returns-2 : tie.Need-returns-2
-returns-2 c = rank-good _ (c .before .before .before .before .before .before .before .before .before .before .before .before .before .before .before .args .at) _ (c .before .before .before .before .before .before .before .before .before .before .before .open-at .ensures) _ (c .before .before .before .before .before .before .before .before .before .g .given .1) (c .before .before .before .before .before .before .before .before .before .before .before .before .before .before .before .args .view) _ _ _ _ _ _ (c .before .before .before .before .before .before .before .view-number .ensures) (c .before .before .before .before .before .before .start-in .ensures .0) (c .before .before .before .before .before .parent-of .ensures) (c .before .before .before .before .at-of .ensures) (c .before .before .before .rank-up .ensures) (c .before .n2 .given .1)
+returns-2 c = rank-good _ (c .before .before .before .before .before .before .before .before .before .before .before .before .before .before .before .args .at) _ (c .before .before .before .before .before .before .before .before .before .before .before .open-at .ensures) _ (c .before .before .before .before .before .before .before .before .before .g .given .1) (c .before .before .before .before .before .before .before .before .before .before .before .before .before .before .before .args .view) _ _ _ _ _ _ (c .before .before .before .before .before .before .before .number .ensures) (c .before .before .before .before .before .before .start-in .ensures .0) (c .before .before .before .before .before .parent-of .ensures) (c .before .before .before .before .at-of .ensures) (c .before .before .before .rank-up .ensures) (c .before .n2 .given .1)
 
 returns-3 : tie.Need-returns-3
-returns-3 c = rank-good _ (c .before .before .before .before .before .before .before .before .before .before .before .before .before .before .args .at) _ (c .before .before .before .before .before .before .before .before .before .before .open-at .ensures) _ (c .before .before .before .before .before .before .before .before .g .given .1) (c .before .before .before .before .before .before .before .before .before .before .before .before .before .before .args .view) _ _ _ _ _ _ (c .before .before .before .before .before .before .view-number .ensures) (c .before .before .before .before .before .start-in .ensures .0) (c .before .before .before .before .parent-of .ensures) (c .before .before .before .at-of .ensures) (c .before .before .rank-up .ensures) (c .enum-told .given .1)
+returns-3 c = rank-good _ (c .before .before .before .before .before .before .before .before .before .before .before .before .before .before .args .at) _ (c .before .before .before .before .before .before .before .before .before .before .open-at .ensures) _ (c .before .before .before .before .before .before .before .before .g .given .1) (c .before .before .before .before .before .before .before .before .before .before .before .before .before .before .args .view) _ _ _ _ _ _ (c .before .before .before .before .before .before .number .ensures) (c .before .before .before .before .before .start-in .ensures .0) (c .before .before .before .before .parent-of .ensures) (c .before .before .before .at-of .ensures) (c .before .before .rank-up .ensures) (c .enum-told .given .1)
 
 pub entry-to-char-index-spec : {M : Type 1} → statement M
 entry-to-char-index-spec =
@@ -56,7 +56,7 @@ entry-to-char-index-spec =
     open-at-requires
     enum-known-n
     enum-known-g
-    view-number-requires
+    number-requires
     start-in-requires
     parent-of-requires
     at-of-requires
