@@ -139,19 +139,22 @@ pub fn served_by(
     }
 }
 
+// Sends the finger to its leaf's first slot.
+fn rewind(f: &mut Finger)
+    ensures { λ _. ⌜ now (f .exit) ≡ rewound (now (f .entry)) ⌝ }
+{
+    f.slot = 0;
+    f.within = 0;
+    f.effect_within = 0;
+}
+
 // The finger at its leaf's first slot.
 pub fn rewound(f: Finger) -> Finger
     ensures { λ r. ⌜ r ≡ rewound f ⌝ }
 {
-    Finger {
-        view: f.view,
-        leaf: f.leaf,
-        start: f.start,
-        effect: f.effect,
-        slot: 0,
-        within: 0,
-        effect_within: 0,
-    }
+    let mut finger = f;
+    rewind(&mut finger);
+    finger
 }
 
 // What a change at a slot of a leaf leaves of the finger.
