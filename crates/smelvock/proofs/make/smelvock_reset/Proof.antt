@@ -1,0 +1,65 @@
+-- `smelvock::make::smelvock_reset`: 10 where a flag is bad, else the call's head and answer in words.
+use borrow.Author.Needs.{needs}
+use mathlib.Core.Path.{sym, ap₂, _∙_}
+use Rattle.smelvock.specs.Flat.{outcomeReplyOf}
+use Rattle.model.specs.Answer.{outcomeAnswer}
+use Rattle.model.specs.State.{state}
+use Rattle.smelvock.specs.Reads.{given}
+use Rattle.smelvock.specs.Changes as flat
+use Rattle.smelvock.proofs.FlatLaws.{reply-refused, reply-good}
+use Rattle.model.specs.Calls as calls
+use Rattle.model.specs.declared.head.Head.{Head}
+use Rattle.model.specs.declared.length.Lengths.{Lengths}
+use Rattle.smelvock.proofs.make.smelvock_reset.Statement.{statement}
+use Rattle.smelvock.proofs.make.smelvock_reset.Tie as tie
+
+bad-flag-requires : tie.Need-bad-flag-requires
+bad-flag-requires c κs = search needs
+
+refused-outcome-requires : tie.Need-refused-outcome-requires
+refused-outcome-requires c κs = search needs
+
+returns : tie.Need-returns
+unfolding flat.reset
+returns c = reply-refused outcomeReplyOf outcomeAnswer _ _ (given (c .before .before .before .before .before .before .args .head) (c .before .before .before .before .before .before .args .leaves .now) (c .before .before .before .before .before .before .args .inners .now) (c .before .before .before .before .before .before .args .homes .now)) _ (sym (c .before .before .bad-flag .ensures) ∙ c .before .if1 .taken) (c .refused-outcome .ensures)
+
+head-from-requires : tie.Need-head-from-requires
+head-from-requires c κs = search needs
+
+lengths-from-requires : tie.Need-lengths-from-requires
+lengths-from-requires c κs = search needs
+
+reset-requires : tie.Need-reset-requires
+reset-requires c κs = search needs
+
+outcome-reply-requires : tie.Need-outcome-reply-requires
+outcome-reply-requires c κs = search needs
+
+same-length : tie.Need-same-length
+same-length c = search needs
+
+same-length-2 : tie.Need-same-length-2
+same-length-2 c = search needs
+
+same-length-3 : tie.Need-same-length-3
+same-length-3 c = search needs
+
+returns-2 : tie.Need-returns-2
+unfolding flat.reset
+returns-2 c = reply-good outcomeReplyOf outcomeAnswer _ _ (given (c .before .before .before .before .before .before .before .before .before .before .before .before .before .before .before .before .before .before .args .head) (c .before .before .before .before .before .before .before .before .before .before .before .before .before .before .before .before .before .before .args .leaves .now) (c .before .before .before .before .before .before .before .before .before .before .before .before .before .before .before .before .before .before .args .inners .now) (c .before .before .before .before .before .before .before .before .before .before .before .before .before .before .before .before .before .before .args .homes .now)) _ _ _ _ _ _ (sym (c .before .before .before .before .before .before .before .before .before .before .before .before .before .before .bad-flag .ensures) ∙ c .before .before .before .before .before .before .before .before .before .before .before .before .before .if1 .left) (c .outcome-reply .ensures) (c .before .before .before .before .before .before .before .reset .ensures ∙ ap₂ (λ (h : Head) (l : Lengths). calls.reset (state h (c .before .before .before .before .before .before .before .before .before .before .before .before .before .before .before .before .before .before .args .leaves .now) (c .before .before .before .before .before .before .before .before .before .before .before .before .before .before .before .before .before .before .args .inners .now) (c .before .before .before .before .before .before .before .before .before .before .before .before .before .before .before .before .before .before .args .homes .now)) l) (c .before .before .before .before .before .before .before .before .before .before .before .before .head-from .ensures) (c .before .before .before .before .before .before .before .before .before .before .before .lengths-from .ensures))
+
+pub smelvock-reset-spec : {M : Type 1} → statement M
+smelvock-reset-spec =
+    tie.close
+    (tie.spec
+    bad-flag-requires
+    refused-outcome-requires
+    returns
+    head-from-requires
+    lengths-from-requires
+    reset-requires
+    outcome-reply-requires
+    same-length
+    same-length-2
+    same-length-3
+    returns-2)

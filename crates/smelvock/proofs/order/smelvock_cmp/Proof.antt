@@ -1,0 +1,56 @@
+-- `smelvock::order::smelvock_cmp`: 10 where a flag is bad, else the call's answer in words.
+use borrow.Author.Needs.{needs}
+use mathlib.Core.Path.{sym, ap, _∙_}
+use Rattle.smelvock.specs.Flat.{numberOf}
+use Rattle.model.specs.Answer.{comparedAnswer}
+use Rattle.model.specs.State.{state}
+use Rattle.smelvock.specs.Reads as flat
+use Rattle.smelvock.proofs.FlatLaws.{answer-refused, answer-good, ap₃}
+use Rattle.model.specs.Calls as calls
+use Rattle.model.specs.declared.head.Head.{Head}
+use Rattle.model.specs.declared.head.Cursor.{Cursor}
+use Rattle.smelvock.proofs.order.smelvock_cmp.Statement.{statement}
+use Rattle.smelvock.proofs.order.smelvock_cmp.Tie as tie
+
+bad-flag-requires : tie.Need-bad-flag-requires
+bad-flag-requires c κs = search needs
+
+refused-number-requires : tie.Need-refused-number-requires
+refused-number-requires c κs = search needs
+
+returns : tie.Need-returns
+unfolding flat.cmp
+returns c = answer-refused numberOf _ _ _ (sym (c .before .before .bad-flag .ensures) ∙ c .before .if1 .taken) (c .refused-number .ensures)
+
+head-from-requires : tie.Need-head-from-requires
+head-from-requires c κs = search needs
+
+cursor-from-requires : tie.Need-cursor-from-requires
+cursor-from-requires c κs = search needs
+
+cursor-from-requires-2 : tie.Need-cursor-from-requires-2
+cursor-from-requires-2 c κs = search needs
+
+cmp-requires : tie.Need-cmp-requires
+cmp-requires c κs = search needs
+
+number-of-compared-requires : tie.Need-number-of-compared-requires
+number-of-compared-requires c κs = search needs
+
+returns-2 : tie.Need-returns-2
+unfolding flat.cmp
+returns-2 c = answer-good numberOf _ _ _ _ (sym (c .before .before .before .before .before .before .bad-flag .ensures) ∙ c .before .before .before .before .before .if1 .left) (c .number-of-compared .ensures) (ap comparedAnswer (c .before .cmp .ensures ∙ ap₃ (λ (h : Head) (j : Cursor) (k : Cursor). calls.cmp (state h (c .before .before .before .before .before .before .before .before .before .before .args .leaves .now) (c .before .before .before .before .before .before .before .before .before .before .args .inners .now) (c .before .before .before .before .before .before .before .before .before .before .args .homes .now)) j k) (c .before .before .before .before .head-from .ensures) (c .before .before .before .cursor-from .ensures) (c .before .before .cursor-from2 .ensures)))
+
+pub smelvock-cmp-spec : {M : Type 1} → statement M
+smelvock-cmp-spec =
+    tie.close
+    (tie.spec
+    bad-flag-requires
+    refused-number-requires
+    returns
+    head-from-requires
+    cursor-from-requires
+    cursor-from-requires-2
+    cmp-requires
+    number-of-compared-requires
+    returns-2)

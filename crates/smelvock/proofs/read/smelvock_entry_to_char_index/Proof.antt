@@ -1,0 +1,57 @@
+-- `smelvock::read::smelvock_entry_to_char_index`: 10 where a flag is bad, else the call's answer in words.
+use borrow.Author.Needs.{needs}
+use mathlib.Core.Path.{sym, ap, _∙_}
+use Rattle.smelvock.specs.Flat.{numberOf}
+use Rattle.model.specs.Answer.{numberAnswer}
+use Rattle.model.specs.State.{state}
+use Rattle.smelvock.specs.Reads as flat
+use Rattle.smelvock.proofs.FlatLaws.{answer-refused, answer-good, ap₃}
+use Rattle.model.specs.Calls as calls
+use Rattle.model.specs.declared.head.Head.{Head}
+use Rattle.model.specs.declared.head.Cursor.{Cursor}
+use Rattle.model.specs.declared.length.View.{View}
+use Rattle.smelvock.proofs.read.smelvock_entry_to_char_index.Statement.{statement}
+use Rattle.smelvock.proofs.read.smelvock_entry_to_char_index.Tie as tie
+
+bad-flags-requires : tie.Need-bad-flags-requires
+bad-flags-requires c κs = search needs
+
+refused-number-requires : tie.Need-refused-number-requires
+refused-number-requires c κs = search needs
+
+returns : tie.Need-returns
+unfolding flat.entryToCharIndex
+returns c = answer-refused numberOf _ _ _ (sym (c .before .before .bad-flags .ensures) ∙ c .before .if1 .taken) (c .refused-number .ensures)
+
+head-from-requires : tie.Need-head-from-requires
+head-from-requires c κs = search needs
+
+view-from-requires : tie.Need-view-from-requires
+view-from-requires c κs = search needs
+
+cursor-from-requires : tie.Need-cursor-from-requires
+cursor-from-requires c κs = search needs
+
+entry-to-char-index-requires : tie.Need-entry-to-char-index-requires
+entry-to-char-index-requires c κs = search needs
+
+number-of-requires : tie.Need-number-of-requires
+number-of-requires c κs = search needs
+
+returns-2 : tie.Need-returns-2
+unfolding flat.entryToCharIndex
+returns-2 c = answer-good numberOf _ _ _ _ (sym (c .before .before .before .before .before .before .bad-flags .ensures) ∙ c .before .before .before .before .before .if1 .left) (c .number-of .ensures) (ap numberAnswer (c .before .entry-to-char-index .ensures ∙ ap₃ (λ (h : Head) (v : View) (k : Cursor). calls.entryToCharIndex (state h (c .before .before .before .before .before .before .before .before .before .before .args .leaves .now) (c .before .before .before .before .before .before .before .before .before .before .args .inners .now) (c .before .before .before .before .before .before .before .before .before .before .args .homes .now)) v k) (c .before .before .before .before .head-from .ensures) (c .before .before .before .view-from .ensures) (c .before .before .cursor-from .ensures)))
+
+pub smelvock-entry-to-char-index-spec : {M : Type 1} → statement M
+smelvock-entry-to-char-index-spec =
+    tie.close
+    (tie.spec
+    bad-flags-requires
+    refused-number-requires
+    returns
+    head-from-requires
+    view-from-requires
+    cursor-from-requires
+    entry-to-char-index-requires
+    number-of-requires
+    returns-2)

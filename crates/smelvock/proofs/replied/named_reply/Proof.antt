@@ -1,0 +1,38 @@
+-- `smelvock::replied::named_reply`: the head in words, and one case of the answer at a time.
+use borrow.Author.Needs.{needs}
+use mathlib.Core.Path.{sym, ap₂, _∙_}
+use Rattle.model.specs.Answer.{namedAnswer}
+use Rattle.model.specs.declared.answer.Named.{Named}
+use Rattle.smelvock.specs.Flat.{numberReplyOf}
+use Rattle.smelvock.specs.declared.flat.FlatHead.{FlatHead}
+use Rattle.smelvock.proofs.replied.named_reply.Statement.{statement}
+use Rattle.smelvock.proofs.replied.named_reply.Tie as tie
+
+flat-of-requires : tie.Need-flat-of-requires
+flat-of-requires c κs = search needs
+
+enum-known-answer : tie.Need-enum-known-answer
+enum-known-answer c = search needs
+
+enum-known-answer-2 : tie.Need-enum-known-answer-2
+enum-known-answer-2 c = search needs
+
+refused-number-requires : tie.Need-refused-number-requires
+refused-number-requires c κs = search needs
+
+returns : tie.Need-returns
+returns c = ap₂ (λ (h : FlatHead) (x : Named). numberReplyOf h (namedAnswer x)) (c .before .before .before .flat-of .ensures) (sym (c .before .answer .given .1))
+
+returns-2 : tie.Need-returns-2
+returns-2 c = c .refused-number .ensures ∙ ap₂ (λ (h : FlatHead) (x : Named). numberReplyOf h (namedAnswer x)) (c .before .before .before .before .flat-of .ensures) (sym (c .before .before .answer2 .given .1))
+
+pub named-reply-spec : {M : Type 1} → statement M
+named-reply-spec =
+    tie.close
+    (tie.spec
+    flat-of-requires
+    enum-known-answer
+    enum-known-answer-2
+    refused-number-requires
+    returns
+    returns-2)
