@@ -1,0 +1,42 @@
+//! Links the static library that `rt staticlib smelvock` writes, and makes it where it is missing or older than the code.
+//! A copy stands in OUT_DIR, so that what is built once doesn't need the repository's target/ again.
+
+use std::path::{Path, PathBuf};
+use std::process::Command;
+use std::time::SystemTime;
+use std::{env, fs};
+
+fn main() {
+    let root = PathBuf::from(env::var("CARGO_MANIFEST_DIR").expect("cargo sets it")).join("../..");
+    let library = root.join("target/staticlib/libsmelvock.a");
+    let code = newest(&root.join("crates"));
+    if modified(&library) < code {
+        let done = Command::new("rt").args(["staticlib", "smelvock"]).current_dir(&root).status();
+        assert!(done.is_ok_and(|status| status.success()), "rt staticlib smelvock failed; its log is in target/log");
+    }
+    let copies = PathBuf::from(env::var("OUT_DIR").expect("cargo sets it"));
+    let copy = copies.join("libsmelvock.a");
+    fs::copy(&library, &copy).expect("the library is there");
+    println!("cargo:rerun-if-changed=build.rs");
+    println!("cargo:rerun-if-changed={}", root.join("crates").display());
+    println!("cargo:rerun-if-changed={}", library.display());
+    println!("cargo:rustc-link-search=native={}", copies.display());
+    println!("cargo:rustc-link-lib=static=smelvock");
+    println!("cargo:rustc-env=SMELVOCK_LIBRARY={}", copy.display());
+}
+
+/// When a file was last written; a missing one is older than any.
+fn modified(file: &Path) -> SystemTime {
+    fs::metadata(file).and_then(|known| known.modified()).unwrap_or(SystemTime::UNIX_EPOCH)
+}
+
+/// When the newest Rattle file below a folder was written. Proofs are left out: they are no part of the library.
+fn newest(folder: &Path) -> SystemTime {
+    let files = fs::read_dir(folder).expect("the folder is there").map(|file| file.expect("it can be read").path());
+    let times = files.map(|path| match path.extension() {
+        _ if path.is_dir() => newest(&path),
+        Some(kind) if kind == "rt" => modified(&path),
+        _ => SystemTime::UNIX_EPOCH,
+    });
+    times.max().unwrap_or(SystemTime::UNIX_EPOCH)
+}

@@ -1,0 +1,130 @@
+/* PrepareEffectTree through C linkage: libsmelvock.a, which `rt staticlib smelvock` writes, for x86-64 Linux.
+ *
+ * The caller lends three areas of words and keeps the head: each call takes the head by value and hands the one after it
+ * back. Fan 4 to 32, limit 1 to 65,536. The leaf area and the inner area each need max(1, limit / (fan / 2)) nodes of
+ * 3 + 3 * fan words, homes needs limit words; an area is a pointer and its count of words. Areas may not overlap.
+ *
+ * Every call ends, writes only in the areas, and answers a number: 0, or that of its refusal.
+ *    1  fan or limit outside its values       6  a split moves more than the entry has
+ *    2  an area is too short                  7  a view's total would pass 4,294,967,295
+ *    3  the cursor is not current             8  the tree holds its limit
+ *    4  no such entry                         9  a link of an unsound tree leads outside
+ *    5  position at or past the total        10  a view or flag is neither 0 nor 1
+ * Refused: the other values are 0 and, but for 9, head and areas are as they were. */
+#ifndef SMELVOCK_H
+#define SMELVOCK_H
+
+#include <stddef.h>
+#include <stdint.h>
+
+#ifdef __cplusplus
+extern "C" {
+#endif
+
+#define SMELVOCK_PREPARE 0u
+#define SMELVOCK_EFFECT 1u
+/* The leaf of the cursor after the last entry. */
+#define SMELVOCK_NONE 4294967295u
+
+/* The finger (present 0 or 1, then seven words) is a tree's memory of its last lookup; its words are 0 where absent. */
+typedef struct {
+    uint32_t fan, limit, root, levels, leaves, inners, entries;
+    uint32_t present, view, leaf, start, effect, slot, within, effect_within;
+} smelvock_head;
+
+/* An entry's place, current until the next insertion or split. */
+typedef struct {
+    uint32_t leaf, slot, stamp;
+} smelvock_cursor_at;
+
+typedef struct {
+    uint32_t prepare, effect;
+} smelvock_length;
+
+typedef struct {
+    uint32_t number, value;
+} smelvock_number;
+
+typedef struct {
+    uint32_t number;
+    smelvock_length lengths;
+} smelvock_measured;
+
+typedef struct {
+    uint32_t number;
+    smelvock_cursor_at at;
+} smelvock_standing;
+
+typedef struct {
+    smelvock_head head;
+    uint32_t number;
+} smelvock_outcome_reply;
+
+typedef struct {
+    smelvock_head head;
+    uint32_t number, value;
+} smelvock_number_reply;
+
+typedef struct {
+    smelvock_head head;
+    uint32_t number;
+    smelvock_cursor_at at;
+    uint32_t offset;
+} smelvock_selected_reply;
+
+typedef struct {
+    smelvock_head head;
+    uint32_t number;
+    smelvock_cursor_at at;
+    uint32_t offset, position;
+} smelvock_located_reply;
+
+typedef struct {
+    smelvock_head head;
+    uint32_t number, id, position;
+} smelvock_inserted_reply;
+
+typedef struct {
+    smelvock_head head;
+    uint32_t number, id;
+    smelvock_cursor_at first, second;
+} smelvock_divided_reply;
+
+#define SMELVOCK_AREAS \
+    const uint32_t *leaves, size_t leaf_words, const uint32_t *inners, size_t inner_words, const uint32_t *homes, size_t home_words
+#define SMELVOCK_AREAS_WRITTEN \
+    uint32_t *leaves, size_t leaf_words, uint32_t *inners, size_t inner_words, uint32_t *homes, size_t home_words
+
+/* A tree of one entry, id 0. A refused make returns a head of zeros. */
+smelvock_outcome_reply smelvock_new(uint32_t fan, uint32_t limit, smelvock_length lengths, SMELVOCK_AREAS_WRITTEN);
+smelvock_outcome_reply smelvock_reset(smelvock_head head, SMELVOCK_AREAS_WRITTEN, smelvock_length lengths);
+
+/* value: the number of entries; 0, for a tree is never empty. */
+smelvock_number smelvock_len(smelvock_head head);
+smelvock_number smelvock_is_empty(smelvock_head head);
+
+/* The entry at a cursor: its id, its lengths, its position in a view. */
+smelvock_number smelvock_id(smelvock_head head, SMELVOCK_AREAS, smelvock_cursor_at at);
+smelvock_measured smelvock_lengths(smelvock_head head, SMELVOCK_AREAS, smelvock_cursor_at at);
+smelvock_number smelvock_entry_to_char_index(smelvock_head head, SMELVOCK_AREAS, uint32_t view, smelvock_cursor_at at);
+
+/* The cursor of an entry, of the first, and of the one after a cursor's. */
+smelvock_standing smelvock_cursor(smelvock_head head, SMELVOCK_AREAS, uint32_t id);
+smelvock_standing smelvock_first(smelvock_head head, SMELVOCK_AREAS);
+smelvock_standing smelvock_next(smelvock_head head, SMELVOCK_AREAS, smelvock_cursor_at at);
+
+/* value: 0, 1, 2 as a stands before, is or stands after b. */
+smelvock_number smelvock_cmp(smelvock_head head, SMELVOCK_AREAS, smelvock_cursor_at a, smelvock_cursor_at b);
+
+/* The entry that holds a position of a view, and the offset into it; locate also its effect position. */
+smelvock_selected_reply smelvock_char_index_to_entry(smelvock_head head, SMELVOCK_AREAS, uint32_t view, uint32_t index);
+smelvock_located_reply smelvock_locate(smelvock_head head, SMELVOCK_AREAS, uint32_t view, uint32_t index);
+
+/* value: 1 if the tree is sound, else 0. */
+smelvock_number smelvock_audit(smelvock_head head, SMELVOCK_AREAS);
+
+#ifdef __cplusplus
+}
+#endif
+
+#endif

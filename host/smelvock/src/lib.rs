@@ -1,0 +1,201 @@
+//! lib.rs's `PrepareEffectTree` over the proved calls: its names and signatures, on areas that the tree owns, with a
+//! [`Refusal`] where lib.rs panics, wraps or answers by chance.
+
+pub mod raw;
+mod refusal;
+
+use raw::{Areas, AreasMut};
+pub use refusal::Refusal;
+use std::cmp::Ordering;
+
+/// An entry's permanent id, numbered from 0 in creation order.
+pub type EntryId = u32;
+
+/// Which version a length or position is measured in.
+#[derive(Clone, Copy, PartialEq, Eq, Debug)]
+pub enum View {
+    Prepare,
+    Effect,
+}
+
+/// An entry's visible length in the prepare and effect versions.
+#[derive(Clone, Copy, PartialEq, Eq, Debug, Default)]
+pub struct Lengths {
+    pub prepare: u32,
+    pub effect: u32,
+}
+
+/// An entry's place in the tree, current until the next insertion or split.
+#[derive(Clone, Copy, PartialEq, Eq, Debug)]
+pub struct Cursor {
+    leaf: u32,
+    slot: u32,
+    /// The number of entries when the cursor was issued.
+    stamp: u32,
+}
+
+/// The most entries of a tree that [`new`](PrepareEffectTree::new) makes.
+pub const LIMIT: u32 = 65_536;
+
+/// An order-statistic B+ tree over a sequence of entries, indexed by position in both the prepare
+/// and effect versions.
+#[derive(Clone, PartialEq, Eq, Debug)]
+pub struct PrepareEffectTree<const N: usize = 32> {
+    head: raw::Head,
+    leaves: Vec<u32>,
+    inners: Vec<u32>,
+    homes: Vec<u32>,
+}
+
+impl<const N: usize> PrepareEffectTree<N> {
+    /// Creates a tree of one entry that holds at most [`LIMIT`].
+    pub fn new(lengths: Lengths) -> Result<Self, Refusal> {
+        Self::with_limit(LIMIT, lengths)
+    }
+
+    /// Creates a tree of one entry that holds at most `limit`.
+    pub fn with_limit(limit: u32, lengths: Lengths) -> Result<Self, Refusal> {
+        let fan = u32::try_from(N).unwrap_or(0);
+        let [nodes, homes] = words(fan, limit);
+        let mut tree = PrepareEffectTree {
+            head: raw::Head::default(),
+            leaves: vec![0; nodes],
+            inners: vec![0; nodes],
+            homes: vec![0; homes],
+        };
+        let reply = raw::new(fan, limit, lengths.into(), tree.areas_mut());
+        tree.head = reply.head;
+        Refusal::unless(reply.number, || tree)
+    }
+
+    /// A tree of any words: every call ends on them, and [`audit`](Self::audit) says whether they are a sound tree.
+    pub fn from_words(head: raw::Head, leaves: Vec<u32>, inners: Vec<u32>, homes: Vec<u32>) -> Self {
+        PrepareEffectTree { head, leaves, inners, homes }
+    }
+
+    pub fn head(&self) -> raw::Head {
+        self.head
+    }
+
+    pub fn areas(&self) -> Areas<'_> {
+        Areas { leaves: &self.leaves, inners: &self.inners, homes: &self.homes }
+    }
+
+    fn areas_mut(&mut self) -> AreasMut<'_> {
+        AreasMut { leaves: &mut self.leaves, inners: &mut self.inners, homes: &mut self.homes }
+    }
+
+    /// Makes this a tree of one entry again, reusing its memory.
+    pub fn reset(&mut self, lengths: Lengths) -> Result<(), Refusal> {
+        let reply = raw::reset(self.head, self.areas_mut(), lengths.into());
+        self.head = reply.head;
+        Refusal::unless(reply.number, || ())
+    }
+
+    /// The number of entries, including those of length 0: entries are never removed.
+    pub fn len(&self) -> Result<usize, Refusal> {
+        let reply = raw::len(self.head);
+        Refusal::unless(reply.number, || reply.value as usize)
+    }
+
+    /// Always false: a tree holds at least one entry.
+    pub fn is_empty(&self) -> Result<bool, Refusal> {
+        let reply = raw::is_empty(self.head);
+        Refusal::unless(reply.number, || reply.value == 1)
+    }
+
+    pub fn first(&self) -> Result<Cursor, Refusal> {
+        let reply = raw::first(self.head, self.areas());
+        Refusal::unless(reply.number, || reply.at.into())
+    }
+
+    pub fn next(&self, at: Cursor) -> Result<Option<Cursor>, Refusal> {
+        let reply = raw::next(self.head, self.areas(), at.into());
+        Refusal::unless(reply.number, || (reply.at.leaf != raw::NONE).then(|| reply.at.into()))
+    }
+
+    pub fn id(&self, at: Cursor) -> Result<EntryId, Refusal> {
+        let reply = raw::id(self.head, self.areas(), at.into());
+        Refusal::unless(reply.number, || reply.value)
+    }
+
+    pub fn lengths(&self, at: Cursor) -> Result<Lengths, Refusal> {
+        let reply = raw::lengths(self.head, self.areas(), at.into());
+        Refusal::unless(reply.number, || reply.lengths.into())
+    }
+
+    pub fn cursor(&self, id: EntryId) -> Result<Cursor, Refusal> {
+        let reply = raw::cursor(self.head, self.areas(), id);
+        Refusal::unless(reply.number, || reply.at.into())
+    }
+
+    pub fn cmp(&self, a: Cursor, b: Cursor) -> Result<Ordering, Refusal> {
+        let reply = raw::cmp(self.head, self.areas(), a.into(), b.into());
+        Refusal::unless(reply.number, || reply.value.cmp(&1))
+    }
+
+    /// Selects the entry holding position `index` of `view`, and the offset into it.
+    pub fn char_index_to_entry(&mut self, view: View, index: u32) -> Result<(Cursor, u32), Refusal> {
+        let reply = raw::char_index_to_entry(self.head, self.areas(), view as u32, index);
+        self.head = reply.head;
+        Refusal::unless(reply.number, || (reply.at.into(), reply.offset))
+    }
+
+    /// Selects as [`char_index_to_entry`](Self::char_index_to_entry) does, also returning the
+    /// entry's position in the effect version.
+    pub fn locate(&mut self, view: View, index: u32) -> Result<(Cursor, u32, u32), Refusal> {
+        let reply = raw::locate(self.head, self.areas(), view as u32, index);
+        self.head = reply.head;
+        Refusal::unless(reply.number, || (reply.at.into(), reply.offset, reply.position))
+    }
+
+    /// Ranks an entry: its position in `view`.
+    pub fn entry_to_char_index(&self, view: View, at: Cursor) -> Result<u32, Refusal> {
+        let reply = raw::entry_to_char_index(self.head, self.areas(), view as u32, at.into());
+        Refusal::unless(reply.number, || reply.value)
+    }
+
+    /// Whether the tree is sound.
+    pub fn audit(&self) -> Result<bool, Refusal> {
+        let reply = raw::audit(self.head, self.areas());
+        Refusal::unless(reply.number, || reply.value == 1)
+    }
+}
+
+/// The words of the leaf area, which are those of the inner area, and of homes. None where `new` refuses.
+fn words(fan: u32, limit: u32) -> [usize; 2] {
+    if !(4..=32).contains(&fan) || !(1..=LIMIT).contains(&limit) {
+        return [0, 0];
+    }
+    let nodes = (limit / (fan / 2)).max(1);
+    [(nodes * (3 + 3 * fan)) as usize, limit as usize]
+}
+
+impl From<Lengths> for raw::Lengths {
+    #[inline]
+    fn from(Lengths { prepare, effect }: Lengths) -> Self {
+        raw::Lengths { prepare, effect }
+    }
+}
+
+impl From<raw::Lengths> for Lengths {
+    #[inline]
+    fn from(raw::Lengths { prepare, effect }: raw::Lengths) -> Self {
+        Lengths { prepare, effect }
+    }
+}
+
+impl From<Cursor> for raw::Cursor {
+    #[inline]
+    fn from(Cursor { leaf, slot, stamp }: Cursor) -> Self {
+        raw::Cursor { leaf, slot, stamp }
+    }
+}
+
+/// Any cursor may be made; one that isn't current is refused by 3.
+impl From<raw::Cursor> for Cursor {
+    #[inline]
+    fn from(raw::Cursor { leaf, slot, stamp }: raw::Cursor) -> Self {
+        Cursor { leaf, slot, stamp }
+    }
+}
