@@ -1,0 +1,41 @@
+//! `cargo run --release -p bench [ROUNDS]`: nanoseconds per call of lib.rs and of the port, and their ratio, for every kind of
+//! call. One process, the same inputs, the two in turn in every round; the median of the rounds is printed.
+
+mod reads;
+mod subject;
+mod timing;
+
+use oracle::random::Random;
+use oracle::tree::{Lengths, PrepareEffectTree};
+use subject::{port, Rust};
+use timing::Table;
+
+fn main() {
+    let rounds = std::env::args().nth(1).map_or(15, |rounds| rounds.parse().expect("a number of rounds"));
+    for entries in [512, 65_536] {
+        run::<4>(entries, rounds);
+        run::<8>(entries, rounds);
+        run::<32>(entries, rounds);
+    }
+}
+
+fn run<const N: usize>(entries: u32, rounds: usize) {
+    let mut rust = Rust(grown::<N>(entries));
+    let mut port = port(&rust.0, entries);
+    let mut table = Table::new(format!("N {N}, {entries} entries"), rounds);
+    reads::run(&mut table, &mut rust, &mut port);
+    table.print();
+}
+
+/// A tree of so many entries, inserted at random places with lengths of 0 to 7.
+fn grown<const N: usize>(entries: u32) -> PrepareEffectTree<N> {
+    let mut random = Random::new(N as u64);
+    let mut length = |random: &mut Random| Lengths { prepare: random.below(8) as u32, effect: random.below(8) as u32 };
+    let mut tree = PrepareEffectTree::new(length(&mut random));
+    while tree.len() < entries as usize {
+        let before = tree.cursor(random.below(tree.len() as u64) as u32);
+        let lengths = length(&mut random);
+        tree.insert(Some(before), lengths);
+    }
+    tree
+}

@@ -1,0 +1,93 @@
+//! The calls that leave the words as they are, but for the finger.
+
+use crate::subject::Subject;
+use crate::timing::Table;
+use oracle::random::Random;
+use std::hint::black_box;
+
+const CALLS: usize = 20_000;
+
+/// What every kind is fed.
+struct Inputs {
+    ids: Vec<u32>,
+    /// Positions of the prepare view, at random and in rising order, a few apart.
+    random: Vec<u32>,
+    rising: Vec<u32>,
+}
+
+pub fn run<A: Subject, B: Subject>(table: &mut Table, rust: &mut A, port: &mut B) {
+    let inputs = inputs(rust);
+    let ids = &inputs.ids;
+    let rusts = cursors(rust, ids);
+    let ports = cursors(port, ids);
+    macro_rules! kind {
+        ($name:expr, |$tree:ident, $cursors:ident| $calls:expr) => {
+            table.kind(
+                $name,
+                || {
+                    let ($tree, $cursors) = (&mut *rust, &rusts);
+                    let _ = $cursors;
+                    $calls
+                },
+                || {
+                    let ($tree, $cursors) = (&mut *port, &ports);
+                    let _ = $cursors;
+                    $calls
+                },
+            )
+        };
+    }
+    kind!("len", |tree, _cursors| each(0..CALLS, |_| tree.len()));
+    kind!("is_empty", |tree, _cursors| each(0..CALLS, |_| tree.is_empty()));
+    kind!("first", |tree, _cursors| each(0..CALLS, |_| tree.first()));
+    kind!("next, whole list", |tree, _cursors| walk(tree));
+    kind!("id", |tree, cursors| each(cursors, |&at| tree.id(at)));
+    kind!("lengths", |tree, cursors| each(cursors, |&at| tree.lengths(at)));
+    kind!("cursor", |tree, _cursors| each(ids, |&id| tree.cursor(id)));
+    kind!("cmp", |tree, cursors| each(cursors.windows(2), |pair| tree.cmp(pair[0], pair[1])));
+    kind!("entry_to_char_index prepare", |tree, cursors| each(cursors, |&at| tree.entry_to_char_index(0, at)));
+    kind!("entry_to_char_index effect", |tree, cursors| each(cursors, |&at| tree.entry_to_char_index(1, at)));
+    kind!("locate, random", |tree, _cursors| each(&inputs.random, |&index| tree.locate(0, index)));
+    kind!("locate, rising", |tree, _cursors| each(&inputs.rising, |&index| tree.locate(0, index)));
+    kind!("char_index_to_entry, rising", |tree, _cursors| each(&inputs.rising, |&index| tree.char_index_to_entry(0, index)));
+}
+
+fn inputs<A: Subject>(tree: &mut A) -> Inputs {
+    let mut random = Random::new(7);
+    let count = tree.len() as u64;
+    let mut total = 0u64;
+    let mut at = Some(tree.first());
+    while let Some(cursor) = at {
+        total += tree.lengths(cursor)[0] as u64;
+        at = tree.next(cursor);
+    }
+    Inputs {
+        ids: (0..CALLS).map(|_| random.below(count) as u32).collect(),
+        random: (0..CALLS).map(|_| random.below(total) as u32).collect(),
+        rising: (0..CALLS as u64).map(|call| (call * 3 % total) as u32).collect(),
+    }
+}
+
+fn cursors<A: Subject>(tree: &A, ids: &[u32]) -> Vec<A::Cursor> {
+    ids.iter().map(|&id| tree.cursor(id)).collect()
+}
+
+/// Makes one call for each input; every answer is used.
+fn each<I: IntoIterator, T>(inputs: I, mut call: impl FnMut(I::Item) -> T) -> usize {
+    let mut calls = 0;
+    for input in inputs {
+        black_box(call(black_box(input)));
+        calls += 1;
+    }
+    calls
+}
+
+fn walk<A: Subject>(tree: &A) -> usize {
+    let mut calls = 0;
+    let mut at = Some(tree.first());
+    while let Some(cursor) = at {
+        at = tree.next(black_box(cursor));
+        calls += 1;
+    }
+    calls
+}
