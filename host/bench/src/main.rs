@@ -1,5 +1,6 @@
 //! `cargo run --release -p bench [ROUNDS]`: nanoseconds per call of lib.rs and of the port, and their ratio, for every kind of
-//! call. One process, the same inputs, the two in turn in every round; the median of the rounds is printed.
+//! call. One process, the same inputs, the two in turn in every round; the median of the rounds is printed, and
+//! the least.
 
 mod reads;
 mod subject;
@@ -11,7 +12,7 @@ use subject::{port, Rust};
 use timing::Table;
 
 fn main() {
-    let rounds = std::env::args().nth(1).map_or(15, |rounds| rounds.parse().expect("a number of rounds"));
+    let rounds = std::env::args().nth(1).map_or(25, |rounds| rounds.parse().expect("a number of rounds"));
     for entries in [512, 65_536] {
         run::<4>(entries, rounds);
         run::<8>(entries, rounds);
@@ -30,7 +31,7 @@ fn run<const N: usize>(entries: u32, rounds: usize) {
 /// A tree of so many entries, inserted at random places with lengths of 0 to 7.
 fn grown<const N: usize>(entries: u32) -> PrepareEffectTree<N> {
     let mut random = Random::new(N as u64);
-    let mut length = |random: &mut Random| Lengths { prepare: random.below(8) as u32, effect: random.below(8) as u32 };
+    let length = |random: &mut Random| Lengths { prepare: random.below(8) as u32, effect: random.below(8) as u32 };
     let mut tree = PrepareEffectTree::new(length(&mut random));
     while tree.len() < entries as usize {
         let before = tree.cursor(random.below(tree.len() as u64) as u32);

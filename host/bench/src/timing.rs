@@ -5,7 +5,7 @@ use std::time::Instant;
 pub struct Table {
     title: String,
     rounds: usize,
-    rows: Vec<(String, f64, f64)>,
+    rows: Vec<(String, [f64; 2], [f64; 2])>,
 }
 
 impl Table {
@@ -22,14 +22,18 @@ impl Table {
             rusts.push(timed(&mut rust));
             ports.push(timed(&mut port));
         }
-        self.rows.push((name.to_string(), median(rusts), median(ports)));
+        self.rows.push((name.to_string(), summed_up(rusts), summed_up(ports)));
     }
 
     pub fn print(&self) {
         println!("{}", self.title);
-        println!("{:<28}{:>10}{:>10}{:>8}", "ns per call", "lib.rs", "port", "ratio");
+        println!("{:<28}{:>10}{:>10}{:>8}   {:>10}{:>10}{:>8}", "ns per call", "lib.rs", "port", "ratio", "least", "least", "ratio");
         for (name, rust, port) in &self.rows {
-            println!("{name:<28}{rust:>10.1}{port:>10.1}{:>8.2}", port / rust);
+            print!("{name:<28}");
+            for (rust, port) in rust.iter().zip(port) {
+                print!("{rust:>10.1}{port:>10.1}{:>8.2}   ", port / rust);
+            }
+            println!();
         }
         println!();
     }
@@ -42,7 +46,8 @@ fn timed(run: &mut impl FnMut() -> usize) -> f64 {
     start.elapsed().as_nanos() as f64 / calls as f64
 }
 
-fn median(mut times: Vec<f64>) -> f64 {
+/// The median, and the least: what other work on the machine disturbs the least.
+fn summed_up(mut times: Vec<f64>) -> [f64; 2] {
     times.sort_by(f64::total_cmp);
-    times[times.len() / 2]
+    [times[times.len() / 2], times[0]]
 }
