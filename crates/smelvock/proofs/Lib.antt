@@ -1,1 +1,2 @@
 mod FlatLaws
+mod LookLaws

@@ -7,39 +7,11 @@ use crate::given::head_from;
 use crate::given::view_from;
 use crate::replied::located_reply;
 use crate::replied::refused_located;
-use crate::replied::refused_selected;
-use crate::replied::selected_reply;
-use calls_look::lookup::char_index_to_entry;
 use calls_look::lookup::locate;
 ghost use mathlib.Core.Path.{_≡_};
 ghost use Rattle.smelvock.specs.Reads.{given};
 ghost use Rattle.smelvock.specs.Changes as flat;
 ghost use Rattle.smelvock.specs.Changes.{left};
-
-#[no_mangle]
-pub extern "C" fn smelvock_char_index_to_entry(
-    head: FlatHead,
-    leaves: &[u32],
-    inners: &[u32],
-    homes: &[u32],
-    view: u32,
-    index: u32,
-) -> FlatSelectedReply
-    ensures { λ r. ⌜ left r (now (leaves .exit)) (now (inners .exit)) (now (homes .exit)) ≡ flat.charIndexToEntry (given head (now (leaves .entry)) (now (inners .entry)) (now (homes .entry))) view index ⌝ }
-{
-    if bad_flags(head.present, view) {
-        return refused_selected(head, 10);
-    }
-    let r = char_index_to_entry(
-        head_from(head),
-        leaves,
-        inners,
-        homes,
-        view_from(view),
-        index,
-    );
-    selected_reply(r)
-}
 
 #[no_mangle]
 pub extern "C" fn smelvock_locate(
@@ -64,4 +36,28 @@ pub extern "C" fn smelvock_locate(
         index,
     );
     located_reply(r)
+}
+
+// The same without the effect position. It goes through smelvock_locate, so that the lookup itself has one caller and is compiled into it.
+#[no_mangle]
+pub extern "C" fn smelvock_char_index_to_entry(
+    head: FlatHead,
+    leaves: &[u32],
+    inners: &[u32],
+    homes: &[u32],
+    view: u32,
+    index: u32,
+) -> FlatSelectedReply
+    ensures { λ r. ⌜ left r (now (leaves .exit)) (now (inners .exit)) (now (homes .exit)) ≡ flat.charIndexToEntry (given head (now (leaves .entry)) (now (inners .entry)) (now (homes .entry))) view index ⌝ }
+{
+    let r = smelvock_locate(head, leaves, inners, homes, view, index);
+    let after = r.head;
+    FlatSelectedReply {
+        head: after,
+        number: r.number,
+        leaf: r.leaf,
+        slot: r.slot,
+        stamp: r.stamp,
+        offset: r.offset,
+    }
 }

@@ -6,7 +6,6 @@ use crate::flat::FlatInsertedReply;
 use crate::flat::FlatLocatedReply;
 use crate::flat::FlatNumberReply;
 use crate::flat::FlatOutcomeReply;
-use crate::flat::FlatSelectedReply;
 use model::answer::Divided;
 use model::answer::DividedReply;
 use model::answer::Inserted;
@@ -19,12 +18,10 @@ use model::answer::Number;
 use model::answer::NumberReply;
 use model::answer::Outcome;
 use model::answer::OutcomeReply;
-use model::answer::Selected;
-use model::answer::SelectedReply;
 ghost use mathlib.Core.Path.{_≡_};
-ghost use Rattle.model.specs.Answer.{outcomeAnswer, numberAnswer, namedAnswer, selectedAnswer, locatedAnswer, insertedAnswer, dividedAnswer};
+ghost use Rattle.model.specs.Answer.{outcomeAnswer, numberAnswer, namedAnswer, locatedAnswer, insertedAnswer, dividedAnswer};
 ghost use Rattle.model.specs.Row.{refused};
-ghost use Rattle.smelvock.specs.Flat.{flatOf, outcomeReplyOf, numberReplyOf, selectedReplyOf, locatedReplyOf, insertedReplyOf, dividedReplyOf};
+ghost use Rattle.smelvock.specs.Flat.{flatOf, outcomeReplyOf, numberReplyOf, locatedReplyOf, insertedReplyOf, dividedReplyOf};
 
 pub fn refused_outcome(head: FlatHead, n: u32) -> FlatOutcomeReply
     ensures { λ r. ⌜ r ≡ outcomeReplyOf head (refused n) ⌝ }
@@ -42,19 +39,6 @@ pub fn refused_number(head: FlatHead, n: u32) -> FlatNumberReply
         head: head,
         number: n,
         value: 0,
-    }
-}
-
-pub fn refused_selected(head: FlatHead, n: u32) -> FlatSelectedReply
-    ensures { λ r. ⌜ r ≡ selectedReplyOf head (refused n) ⌝ }
-{
-    FlatSelectedReply {
-        head: head,
-        number: n,
-        leaf: 0,
-        slot: 0,
-        stamp: 0,
-        offset: 0,
     }
 }
 
@@ -149,28 +133,6 @@ pub fn named_reply(reply: NamedReply) -> FlatNumberReply
             }
         }
         Named::Refused(n) => refused_number(head, n),
-    }
-}
-
-pub fn selected_reply(reply: SelectedReply) -> FlatSelectedReply
-    ensures { λ r. ⌜ r ≡ selectedReplyOf (flatOf (reply .head)) (selectedAnswer (reply .answer)) ⌝ }
-{
-    let h = reply.head;
-    let answer = reply.answer;
-    let head = flat_of(h);
-    match answer {
-        Selected::At(c, offset) => {
-            let leaf = c.leaf;
-            FlatSelectedReply {
-                head: head,
-                number: 0,
-                leaf: leaf.0,
-                slot: c.slot,
-                stamp: c.stamp,
-                offset: offset,
-            }
-        }
-        Selected::Refused(n) => refused_selected(head, n),
     }
 }
 
