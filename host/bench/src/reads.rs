@@ -49,7 +49,8 @@ pub fn run<A: Subject, B: Subject>(table: &mut Table, rust: &mut A, port: &mut B
     kind!("entry_to_char_index effect", |tree, cursors| each(cursors, |&at| tree.entry_to_char_index(1, at)));
     kind!("locate, random", |tree, _cursors| each(&inputs.random, |&index| tree.locate(0, index)));
     kind!("locate, rising", |tree, _cursors| each(&inputs.rising, |&index| tree.locate(0, index)));
-    kind!("char_index_to_entry, rising", |tree, _cursors| each(&inputs.rising, |&index| tree.char_index_to_entry(0, index)));
+    kind!("char_index_to_entry, rising", |tree, _cursors| each(&inputs.rising, |&index| tree
+        .char_index_to_entry(0, index)));
 }
 
 fn inputs<A: Subject>(tree: &mut A) -> Inputs {

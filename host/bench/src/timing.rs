@@ -27,7 +27,10 @@ impl Table {
 
     pub fn print(&self) {
         println!("{}", self.title);
-        println!("{:<28}{:>10}{:>10}{:>8}   {:>10}{:>10}{:>8}", "ns per call", "lib.rs", "port", "ratio", "least", "least", "ratio");
+        println!(
+            "{:<28}{:>10}{:>10}{:>8}   {:>10}{:>10}{:>8}",
+            "ns per call", "lib.rs", "port", "ratio", "least", "least", "ratio"
+        );
         for (name, rust, port) in &self.rows {
             print!("{name:<28}");
             for (rust, port) in rust.iter().zip(port) {

@@ -43,6 +43,9 @@ impl<S: Subject> Driver<S> {
         let reply = match record.call().filter(|_| answer.number == 0) {
             Some(call) => Some(self.answered(record, call, answer)?),
             None => {
+                if let Some(call) = record.call() {
+                    self.subject.refused(call, answer.number);
+                }
                 self.coverage.refused[answer.number as usize] += 1;
                 None
             }

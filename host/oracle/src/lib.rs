@@ -4,6 +4,7 @@
 //! "Document 01" is the project's scope paper; "lib.rs" is `docs/src/crates/strider-tree/src/lib.rs`.
 
 pub mod audit;
+pub mod calls;
 pub mod coverage;
 pub mod driver;
 pub mod lists;

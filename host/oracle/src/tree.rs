@@ -14,7 +14,35 @@ impl<const N: usize> Node<N> {
     }
 }
 
+impl<const N: usize> Node<N> {
+    /// Whether these are the node's words.
+    fn same(&self, words: &[u32]) -> bool {
+        let (first, rest) = words.split_at(3);
+        let slots = self.slots.iter().zip(rest.chunks_exact(3));
+        [self.len, self.parent, self.at] == *first
+            && slots
+                .fold(true, |same, (slot, words)| same & ([slot.child, slot.prepare_len, slot.effect_len] == *words))
+    }
+}
+
+/// Whether an area begins with these nodes and holds `lent` in every word behind them.
+fn same_area<const N: usize>(nodes: &[Node<N>], area: &[u32], lent: u32) -> bool {
+    let size = 3 + 3 * N;
+    let (used, rest) = area.split_at(nodes.len() * size);
+    nodes.iter().zip(used.chunks_exact(size)).all(|(node, words)| node.same(words))
+        && rest.iter().all(|&word| word == lent)
+}
+
 impl<const N: usize> PrepareEffectTree<N> {
+    /// Whether the three areas are this tree's, word by word, with `lent` in every word that is not in use.
+    pub fn same_words(&self, leaves: &[u32], inners: &[u32], homes: &[u32], lent: u32) -> bool {
+        let (used, rest) = homes.split_at(self.leaf_of_entry.len());
+        same_area(&self.leaves, leaves, lent)
+            && same_area(&self.nodes, inners, lent)
+            && used == self.leaf_of_entry
+            && rest.iter().all(|&word| word == lent)
+    }
+
     /// The head that the port holds for this tree; the limit is ours.
     pub fn head(&self, limit: u32) -> state::Head {
         state::Head {

@@ -136,9 +136,8 @@ impl<const N: usize> PrepareEffectTree<N> {
 
     /// Selects the entry holding position `index` of `view`, and the offset into it.
     pub fn char_index_to_entry(&mut self, view: View, index: u32) -> Result<(Cursor, u32), Refusal> {
-        let reply = raw::char_index_to_entry(self.head, self.areas(), view as u32, index);
-        self.head = reply.head;
-        Refusal::unless(reply.number, || (reply.at.into(), reply.offset))
+        let (at, offset, _) = self.locate(view, index)?;
+        Ok((at, offset))
     }
 
     /// Selects as [`char_index_to_entry`](Self::char_index_to_entry) does, also returning the

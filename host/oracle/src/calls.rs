@@ -1,0 +1,179 @@
+//! lib.rs's public calls as a trait, so that one piece of code drives lib.rs and the port, and the row calls by id on them:
+//! each is `cursor(id)` and then the call of its kind.
+
+use crate::record::Call;
+use crate::row::Entry;
+use crate::rust::{pair, side, Place, Reply, Seen};
+use crate::state::NONE;
+use crate::tree::{Cursor, Lengths, PrepareEffectTree};
+use std::cmp::Ordering;
+use std::fmt::Debug;
+
+/// A view is 0 or 1, lengths are prepare and effect.
+pub trait Calls {
+    type Cursor: Copy + Debug;
+
+    fn reset(&mut self, lengths: [u32; 2]);
+    fn len(&self) -> usize;
+    fn is_empty(&self) -> bool;
+    fn first(&self) -> Self::Cursor;
+    fn next(&self, at: Self::Cursor) -> Option<Self::Cursor>;
+    fn id(&self, at: Self::Cursor) -> u32;
+    fn lengths(&self, at: Self::Cursor) -> [u32; 2];
+    fn cursor(&self, id: u32) -> Self::Cursor;
+    fn cmp(&self, a: Self::Cursor, b: Self::Cursor) -> Ordering;
+    fn char_index_to_entry(&mut self, view: usize, index: u32) -> (Self::Cursor, u32);
+    fn locate(&mut self, view: usize, index: u32) -> (Self::Cursor, u32, u32);
+    fn entry_to_char_index(&self, view: usize, at: Self::Cursor) -> u32;
+    fn set_lengths(&mut self, at: Self::Cursor, lengths: [u32; 2]);
+    fn update(&mut self, at: Self::Cursor, lengths: [u32; 2]) -> u32;
+    fn insert(&mut self, before: Option<Self::Cursor>, lengths: [u32; 2]) -> (u32, u32);
+    fn add(&mut self, before: Option<Self::Cursor>, lengths: [u32; 2]) -> u32;
+    fn split_entry(&mut self, at: Self::Cursor, lengths: [u32; 2], before: bool) -> (u32, [Self::Cursor; 2]);
+}
+
+impl<const N: usize> Calls for PrepareEffectTree<N> {
+    type Cursor = Cursor;
+
+    fn reset(&mut self, lengths: [u32; 2]) {
+        self.reset(pair(lengths))
+    }
+    fn len(&self) -> usize {
+        self.len()
+    }
+    fn is_empty(&self) -> bool {
+        self.is_empty()
+    }
+    fn first(&self) -> Cursor {
+        self.first()
+    }
+    fn next(&self, at: Cursor) -> Option<Cursor> {
+        self.next(at)
+    }
+    fn id(&self, at: Cursor) -> u32 {
+        self.id(at)
+    }
+    fn lengths(&self, at: Cursor) -> [u32; 2] {
+        let Lengths { prepare, effect } = self.lengths(at);
+        [prepare, effect]
+    }
+    fn cursor(&self, id: u32) -> Cursor {
+        self.cursor(id)
+    }
+    fn cmp(&self, a: Cursor, b: Cursor) -> Ordering {
+        self.cmp(a, b)
+    }
+    fn char_index_to_entry(&mut self, view: usize, index: u32) -> (Cursor, u32) {
+        self.char_index_to_entry(side(view), index)
+    }
+    fn locate(&mut self, view: usize, index: u32) -> (Cursor, u32, u32) {
+        self.locate(side(view), index)
+    }
+    fn entry_to_char_index(&self, view: usize, at: Cursor) -> u32 {
+        self.entry_to_char_index(side(view), at)
+    }
+    fn set_lengths(&mut self, at: Cursor, lengths: [u32; 2]) {
+        self.set_lengths(at, pair(lengths))
+    }
+    fn update(&mut self, at: Cursor, lengths: [u32; 2]) -> u32 {
+        self.update(at, pair(lengths))
+    }
+    fn insert(&mut self, before: Option<Cursor>, lengths: [u32; 2]) -> (u32, u32) {
+        self.insert(before, pair(lengths))
+    }
+    fn add(&mut self, before: Option<Cursor>, lengths: [u32; 2]) -> u32 {
+        self.add(before, pair(lengths))
+    }
+    fn split_entry(&mut self, at: Cursor, lengths: [u32; 2], before: bool) -> (u32, [Cursor; 2]) {
+        self.split_entry(at, pair(lengths), before)
+    }
+}
+
+/// What a call answers: the fields, and its cursors.
+type Answered<C> = ([u32; 3], [Option<C>; 2]);
+
+/// Plays a call that the row does not refuse.
+pub fn play<T: Calls>(tree: &mut T, call: Call) -> Reply {
+    let cursors = call.ids().map(|id| id.map(|id| tree.cursor(id)));
+    let given = cursors.map(|cursor| cursor.map(|cursor| seen(tree, cursor)));
+    let (fields, got) = change(tree, call, cursors[0])
+        .or_else(|| ask(tree, call, cursors))
+        .expect("every call is a change or a question, and names the entries that it needs");
+    Reply { fields, given, got: got.map(|cursor| cursor.map(|cursor| seen(tree, cursor))) }
+}
+
+/// The entries in order, by walking.
+pub fn entries<T: Calls>(tree: &T) -> Vec<Entry> {
+    let mut entries = Vec::new();
+    let mut at = Some(tree.first());
+    while let Some(cursor) = at.filter(|_| entries.len() <= tree.len()) {
+        entries.push(Entry { id: tree.id(cursor), lengths: tree.lengths(cursor) });
+        at = tree.next(cursor);
+    }
+    entries
+}
+
+fn seen<T: Calls>(tree: &T, cursor: T::Cursor) -> Seen {
+    Seen { place: Place::of(cursor), id: tree.id(cursor) }
+}
+
+/// The calls that change the tree.
+fn change<T: Calls>(tree: &mut T, call: Call, at: Option<T::Cursor>) -> Option<Answered<T::Cursor>> {
+    let silent = ([0; 3], [None, None]);
+    Some(match call {
+        Call::Reset { lengths } => {
+            tree.reset(lengths);
+            silent
+        }
+        Call::Insert { lengths, .. } => {
+            let (id, effect) = tree.insert(at, lengths);
+            ([id, effect, 0], [Some(tree.cursor(id)), None])
+        }
+        Call::Add { lengths, .. } => {
+            let id = tree.add(at, lengths);
+            ([id, 0, 0], [Some(tree.cursor(id)), None])
+        }
+        Call::Split { lengths, before, .. } => {
+            let (id, cursors) = tree.split_entry(at?, lengths, before);
+            ([id, 0, 0], cursors.map(Some))
+        }
+        Call::Set { lengths, .. } => {
+            tree.set_lengths(at?, lengths);
+            silent
+        }
+        Call::Update { lengths, .. } => ([tree.update(at?, lengths), 0, 0], [None, None]),
+        _ => return None,
+    })
+}
+
+/// The calls that only answer, lookup among them although it moves the finger.
+fn ask<T: Calls>(tree: &mut T, call: Call, given: [Option<T::Cursor>; 2]) -> Option<Answered<T::Cursor>> {
+    let fields = match call {
+        Call::Lookup { view, index } => return Some(lookup(tree, view, index)),
+        Call::First => return Some(([tree.id(tree.first()), 0, 0], [Some(tree.first()), None])),
+        Call::Next { .. } => {
+            let next = tree.next(given[0]?);
+            return Some(([next.map_or(NONE, |next| tree.id(next)), 0, 0], [next, None]));
+        }
+        Call::Rank { view, .. } => [tree.entry_to_char_index(view, given[0]?), 0, 0],
+        Call::Compare { .. } => [(tree.cmp(given[0]?, given[1]?) as i32 + 1) as u32, 0, 0],
+        Call::Lengths { .. } => {
+            let [prepare, effect] = tree.lengths(given[0]?);
+            [prepare, effect, 0]
+        }
+        Call::Count => {
+            assert!(!tree.is_empty());
+            [tree.len() as u32, 0, 0]
+        }
+        _ => return None,
+    };
+    Some((fields, [None, None]))
+}
+
+/// `locate`; `char_index_to_entry` must answer the same less the effect position.
+fn lookup<T: Calls>(tree: &mut T, view: usize, index: u32) -> Answered<T::Cursor> {
+    let (at, offset, effect) = tree.locate(view, index);
+    let (again, same) = tree.char_index_to_entry(view, index);
+    assert_eq!((Place::of(again), same), (Place::of(at), offset));
+    ([tree.id(at), offset, effect], [Some(at), None])
+}
