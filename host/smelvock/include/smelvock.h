@@ -120,6 +120,17 @@ smelvock_number smelvock_cmp(smelvock_head head, SMELVOCK_AREAS, smelvock_cursor
 smelvock_selected_reply smelvock_char_index_to_entry(smelvock_head head, SMELVOCK_AREAS, uint32_t view, uint32_t index);
 smelvock_located_reply smelvock_locate(smelvock_head head, SMELVOCK_AREAS, uint32_t view, uint32_t index);
 
+/* Gives an entry lengths; update also answers its effect position. */
+smelvock_outcome_reply smelvock_set_lengths(smelvock_head head, SMELVOCK_AREAS_WRITTEN, smelvock_cursor_at at, smelvock_length lengths);
+smelvock_number_reply smelvock_update(smelvock_head head, SMELVOCK_AREAS_WRITTEN, smelvock_cursor_at at, smelvock_length lengths);
+
+/* A new entry before a cursor, or at the end where end is 1 and the cursor is of no account: its id, and its effect position. */
+smelvock_inserted_reply smelvock_insert(smelvock_head head, SMELVOCK_AREAS_WRITTEN, uint32_t end, smelvock_cursor_at before, smelvock_length lengths);
+smelvock_number_reply smelvock_add(smelvock_head head, SMELVOCK_AREAS_WRITTEN, uint32_t end, smelvock_cursor_at before, smelvock_length lengths);
+
+/* Takes lengths out of an entry into a new one just before it (before 1) or after it (0): its id, and both cursors in order. */
+smelvock_divided_reply smelvock_split_entry(smelvock_head head, SMELVOCK_AREAS_WRITTEN, smelvock_cursor_at at, smelvock_length lengths, uint32_t before);
+
 /* value: 1 if the tree is sound, else 0. */
 smelvock_number smelvock_audit(smelvock_head head, SMELVOCK_AREAS);
 

@@ -154,11 +154,59 @@ impl<const N: usize> PrepareEffectTree<N> {
         Refusal::unless(reply.number, || reply.value)
     }
 
+    pub fn set_lengths(&mut self, at: Cursor, lengths: Lengths) -> Result<(), Refusal> {
+        let reply = raw::set_lengths(self.head, self.areas_mut(), at.into(), lengths.into());
+        self.head = reply.head;
+        Refusal::unless(reply.number, || ())
+    }
+
+    /// Sets an entry's lengths and ranks it in the effect version.
+    pub fn update(&mut self, at: Cursor, lengths: Lengths) -> Result<u32, Refusal> {
+        let reply = raw::update(self.head, self.areas_mut(), at.into(), lengths.into());
+        self.head = reply.head;
+        Refusal::unless(reply.number, || reply.value)
+    }
+
+    /// Inserts an entry before `before`, or at the end for `None`, returning its id and its
+    /// position in the effect version.
+    pub fn insert(&mut self, before: Option<Cursor>, lengths: Lengths) -> Result<(EntryId, u32), Refusal> {
+        let (end, before) = target(before);
+        let reply = raw::insert(self.head, self.areas_mut(), end, before, lengths.into());
+        self.head = reply.head;
+        Refusal::unless(reply.number, || (reply.id, reply.position))
+    }
+
+    /// Inserts as [`insert`](Self::insert) does, without ranking the new entry.
+    pub fn add(&mut self, before: Option<Cursor>, lengths: Lengths) -> Result<EntryId, Refusal> {
+        let (end, before) = target(before);
+        let reply = raw::add(self.head, self.areas_mut(), end, before, lengths.into());
+        self.head = reply.head;
+        Refusal::unless(reply.number, || reply.value)
+    }
+
+    /// Moves `lengths` out of the entry at `at` into a new entry just before it if `before`, else
+    /// just after, returning the new id and both entries' cursors in order.
+    pub fn split_entry(
+        &mut self,
+        at: Cursor,
+        lengths: Lengths,
+        before: bool,
+    ) -> Result<(EntryId, [Cursor; 2]), Refusal> {
+        let reply = raw::split_entry(self.head, self.areas_mut(), at.into(), lengths.into(), before as u32);
+        self.head = reply.head;
+        Refusal::unless(reply.number, || (reply.id, [reply.first.into(), reply.second.into()]))
+    }
+
     /// Whether the tree is sound.
     pub fn audit(&self) -> Result<bool, Refusal> {
         let reply = raw::audit(self.head, self.areas());
         Refusal::unless(reply.number, || reply.value == 1)
     }
+}
+
+/// The end, or before a cursor.
+fn target(before: Option<Cursor>) -> (u32, raw::Cursor) {
+    (before.is_none() as u32, before.map_or(raw::Cursor::default(), raw::Cursor::from))
 }
 
 /// The words of the leaf area, which are those of the inner area, and of homes. None where `new` refuses.

@@ -199,6 +199,11 @@ macro_rules! writing {
 writing! {
     new as smelvock_new(fan: u32, limit: u32, lengths: Lengths;) -> OutcomeReply;
     reset as smelvock_reset(head: Head; lengths: Lengths) -> OutcomeReply;
+    insert as smelvock_insert(head: Head; end: u32, before: Cursor, lengths: Lengths) -> InsertedReply;
+    add as smelvock_add(head: Head; end: u32, before: Cursor, lengths: Lengths) -> NumberReply;
+    split_entry as smelvock_split_entry(head: Head; at: Cursor, lengths: Lengths, before: u32) -> DividedReply;
+    set_lengths as smelvock_set_lengths(head: Head; at: Cursor, lengths: Lengths) -> OutcomeReply;
+    update as smelvock_update(head: Head; at: Cursor, lengths: Lengths) -> NumberReply;
 }
 
 mod heads {

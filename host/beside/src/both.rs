@@ -1,0 +1,101 @@
+//! lib.rs and the port as one subject: every call is made on both, and everything is compared after it.
+
+use crate::port::{pair, side, Port};
+use crate::words::{head_of, raw_of};
+use oracle::calls::{entries, play};
+use oracle::record::Call;
+use oracle::row::{Entry, Row};
+use oracle::rust::{Reply, Rust, Subject};
+use oracle::state::{Head, State, NONE};
+use smelvock::{PrepareEffectTree, Refusal};
+
+pub struct Both<const N: usize> {
+    rust: Rust<N>,
+    port: Port<N>,
+    /// Calls compared, and calls that the port refused as the row does.
+    pub compared: u64,
+    pub refused: u64,
+}
+
+impl<const N: usize> Both<N> {
+    pub fn make(limit: u32, lengths: [u32; 2]) -> Self {
+        let port = PrepareEffectTree::with_limit(limit, pair(lengths)).expect("fan and limit are good");
+        let both = Both { rust: Rust::make(limit, lengths), port: Port(port), compared: 0, refused: 0 };
+        both.same_words("make");
+        both
+    }
+
+    /// Beside a row made with the same entry.
+    pub fn with_row(limit: u32, lengths: [u32; 2]) -> (Self, Row) {
+        (Both::make(limit, lengths), Row::make(limit, lengths))
+    }
+
+    /// Head and areas, word by word. What the port has not used holds the zeros that it was lent.
+    fn same_words(&self, after: impl std::fmt::Debug) {
+        assert_eq!(self.port.0.head(), raw_of(self.rust.head()), "N {N}, head after {after:?}");
+        let areas = self.port.0.areas();
+        let same = self.rust.tree.same_words(areas.leaves, areas.inners, areas.homes, 0);
+        assert!(same, "N {N}, areas after {after:?}: lib.rs has {:?}, the port {:?}", self.rust.state(), self.port.0);
+    }
+
+    /// What the port answers to a row call that is refused: the refusal of `cursor` or of the call itself.
+    fn refusal(&mut self, call: Call) -> Option<Refusal> {
+        let [first, second] = call.ids().map(|id| id.map(|id| self.port.0.cursor(id)));
+        if let Some(Err(refusal)) = first.or(second) {
+            return Some(refusal);
+        }
+        if let Some(Err(refusal)) = second {
+            return Some(refusal);
+        }
+        let (tree, at) = (&mut self.port.0, first.and_then(Result::ok));
+        match call {
+            Call::Insert { lengths, .. } => tree.insert(at, pair(lengths)).err(),
+            Call::Add { lengths, .. } => tree.add(at, pair(lengths)).err(),
+            Call::Split { lengths, before, .. } => tree.split_entry(at?, pair(lengths), before).err(),
+            Call::Set { lengths, .. } => tree.set_lengths(at?, pair(lengths)).err(),
+            Call::Update { lengths, .. } => tree.update(at?, pair(lengths)).err(),
+            Call::Lookup { view, index } => {
+                let located = tree.locate(side(view), index).err();
+                assert_eq!(tree.char_index_to_entry(side(view), index).err(), located);
+                located
+            }
+            _ => None,
+        }
+    }
+}
+
+impl<const N: usize> Subject for Both<N> {
+    fn call(&mut self, call: Call) -> Reply {
+        let rust = play(&mut self.rust.tree, call);
+        let port = play(&mut self.port, call);
+        assert_eq!(port, rust, "N {N}, {call:?}");
+        self.same_words(call);
+        self.compared += 1;
+        rust
+    }
+
+    fn refused(&mut self, call: Call, number: u8) {
+        let refusal = self.refusal(call);
+        assert_eq!(refusal.map(|refusal| refusal.number), Some(number as u32), "N {N}, {call:?}");
+        self.same_words(call);
+        self.refused += 1;
+    }
+
+    fn head(&self) -> Head {
+        head_of(self.port.0.head())
+    }
+
+    fn state(&self) -> State {
+        let areas = self.port.0.areas();
+        let [leaves, inners, homes] = [areas.leaves, areas.inners, areas.homes].map(<[u32]>::to_vec);
+        State { head: self.head(), leaves, inners, homes }
+    }
+
+    fn entries(&self) -> Vec<Entry> {
+        assert_eq!(self.port.0.audit(), Ok(true));
+        entries(&self.port)
+    }
+}
+
+/// The id of a record that stands for the end.
+pub const END: u32 = NONE;

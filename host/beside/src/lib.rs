@@ -1,0 +1,6 @@
+//! The port beside lib.rs: both are driven by the same code (oracle's `Calls`), and every answer, cursor and word is compared.
+
+pub mod both;
+pub mod lists;
+pub mod port;
+pub mod words;

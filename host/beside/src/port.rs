@@ -1,0 +1,76 @@
+//! The port as something that lib.rs's calls are made on. Only calls that are not refused are made so.
+
+use oracle::calls::Calls;
+use smelvock::{Cursor, Lengths, PrepareEffectTree, Refusal, View};
+use std::cmp::Ordering;
+
+pub struct Port<const N: usize>(pub PrepareEffectTree<N>);
+
+fn done<T>(answer: Result<T, Refusal>) -> T {
+    answer.expect("the row does not refuse the call")
+}
+
+pub fn pair([prepare, effect]: [u32; 2]) -> Lengths {
+    Lengths { prepare, effect }
+}
+
+pub fn side(view: usize) -> View {
+    [View::Prepare, View::Effect][view]
+}
+
+impl<const N: usize> Calls for Port<N> {
+    type Cursor = Cursor;
+
+    fn reset(&mut self, lengths: [u32; 2]) {
+        done(self.0.reset(pair(lengths)))
+    }
+    fn len(&self) -> usize {
+        done(self.0.len())
+    }
+    fn is_empty(&self) -> bool {
+        done(self.0.is_empty())
+    }
+    fn first(&self) -> Cursor {
+        done(self.0.first())
+    }
+    fn next(&self, at: Cursor) -> Option<Cursor> {
+        done(self.0.next(at))
+    }
+    fn id(&self, at: Cursor) -> u32 {
+        done(self.0.id(at))
+    }
+    fn lengths(&self, at: Cursor) -> [u32; 2] {
+        let Lengths { prepare, effect } = done(self.0.lengths(at));
+        [prepare, effect]
+    }
+    fn cursor(&self, id: u32) -> Cursor {
+        done(self.0.cursor(id))
+    }
+    fn cmp(&self, a: Cursor, b: Cursor) -> Ordering {
+        done(self.0.cmp(a, b))
+    }
+    fn char_index_to_entry(&mut self, view: usize, index: u32) -> (Cursor, u32) {
+        done(self.0.char_index_to_entry(side(view), index))
+    }
+    fn locate(&mut self, view: usize, index: u32) -> (Cursor, u32, u32) {
+        done(self.0.locate(side(view), index))
+    }
+    fn entry_to_char_index(&self, view: usize, at: Cursor) -> u32 {
+        done(self.0.entry_to_char_index(side(view), at))
+    }
+    fn set_lengths(&mut self, at: Cursor, lengths: [u32; 2]) {
+        done(self.0.set_lengths(at, pair(lengths)))
+    }
+    fn update(&mut self, at: Cursor, lengths: [u32; 2]) -> u32 {
+        done(self.0.update(at, pair(lengths)))
+    }
+    fn insert(&mut self, before: Option<Cursor>, lengths: [u32; 2]) -> (u32, u32) {
+        done(self.0.insert(before, pair(lengths)))
+    }
+    fn add(&mut self, before: Option<Cursor>, lengths: [u32; 2]) -> u32 {
+        done(self.0.add(before, pair(lengths)))
+    }
+    fn split_entry(&mut self, at: Cursor, lengths: [u32; 2], before: bool) -> (u32, [Cursor; 2]) {
+        done(self.0.split_entry(at, pair(lengths), before))
+    }
+}
