@@ -1,6 +1,7 @@
 // The calls for a host, through C linkage: each is one proved call between two conversions of words, on areas that the host lends.
 // Stands on model and the crates of the calls.
 pub mod answered;
+pub mod change;
 pub mod check;
 pub mod flat;
 pub mod given;

@@ -4,30 +4,22 @@ use crate::port::{pair, side, Port};
 use crate::words::{head_of, raw_of};
 use oracle::calls::{entries, play};
 use oracle::record::Call;
-use oracle::row::{Entry, Row};
+use oracle::row::Entry;
 use oracle::rust::{Reply, Rust, Subject};
-use oracle::state::{Head, State, NONE};
+use oracle::state::{Head, State};
 use smelvock::{PrepareEffectTree, Refusal};
 
 pub struct Both<const N: usize> {
     rust: Rust<N>,
     port: Port<N>,
-    /// Calls compared, and calls that the port refused as the row does.
-    pub compared: u64,
-    pub refused: u64,
 }
 
 impl<const N: usize> Both<N> {
     pub fn make(limit: u32, lengths: [u32; 2]) -> Self {
         let port = PrepareEffectTree::with_limit(limit, pair(lengths)).expect("fan and limit are good");
-        let both = Both { rust: Rust::make(limit, lengths), port: Port(port), compared: 0, refused: 0 };
+        let both = Both { rust: Rust::make(limit, lengths), port: Port(port) };
         both.same_words("make");
         both
-    }
-
-    /// Beside a row made with the same entry.
-    pub fn with_row(limit: u32, lengths: [u32; 2]) -> (Self, Row) {
-        (Both::make(limit, lengths), Row::make(limit, lengths))
     }
 
     /// Head and areas, word by word. What the port has not used holds the zeros that it was lent.
@@ -41,10 +33,7 @@ impl<const N: usize> Both<N> {
     /// What the port answers to a row call that is refused: the refusal of `cursor` or of the call itself.
     fn refusal(&mut self, call: Call) -> Option<Refusal> {
         let [first, second] = call.ids().map(|id| id.map(|id| self.port.0.cursor(id)));
-        if let Some(Err(refusal)) = first.or(second) {
-            return Some(refusal);
-        }
-        if let Some(Err(refusal)) = second {
+        if let Some(refusal) = [first, second].into_iter().flatten().find_map(Result::err) {
             return Some(refusal);
         }
         let (tree, at) = (&mut self.port.0, first.and_then(Result::ok));
@@ -70,7 +59,6 @@ impl<const N: usize> Subject for Both<N> {
         let port = play(&mut self.port, call);
         assert_eq!(port, rust, "N {N}, {call:?}");
         self.same_words(call);
-        self.compared += 1;
         rust
     }
 
@@ -78,7 +66,6 @@ impl<const N: usize> Subject for Both<N> {
         let refusal = self.refusal(call);
         assert_eq!(refusal.map(|refusal| refusal.number), Some(number as u32), "N {N}, {call:?}");
         self.same_words(call);
-        self.refused += 1;
     }
 
     fn head(&self) -> Head {
@@ -96,6 +83,3 @@ impl<const N: usize> Subject for Both<N> {
         entries(&self.port)
     }
 }
-
-/// The id of a record that stands for the end.
-pub const END: u32 = NONE;

@@ -1,10 +1,16 @@
-//! Lists of calls on both.
+//! Random lists on both, and the lists of oracle's patterns.
 
-use crate::both::{Both, END};
+use crate::both::Both;
 use oracle::coverage::Coverage;
 use oracle::driver::Driver;
 use oracle::lists::{Lister, Sizes, Style, EVEN, GROWING, LOOKING};
-use oracle::record::Record;
+use oracle::row::Row;
+
+/// lib.rs and the port beside the row. The entries in order and the audit are compared every so many calls, all else after
+/// every call.
+pub fn make<const N: usize>(check_every: u64) -> impl Fn(u32, [u32; 2]) -> Driver<Both<N>> {
+    move |limit, first| Driver::beside(Both::make(limit, first), Row::make(limit, first), check_every)
+}
 
 /// One kind of random run: so many lists of so many calls, from a tree made with `first`.
 #[derive(Clone, Copy)]
@@ -26,28 +32,23 @@ fn with_resets(weights: [u64; 13]) -> [u64; 13] {
 /// The runs, each of `lists` lists: every kind; growth to the limit; zero lengths; totals near 4,294,967,295; lookups close
 /// to changes.
 pub fn runs(lists: u64) -> [Run; 5] {
-    let [even, growing] =
-        [with_resets(EVEN), GROWING].map(|weights| Style { weights, sizes: Sizes::Small, close: 50, miss: 4 });
-    let zeros = Style { weights: with_resets(LOOKING), sizes: Sizes::Zeros, close: 70, miss: 4 };
-    let near_end = Style { weights: with_resets(EVEN), sizes: Sizes::NearEnd, close: 50, miss: 4 };
-    let close = Style { weights: LOOKING, sizes: Sizes::Small, close: 95, miss: 2 };
+    let style = |weights, sizes, close| Style { weights, sizes, close, miss: 4 };
     let run = |name, style, limit, first| Run { name, style, limit, first, lists, calls: 5_000 };
     [
-        run("even", even, 300, [3, 3]),
-        run("growing", growing, 1_200, [0, 1]),
-        run("zero lengths", zeros, 200, [0, 0]),
-        run("totals near the end", near_end, 200, [u32::MAX - 3, u32::MAX]),
-        run("close by", close, 400, [2, 1]),
+        run("even", style(with_resets(EVEN), Sizes::Small, 50), 300, [3, 3]),
+        run("growing", style(GROWING, Sizes::Small, 30), 1_200, [0, 1]),
+        run("zero lengths", style(with_resets(LOOKING), Sizes::Zeros, 70), 200, [0, 0]),
+        run("totals near the end", style(with_resets(EVEN), Sizes::NearEnd, 50), 200, [u32::MAX - 3, u32::MAX]),
+        run("close by", style(LOOKING, Sizes::Small, 95), 400, [2, 1]),
     ]
 }
 
-/// Plays a run's lists from that seed on at fan `N`.
-pub fn random<const N: usize>(run: Run, seed: u64) -> Coverage {
+/// Plays a run's lists at fan `N`; other seeds give other lists.
+pub fn play<const N: usize>(run: Run, seed: u64) -> Coverage {
     let mut met = Coverage::default();
     for list in 0..run.lists {
         let mut lister = Lister::new((seed + list) * 64 + N as u64, run.style);
-        let (both, row) = Both::<N>::with_row(run.limit, run.first);
-        let mut driver = Driver::beside(both, row, 500);
+        let mut driver = make::<N>(500)(run.limit, run.first);
         for _ in 0..run.calls {
             let record = lister.draw(&driver.row);
             driver.play(record).unwrap();
@@ -55,26 +56,20 @@ pub fn random<const N: usize>(run: Run, seed: u64) -> Coverage {
         driver.check().unwrap();
         met += &driver.coverage;
     }
+    assert_eq!(met.calls(), run.lists * run.calls);
     met
 }
 
-/// Every list of exactly `length` calls of the alphabet, after `entries` entries (2, 1) added at the end and a lookup.
-pub fn every_list<const N: usize>(entries: u32, index: u32, alphabet: &[Record], length: u32) -> Coverage {
+/// Plays a run at each fan. It must meet all of the finger's ways and splits of leaves and inner nodes.
+pub fn play_at_each_fan(run: Run, seed: u64) -> Coverage {
     let mut met = Coverage::default();
-    let mut start = vec![Record::new(3, 0, END, 2, 1); entries as usize - 1];
-    start.push(Record::new(7, 0, index, 0, 0));
-    for list in 0..alphabet.len().pow(length) {
-        let (both, row) = Both::<N>::with_row(entries + 4, [2, 1]);
-        let mut driver = Driver::beside(both, row, 0);
-        driver.play_all(&start).unwrap();
-        driver.coverage = Coverage::default();
-        let mut rest = list;
-        for _ in 0..length {
-            driver.play(alphabet[rest % alphabet.len()]).unwrap();
-            rest /= alphabet.len();
-        }
-        driver.check().unwrap();
-        met += &driver.coverage;
+    let at_fans =
+        [(4, play::<4>(run, seed)), (5, play::<5>(run, seed)), (8, play::<8>(run, seed)), (32, play::<32>(run, seed))];
+    for (fan, at_fan) in at_fans {
+        println!("{}, fan {fan}: {} calls, {at_fan:?}", run.name, at_fan.calls());
+        assert!(at_fan.finger_whole() && at_fan.leaf_splits > 0 && at_fan.leaf_split_under_finger > 0);
+        met += &at_fan;
     }
+    assert!(met.root_growths > 0 && met.inner_splits > met.root_growths);
     met
 }

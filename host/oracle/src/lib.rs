@@ -8,6 +8,7 @@ pub mod calls;
 pub mod coverage;
 pub mod driver;
 pub mod lists;
+pub mod patterns;
 pub mod random;
 pub mod record;
 pub mod row;

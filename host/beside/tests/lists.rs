@@ -1,0 +1,85 @@
+//! lib.rs and the port on the same lists, beside the row: every answer, each cursor's leaf and slot, every word of head and areas
+//! after every call, and the number of every refused call. More than two million calls in a release build.
+
+use beside::lists::{make, play_at_each_fan, runs};
+use oracle::coverage::Coverage;
+use oracle::patterns::{all_kinds, around_a_split, every_short_list, fill, movers};
+use oracle::record::Record;
+use oracle::state::NONE;
+
+/// A debug build plays fewer.
+const SCALE: u64 = if cfg!(debug_assertions) { 1 } else { 10 };
+
+#[test]
+fn random_lists() {
+    let mut met = Coverage::default();
+    for run in runs(2 * SCALE) {
+        met += &play_at_each_fan(run, 0);
+    }
+    println!("random lists: {} calls, {met:?}", met.calls());
+    assert_eq!(met.calls(), 5 * 4 * 2 * SCALE * 5_000);
+    assert!(met.all_kinds() && [4, 5, 6, 7, 8].iter().all(|&number| met.refused[number] > 0));
+}
+
+fn short(alphabet: fn(u32, u32) -> Vec<Record>, longest: u32) -> u64 {
+    let mut met = every_short_list(4, alphabet, longest, make::<4>(0));
+    met += &every_short_list(5, alphabet, longest, make::<5>(0));
+    met += &every_short_list(8, alphabet, longest, make::<8>(0));
+    met += &every_short_list(32, alphabet, longest, make::<32>(0));
+    assert!(met.finger_whole() && met.leaf_split_under_finger > 0);
+    met.checks
+}
+
+/// 22 starts in all: three at fan 4, 5 and 8, two at fan 32, each with two fingers.
+#[test]
+fn every_short_list_of_all_kinds() {
+    assert_eq!(short(all_kinds, 2), 22 * (19 + 19 * 19));
+}
+
+#[test]
+fn every_short_list_of_moving_calls() {
+    let longest = if SCALE == 1 { 3 } else { 4 };
+    assert_eq!(short(movers, longest), 22 * (1..=longest).map(|length| 8u64.pow(length)).sum::<u64>());
+}
+
+#[test]
+fn lookup_then_split_of_that_leaf_then_lookup_close_by() {
+    around_a_split(4, make::<4>(0));
+    around_a_split(5, make::<5>(0));
+    around_a_split(8, make::<8>(0));
+    if SCALE > 1 {
+        around_a_split(32, make::<32>(0));
+    }
+}
+
+/// Every boundary of the limit: each small tree is filled in four ways, and one entry more is refused.
+#[test]
+fn every_small_limit_is_filled_and_passed_by_nothing() {
+    let mut calls = 0;
+    for (limit, way) in (1..=10 * SCALE as u32).flat_map(|limit| (0..4).map(move |way| (limit, way))) {
+        calls += fill(limit, way, make::<4>(0)).calls();
+        calls += fill(limit, way, make::<5>(0)).calls();
+        calls += fill(limit, way, make::<8>(0)).calls();
+        calls += fill(limit, way, make::<32>(0)).calls();
+    }
+    println!("limits 1 to {}: {calls} calls", 10 * SCALE);
+}
+
+/// Entries at the end only, so that every node but the last of its level is left half full: fourteen levels at the full limit.
+#[test]
+fn a_deep_tree() {
+    let limit = if SCALE == 1 { 2_048 } else { 8_192 };
+    let mut driver = make::<4>(0)(limit, [1, 1]);
+    while driver.row.count() < limit {
+        let last = driver.row.count() - 1;
+        driver.play(Record::new(3, 0, NONE, last % 3, 1)).unwrap();
+        if last.is_multiple_of(16) {
+            driver.play(Record::new(10, 0, last / 2, last, 0)).unwrap();
+        }
+    }
+    driver.play(Record::new(3, 0, NONE, 0, 0)).unwrap();
+    driver.check().unwrap();
+    let met = &driver.coverage;
+    println!("fan 4, limit {limit}: {} calls, {} levels", met.calls(), met.most_levels);
+    assert_eq!(met.refused[8], 1);
+}
