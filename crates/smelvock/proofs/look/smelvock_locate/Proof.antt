@@ -21,7 +21,9 @@ refused-located-requires c κs = search needs
 
 returns : tie.Need-returns
 unfolding flat.locate
-returns c = reply-refused locatedReplyOf locatedAnswer _ _ (given (c .before .before .before .before .before .before .args .head) (c .before .before .before .before .before .before .args .leaves .now) (c .before .before .before .before .before .before .args .inners .now) (c .before .before .before .before .before .before .args .homes .now)) _ (sym (c .before .before .bad-flags .ensures) ∙ c .before .if1 .taken) (c .refused-located .ensures)
+returns c =
+    let a = c .before .before .before .before .before .before .args in
+    reply-refused locatedReplyOf locatedAnswer _ _ (given (a .head) (a .leaves .now) (a .inners .now) (a .homes .now)) _ (sym (c .before .before .bad-flags .ensures) ∙ c .before .if1 .taken) (c .refused-located .ensures)
 
 head-from-requires : tie.Need-head-from-requires
 head-from-requires c κs = search needs
@@ -37,7 +39,9 @@ located-reply-requires c κs = search needs
 
 returns-2 : tie.Need-returns-2
 unfolding flat.locate
-returns-2 c = reply-good locatedReplyOf locatedAnswer _ _ (given (c .before .before .before .before .before .before .before .before .before .args .head) (c .before .before .before .before .before .before .before .before .before .args .leaves .now) (c .before .before .before .before .before .before .before .before .before .args .inners .now) (c .before .before .before .before .before .before .before .before .before .args .homes .now)) _ _ _ _ _ _ (sym (c .before .before .before .before .before .bad-flags .ensures) ∙ c .before .before .before .before .if1 .left) (c .located-reply .ensures) (c .before .locate .ensures ∙ ap₂ (λ (h : Head) (v : View). calls.locate (state h (c .before .before .before .before .before .before .before .before .before .args .leaves .now) (c .before .before .before .before .before .before .before .before .before .args .inners .now) (c .before .before .before .before .before .before .before .before .before .args .homes .now)) v (c .before .before .before .before .before .before .before .before .before .args .index)) (c .before .before .before .head-from .ensures) (c .before .before .view-from .ensures))
+returns-2 c =
+    let a = c .before .before .before .before .before .before .before .before .before .args in
+    reply-good locatedReplyOf locatedAnswer _ _ (given (a .head) (a .leaves .now) (a .inners .now) (a .homes .now)) _ _ _ _ _ _ (sym (c .before .before .before .before .before .bad-flags .ensures) ∙ c .before .before .before .before .if1 .left) (c .located-reply .ensures) (c .before .locate .ensures ∙ ap₂ (λ (h : Head) (v : View). calls.locate (state h (a .leaves .now) (a .inners .now) (a .homes .now)) v (a .index)) (c .before .before .before .head-from .ensures) (c .before .before .view-from .ensures))
 
 pub smelvock-locate-spec : {M : Type 1} → statement M
 smelvock-locate-spec =

@@ -30,7 +30,9 @@ same-length-3 c = search needs
 
 returns : tie.Need-returns
 unfolding flat.make
-returns c = reply-of outcomeReplyOf outcomeAnswer _ _ _ _ _ _ _ (c .outcome-reply .ensures) (c .before .before .before .before .before .before .before .new .ensures ∙ ap (λ (l : Lengths). calls.make (c .before .before .before .before .before .before .before .before .before .before .before .before .before .before .before .args .fan) (c .before .before .before .before .before .before .before .before .before .before .before .before .before .before .before .args .limit) l (c .before .before .before .before .before .before .before .before .before .before .before .before .before .before .before .args .leaves .now) (c .before .before .before .before .before .before .before .before .before .before .before .before .before .before .before .args .inners .now) (c .before .before .before .before .before .before .before .before .before .before .before .before .before .before .before .args .homes .now)) (c .before .before .before .before .before .before .before .before .before .before .before .lengths-from .ensures))
+returns c =
+    let a = c .before .before .before .before .before .before .before .before .before .before .before .before .before .before .before .args in
+    reply-of outcomeReplyOf outcomeAnswer _ _ _ _ _ _ _ (c .outcome-reply .ensures) (c .before .before .before .before .before .before .before .new .ensures ∙ ap (λ (l : Lengths). calls.make (a .fan) (a .limit) l (a .leaves .now) (a .inners .now) (a .homes .now)) (c .before .before .before .before .before .before .before .before .before .before .before .lengths-from .ensures))
 
 pub smelvock-new-spec : {M : Type 1} → statement M
 smelvock-new-spec =

@@ -21,7 +21,9 @@ refused-outcome-requires c κs = search needs
 
 returns : tie.Need-returns
 unfolding flat.reset
-returns c = reply-refused outcomeReplyOf outcomeAnswer _ _ (given (c .before .before .before .before .before .before .args .head) (c .before .before .before .before .before .before .args .leaves .now) (c .before .before .before .before .before .before .args .inners .now) (c .before .before .before .before .before .before .args .homes .now)) _ (sym (c .before .before .bad-flag .ensures) ∙ c .before .if1 .taken) (c .refused-outcome .ensures)
+returns c =
+    let a = c .before .before .before .before .before .before .args in
+    reply-refused outcomeReplyOf outcomeAnswer _ _ (given (a .head) (a .leaves .now) (a .inners .now) (a .homes .now)) _ (sym (c .before .before .bad-flag .ensures) ∙ c .before .if1 .taken) (c .refused-outcome .ensures)
 
 head-from-requires : tie.Need-head-from-requires
 head-from-requires c κs = search needs
@@ -46,7 +48,9 @@ same-length-3 c = search needs
 
 returns-2 : tie.Need-returns-2
 unfolding flat.reset
-returns-2 c = reply-good outcomeReplyOf outcomeAnswer _ _ (given (c .before .before .before .before .before .before .before .before .before .before .before .before .before .before .before .before .before .before .args .head) (c .before .before .before .before .before .before .before .before .before .before .before .before .before .before .before .before .before .before .args .leaves .now) (c .before .before .before .before .before .before .before .before .before .before .before .before .before .before .before .before .before .before .args .inners .now) (c .before .before .before .before .before .before .before .before .before .before .before .before .before .before .before .before .before .before .args .homes .now)) _ _ _ _ _ _ (sym (c .before .before .before .before .before .before .before .before .before .before .before .before .before .before .bad-flag .ensures) ∙ c .before .before .before .before .before .before .before .before .before .before .before .before .before .if1 .left) (c .outcome-reply .ensures) (c .before .before .before .before .before .before .before .reset .ensures ∙ ap₂ (λ (h : Head) (l : Lengths). calls.reset (state h (c .before .before .before .before .before .before .before .before .before .before .before .before .before .before .before .before .before .before .args .leaves .now) (c .before .before .before .before .before .before .before .before .before .before .before .before .before .before .before .before .before .before .args .inners .now) (c .before .before .before .before .before .before .before .before .before .before .before .before .before .before .before .before .before .before .args .homes .now)) l) (c .before .before .before .before .before .before .before .before .before .before .before .before .head-from .ensures) (c .before .before .before .before .before .before .before .before .before .before .before .lengths-from .ensures))
+returns-2 c =
+    let a = c .before .before .before .before .before .before .before .before .before .before .before .before .before .before .before .before .before .before .args in
+    reply-good outcomeReplyOf outcomeAnswer _ _ (given (a .head) (a .leaves .now) (a .inners .now) (a .homes .now)) _ _ _ _ _ _ (sym (c .before .before .before .before .before .before .before .before .before .before .before .before .before .before .bad-flag .ensures) ∙ c .before .before .before .before .before .before .before .before .before .before .before .before .before .if1 .left) (c .outcome-reply .ensures) (c .before .before .before .before .before .before .before .reset .ensures ∙ ap₂ (λ (h : Head) (l : Lengths). calls.reset (state h (a .leaves .now) (a .inners .now) (a .homes .now)) l) (c .before .before .before .before .before .before .before .before .before .before .before .before .head-from .ensures) (c .before .before .before .before .before .before .before .before .before .before .before .lengths-from .ensures))
 
 pub smelvock-reset-spec : {M : Type 1} → statement M
 smelvock-reset-spec =

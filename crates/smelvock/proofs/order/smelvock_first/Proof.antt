@@ -32,7 +32,9 @@ standing-of-requires c κs = search needs
 
 returns-2 : tie.Need-returns-2
 unfolding flat.first
-returns-2 c = answer-good standingOf _ _ _ _ (sym (c .before .before .before .before .bad-flag .ensures) ∙ c .before .before .before .if1 .left) (c .standing-of .ensures) (ap standingAnswer (c .before .first .ensures ∙ ap (λ (h : Head). calls.first (state h (c .before .before .before .before .before .before .before .before .args .leaves .now) (c .before .before .before .before .before .before .before .before .args .inners .now) (c .before .before .before .before .before .before .before .before .args .homes .now))) (c .before .before .head-from .ensures)))
+returns-2 c =
+    let a = c .before .before .before .before .before .before .before .before .args in
+    answer-good standingOf _ _ _ _ (sym (c .before .before .before .before .bad-flag .ensures) ∙ c .before .before .before .if1 .left) (c .standing-of .ensures) (ap standingAnswer (c .before .first .ensures ∙ ap (λ (h : Head). calls.first (state h (a .leaves .now) (a .inners .now) (a .homes .now))) (c .before .before .head-from .ensures)))
 
 pub smelvock-first-spec : {M : Type 1} → statement M
 smelvock-first-spec =

@@ -32,7 +32,9 @@ standing-of-requires c κs = search needs
 
 returns-2 : tie.Need-returns-2
 unfolding flat.cursor
-returns-2 c = answer-good standingOf _ _ _ _ (sym (c .before .before .before .before .bad-flag .ensures) ∙ c .before .before .before .if1 .left) (c .standing-of .ensures) (ap standingAnswer (c .before .cursor .ensures ∙ ap (λ (h : Head). calls.cursor (state h (c .before .before .before .before .before .before .before .before .args .leaves .now) (c .before .before .before .before .before .before .before .before .args .inners .now) (c .before .before .before .before .before .before .before .before .args .homes .now)) (c .before .before .before .before .before .before .before .before .args .id)) (c .before .before .head-from .ensures)))
+returns-2 c =
+    let a = c .before .before .before .before .before .before .before .before .args in
+    answer-good standingOf _ _ _ _ (sym (c .before .before .before .before .bad-flag .ensures) ∙ c .before .before .before .if1 .left) (c .standing-of .ensures) (ap standingAnswer (c .before .cursor .ensures ∙ ap (λ (h : Head). calls.cursor (state h (a .leaves .now) (a .inners .now) (a .homes .now)) (a .id)) (c .before .before .head-from .ensures)))
 
 pub smelvock-cursor-spec : {M : Type 1} → statement M
 smelvock-cursor-spec =

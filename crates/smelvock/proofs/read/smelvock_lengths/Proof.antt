@@ -36,7 +36,9 @@ measured-of-requires c κs = search needs
 
 returns-2 : tie.Need-returns-2
 unfolding flat.lengths
-returns-2 c = answer-good measuredOf _ _ _ _ (sym (c .before .before .before .before .before .bad-flag .ensures) ∙ c .before .before .before .before .if1 .left) (c .measured-of .ensures) (ap measuredAnswer (c .before .lengths .ensures ∙ ap₂ (λ (h : Head) (k : Cursor). calls.lengthsOf (state h (c .before .before .before .before .before .before .before .before .before .args .leaves .now) (c .before .before .before .before .before .before .before .before .before .args .inners .now) (c .before .before .before .before .before .before .before .before .before .args .homes .now)) k) (c .before .before .before .head-from .ensures) (c .before .before .cursor-from .ensures)))
+returns-2 c =
+    let a = c .before .before .before .before .before .before .before .before .before .args in
+    answer-good measuredOf _ _ _ _ (sym (c .before .before .before .before .before .bad-flag .ensures) ∙ c .before .before .before .before .if1 .left) (c .measured-of .ensures) (ap measuredAnswer (c .before .lengths .ensures ∙ ap₂ (λ (h : Head) (k : Cursor). calls.lengthsOf (state h (a .leaves .now) (a .inners .now) (a .homes .now)) k) (c .before .before .before .head-from .ensures) (c .before .before .cursor-from .ensures)))
 
 pub smelvock-lengths-spec : {M : Type 1} → statement M
 smelvock-lengths-spec =
