@@ -8,26 +8,43 @@ use oracle::row::Entry;
 use oracle::rust::{Reply, Rust, Subject};
 use oracle::state::{Head, State};
 use smelvock::{PrepareEffectTree, Refusal};
+use std::fmt::Debug;
 
 pub struct Both<const N: usize> {
     rust: Rust<N>,
     port: Port<N>,
+    /// The port's areas as they were before the call.
+    before: [Vec<u32>; 3],
+}
+
+fn words<const N: usize>(tree: &PrepareEffectTree<N>) -> [&[u32]; 3] {
+    let areas = tree.areas();
+    [areas.leaves, areas.inners, areas.homes]
 }
 
 impl<const N: usize> Both<N> {
     pub fn make(limit: u32, lengths: [u32; 2]) -> Self {
         let port = PrepareEffectTree::with_limit(limit, pair(lengths)).expect("fan and limit are good");
-        let both = Both { rust: Rust::make(limit, lengths), port: Port(port) };
+        let before = words(&port).map(|area| vec![0; area.len()]);
+        let mut both = Both { rust: Rust::make(limit, lengths), port: Port(port), before };
         both.same_words("make");
         both
     }
 
-    /// Head and areas, word by word. What the port has not used holds the zeros that it was lent.
-    fn same_words(&self, after: impl std::fmt::Debug) {
-        assert_eq!(self.port.0.head(), raw_of(self.rust.head()), "N {N}, head after {after:?}");
-        let areas = self.port.0.areas();
-        let same = self.rust.tree.same_words(areas.leaves, areas.inners, areas.homes, 0);
-        assert!(same, "N {N}, areas after {after:?}: lib.rs has {:?}, the port {:?}", self.rust.state(), self.port.0);
+    /// Head and areas are lib.rs's, word by word; a word that is not in use is as it was before the call.
+    fn same_words(&mut self, call: impl Debug) {
+        assert_eq!(self.port.0.head(), raw_of(self.rust.head()), "N {N}, head after {call:?}");
+        let areas = words(&self.port.0);
+        assert!(
+            self.rust.tree.same_words(areas),
+            "N {N}, areas after {call:?}: {:?}, {:?}",
+            self.rust.state(),
+            self.port.0
+        );
+        for ((area, before), used) in areas.iter().zip(&mut self.before).zip(self.rust.tree.used_words()) {
+            assert!(area[used..] == before[used..], "N {N}, unused words after {call:?}: {:?}", self.port.0);
+            before[..used].copy_from_slice(&area[..used]);
+        }
     }
 
     /// What the port answers to a row call that is refused: the refusal of `cursor` or of the call itself.
@@ -73,8 +90,7 @@ impl<const N: usize> Subject for Both<N> {
     }
 
     fn state(&self) -> State {
-        let areas = self.port.0.areas();
-        let [leaves, inners, homes] = [areas.leaves, areas.inners, areas.homes].map(<[u32]>::to_vec);
+        let [leaves, inners, homes] = words(&self.port.0).map(<[u32]>::to_vec);
         State { head: self.head(), leaves, inners, homes }
     }
 

@@ -25,22 +25,21 @@ impl<const N: usize> Node<N> {
     }
 }
 
-/// Whether an area begins with these nodes and holds `lent` in every word behind them.
-fn same_area<const N: usize>(nodes: &[Node<N>], area: &[u32], lent: u32) -> bool {
-    let size = 3 + 3 * N;
-    let (used, rest) = area.split_at(nodes.len() * size);
-    nodes.iter().zip(used.chunks_exact(size)).all(|(node, words)| node.same(words))
-        && rest.iter().all(|&word| word == lent)
+/// Whether an area begins with these nodes.
+fn same_nodes<const N: usize>(nodes: &[Node<N>], area: &[u32]) -> bool {
+    nodes.len() <= area.len() / (3 + 3 * N)
+        && nodes.iter().zip(area.chunks_exact(3 + 3 * N)).all(|(node, words)| node.same(words))
 }
 
 impl<const N: usize> PrepareEffectTree<N> {
-    /// Whether the three areas are this tree's, word by word, with `lent` in every word that is not in use.
-    pub fn same_words(&self, leaves: &[u32], inners: &[u32], homes: &[u32], lent: u32) -> bool {
-        let (used, rest) = homes.split_at(self.leaf_of_entry.len());
-        same_area(&self.leaves, leaves, lent)
-            && same_area(&self.nodes, inners, lent)
-            && used == self.leaf_of_entry
-            && rest.iter().all(|&word| word == lent)
+    /// How many words of each area are in use.
+    pub fn used_words(&self) -> [usize; 3] {
+        [self.leaves.len() * (3 + 3 * N), self.nodes.len() * (3 + 3 * N), self.leaf_of_entry.len()]
+    }
+
+    /// Whether each area begins with this tree's words.
+    pub fn same_words(&self, [leaves, inners, homes]: [&[u32]; 3]) -> bool {
+        same_nodes(&self.leaves, leaves) && same_nodes(&self.nodes, inners) && homes.starts_with(&self.leaf_of_entry)
     }
 
     /// The head that the port holds for this tree; the limit is ours.
