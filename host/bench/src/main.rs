@@ -2,13 +2,15 @@
 //! call. One process, the same inputs, the two in turn in every round; the median of the rounds is printed, and
 //! the least.
 
+mod changes;
 mod reads;
-mod subject;
 mod timing;
 
+use beside::port::Port;
+use beside::words::tree_of;
 use oracle::random::Random;
-use oracle::tree::{Lengths, PrepareEffectTree};
-use subject::{port, Rust};
+use oracle::rust::pair;
+use oracle::tree::PrepareEffectTree;
 use timing::Table;
 
 fn main() {
@@ -21,22 +23,24 @@ fn main() {
 }
 
 fn run<const N: usize>(entries: u32, rounds: usize) {
-    let mut rust = Rust(grown::<N>(entries));
-    let mut port = port(&rust.0, entries);
+    let mut rust = grown::<N>(entries);
+    let mut port = Port(tree_of::<N>(rust.state(entries)));
     let mut table = Table::new(format!("N {N}, {entries} entries"), rounds);
     reads::run(&mut table, &mut rust, &mut port);
+    changes::resizes(&mut table, &mut rust, &mut port);
+    changes::growth::<N>(&mut table, entries);
     table.print();
 }
 
 /// A tree of so many entries, inserted at random places with lengths of 0 to 7.
 fn grown<const N: usize>(entries: u32) -> PrepareEffectTree<N> {
     let mut random = Random::new(N as u64);
-    let length = |random: &mut Random| Lengths { prepare: random.below(8) as u32, effect: random.below(8) as u32 };
-    let mut tree = PrepareEffectTree::new(length(&mut random));
+    let length = |random: &mut Random| [random.below(8) as u32, random.below(8) as u32];
+    let mut tree = PrepareEffectTree::new(pair(length(&mut random)));
     while tree.len() < entries as usize {
         let before = tree.cursor(random.below(tree.len() as u64) as u32);
         let lengths = length(&mut random);
-        tree.insert(Some(before), lengths);
+        tree.insert(Some(before), pair(lengths));
     }
     tree
 }

@@ -1,11 +1,11 @@
 //! The calls that leave the words as they are, but for the finger.
 
-use crate::subject::Subject;
 use crate::timing::Table;
+use oracle::calls::Calls;
 use oracle::random::Random;
 use std::hint::black_box;
 
-const CALLS: usize = 20_000;
+pub const CALLS: usize = 20_000;
 
 /// What every kind is fed.
 struct Inputs {
@@ -15,7 +15,7 @@ struct Inputs {
     rising: Vec<u32>,
 }
 
-pub fn run<A: Subject, B: Subject>(table: &mut Table, rust: &mut A, port: &mut B) {
+pub fn run<A: Calls, B: Calls>(table: &mut Table, rust: &mut A, port: &mut B) {
     let inputs = inputs(rust);
     let ids = &inputs.ids;
     let rusts = cursors(rust, ids);
@@ -53,7 +53,7 @@ pub fn run<A: Subject, B: Subject>(table: &mut Table, rust: &mut A, port: &mut B
         .char_index_to_entry(0, index)));
 }
 
-fn inputs<A: Subject>(tree: &mut A) -> Inputs {
+fn inputs<A: Calls>(tree: &mut A) -> Inputs {
     let mut random = Random::new(7);
     let count = tree.len() as u64;
     let mut total = 0u64;
@@ -69,12 +69,12 @@ fn inputs<A: Subject>(tree: &mut A) -> Inputs {
     }
 }
 
-fn cursors<A: Subject>(tree: &A, ids: &[u32]) -> Vec<A::Cursor> {
+pub fn cursors<A: Calls>(tree: &A, ids: &[u32]) -> Vec<A::Cursor> {
     ids.iter().map(|&id| tree.cursor(id)).collect()
 }
 
 /// Makes one call for each input; every answer is used.
-fn each<I: IntoIterator, T>(inputs: I, mut call: impl FnMut(I::Item) -> T) -> usize {
+pub fn each<I: IntoIterator, T>(inputs: I, mut call: impl FnMut(I::Item) -> T) -> usize {
     let mut calls = 0;
     for input in inputs {
         black_box(call(black_box(input)));
@@ -83,7 +83,7 @@ fn each<I: IntoIterator, T>(inputs: I, mut call: impl FnMut(I::Item) -> T) -> us
     calls
 }
 
-fn walk<A: Subject>(tree: &A) -> usize {
+fn walk<A: Calls>(tree: &A) -> usize {
     let mut calls = 0;
     let mut at = Some(tree.first());
     while let Some(cursor) = at {
