@@ -1,0 +1,215 @@
+//! Unsound trees: every export ends on them, writes in its areas only (guard words stand around each), answers a number of
+//! document 01, and audit's verdict is that of oracle's audit, which is written from the paper.
+
+use beside::exports::{Area, Export, Given, Tree, EXPORTS};
+use beside::port::pair;
+use beside::words::head_of;
+use oracle::audit::{audit, Verdict};
+use oracle::random::Random;
+use oracle::state::State;
+use smelvock::raw::{Cursor, Head, Lengths};
+use smelvock::{PrepareEffectTree, View};
+
+const SCALE: u64 = if cfg!(debug_assertions) { 1 } else { 10 };
+
+/// How often each number was answered, by 0 to 10, and how often audit said yes and no.
+#[derive(Default, Debug)]
+struct Met {
+    numbers: [u64; 11],
+    sound: u64,
+    unsound: u64,
+}
+
+fn sound<const N: usize>(entries: u32) -> Tree {
+    let mut tree = PrepareEffectTree::<N>::with_limit(entries + 3, pair([1, 7])).unwrap();
+    for id in 1..entries {
+        let before = (id % 3 != 0).then(|| tree.cursor(id * 7 % id).unwrap());
+        tree.add(before, pair([1 + id % 5, 3 + id % 11])).unwrap();
+    }
+    tree.locate(View::Prepare, entries).unwrap();
+    Tree::of(&tree)
+}
+
+/// The port's verdict is the paper's; a flag of the finger that is neither 0 nor 1 is refused by 10.
+fn audited(tree: &Tree, given: &Given, met: &mut Met) {
+    let answer = Export::Audit.play(&mut tree.clone(), given);
+    let [leaves, inners, homes] = [&tree.leaves, &tree.inners, &tree.homes].map(|area| area.words().to_vec());
+    let wanted = match audit(&State { head: head_of(tree.head), leaves, inners, homes }) {
+        _ if tree.head.present > 1 => [10, 0],
+        Verdict::Refused(number) => [number as u32, 0],
+        Verdict::Yes => [0, 1],
+        Verdict::No(_) => [0, 0],
+    };
+    assert_eq!([answer.number, answer.values[0]], wanted, "{tree:?}");
+    met.sound += (wanted == [0, 1]) as u64;
+    met.unsound += (wanted == [0, 0]) as u64;
+}
+
+/// Every export once, each on the damaged tree itself.
+fn every_export(tree: &Tree, random: &mut Random, met: &mut Met) {
+    for export in EXPORTS {
+        let given = given(tree, random);
+        let number = export.play(&mut tree.clone(), &given).number;
+        met.numbers[number as usize] += 1;
+    }
+    audited(tree, &given(tree, random), met);
+}
+
+/// Arguments that are often good: a place within the areas, the stamp of the head, a position near by.
+fn given(tree: &Tree, random: &mut Random) -> Given {
+    let head = tree.head;
+    let mut small = |end: u32| random.below(end.clamp(1, 1 << 20) as u64 + 1) as u32;
+    let mut at = || Cursor { leaf: small(head.leaves), slot: small(head.fan / 2), stamp: head.entries };
+    let [at, other] = [at(), at()];
+    Given {
+        at,
+        other,
+        id: small(head.entries),
+        view: small(1),
+        index: small(200),
+        lengths: Lengths { prepare: small(3), effect: small(3) },
+        end: small(1),
+        before: small(1),
+        fan: head.fan,
+        limit: head.limit,
+    }
+}
+
+fn head_words(head: &mut Head) -> [&mut u32; 15] {
+    let Head {
+        fan,
+        limit,
+        root,
+        levels,
+        leaves,
+        inners,
+        entries,
+        present,
+        view,
+        leaf,
+        start,
+        effect,
+        slot,
+        within,
+        effect_within,
+    } = head;
+    [fan, limit, root, levels, leaves, inners, entries, present, view, leaf, start, effect, slot, within, effect_within]
+}
+
+/// Other values for a word: its neighbours, some single bits, and the ends.
+fn others(word: u32) -> impl Iterator<Item = u32> {
+    let bits = [0, 1, 2, 4, 8, 16, 31].into_iter().map(move |bit| word ^ 1 << bit);
+    bits.chain([word.wrapping_add(1), word.wrapping_sub(1), 0, u32::MAX]).filter(move |&other| other != word)
+}
+
+/// Every word of head and areas, one at a time, and every export after each.
+fn flip_every_word(mut tree: Tree, met: &mut Met) {
+    let mut random = Random::new(3);
+    let mut flips = 0;
+    let areas = [tree.leaves.words().len(), tree.inners.words().len(), tree.homes.words().len()];
+    let places = (0..15).map(|at| (3, at)).chain((0..3).flat_map(|area| (0..areas[area]).map(move |at| (area, at))));
+    for (area, at) in places {
+        let word = *word(&mut tree, area, at);
+        for other in others(word) {
+            *self::word(&mut tree, area, at) = other;
+            every_export(&tree, &mut random, met);
+            flips += 1;
+        }
+        *self::word(&mut tree, area, at) = word;
+    }
+    println!("fan {}, {} entries: {flips} flips, every export after each", tree.head.fan, tree.head.entries);
+}
+
+fn word(tree: &mut Tree, area: usize, at: usize) -> &mut u32 {
+    match area {
+        0 => &mut tree.leaves.words_mut()[at],
+        1 => &mut tree.inners.words_mut()[at],
+        2 => &mut tree.homes.words_mut()[at],
+        _ => head_words(&mut tree.head)[at],
+    }
+}
+
+#[test]
+fn every_single_flipped_word() {
+    let mut met = Met::default();
+    flip_every_word(sound::<4>(9), &mut met);
+    flip_every_word(sound::<5>(12), &mut met);
+    if SCALE > 1 {
+        flip_every_word(sound::<4>(30), &mut met);
+        flip_every_word(sound::<8>(30), &mut met);
+        flip_every_word(sound::<32>(40), &mut met);
+    }
+    println!("{met:?}");
+    assert!(met.unsound > 1_000 && [0, 1, 2, 3, 9, 10].iter().all(|&number| met.numbers[number] > 0));
+}
+
+/// Several words at once; then a chain of calls, each on what the one before left.
+#[test]
+fn chains_of_calls_on_damaged_trees() {
+    let mut met = Met::default();
+    let mut random = Random::new(4);
+    let trees = [sound::<4>(40), sound::<5>(40), sound::<8>(60), sound::<32>(80)];
+    for _ in 0..3_000 * SCALE {
+        let mut tree = trees[random.below(4) as usize].clone();
+        for _ in 0..1 + random.below(6) {
+            let area = random.below(4) as usize;
+            let length = [tree.leaves.words().len(), tree.inners.words().len(), tree.homes.words().len(), 15][area];
+            let at = random.below(length as u64) as usize;
+            let value = [0, 1, 2, 4, 19, u32::MAX, random.word() as u32][random.below(7) as usize];
+            *word(&mut tree, area, at) = value;
+        }
+        for _ in 0..20 {
+            let export = EXPORTS[2 + random.below(EXPORTS.len() as u64 - 2) as usize];
+            let given = given(&tree, &mut random);
+            met.numbers[export.play(&mut tree, &given).number as usize] += 1;
+        }
+        audited(&tree, &given(&tree, &mut random), &mut met);
+    }
+    println!("{met:?}");
+    assert!(met.unsound > 100 * SCALE && met.numbers[9] > 0);
+}
+
+/// Areas and head of words that are all drawn at random, small ones often, so that links lead about.
+#[test]
+fn random_words() {
+    let mut met = Met::default();
+    let mut random = Random::new(5);
+    for _ in 0..3_000 * SCALE {
+        let fans = if random.percent(90) { 5 } else { 40 };
+        let fan = 4 + random.below(fans) as u32;
+        let limit = 1 + random.below(60) as u32;
+        let nodes = (limit / (fan / 2)).max(1);
+        let mut draw = |count: u32| {
+            let words: Vec<u32> = (0..count)
+                .map(|_| if random.percent(85) { random.below(nodes as u64 + 2) as u32 } else { random.word() as u32 })
+                .collect();
+            Area::new(&words)
+        };
+        let words = nodes * (3 + 3 * fan);
+        let [leaves, inners, homes] = [draw(words), draw(words), draw(limit)];
+        let [leaf, start, effect, slot, within, effect_within] = [0; 6].map(|_: u32| random.below(6) as u32);
+        let [root, used, inners_used] = [0; 3].map(|_: u32| random.below(nodes as u64 + 1) as u32);
+        let (levels, entries) = (random.below(6) as u32, random.below(limit as u64 + 2) as u32);
+        let (present, view) = (random.below(2) as u32, random.below(3) as u32);
+        let head = Head {
+            fan,
+            limit,
+            root,
+            levels,
+            leaves: used,
+            inners: inners_used,
+            entries,
+            present,
+            view,
+            leaf,
+            start,
+            effect,
+            slot,
+            within,
+            effect_within,
+        };
+        every_export(&Tree { head, leaves, inners, homes }, &mut random, &mut met);
+    }
+    println!("{met:?}");
+    assert!(met.unsound > 100 * SCALE && met.numbers[9] > 0);
+}

@@ -1,0 +1,262 @@
+//! Each cause of a refusal on the exports themselves: its number, zeros for values, head and areas as they were. The numbers
+//! wanted are document 01's ("When a call cannot be done"), written down here.
+
+use beside::exports::{Export, Given, Tree, EXPORTS};
+use beside::port::pair;
+use smelvock::raw::{Cursor, Head, Lengths};
+use smelvock::{PrepareEffectTree, View};
+use std::sync::atomic::{AtomicU64, Ordering};
+
+/// Refusals played, over all tests of this file.
+static PLAYED: AtomicU64 = AtomicU64::new(0);
+
+use Export::*;
+
+/// Those that take a cursor, a view, the flag of the end or of the split.
+const AT: [Export; 8] = [Next, Id, Export::Lengths, Cmp, EntryToCharIndex, SetLengths, Update, SplitEntry];
+const VIEWS: [Export; 3] = [CharIndexToEntry, Locate, EntryToCharIndex];
+const ADDING: [Export; 2] = [Insert, Add];
+
+/// Thirty entries of lengths (1 to 5, 1 to 3) with room for one more, a finger in the effect view, and what every export
+/// answers on it without a refusal.
+fn whole<const N: usize>() -> (Tree, Given) {
+    let mut tree = PrepareEffectTree::<N>::with_limit(31, pair([2, 3])).unwrap();
+    for id in 1..30 {
+        let before = (id % 3 != 0).then(|| tree.cursor(id * 7 % id).unwrap());
+        tree.add(before, pair([1 + id % 5, 1 + id % 3])).unwrap();
+    }
+    tree.locate(View::Effect, 11).unwrap();
+    let [at, other] = [4, 23].map(|id| tree.cursor(id).unwrap().into());
+    let given = Given {
+        at,
+        other,
+        id: 7,
+        view: 1,
+        index: 12,
+        lengths: Lengths { prepare: 1, effect: 1 },
+        end: 0,
+        before: 1,
+        fan: N as u32,
+        limit: 31,
+    };
+    let tree = Tree::of(&tree);
+    for export in EXPORTS {
+        assert_eq!(export.play(&mut tree.clone(), &given).number, 0, "N {N}, {export:?}");
+    }
+    (tree, given)
+}
+
+fn totals(tree: &Tree) -> [u32; 2] {
+    let size = (3 + 3 * tree.head.fan) as usize;
+    let root = &tree.inners.words()[tree.head.root as usize * size..][..size];
+    [1, 2].map(|view| root[3..].chunks_exact(3).take(root[0] as usize).map(|slot| slot[view]).sum())
+}
+
+/// The export is refused by that number; nothing changes. A refused make gives a head of zeros instead.
+fn refused(number: u32, export: Export, tree: &Tree, given: &Given) {
+    let mut after = tree.clone();
+    let answer = export.play(&mut after, given);
+    assert_eq!(answer.number, number, "{export:?} {given:?} on {:?}", tree.head);
+    assert!(answer.values.iter().all(|&value| value == 0), "{export:?} {answer:?}");
+    let head = if export == New { Head::default() } else { tree.head };
+    assert_eq!(after, Tree { head, ..tree.clone() }, "{export:?}");
+    PLAYED.fetch_add(1, Ordering::Relaxed);
+}
+
+fn at_each_fan(test: fn(Tree, Given)) {
+    for (tree, given) in [whole::<4>(), whole::<5>(), whole::<8>(), whole::<32>()] {
+        test(tree, given);
+    }
+    println!("{} refusals played so far", PLAYED.load(Ordering::Relaxed));
+}
+
+#[test]
+fn fan_or_limit_outside_its_values_is_1() {
+    at_each_fan(|tree, given| {
+        for fan in [0, 1, 3, 33, 64, u32::MAX] {
+            EXPORTS.iter().for_each(|&export| {
+                let tree = Tree { head: Head { fan, ..tree.head }, ..tree.clone() };
+                refused(1, export, &tree, &Given { fan, ..given })
+            });
+        }
+        for limit in [0, 65_537, u32::MAX] {
+            EXPORTS.iter().for_each(|&export| {
+                let tree = Tree { head: Head { limit, ..tree.head }, ..tree.clone() };
+                refused(1, export, &tree, &Given { limit, ..given })
+            });
+        }
+    });
+}
+
+/// Each of the three areas one word too short, and empty. `len` and `is_empty` are given no area.
+#[test]
+fn an_area_too_short_is_2() {
+    use beside::exports::Area;
+    at_each_fan(|tree, given| {
+        let with_areas = EXPORTS.iter().filter(|export| ![Len, IsEmpty].contains(export));
+        for (export, which) in with_areas.flat_map(|&export| (0..3).map(move |which| (export, which))) {
+            for words in 0..2 {
+                let mut tree = tree.clone();
+                let area = match which {
+                    0 => &mut tree.leaves,
+                    1 => &mut tree.inners,
+                    _ => &mut tree.homes,
+                };
+                *area = Area::new(&area.words()[..(area.words().len() - 1) * words]);
+                refused(2, export, &tree, &given);
+            }
+        }
+    });
+}
+
+/// Stale by stamp, a leaf that isn't in use, a slot past the leaf's len; in either cursor of a comparison.
+#[test]
+fn a_cursor_that_is_not_current_is_3() {
+    at_each_fan(|tree, given| {
+        let good = given.at;
+        let len = tree.leaves.words()[good.leaf as usize * (3 + 3 * tree.head.fan as usize)];
+        let mut bad = Vec::new();
+        bad.extend([0, 1, 29, 31, u32::MAX].map(|stamp| Cursor { stamp, ..good }));
+        bad.extend([tree.head.leaves, tree.head.leaves + 1, u32::MAX].map(|leaf| Cursor { leaf, ..good }));
+        bad.extend([len, len + 1, tree.head.fan, u32::MAX].map(|slot| Cursor { slot, ..good }));
+        for at in bad {
+            AT.iter().chain(&ADDING).for_each(|&export| refused(3, export, &tree, &Given { at, ..given }));
+            refused(3, Cmp, &tree, &Given { other: at, ..given });
+        }
+    });
+}
+
+/// A cursor is used after an insertion or split; a cursor of a bigger tree is used in a smaller one.
+#[test]
+fn a_stale_or_foreign_cursor_is_3() {
+    at_each_fan(|tree, given| {
+        for export in [Insert, Add, SplitEntry] {
+            let mut tree = tree.clone();
+            assert_eq!(export.play(&mut tree, &given).number, 0);
+            AT.iter().for_each(|&export| refused(3, export, &tree, &given));
+        }
+        let mut small = tree.clone();
+        assert_eq!(Reset.play(&mut small, &given).number, 0);
+        AT.iter().chain(&ADDING).for_each(|&export| refused(3, export, &small, &given));
+    });
+}
+
+#[test]
+fn an_id_not_below_the_number_of_entries_is_4() {
+    at_each_fan(|tree, given| {
+        for id in [30, 31, 32, u32::MAX] {
+            refused(4, Export::Cursor, &tree, &Given { id, ..given });
+        }
+        assert_eq!(Export::Cursor.play(&mut tree.clone(), &Given { id: 29, ..given }).number, 0);
+    });
+}
+
+/// With and without a finger, the finger in the same view and in the other; the head comes back with it as it was.
+#[test]
+fn a_position_at_or_past_the_total_is_5() {
+    at_each_fan(|tree, given| {
+        let totals = totals(&tree);
+        for present in [0, 1] {
+            let Head { fan, limit, root, levels, leaves, inners, entries, .. } = tree.head;
+            let without = Head { fan, limit, root, levels, leaves, inners, entries, ..Head::default() };
+            let head = if present == 1 { tree.head } else { without };
+            let tree = Tree { head, ..tree.clone() };
+            for (view, export) in [0, 1].into_iter().flat_map(|view| [(view, Locate), (view, CharIndexToEntry)]) {
+                let total = totals[view as usize];
+                for index in [total, total + 1, u32::MAX - 1, u32::MAX] {
+                    refused(5, export, &tree, &Given { view, index, ..given });
+                }
+                let last = Given { view, index: total - 1, ..given };
+                assert_eq!(export.play(&mut tree.clone(), &last).number, 0);
+            }
+        }
+    });
+}
+
+#[test]
+fn a_split_of_more_than_there_is_is_6() {
+    at_each_fan(|tree, given| {
+        let own = Export::Lengths.play(&mut tree.clone(), &given).values;
+        for (more, before) in [[1, 0], [0, 1], [1, 1]].into_iter().flat_map(|more| [(more, 0), (more, 1)]) {
+            let lengths = Lengths { prepare: own[0] + more[0], effect: own[1] + more[1] };
+            refused(6, SplitEntry, &tree, &Given { lengths, before, ..given });
+        }
+        let lengths = Lengths { prepare: own[0], effect: own[1] };
+        assert_eq!(SplitEntry.play(&mut tree.clone(), &Given { lengths, ..given }).number, 0);
+    });
+}
+
+/// The total with the new lengths is 4,294,967,295 and one more, in either view.
+#[test]
+fn a_total_past_u32_is_7() {
+    at_each_fan(|tree, given| {
+        let totals = totals(&tree);
+        let own = Export::Lengths.play(&mut tree.clone(), &given).values;
+        for (export, own) in
+            [(Insert, [0, 0]), (Add, [0, 0]), (SetLengths, [own[0], own[1]]), (Update, [own[0], own[1]])]
+        {
+            let most = Lengths { prepare: u32::MAX - totals[0] + own[0], effect: u32::MAX - totals[1] + own[1] };
+            for end in [0, 1] {
+                let given = Given { lengths: most, end, ..given };
+                assert_eq!(export.play(&mut tree.clone(), &given).number, 0);
+                let prepare = Lengths { prepare: most.prepare + 1, effect: 0 };
+                refused(7, export, &tree, &Given { lengths: prepare, ..given });
+                let effect = Lengths { prepare: 0, effect: most.effect + 1 };
+                refused(7, export, &tree, &Given { lengths: effect, ..given });
+            }
+        }
+    });
+}
+
+#[test]
+fn an_entry_more_than_the_limit_is_8() {
+    at_each_fan(|mut tree, given| {
+        assert_eq!(Add.play(&mut tree, &given).number, 0);
+        let at = Cursor { stamp: 31, ..given.at };
+        for end in [0, 1] {
+            ADDING.iter().for_each(|&export| refused(8, export, &tree, &Given { at, end, ..given }));
+        }
+        let lengths = Lengths { prepare: 0, effect: 0 };
+        refused(8, SplitEntry, &tree, &Given { at, lengths, ..given });
+    });
+}
+
+/// The finger's flag in every head, the view of the lookups and ranks, the flags of the end and of the split.
+#[test]
+fn a_view_or_flag_outside_its_values_is_10() {
+    at_each_fan(|tree, given| {
+        for bad in [2, 3, u32::MAX] {
+            let with_head = EXPORTS.iter().filter(|&&export| export != New);
+            let flagged = Tree { head: Head { present: bad, ..tree.head }, ..tree.clone() };
+            with_head.for_each(|&export| refused(10, export, &flagged, &given));
+            VIEWS.iter().for_each(|&export| refused(10, export, &tree, &Given { view: bad, ..given }));
+            ADDING.iter().for_each(|&export| refused(10, export, &tree, &Given { end: bad, ..given }));
+            refused(10, SplitEntry, &tree, &Given { before: bad, ..given });
+        }
+    });
+}
+
+/// Several causes at once: 10 comes first, then 1 to 8 in rising order.
+#[test]
+fn the_order_of_the_refusals() {
+    use beside::exports::Area;
+    at_each_fan(|mut tree, given| {
+        assert_eq!(Add.play(&mut tree, &given).number, 0);
+        let current = Cursor { stamp: 31, ..given.at };
+        let wide = Lengths { prepare: u32::MAX, effect: u32::MAX };
+        let all = Given { lengths: wide, view: 2, end: 2, before: 2, index: u32::MAX, ..given };
+        let bad_fan = Tree { head: Head { fan: 3, ..tree.head }, homes: Area::new(&[]), ..tree.clone() };
+        let short = Tree { homes: Area::new(&[]), ..tree.clone() };
+        for export in [Locate, EntryToCharIndex, Insert, Add, SplitEntry] {
+            refused(10, export, &bad_fan, &all);
+            let good = Given { view: 0, end: 0, before: 0, ..all };
+            refused(1, export, &bad_fan, &good);
+            refused(2, export, &short, &good);
+        }
+        let good = Given { view: 0, end: 0, before: 0, ..all };
+        [Insert, Add, SplitEntry, SetLengths, Update].iter().for_each(|&export| refused(3, export, &tree, &good));
+        let good = Given { at: current, ..good };
+        refused(6, SplitEntry, &tree, &good);
+        [Insert, Add, SetLengths, Update].iter().for_each(|&export| refused(7, export, &tree, &good));
+    });
+}
