@@ -1,5 +1,5 @@
 //! Links the static library that `rt staticlib smelvock` writes, and makes it where it is missing or older than the code.
-//! A copy stands in OUT_DIR, so that what is built once doesn't need the repository's target/ again.
+//! A copy stands in OUT_DIR, so that the build doesn't need the repository's target/ again, which `rt ci` removes.
 
 use std::path::{Path, PathBuf};
 use std::process::Command;
@@ -9,14 +9,16 @@ use std::{env, fs};
 fn main() {
     let root = PathBuf::from(env::var("CARGO_MANIFEST_DIR").expect("cargo sets it")).join("../..");
     let library = root.join("target/staticlib/libsmelvock.a");
+    let copies = PathBuf::from(env::var("OUT_DIR").expect("cargo sets it"));
+    let copy = copies.join("libsmelvock.a");
     let code = newest(&root.join("crates"));
-    if modified(&library) < code {
+    if modified(&library).max(modified(&copy)) < code {
         let done = Command::new("rt").args(["staticlib", "smelvock"]).current_dir(&root).status();
         assert!(done.is_ok_and(|status| status.success()), "rt staticlib smelvock failed; its log is in target/log");
     }
-    let copies = PathBuf::from(env::var("OUT_DIR").expect("cargo sets it"));
-    let copy = copies.join("libsmelvock.a");
-    fs::copy(&library, &copy).expect("the library is there");
+    if modified(&library) >= modified(&copy) {
+        fs::copy(&library, &copy).expect("the library is there");
+    }
     println!("cargo:rerun-if-changed=build.rs");
     println!("cargo:rerun-if-changed={}", root.join("crates").display());
     println!("cargo:rerun-if-changed={}", library.display());

@@ -3,22 +3,34 @@
 use std::path::PathBuf;
 use std::process::Command;
 
+/// P1 to P12 as document 01 has them, then each other export on the sheet.
 const WANTED: &str = "new 0
-locate 0 0 0 1 2 0
-finger 1 0 0
-locate 5
-locate 10
+insert 0 1 3
+insert 0 2 0
+locate 0 0 0 5
+locate 5 0 0 0
 next 0 1
-id 0 0
-lengths 0 3 3
-cursor 4
-cmp 0 1
-rank 0 0
-short 2
-len 0 1
+locate 0 2 0 0
+locate 5 0 0 0
+split_entry 0 3 0 1 0 2
+insert 0 4 8
+cursor 1 1
+insert 8 0 0
+split_entry 6 0 0 0 0 0
+row 2 3 0 4 1
+char_index_to_entry 5 0 0 0
+update 0 5
+set_lengths 0
+lengths 0 1 1
+entry_to_char_index 0 8
+cmp 0 2
+len 0 5
 is_empty 0 0
 audit 0 1
-reset 0 0
+view 2: 10
+short: 2
+reset 0 1 0
+add 0 1
 ";
 
 #[test]
