@@ -1,0 +1,17 @@
+-- Document 01's number and values for the answers that name an entry by its id. Assumes nothing.
+use mathlib.Core.List.{[], _∷_}
+use Rattle.model.specs.Row.{Answer, done, refused, noEntry}
+use Rattle.by_id_read.specs.declared.answer.Looked.{Looked}
+use Rattle.by_id_read.specs.declared.answer.Looked.the-variants as looked
+use Rattle.by_id_read.specs.declared.answer.Following.{Following}
+use Rattle.by_id_read.specs.declared.answer.Following.the-variants as following
+
+abbrev pub lookedAnswer : Looked → Answer
+lookedAnswer (looked.At i offset position) = done (i .0 ∷ offset ∷ position ∷ [])
+lookedAnswer (looked.Refused n) = refused n
+
+-- "none" is 4,294,967,295
+abbrev pub followingAnswer : Following → Answer
+followingAnswer (following.Entry i) = done (i .0 ∷ [])
+followingAnswer following.Nothing = done (noEntry ∷ [])
+followingAnswer (following.Refused n) = refused n

@@ -1,0 +1,46 @@
+// The lookup by id.
+use crate::answer::Looked;
+use crate::answer::LookedReply;
+use calls_read::read::id;
+use model::answer::Located;
+use model::answer::Named;
+use model::head::Head;
+use model::length::View;
+ghost use mathlib.Core.Path.{_≡_};
+ghost use Rattle.model.specs.Row as row;
+ghost use Rattle.model.specs.Row.{moved};
+ghost use Rattle.model.specs.State.{state};
+ghost use Rattle.model.specs.ById.{treeStep};
+ghost use Rattle.by_id_read.specs.Answer.{lookedAnswer};
+
+// The entry that holds a position in a view, the offset into it, and its effect position.
+pub fn locate(
+    head: Head,
+    leaves: &[u32],
+    inners: &[u32],
+    homes: &[u32],
+    view: View,
+    index: u32,
+) -> LookedReply
+    ensures { λ r. ⌜ moved (state (r .head) (now (leaves .exit)) (now (inners .exit)) (now (homes .exit))) (lookedAnswer (r .answer)) ≡ treeStep (state head (now (leaves .entry)) (now (inners .entry)) (now (homes .entry))) (row.lookup view index) ⌝ }
+{
+    let r = calls_look::lookup::locate(head, leaves, inners, homes, view, index);
+    let kept = r.head;
+    let answer = r.answer;
+    match answer {
+        Located::Refused(n) => LookedReply {
+            head: kept,
+            answer: Looked::Refused(n),
+        },
+        Located::At(at, offset, position) => match id(kept, leaves, inners, homes, at) {
+            Named::Refused(n) => LookedReply {
+                head: kept,
+                answer: Looked::Refused(n),
+            },
+            Named::Entry(i) => LookedReply {
+                head: kept,
+                answer: Looked::At(i, offset, position),
+            },
+        },
+    }
+}

@@ -1,0 +1,55 @@
+// The calls by id that read a count or one entry.
+use calls_read::read::cursor;
+use model::answer::Measured;
+use model::answer::Number;
+use model::answer::Standing;
+use model::head::Head;
+use model::length::View;
+use model::number::EntryId;
+ghost use mathlib.Core.Path.{_≡_};
+ghost use Rattle.model.specs.Row as row;
+ghost use Rattle.model.specs.Row.{moved};
+ghost use Rattle.model.specs.Answer.{numberAnswer, measuredAnswer};
+ghost use Rattle.model.specs.State.{state};
+ghost use Rattle.model.specs.ById.{treeStep};
+
+// How many entries the tree has.
+pub fn len(head: Head, leaves: &[u32], inners: &[u32], homes: &[u32]) -> Number
+    ensures { λ r. ⌜ moved (state head (now (leaves .entry)) (now (inners .entry)) (now (homes .entry))) (numberAnswer r) ≡ treeStep (state head (now (leaves .entry)) (now (inners .entry)) (now (homes .entry))) row.count ⌝ }
+{
+    calls_read::read::len(head)
+}
+
+// An entry's lengths.
+pub fn lengths(head: Head, leaves: &[u32], inners: &[u32], homes: &[u32], id: EntryId) -> Measured
+    ensures { λ r. ⌜ moved (state head (now (leaves .entry)) (now (inners .entry)) (now (homes .entry))) (measuredAnswer r) ≡ treeStep (state head (now (leaves .entry)) (now (inners .entry)) (now (homes .entry))) (row.lengths (id .0)) ⌝ }
+{
+    match cursor(head, leaves, inners, homes, id) {
+        Standing::Refused(n) => Measured::Refused(n),
+        Standing::At(c) => calls_read::read::lengths(head, leaves, inners, homes, c),
+    }
+}
+
+// An entry's position in a view: the lengths before it.
+pub fn entry_to_char_index(
+    head: Head,
+    leaves: &[u32],
+    inners: &[u32],
+    homes: &[u32],
+    view: View,
+    id: EntryId,
+) -> Number
+    ensures { λ r. ⌜ moved (state head (now (leaves .entry)) (now (inners .entry)) (now (homes .entry))) (numberAnswer r) ≡ treeStep (state head (now (leaves .entry)) (now (inners .entry)) (now (homes .entry))) (row.rank view (id .0)) ⌝ }
+{
+    match cursor(head, leaves, inners, homes, id) {
+        Standing::Refused(n) => Number::Refused(n),
+        Standing::At(c) => calls_read::read::entry_to_char_index(
+            head,
+            leaves,
+            inners,
+            homes,
+            view,
+            c,
+        ),
+    }
+}
