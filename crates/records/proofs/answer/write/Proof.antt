@@ -1,0 +1,143 @@
+-- `records::answer::write`: the sixteen bytes are written in order, over all that was there.
+use borrow.Author.Needs.{needs}
+use lib.ListN.{length-set}
+use native.Mathlib.Omega.{arith}
+use Rattle.model.specs.Record.{encode}
+use Rattle.records.specs.Said.{filled as filled′}
+use Rattle.records.proofs.Laws.{filled}
+use Rattle.records.proofs.answer.write.Statement.{statement}
+use Rattle.records.proofs.answer.write.Tie as tie
+
+cast-out : tie.Need-cast-out
+cast-out c = search needs
+
+slice-write-out : tie.Need-slice-write-out
+slice-write-out c = search needs
+
+cast-out-2 : tie.Need-cast-out-2
+cast-out-2 c = search needs
+
+slice-write-out-2 : tie.Need-slice-write-out-2
+slice-write-out-2 c = search needs
+
+slice-write-out-3 : tie.Need-slice-write-out-3
+slice-write-out-3 c = search needs
+
+slice-write-out-4 : tie.Need-slice-write-out-4
+slice-write-out-4 c = search needs
+
+cast-out-3 : tie.Need-cast-out-3
+cast-out-3 c = search needs
+
+slice-write-out-5 : tie.Need-slice-write-out-5
+slice-write-out-5 c = simp length-set (omega arith)
+
+cast-out-4 : tie.Need-cast-out-4
+cast-out-4 c = search needs
+
+slice-write-out-6 : tie.Need-slice-write-out-6
+slice-write-out-6 c = simp length-set (omega arith)
+
+cast-out-5 : tie.Need-cast-out-5
+cast-out-5 c = search needs
+
+slice-write-out-7 : tie.Need-slice-write-out-7
+slice-write-out-7 c = simp length-set (omega arith)
+
+cast-out-6 : tie.Need-cast-out-6
+cast-out-6 c = search needs
+
+slice-write-out-8 : tie.Need-slice-write-out-8
+slice-write-out-8 c = simp length-set (omega arith)
+
+cast-out-7 : tie.Need-cast-out-7
+cast-out-7 c = search needs
+
+slice-write-out-9 : tie.Need-slice-write-out-9
+slice-write-out-9 c = simp length-set (omega arith)
+
+cast-out-8 : tie.Need-cast-out-8
+cast-out-8 c = search needs
+
+slice-write-out-10 : tie.Need-slice-write-out-10
+slice-write-out-10 c = simp length-set (omega arith)
+
+cast-out-9 : tie.Need-cast-out-9
+cast-out-9 c = search needs
+
+slice-write-out-11 : tie.Need-slice-write-out-11
+slice-write-out-11 c = simp length-set (omega arith)
+
+cast-out-10 : tie.Need-cast-out-10
+cast-out-10 c = search needs
+
+slice-write-out-12 : tie.Need-slice-write-out-12
+slice-write-out-12 c = simp length-set (omega arith)
+
+cast-out-11 : tie.Need-cast-out-11
+cast-out-11 c = search needs
+
+slice-write-out-13 : tie.Need-slice-write-out-13
+slice-write-out-13 c = simp length-set (omega arith)
+
+cast-out-12 : tie.Need-cast-out-12
+cast-out-12 c = search needs
+
+slice-write-out-14 : tie.Need-slice-write-out-14
+slice-write-out-14 c = simp length-set (omega arith)
+
+cast-out-13 : tie.Need-cast-out-13
+cast-out-13 c = search needs
+
+slice-write-out-15 : tie.Need-slice-write-out-15
+slice-write-out-15 c = simp length-set (omega arith)
+
+cast-out-14 : tie.Need-cast-out-14
+cast-out-14 c = search needs
+
+slice-write-out-16 : tie.Need-slice-write-out-16
+slice-write-out-16 c = simp length-set (omega arith)
+
+same-length : tie.Need-same-length
+same-length c = simp length-set
+
+returns : tie.Need-returns
+unfolding encode
+returns c = filled (c .args .out .now) (encode (c .args .kind) (filled′ (c .args .answer))) (c .pre)
+
+pub write-spec : {M : Type 1} → statement M
+write-spec =
+    tie.close
+    (tie.spec
+    cast-out
+    slice-write-out
+    cast-out-2
+    slice-write-out-2
+    slice-write-out-3
+    slice-write-out-4
+    cast-out-3
+    slice-write-out-5
+    cast-out-4
+    slice-write-out-6
+    cast-out-5
+    slice-write-out-7
+    cast-out-6
+    slice-write-out-8
+    cast-out-7
+    slice-write-out-9
+    cast-out-8
+    slice-write-out-10
+    cast-out-9
+    slice-write-out-11
+    cast-out-10
+    slice-write-out-12
+    cast-out-11
+    slice-write-out-13
+    cast-out-12
+    slice-write-out-14
+    cast-out-13
+    slice-write-out-15
+    cast-out-14
+    slice-write-out-16
+    same-length
+    returns)

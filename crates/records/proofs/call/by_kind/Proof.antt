@@ -1,0 +1,173 @@
+-- `records::call::by_kind`: each kind is its place in the list of kinds, under the same condition.
+use borrow.Author.Needs.{needs}
+use Rattle.model.specs.Record.{kinds}
+use Rattle.records.specs.Said.{plainFields}
+use Rattle.records.proofs.Laws.{at-kind, no-kind, reset-kind, lookup-kind, rank-kind, next-kind, compare-kind, lengths-kind, count-kind, first-kind}
+use Rattle.records.proofs.call.by_kind.Statement.{statement}
+use Rattle.records.proofs.call.by_kind.Tie as tie
+
+view-of-requires : tie.Need-view-of-requires
+view-of-requires c κs = search needs
+
+both-requires : tie.Need-both-requires
+both-requires c κs = search needs
+
+both-requires-2 : tie.Need-both-requires-2
+both-requires-2 c κs = search needs
+
+only-requires : tie.Need-only-requires
+only-requires c κs = search needs
+
+only-requires-2 : tie.Need-only-requires-2
+only-requires-2 c κs = search needs
+
+only-requires-3 : tie.Need-only-requires-3
+only-requires-3 c κs = search needs
+
+only-requires-4 : tie.Need-only-requires-4
+only-requires-4 c κs = search needs
+
+only-requires-5 : tie.Need-only-requires-5
+only-requires-5 c κs = search needs
+
+only-requires-6 : tie.Need-only-requires-6
+only-requires-6 c κs = search needs
+
+both-requires-3 : tie.Need-both-requires-3
+both-requires-3 c κs = search needs
+
+only-requires-7 : tie.Need-only-requires-7
+only-requires-7 c κs = search needs
+
+both-requires-4 : tie.Need-both-requires-4
+both-requires-4 c κs = search needs
+
+only-requires-8 : tie.Need-only-requires-8
+only-requires-8 c κs = search needs
+
+both-requires-5 : tie.Need-both-requires-5
+both-requires-5 c κs = search needs
+
+only-requires-9 : tie.Need-only-requires-9
+only-requires-9 c κs = search needs
+
+both-requires-6 : tie.Need-both-requires-6
+both-requires-6 c κs = search needs
+
+only-requires-10 : tie.Need-only-requires-10
+only-requires-10 c κs = search needs
+
+both-requires-7 : tie.Need-both-requires-7
+both-requires-7 c κs = search needs
+
+only-requires-11 : tie.Need-only-requires-11
+only-requires-11 c κs = search needs
+
+both-requires-8 : tie.Need-both-requires-8
+both-requires-8 c κs = search needs
+
+both-requires-9 : tie.Need-both-requires-9
+both-requires-9 c κs = search needs
+
+only-requires-12 : tie.Need-only-requires-12
+only-requires-12 c κs = search needs
+
+both-requires-10 : tie.Need-both-requires-10
+both-requires-10 c κs = search needs
+
+both-requires-11 : tie.Need-both-requires-11
+both-requires-11 c κs = search needs
+
+only-requires-13 : tie.Need-only-requires-13
+only-requires-13 c κs = search needs
+
+returns : tie.Need-returns
+returns c = reset-kind (plainFields (c .before .before .before .before .before .before .before .before .args .f)) _ _ (c .before .before .match .keys1) (c .only .ensures) (c .before .both2 .ensures)
+
+returns-2 : tie.Need-returns-2
+unfolding kinds
+returns-2 c = at-kind (plainFields (c .before .before .before .before .before .before .before .args .f)) 2 (c .before .match .keys2) _ (c .only2 .ensures)
+
+returns-3 : tie.Need-returns-3
+unfolding kinds
+returns-3 c = at-kind (plainFields (c .before .before .before .before .before .before .before .args .f)) 3 (c .before .match .keys3) _ (c .only3 .ensures)
+
+returns-4 : tie.Need-returns-4
+unfolding kinds
+returns-4 c = at-kind (plainFields (c .before .before .before .before .before .before .before .args .f)) 4 (c .before .match .keys4) _ (c .only4 .ensures)
+
+returns-5 : tie.Need-returns-5
+unfolding kinds
+returns-5 c = at-kind (plainFields (c .before .before .before .before .before .before .before .args .f)) 5 (c .before .match .keys5) _ (c .only5 .ensures)
+
+returns-6 : tie.Need-returns-6
+unfolding kinds
+returns-6 c = at-kind (plainFields (c .before .before .before .before .before .before .before .args .f)) 6 (c .before .match .keys6) _ (c .only6 .ensures)
+
+returns-7 : tie.Need-returns-7
+returns-7 c = lookup-kind (plainFields (c .before .before .before .before .before .before .before .before .args .f)) _ _ _ (c .before .before .before .both .ensures) _ (c .before .before .before .before .before .before .before .view-of .ensures) (c .before .before .match .keys7) (c .only7 .ensures) (c .before .both3 .ensures)
+
+returns-8 : tie.Need-returns-8
+returns-8 c = rank-kind (plainFields (c .before .before .before .before .before .before .before .before .args .f)) _ _ _ (c .before .before .before .both .ensures) _ (c .before .before .before .before .before .before .before .view-of .ensures) (c .before .before .match .keys8) (c .only8 .ensures) (c .before .both4 .ensures)
+
+returns-9 : tie.Need-returns-9
+returns-9 c = next-kind (plainFields (c .before .before .before .before .before .before .before .before .args .f)) _ _ _ (c .before .before .before .both .ensures) (c .before .before .match .keys9) (c .only9 .ensures) (c .before .both5 .ensures)
+
+returns-10 : tie.Need-returns-10
+returns-10 c = compare-kind (plainFields (c .before .before .before .before .before .before .before .before .before .args .f)) _ _ (c .before .before .before .match .keys10) (c .only10 .ensures) (c .before .both6 .ensures)
+
+returns-11 : tie.Need-returns-11
+returns-11 c = lengths-kind (plainFields (c .before .before .before .before .before .before .before .before .args .f)) _ _ _ (c .before .before .before .both .ensures) (c .before .before .match .keys11) (c .only11 .ensures) (c .before .both7 .ensures)
+
+returns-12 : tie.Need-returns-12
+returns-12 c = count-kind (plainFields (c .before .before .before .before .before .before .before .before .before .args .f)) _ _ _ (c .before .before .before .before .both .ensures) _ (c .before .before .both8 .ensures) (c .before .before .before .match .keys12) (c .only12 .ensures) (c .before .both9 .ensures)
+
+returns-13 : tie.Need-returns-13
+returns-13 c = first-kind (plainFields (c .before .before .before .before .before .before .before .before .before .args .f)) _ _ _ (c .before .before .before .before .both .ensures) _ (c .before .before .both10 .ensures) (c .before .before .before .match .keys13) (c .only13 .ensures) (c .before .both11 .ensures)
+
+returns-14 : tie.Need-returns-14
+returns-14 c = no-kind (plainFields (c .before .before .before .before .before .before .args .f)) _ (c .match .rest .0 .0 .0 .0 .0 .0 .0 .0 .0 .0 .0 .0 .1) (c .match .rest .0 .0 .0 .0 .0 .0 .0 .0 .0 .0 .0 .1) (c .match .rest .0 .0 .0 .0 .0 .0 .0 .0 .0 .0 .1) (c .match .rest .0 .0 .0 .0 .0 .0 .0 .0 .0 .1) (c .match .rest .0 .0 .0 .0 .0 .0 .0 .0 .1) (c .match .rest .0 .0 .0 .0 .0 .0 .0 .1) (c .match .rest .0 .0 .0 .0 .0 .0 .1) (c .match .rest .0 .0 .0 .0 .0 .1) (c .match .rest .0 .0 .0 .0 .1) (c .match .rest .0 .0 .0 .1) (c .match .rest .0 .0 .1) (c .match .rest .0 .1) (c .match .rest .1)
+
+pub by-kind-spec : {M : Type 1} → statement M
+by-kind-spec =
+    tie.close
+    (tie.spec
+    view-of-requires
+    both-requires
+    both-requires-2
+    only-requires
+    only-requires-2
+    only-requires-3
+    only-requires-4
+    only-requires-5
+    only-requires-6
+    both-requires-3
+    only-requires-7
+    both-requires-4
+    only-requires-8
+    both-requires-5
+    only-requires-9
+    both-requires-6
+    only-requires-10
+    both-requires-7
+    only-requires-11
+    both-requires-8
+    both-requires-9
+    only-requires-12
+    both-requires-10
+    both-requires-11
+    only-requires-13
+    returns
+    returns-2
+    returns-3
+    returns-4
+    returns-5
+    returns-6
+    returns-7
+    returns-8
+    returns-9
+    returns-10
+    returns-11
+    returns-12
+    returns-13
+    returns-14)

@@ -1,0 +1,96 @@
+// The call that a record's fields say.
+use crate::fields::Fields;
+use model::length::Lengths;
+use model::length::View;
+use model::number::EntryId;
+ghost use mathlib.Core.Path.{_≡_};
+ghost use mathlib.Core.Bool.{_&&_};
+ghost use lib.ListN.{getD};
+ghost use Rattle.model.specs.Row as row;
+ghost use Rattle.model.specs.Record.{kinds, viewOf, only};
+ghost use Rattle.records.specs.Said.{plainFields, callOf, said};
+
+// The calls of a list; Malformed stands for a record with a field outside its values.
+pub enum Call {
+    Reset(Lengths),
+    Insert(EntryId, Lengths),
+    Add(EntryId, Lengths),
+    Split(bool, EntryId, Lengths),
+    SetLengths(EntryId, Lengths),
+    Update(EntryId, Lengths),
+    Lookup(View, u32),
+    Rank(View, EntryId),
+    Next(EntryId),
+    Compare(EntryId, EntryId),
+    LengthsOf(EntryId),
+    Count,
+    First,
+    Malformed,
+}
+
+// The view of a flag.
+fn view_of(flag: u32) -> View
+    ensures { λ r. ⌜ r ≡ viewOf flag ⌝ }
+{
+    if flag == 0 {
+        View::Prepare
+    } else {
+        View::Effect
+    }
+}
+
+fn both(a: bool, b: bool) -> bool
+    ensures { λ r. ⌜ r ≡ (a && b) ⌝ }
+{
+    if a { b } else { false }
+}
+
+// The call where its unused fields are zero and a view or flag is 0 or 1.
+fn only(ok: bool, call: Call) -> Call
+    ensures { λ r. ⌜ callOf r ≡ only ok (callOf call) ⌝ }
+{
+    if ok { call } else { Call::Malformed }
+}
+
+// What a record of each kind says.
+fn by_kind(f: Fields) -> Call
+    ensures { λ r. ⌜ callOf r ≡ getD (kinds (plainFields f)) (f .kind) row.malformed ⌝ }
+{
+    let kind = f.kind;
+    let flag = f.flag;
+    let view = view_of(flag);
+    let id = EntryId(f.a);
+    let lengths = Lengths {
+        prepare: f.b,
+        effect: f.c,
+    };
+    let plain = flag == 0;
+    let binary = flag < 2;
+    let no_id = f.a == 0;
+    let no_lengths = both(f.b == 0, f.c == 0);
+    match kind {
+        1 => only(both(plain, no_id), Call::Reset(lengths)),
+        2 => only(plain, Call::Insert(id, lengths)),
+        3 => only(plain, Call::Add(id, lengths)),
+        4 => only(binary, Call::Split(flag == 1, id, lengths)),
+        5 => only(plain, Call::SetLengths(id, lengths)),
+        6 => only(plain, Call::Update(id, lengths)),
+        7 => only(both(binary, no_lengths), Call::Lookup(view, f.a)),
+        8 => only(both(binary, no_lengths), Call::Rank(view, id)),
+        9 => only(both(plain, no_lengths), Call::Next(id)),
+        10 => only(both(plain, f.c == 0), Call::Compare(id, EntryId(f.b))),
+        11 => only(both(plain, no_lengths), Call::LengthsOf(id)),
+        12 => only(both(both(plain, no_id), no_lengths), Call::Count),
+        13 => only(both(both(plain, no_id), no_lengths), Call::First),
+        _ => Call::Malformed,
+    }
+}
+
+pub fn decode(f: Fields) -> Call
+    ensures { λ r. ⌜ callOf r ≡ said (plainFields f) ⌝ }
+{
+    if f.rest != 0 {
+        return Call::Malformed;
+    }
+    by_kind(f)
+}
