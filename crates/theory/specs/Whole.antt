@@ -75,7 +75,7 @@ pub record Kept (s : State) (r : Row) : Type 0 where
   pub floor : 2 ≤ s .head .levels → 2 * half (s .head .fan) ^ s .head .levels ≤ length (r .entries)
   pub numbers : (c : Call) → InWords c → Numbers s r c
 
-kept-of : (s : State) (r : Row) → Stands s r → Kept s r
+pub kept-of : (s : State) (r : Row) → Stands s r → Kept s r
 kept-of s r h =
     let n : s .head .entries ≡ length (r .entries) = sym (count-is s (h .sound)) ∙ ap length (h .entries) in
     let b = body-of 3 s 1 (h .sound) in
@@ -111,7 +111,7 @@ lookup-keeps r row.count e = absurd (never e)
 lookup-keeps r row.first e = absurd (never e)
 lookup-keeps r row.malformed e = absurd (never e)
 
-runs-alike : (s : State) (r : Row) (cs : List Call) → Stands s r → All InWords cs → (answers treeStep s cs ≡ answers rowStep r cs) × Stands (finally treeStep s cs) (finally rowStep r cs)
+pub runs-alike : (s : State) (r : Row) (cs : List Call) → Stands s r → All InWords cs → (answers treeStep s cs ≡ answers rowStep r cs) × Stands (finally treeStep s cs) (finally rowStep r cs)
 unfolding answers finally All
 runs-alike s r [] h k = (refl, h)
 runs-alike s r (c ∷ cs) h k =
