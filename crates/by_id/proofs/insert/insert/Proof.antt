@@ -1,0 +1,58 @@
+-- `by_id::insert::insert`: where the id leads, then the call there.
+use borrow.Author.Needs.{needs}
+use Rattle.by_id.proofs.Laws.{insert-stops, insert-goes}
+use Rattle.by_id.proofs.insert.insert.Statement.{statement}
+use Rattle.by_id.proofs.insert.insert.Tie as tie
+
+lead-requires : tie.Need-lead-requires
+lead-requires c κs = search needs
+
+enum-known-n : tie.Need-enum-known-n
+enum-known-n c = search needs
+
+enum-known-t : tie.Need-enum-known-t
+enum-known-t c = search needs
+
+insert-requires : tie.Need-insert-requires
+insert-requires c κs = search needs
+
+same-length : tie.Need-same-length
+same-length c = search needs
+
+same-length-2 : tie.Need-same-length-2
+same-length-2 c = search needs
+
+same-length-3 : tie.Need-same-length-3
+same-length-3 c = search needs
+
+returns : tie.Need-returns
+returns c = insert-stops _ _ _ _ (c .before .before .before .lead .ensures) _ (c .before .n .given .1)
+
+same-length-4 : tie.Need-same-length-4
+same-length-4 c = search needs
+
+same-length-5 : tie.Need-same-length-5
+same-length-5 c = search needs
+
+same-length-6 : tie.Need-same-length-6
+same-length-6 c = search needs
+
+returns-2 : tie.Need-returns-2
+returns-2 c = insert-goes _ _ _ _ (c .before .before .before .before .before .before .before .before .before .before .before .before .before .lead .ensures) _ (c .before .before .before .before .before .before .before .before .before .before .before .t .given .1) _ _ (c .before .before .before .before .before .before .insert .ensures)
+
+pub insert-spec : {M : Type 1} → statement M
+insert-spec =
+    tie.close
+    (tie.spec
+    lead-requires
+    enum-known-n
+    enum-known-t
+    insert-requires
+    same-length
+    same-length-2
+    same-length-3
+    returns
+    same-length-4
+    same-length-5
+    same-length-6
+    returns-2)
