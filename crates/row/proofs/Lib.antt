@@ -1,2 +1,3 @@
-pub mod Words
 pub mod AsRow
+pub mod StepLaws
+pub mod Words

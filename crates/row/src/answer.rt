@@ -1,13 +1,19 @@
 // Each call's answer as the number and three values of an answer record.
 use by_id_read::answer::Following;
 use by_id_read::answer::Looked;
+use by_id_read::answer::LookedReply;
 use model::answer::Compared;
 use model::answer::Divided;
+use model::answer::DividedReply;
 use model::answer::Inserted;
+use model::answer::InsertedReply;
 use model::answer::Measured;
 use model::answer::Named;
+use model::answer::NamedReply;
 use model::answer::Number;
+use model::answer::NumberReply;
 use model::answer::Outcome;
+use model::answer::OutcomeReply;
 use model::head::Head;
 use records::answer::Answer;
 ghost use mathlib.Core.Path.{_≡_};
@@ -52,9 +58,11 @@ pub fn refuse(head: Head, number: u32) -> Step
     }
 }
 
-pub fn outcome(head: Head, answer: Outcome) -> Step
-    ensures { λ r. ⌜ r ≡ stepOf head (outcomeAnswer answer) ⌝ }
+pub fn outcome(reply: OutcomeReply) -> Step
+    ensures { λ r. ⌜ r ≡ stepOf (reply .head) (outcomeAnswer (reply .answer)) ⌝ }
 {
+    let head = reply.head;
+    let answer = reply.answer;
     match answer {
         Outcome::Done => done(head, 0, 0, 0),
         Outcome::Refused(n) => refuse(head, n),
@@ -99,27 +107,33 @@ pub fn compared(head: Head, answer: Compared) -> Step
     }
 }
 
-pub fn inserted(head: Head, answer: Inserted) -> Step
-    ensures { λ r. ⌜ r ≡ stepOf head (insertedAnswer answer) ⌝ }
+pub fn inserted(reply: InsertedReply) -> Step
+    ensures { λ r. ⌜ r ≡ stepOf (reply .head) (insertedAnswer (reply .answer)) ⌝ }
 {
+    let head = reply.head;
+    let answer = reply.answer;
     match answer {
         Inserted::At(i, position) => done(head, i.0, position, 0),
         Inserted::Refused(n) => refuse(head, n),
     }
 }
 
-pub fn divided(head: Head, answer: Divided) -> Step
-    ensures { λ r. ⌜ r ≡ stepOf head (dividedAnswer answer) ⌝ }
+pub fn divided(reply: DividedReply) -> Step
+    ensures { λ r. ⌜ r ≡ stepOf (reply .head) (dividedAnswer (reply .answer)) ⌝ }
 {
+    let head = reply.head;
+    let answer = reply.answer;
     match answer {
         Divided::At(i, a, b) => done(head, i.0, 0, 0),
         Divided::Refused(n) => refuse(head, n),
     }
 }
 
-pub fn looked(head: Head, answer: Looked) -> Step
-    ensures { λ r. ⌜ r ≡ stepOf head (lookedAnswer answer) ⌝ }
+pub fn looked(reply: LookedReply) -> Step
+    ensures { λ r. ⌜ r ≡ stepOf (reply .head) (lookedAnswer (reply .answer)) ⌝ }
 {
+    let head = reply.head;
+    let answer = reply.answer;
     match answer {
         Looked::At(i, offset, position) => done(head, i.0, offset, position),
         Looked::Refused(n) => refuse(head, n),
@@ -134,4 +148,20 @@ pub fn following(head: Head, answer: Following) -> Step
         Following::Nothing => done(head, 4294967295, 0, 0),
         Following::Refused(n) => refuse(head, n),
     }
+}
+
+pub fn updated(reply: NumberReply) -> Step
+    ensures { λ r. ⌜ r ≡ stepOf (reply .head) (numberAnswer (reply .answer)) ⌝ }
+{
+    let head = reply.head;
+    let answer = reply.answer;
+    number(head, answer)
+}
+
+pub fn added(reply: NamedReply) -> Step
+    ensures { λ r. ⌜ r ≡ stepOf (reply .head) (namedAnswer (reply .answer)) ⌝ }
+{
+    let head = reply.head;
+    let answer = reply.answer;
+    named(head, answer)
 }
