@@ -1,3 +1,4 @@
 pub mod AsRow
+pub mod RunLaws
 pub mod StepLaws
 pub mod Words

@@ -38,6 +38,20 @@ module _ {S : Type 0} (move : S → Call → Moved S) where
   abbrev pub left : S → List (List ℕ) → S
   left s rs = finally move s (callsOf rs)
 
+-- a tree and an output, after one record and after some
+pub record Turned : Type 0 where
+  pub after : State
+  pub out : List ℕ
+
+abbrev pub turned : State → List ℕ → Turned
+turned s out = record { after = s; out = out }
+
+abbrev pub turn : State → List ℕ → Turned
+turn s r = let m = treeStep s (decode r) in turned (m .after) (encode (fieldsOf r .kind) (m .answer))
+
+abbrev pub turns : State → List (List ℕ) → Turned
+turns s rs = turned (left treeStep s rs) (played treeStep s rs)
+
 -- the output is as long as the records, which are whole
 abbrev pub fit : List ℕ → List ℕ → Bool
 fit bs out = eqb (length bs) (length out) && eqb (length bs % 16) 0
@@ -53,7 +67,7 @@ ran s a out = record { after = s; answer = a; out = out }
 
 -- records on a tree; refused, it leaves tree and output as they were
 unfoldable pub runOn : State → List ℕ → List ℕ → Ran
-runOn s bs out = cond (fit bs out) (ran (left treeStep s (recordsOf bs)) outcome.Done (played treeStep s (recordsOf bs))) (ran s (outcome.Refused 11) out)
+runOn s bs out = cond (fit bs out) (let m = turns s (recordsOf bs) in ran (m .after) outcome.Done (m .out)) (ran s (outcome.Refused 11) out)
 
 -- where a tree stands for a row, the output is the row's, and the tree left stands for what the row becomes
 pub record AsRow (bs : List ℕ) (m : Ran) (r : Row) : Type 0 where
