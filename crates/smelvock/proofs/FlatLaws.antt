@@ -1,4 +1,4 @@
--- A call's reply in words: refused by 10 where a flag is bad, else the words of what the call answered. Assumes nothing.
+-- What a host has after a call: refused by 10 where something is bad, else the words of what the call answered. Assumes nothing.
 use mathlib.Core.Path.{_≡_, sym, ap, ap₂, _∙_}
 use mathlib.Core.Bool.{Bool, true, false}
 use mathlib.Core.List.{List}
@@ -7,11 +7,10 @@ use Rattle.model.specs.Row.{Answer, refused}
 use Rattle.model.specs.State.{state}
 use Rattle.model.specs.Calls.{Reply, reply}
 use Rattle.model.specs.declared.head.Head.{Head}
-use Rattle.smelvock.specs.Flat.{flatOf}
+use Rattle.smelvock.specs.Flat.{headAfter}
 use Rattle.smelvock.specs.Reads as reads
 use Rattle.smelvock.specs.Reads.{Given}
-use Rattle.smelvock.specs.Changes.{left, leftBy, unlessBad}
-use Rattle.smelvock.specs.declared.flat.FlatHead.{FlatHead}
+use Rattle.smelvock.specs.Changes.{left, leftBy}
 
 pub ap₃ : {A : Type 0} {B : Type 0} {C : Type 0} {D : Type 0} (f : A → B → C → D) {a a′ : A} {b b′ : B} {c c′ : C} → a ≡ a′ → b ≡ b′ → c ≡ c′ → f a b c ≡ f a′ b′ c′
 ap₃ {B = B} {C = C} f {a′ = a′} {b = b} {c = c} p q r = ap (λ x. f x b c) p ∙ ap₂ (f a′) q r
@@ -23,18 +22,21 @@ module _ {R : Type 0} (flat : Answer → R) (bad : Bool) (r : R) where
   pub answer-good : (a a′ : Answer) → bad ≡ false → r ≡ flat a → a ≡ a′ → r ≡ flat (reads.unlessBad bad a′)
   answer-good a a′ b e d = e ∙ ap flat d ∙ ap (λ (t : Bool). flat (reads.unlessBad t a′)) (sym b)
 
-module _ {A : Type 0} {R : Type 0} (flat : FlatHead → Answer → R) (answer : A → Answer) (r : R) where
-  pub reply-of : (h : Head) (a : A) (ls xs hs : List ℕ) (y : Reply A) → r ≡ flat (flatOf h) (answer a) → reply (state h ls xs hs) a ≡ y
-      → left r ls xs hs ≡ leftBy flat answer y
+module _ {A : Type 0} {R : Type 0} (flat : Answer → R) (answer : A → Answer) (words : ℕ → Head → List ℕ → List ℕ) (bad : Bool) (g : Given) (r : R) (y : Reply A) where
+  pub reply-refused : bad ≡ true → r ≡ flat (refused 10) → left r (g .head) (g .leaves) (g .inners) (g .homes) ≡ leftBy flat answer words bad g y
   unfolding leftBy
-  reply-of h a ls xs hs y e d = ap (λ (q : R). left q ls xs hs) e ∙ ap (leftBy flat answer) d
+  reply-refused b e =
+      ap (λ (q : R). left q (g .head) (g .leaves) (g .inners) (g .homes)) e ∙ ap (λ (t : Bool). leftBy flat answer words t g y) (sym b)
 
-  module _ (bad : Bool) (g : Given) (y : Reply A) where
-    pub reply-refused : bad ≡ true → r ≡ flat (g .head) (refused 10)
-        → left r (g .leaves) (g .inners) (g .homes) ≡ unlessBad flat answer bad g y
-    reply-refused b e =
-        ap (λ (q : R). left q (g .leaves) (g .inners) (g .homes)) e ∙ ap (λ (t : Bool). unlessBad flat answer t g y) (sym b)
+  pub reply-good : (h : Head) (a : A) (w ls xs hs : List ℕ) → bad ≡ false → r ≡ flat (answer a) → w ≡ words (answer a .number) h (g .head)
+      → reply (state h ls xs hs) a ≡ y → left r w ls xs hs ≡ leftBy flat answer words bad g y
+  unfolding leftBy
+  reply-good h a w ls xs hs b e f d =
+      ap₂ (λ (q : R) (v : List ℕ). left q v ls xs hs) e f ∙ ap (leftBy flat answer words false g) d ∙ ap (λ (t : Bool). leftBy flat answer words t g y) (sym b)
 
-    pub reply-good : (h : Head) (a : A) (ls xs hs : List ℕ) → bad ≡ false → r ≡ flat (flatOf h) (answer a) → reply (state h ls xs hs) a ≡ y
-        → left r ls xs hs ≡ unlessBad flat answer bad g y
-    reply-good h a ls xs hs b e d = reply-of h a ls xs hs y e d ∙ ap (λ (t : Bool). unlessBad flat answer t g y) (sym b)
+-- settled by the number in the reply's words
+module _ {A : Type 0} {R : Type 0} (flat : Answer → R) (answer : A → Answer) (number : R → ℕ) (alike : (x : Answer) → number (flat x) ≡ x .number) (bad : Bool) (g : Given) (r : R) (y : Reply A) where
+  pub reply-settled : (h : Head) (a : A) (w ls xs hs : List ℕ) → bad ≡ false → r ≡ flat (answer a) → w ≡ headAfter (number r) h (g .head)
+      → reply (state h ls xs hs) a ≡ y → left r w ls xs hs ≡ leftBy flat answer headAfter bad g y
+  reply-settled h a w ls xs hs b e f d =
+      reply-good flat answer headAfter bad g r y h a w ls xs hs b e (f ∙ ap (λ (n : ℕ). headAfter n h (g .head)) (ap number e ∙ alike (answer a))) d

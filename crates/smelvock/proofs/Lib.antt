@@ -1,2 +1,3 @@
 mod FlatLaws
+mod HeadLaws
 mod LookLaws

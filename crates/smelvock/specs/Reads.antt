@@ -1,5 +1,5 @@
 -- The exported calls that read, on the words that a host hands over: model's call between the conversions.
--- A flag or view that is neither 0 nor 1 is refused by 10 before anything else. Assumes nothing.
+-- A head that isn't fifteen words, and a flag or view that is neither 0 nor 1, are refused by 10 before anything else. Assumes nothing.
 use mathlib.Core.Bool.{Bool, cond, _||_}
 use mathlib.Core.List.{List}
 use Prim.Native.Nat.{ℕ}
@@ -9,22 +9,21 @@ use Rattle.model.specs.State.{State, state}
 use Rattle.model.specs.Answer.{numberAnswer, verdictAnswer, standingAnswer, nextAnswer, namedAnswer, measuredAnswer, comparedAnswer}
 use Rattle.model.specs.Calls as calls
 use Rattle.model.specs.Audit as checks
-use Rattle.smelvock.specs.Flat.{headFrom, cursorFrom, viewFrom, numberOf, measuredOf, standingOf}
-use Rattle.smelvock.specs.declared.flat.FlatHead.{FlatHead}
+use Rattle.smelvock.specs.Flat.{badHead, headFrom, cursorFrom, viewFrom, numberOf, measuredOf, standingOf}
 use Rattle.smelvock.specs.declared.flat.FlatCursor.{FlatCursor}
 use Rattle.smelvock.specs.declared.flat.FlatNumber.{FlatNumber}
 use Rattle.smelvock.specs.declared.flat.FlatMeasured.{FlatMeasured}
 use Rattle.smelvock.specs.declared.flat.FlatStanding.{FlatStanding}
 
--- head and areas as a host hands them over
+-- head and areas as a host lends them
 pub record Given : Type 0 where
-  pub head : FlatHead
+  pub head : List ℕ
   pub leaves : List ℕ
   pub inners : List ℕ
   pub homes : List ℕ
 
-abbrev pub given : FlatHead → List ℕ → List ℕ → List ℕ → Given
-given f ls xs hs = record { head = f; leaves = ls; inners = xs; homes = hs }
+abbrev pub given : List ℕ → List ℕ → List ℕ → List ℕ → Given
+given w ls xs hs = record { head = w; leaves = ls; inners = xs; homes = hs }
 
 abbrev pub stateOf : Given → State
 stateOf g = state (headFrom (g .head)) (g .leaves) (g .inners) (g .homes)
@@ -32,33 +31,33 @@ stateOf g = state (headFrom (g .head)) (g .leaves) (g .inners) (g .homes)
 abbrev pub unlessBad : Bool → Answer → Answer
 unlessBad bad a = cond bad (refused 10) a
 
-unfoldable pub len : FlatHead → FlatNumber
-len f = numberOf (unlessBad (ltb 1 (f .present)) (numberAnswer (calls.len (headFrom f))))
+unfoldable pub len : List ℕ → FlatNumber
+len w = numberOf (unlessBad (badHead w) (numberAnswer (calls.len (headFrom w))))
 
-unfoldable pub isEmpty : FlatHead → FlatNumber
-isEmpty f = numberOf (unlessBad (ltb 1 (f .present)) (verdictAnswer (calls.isEmpty (headFrom f))))
+unfoldable pub isEmpty : List ℕ → FlatNumber
+isEmpty w = numberOf (unlessBad (badHead w) (verdictAnswer (calls.isEmpty (headFrom w))))
 
 unfoldable pub id : Given → FlatCursor → FlatNumber
-id g c = numberOf (unlessBad (ltb 1 (g .head .present)) (namedAnswer (calls.id (stateOf g) (cursorFrom c))))
+id g c = numberOf (unlessBad (badHead (g .head)) (namedAnswer (calls.id (stateOf g) (cursorFrom c))))
 
 unfoldable pub lengths : Given → FlatCursor → FlatMeasured
-lengths g c = measuredOf (unlessBad (ltb 1 (g .head .present)) (measuredAnswer (calls.lengthsOf (stateOf g) (cursorFrom c))))
+lengths g c = measuredOf (unlessBad (badHead (g .head)) (measuredAnswer (calls.lengthsOf (stateOf g) (cursorFrom c))))
 
 unfoldable pub cursor : Given → ℕ → FlatStanding
-cursor g i = standingOf (unlessBad (ltb 1 (g .head .present)) (standingAnswer (calls.cursor (stateOf g) i)))
+cursor g i = standingOf (unlessBad (badHead (g .head)) (standingAnswer (calls.cursor (stateOf g) i)))
 
 unfoldable pub entryToCharIndex : Given → ℕ → FlatCursor → FlatNumber
 entryToCharIndex g v c =
-    numberOf (unlessBad (ltb 1 (g .head .present) || ltb 1 v) (numberAnswer (calls.entryToCharIndex (stateOf g) (viewFrom v) (cursorFrom c))))
+    numberOf (unlessBad (badHead (g .head) || ltb 1 v) (numberAnswer (calls.entryToCharIndex (stateOf g) (viewFrom v) (cursorFrom c))))
 
 unfoldable pub first : Given → FlatStanding
-first g = standingOf (unlessBad (ltb 1 (g .head .present)) (standingAnswer (calls.first (stateOf g))))
+first g = standingOf (unlessBad (badHead (g .head)) (standingAnswer (calls.first (stateOf g))))
 
 unfoldable pub next : Given → FlatCursor → FlatStanding
-next g c = standingOf (unlessBad (ltb 1 (g .head .present)) (nextAnswer (calls.nextAfter (stateOf g) (cursorFrom c))))
+next g c = standingOf (unlessBad (badHead (g .head)) (nextAnswer (calls.nextAfter (stateOf g) (cursorFrom c))))
 
 unfoldable pub cmp : Given → FlatCursor → FlatCursor → FlatNumber
-cmp g a b = numberOf (unlessBad (ltb 1 (g .head .present)) (comparedAnswer (calls.cmp (stateOf g) (cursorFrom a) (cursorFrom b))))
+cmp g a b = numberOf (unlessBad (badHead (g .head)) (comparedAnswer (calls.cmp (stateOf g) (cursorFrom a) (cursorFrom b))))
 
 unfoldable pub audit : Given → FlatNumber
-audit g = numberOf (unlessBad (ltb 1 (g .head .present)) (verdictAnswer (checks.audit (stateOf g))))
+audit g = numberOf (unlessBad (badHead (g .head)) (verdictAnswer (checks.audit (stateOf g))))

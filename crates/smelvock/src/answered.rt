@@ -1,65 +1,34 @@
-// What a host gets back: an answer's number and values, without a head.
-use crate::flat::FlatHead;
+// What a host gets back: an answer's number and values.
+use crate::flat::FlatDivided;
+use crate::flat::FlatInserted;
+use crate::flat::FlatLocated;
 use crate::flat::FlatMeasured;
 use crate::flat::FlatNumber;
 use crate::flat::FlatStanding;
 use model::answer::Compared;
+use model::answer::Divided;
+use model::answer::Inserted;
+use model::answer::Located;
 use model::answer::Measured;
 use model::answer::Named;
 use model::answer::Next;
 use model::answer::Number;
+use model::answer::Outcome;
 use model::answer::Standing;
 use model::answer::Verdict;
 use model::head::Cursor;
-use model::head::Finger;
-use model::head::Head;
-use model::head::Held;
 ghost use mathlib.Core.Path.{_≡_};
 ghost use mathlib.Core.List.{[], _∷_};
-ghost use Rattle.model.specs.Answer.{numberAnswer, verdictAnswer, standingAnswer, nextAnswer, namedAnswer, measuredAnswer, comparedAnswer, cursorValues};
+ghost use Rattle.model.specs.Answer.{outcomeAnswer, numberAnswer, verdictAnswer, standingAnswer, nextAnswer, namedAnswer, measuredAnswer, comparedAnswer, locatedAnswer, insertedAnswer, dividedAnswer, cursorValues};
 ghost use Rattle.model.specs.Row.{refused, done};
-ghost use Rattle.smelvock.specs.Flat.{flatOf, numberOf, measuredOf, standingOf};
+ghost use Rattle.smelvock.specs.Flat.{numberOf, measuredOf, standingOf, locatedOf, insertedOf, dividedOf};
 
-pub fn flat_of(h: Head) -> FlatHead
-    ensures { λ r. ⌜ r ≡ flatOf h ⌝ }
+pub fn outcome_of(a: Outcome) -> u32
+    ensures { λ r. ⌜ r ≡ outcomeAnswer a .number ⌝ }
 {
-    let root = h.root;
-    let finger = h.finger;
-    match finger {
-        Held::Absent => FlatHead {
-            fan: h.fan,
-            limit: h.limit,
-            root: root.0,
-            levels: h.levels,
-            leaves: h.leaves,
-            inners: h.inners,
-            entries: h.entries,
-            present: 0,
-            view: 0,
-            leaf: 0,
-            start: 0,
-            effect: 0,
-            slot: 0,
-            within: 0,
-            effect_within: 0,
-        },
-        Held::At(f) => FlatHead {
-            fan: h.fan,
-            limit: h.limit,
-            root: root.0,
-            levels: h.levels,
-            leaves: h.leaves,
-            inners: h.inners,
-            entries: h.entries,
-            present: 1,
-            view: f.view,
-            leaf: f.leaf,
-            start: f.start,
-            effect: f.effect,
-            slot: f.slot,
-            within: f.within,
-            effect_within: f.effect_within,
-        },
+    match a {
+        Outcome::Done => 0,
+        Outcome::Refused(n) => n,
     }
 }
 
@@ -199,5 +168,97 @@ pub fn standing_of_next(a: Next) -> FlatStanding
             stamp: 0,
         },
         Next::Refused(n) => refused_standing(n),
+    }
+}
+
+pub fn refused_located(n: u32) -> FlatLocated
+    ensures { λ r. ⌜ r ≡ locatedOf (refused n) ⌝ }
+{
+    FlatLocated {
+        number: n,
+        leaf: 0,
+        slot: 0,
+        stamp: 0,
+        offset: 0,
+        position: 0,
+    }
+}
+
+pub fn located_of(a: Located) -> FlatLocated
+    ensures { λ r. ⌜ r ≡ locatedOf (locatedAnswer a) ⌝ }
+{
+    match a {
+        Located::At(c, offset, position) => {
+            let leaf = c.leaf;
+            FlatLocated {
+                number: 0,
+                leaf: leaf.0,
+                slot: c.slot,
+                stamp: c.stamp,
+                offset: offset,
+                position: position,
+            }
+        }
+        Located::Refused(n) => refused_located(n),
+    }
+}
+
+pub fn refused_inserted(n: u32) -> FlatInserted
+    ensures { λ r. ⌜ r ≡ insertedOf (refused n) ⌝ }
+{
+    FlatInserted {
+        number: n,
+        id: 0,
+        position: 0,
+    }
+}
+
+pub fn inserted_of(a: Inserted) -> FlatInserted
+    ensures { λ r. ⌜ r ≡ insertedOf (insertedAnswer a) ⌝ }
+{
+    match a {
+        Inserted::At(id, position) => FlatInserted {
+            number: 0,
+            id: id.0,
+            position: position,
+        },
+        Inserted::Refused(n) => refused_inserted(n),
+    }
+}
+
+pub fn refused_divided(n: u32) -> FlatDivided
+    ensures { λ r. ⌜ r ≡ dividedOf (refused n) ⌝ }
+{
+    FlatDivided {
+        number: n,
+        id: 0,
+        leaf: 0,
+        slot: 0,
+        stamp: 0,
+        next_leaf: 0,
+        next_slot: 0,
+        next_stamp: 0,
+    }
+}
+
+pub fn divided_of(a: Divided) -> FlatDivided
+    ensures { λ r. ⌜ r ≡ dividedOf (dividedAnswer a) ⌝ }
+{
+    match a {
+        Divided::At(id, b, c) => {
+            let leaf = b.leaf;
+            let next_leaf = c.leaf;
+            FlatDivided {
+                number: 0,
+                id: id.0,
+                leaf: leaf.0,
+                slot: b.slot,
+                stamp: b.stamp,
+                next_leaf: next_leaf.0,
+                next_slot: c.slot,
+                next_stamp: c.stamp,
+            }
+        }
+        Divided::Refused(n) => refused_divided(n),
     }
 }

@@ -1,26 +1,24 @@
 // The exported calls that change lengths or add an entry.
+use crate::answered::divided_of;
+use crate::answered::inserted_of;
+use crate::answered::number_of;
+use crate::answered::number_of_named;
+use crate::answered::outcome_of;
+use crate::answered::refused_divided;
+use crate::answered::refused_inserted;
+use crate::answered::refused_number;
 use crate::flat::FlatCursor;
-use crate::flat::FlatDividedReply;
-use crate::flat::FlatHead;
-use crate::flat::FlatInsertedReply;
+use crate::flat::FlatDivided;
+use crate::flat::FlatInserted;
 use crate::flat::FlatLengths;
-use crate::flat::FlatNumberReply;
-use crate::flat::FlatOutcomeReply;
-use crate::given::bad_flag;
-use crate::given::bad_flags;
+use crate::flat::FlatNumber;
 use crate::given::cursor_from;
-use crate::given::head_from;
 use crate::given::lengths_from;
 use crate::given::target_from;
-use crate::replied::divided_reply;
-use crate::replied::inserted_reply;
-use crate::replied::named_reply;
-use crate::replied::number_reply;
-use crate::replied::outcome_reply;
-use crate::replied::refused_divided;
-use crate::replied::refused_inserted;
-use crate::replied::refused_number;
-use crate::replied::refused_outcome;
+use crate::head::bad_flag;
+use crate::head::bad_head;
+use crate::head::head_from;
+use crate::head::settle;
 use calls_insert::insert::add;
 use calls_insert::insert::insert;
 use calls_size::size::set_lengths;
@@ -33,17 +31,17 @@ ghost use Rattle.smelvock.specs.Changes.{left};
 
 #[no_mangle]
 pub extern "C" fn smelvock_set_lengths(
-    head: FlatHead,
+    head: &mut [u32],
     leaves: &mut [u32],
     inners: &mut [u32],
     homes: &[u32],
     at: FlatCursor,
     lengths: FlatLengths,
-) -> FlatOutcomeReply
-    ensures { λ r. ⌜ left r (now (leaves .exit)) (now (inners .exit)) (now (homes .exit)) ≡ flat.setLengths (given head (now (leaves .entry)) (now (inners .entry)) (now (homes .entry))) at lengths ⌝ }
+) -> u32
+    ensures { λ r. ⌜ left r (now (head .exit)) (now (leaves .exit)) (now (inners .exit)) (now (homes .exit)) ≡ flat.setLengths (given (now (head .entry)) (now (leaves .entry)) (now (inners .entry)) (now (homes .entry))) at lengths ⌝ }
 {
-    if bad_flag(head.present) {
-        return refused_outcome(head, 10);
+    if bad_head(head) {
+        return 10;
     }
     let r = set_lengths(
         head_from(head),
@@ -53,22 +51,26 @@ pub extern "C" fn smelvock_set_lengths(
         cursor_from(at),
         lengths_from(lengths),
     );
-    outcome_reply(r)
+    let after = r.head;
+    let answer = r.answer;
+    let a = outcome_of(answer);
+    settle(head, a, after);
+    a
 }
 
 #[no_mangle]
 pub extern "C" fn smelvock_update(
-    head: FlatHead,
+    head: &mut [u32],
     leaves: &mut [u32],
     inners: &mut [u32],
     homes: &[u32],
     at: FlatCursor,
     lengths: FlatLengths,
-) -> FlatNumberReply
-    ensures { λ r. ⌜ left r (now (leaves .exit)) (now (inners .exit)) (now (homes .exit)) ≡ flat.update (given head (now (leaves .entry)) (now (inners .entry)) (now (homes .entry))) at lengths ⌝ }
+) -> FlatNumber
+    ensures { λ r. ⌜ left r (now (head .exit)) (now (leaves .exit)) (now (inners .exit)) (now (homes .exit)) ≡ flat.update (given (now (head .entry)) (now (leaves .entry)) (now (inners .entry)) (now (homes .entry))) at lengths ⌝ }
 {
-    if bad_flag(head.present) {
-        return refused_number(head, 10);
+    if bad_head(head) {
+        return refused_number(10);
     }
     let r = update(
         head_from(head),
@@ -78,23 +80,27 @@ pub extern "C" fn smelvock_update(
         cursor_from(at),
         lengths_from(lengths),
     );
-    number_reply(r)
+    let after = r.head;
+    let answer = r.answer;
+    let a = number_of(answer);
+    settle(head, a.number, after);
+    a
 }
 
 #[no_mangle]
 pub extern "C" fn smelvock_insert(
-    head: FlatHead,
+    head: &mut [u32],
     leaves: &mut [u32],
     inners: &mut [u32],
     homes: &mut [u32],
     end: u32,
     before: FlatCursor,
     lengths: FlatLengths,
-) -> FlatInsertedReply
-    ensures { λ r. ⌜ left r (now (leaves .exit)) (now (inners .exit)) (now (homes .exit)) ≡ flat.insert (given head (now (leaves .entry)) (now (inners .entry)) (now (homes .entry))) end before lengths ⌝ }
+) -> FlatInserted
+    ensures { λ r. ⌜ left r (now (head .exit)) (now (leaves .exit)) (now (inners .exit)) (now (homes .exit)) ≡ flat.insert (given (now (head .entry)) (now (leaves .entry)) (now (inners .entry)) (now (homes .entry))) end before lengths ⌝ }
 {
-    if bad_flags(head.present, end) {
-        return refused_inserted(head, 10);
+    if bad_flag(head, end) {
+        return refused_inserted(10);
     }
     let r = insert(
         head_from(head),
@@ -104,23 +110,27 @@ pub extern "C" fn smelvock_insert(
         target_from(end, before),
         lengths_from(lengths),
     );
-    inserted_reply(r)
+    let after = r.head;
+    let answer = r.answer;
+    let a = inserted_of(answer);
+    settle(head, a.number, after);
+    a
 }
 
 #[no_mangle]
 pub extern "C" fn smelvock_add(
-    head: FlatHead,
+    head: &mut [u32],
     leaves: &mut [u32],
     inners: &mut [u32],
     homes: &mut [u32],
     end: u32,
     before: FlatCursor,
     lengths: FlatLengths,
-) -> FlatNumberReply
-    ensures { λ r. ⌜ left r (now (leaves .exit)) (now (inners .exit)) (now (homes .exit)) ≡ flat.add (given head (now (leaves .entry)) (now (inners .entry)) (now (homes .entry))) end before lengths ⌝ }
+) -> FlatNumber
+    ensures { λ r. ⌜ left r (now (head .exit)) (now (leaves .exit)) (now (inners .exit)) (now (homes .exit)) ≡ flat.add (given (now (head .entry)) (now (leaves .entry)) (now (inners .entry)) (now (homes .entry))) end before lengths ⌝ }
 {
-    if bad_flags(head.present, end) {
-        return refused_number(head, 10);
+    if bad_flag(head, end) {
+        return refused_number(10);
     }
     let r = add(
         head_from(head),
@@ -130,23 +140,27 @@ pub extern "C" fn smelvock_add(
         target_from(end, before),
         lengths_from(lengths),
     );
-    named_reply(r)
+    let after = r.head;
+    let answer = r.answer;
+    let a = number_of_named(answer);
+    settle(head, a.number, after);
+    a
 }
 
 #[no_mangle]
 pub extern "C" fn smelvock_split_entry(
-    head: FlatHead,
+    head: &mut [u32],
     leaves: &mut [u32],
     inners: &mut [u32],
     homes: &mut [u32],
     at: FlatCursor,
     lengths: FlatLengths,
     before: u32,
-) -> FlatDividedReply
-    ensures { λ r. ⌜ left r (now (leaves .exit)) (now (inners .exit)) (now (homes .exit)) ≡ flat.splitEntry (given head (now (leaves .entry)) (now (inners .entry)) (now (homes .entry))) at lengths before ⌝ }
+) -> FlatDivided
+    ensures { λ r. ⌜ left r (now (head .exit)) (now (leaves .exit)) (now (inners .exit)) (now (homes .exit)) ≡ flat.splitEntry (given (now (head .entry)) (now (leaves .entry)) (now (inners .entry)) (now (homes .entry))) at lengths before ⌝ }
 {
-    if bad_flags(head.present, before) {
-        return refused_divided(head, 10);
+    if bad_flag(head, before) {
+        return refused_divided(10);
     }
     let r = split_entry(
         head_from(head),
@@ -157,5 +171,9 @@ pub extern "C" fn smelvock_split_entry(
         lengths_from(lengths),
         before == 1,
     );
-    divided_reply(r)
+    let after = r.head;
+    let answer = r.answer;
+    let a = divided_of(answer);
+    settle(head, a.number, after);
+    a
 }

@@ -1,10 +1,9 @@
 // The exported audit.
 use crate::answered::number_of_verdict;
 use crate::answered::refused_number;
-use crate::flat::FlatHead;
 use crate::flat::FlatNumber;
-use crate::given::bad_flag;
-use crate::given::head_from;
+use crate::head::bad_head;
+use crate::head::head_from;
 use audit::tree::audit;
 ghost use mathlib.Core.Path.{_≡_};
 ghost use Rattle.smelvock.specs.Reads as flat;
@@ -12,14 +11,14 @@ ghost use Rattle.smelvock.specs.Reads.{given};
 
 #[no_mangle]
 pub extern "C" fn smelvock_audit(
-    head: FlatHead,
+    head: &[u32],
     leaves: &[u32],
     inners: &[u32],
     homes: &[u32],
 ) -> FlatNumber
-    ensures { λ r. ⌜ r ≡ flat.audit (given head (now (leaves .entry)) (now (inners .entry)) (now (homes .entry))) ⌝ }
+    ensures { λ r. ⌜ r ≡ flat.audit (given (now (head .entry)) (now (leaves .entry)) (now (inners .entry)) (now (homes .entry))) ⌝ }
 {
-    if bad_flag(head.present) {
+    if bad_head(head) {
         return refused_number(10);
     }
     let a = audit(head_from(head), leaves, inners, homes);

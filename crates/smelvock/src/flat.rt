@@ -1,23 +1,5 @@
-// What crosses the C boundary: plain words in structs of C's layout. A finger's seven words are zero where present is 0.
-
-#[repr(C)]
-pub struct FlatHead {
-    pub fan: u32,
-    pub limit: u32,
-    pub root: u32,
-    pub levels: u32,
-    pub leaves: u32,
-    pub inners: u32,
-    pub entries: u32,
-    pub present: u32,
-    pub view: u32,
-    pub leaf: u32,
-    pub start: u32,
-    pub effect: u32,
-    pub slot: u32,
-    pub within: u32,
-    pub effect_within: u32,
-}
+// What crosses the C boundary: plain words in structs of C's layout, and the head as fifteen words that the host lends: fan, limit,
+// root, levels, the counts of leaves, inner nodes and entries in use, 1 or 0 for a finger or none, and the finger's seven words.
 
 #[repr(C)]
 pub struct FlatCursor {
@@ -33,7 +15,7 @@ pub struct FlatLengths {
 }
 
 // The answers: document 01's number, 0 where the call was done, then its values, zeros where it was refused.
-// len, is_empty, id, entry_to_char_index, cmp, audit.
+// len, is_empty, id, entry_to_char_index, cmp, audit, update, add. Those without a value answer the number alone.
 #[repr(C)]
 pub struct FlatNumber {
     pub number: u32,
@@ -57,26 +39,9 @@ pub struct FlatStanding {
     pub stamp: u32,
 }
 
-// The same with the head after the call.
-// new, reset, set_lengths.
-#[repr(C)]
-pub struct FlatOutcomeReply {
-    pub head: FlatHead,
-    pub number: u32,
-}
-
-// update, add.
-#[repr(C)]
-pub struct FlatNumberReply {
-    pub head: FlatHead,
-    pub number: u32,
-    pub value: u32,
-}
-
 // char_index_to_entry.
 #[repr(C)]
-pub struct FlatSelectedReply {
-    pub head: FlatHead,
+pub struct FlatSelected {
     pub number: u32,
     pub leaf: u32,
     pub slot: u32,
@@ -86,8 +51,7 @@ pub struct FlatSelectedReply {
 
 // locate.
 #[repr(C)]
-pub struct FlatLocatedReply {
-    pub head: FlatHead,
+pub struct FlatLocated {
     pub number: u32,
     pub leaf: u32,
     pub slot: u32,
@@ -98,8 +62,7 @@ pub struct FlatLocatedReply {
 
 // insert.
 #[repr(C)]
-pub struct FlatInsertedReply {
-    pub head: FlatHead,
+pub struct FlatInserted {
     pub number: u32,
     pub id: u32,
     pub position: u32,
@@ -107,8 +70,7 @@ pub struct FlatInsertedReply {
 
 // split_entry: the new id, then both entries' cursors in order.
 #[repr(C)]
-pub struct FlatDividedReply {
-    pub head: FlatHead,
+pub struct FlatDivided {
     pub number: u32,
     pub id: u32,
     pub leaf: u32,

@@ -1,12 +1,11 @@
 // The exported calls that make a tree.
-use crate::flat::FlatHead;
+use crate::answered::outcome_of;
 use crate::flat::FlatLengths;
-use crate::flat::FlatOutcomeReply;
-use crate::given::bad_flag;
-use crate::given::head_from;
 use crate::given::lengths_from;
-use crate::replied::outcome_reply;
-use crate::replied::refused_outcome;
+use crate::head::bad_head;
+use crate::head::head_from;
+use crate::head::put_head;
+use crate::head::settle;
 use calls_make::begin::new;
 use calls_make::begin::reset;
 ghost use mathlib.Core.Path.{_≡_};
@@ -14,33 +13,41 @@ ghost use Rattle.smelvock.specs.Reads.{given};
 ghost use Rattle.smelvock.specs.Changes as flat;
 ghost use Rattle.smelvock.specs.Changes.{left};
 
+// What the lent head holds is of no account; a refused make leaves zeros in it.
 #[no_mangle]
 pub extern "C" fn smelvock_new(
     fan: u32,
     limit: u32,
     lengths: FlatLengths,
+    head: &mut [u32],
     leaves: &mut [u32],
     inners: &mut [u32],
     homes: &mut [u32],
-) -> FlatOutcomeReply
-    ensures { λ r. ⌜ left r (now (leaves .exit)) (now (inners .exit)) (now (homes .exit)) ≡ flat.make fan limit lengths (now (leaves .entry)) (now (inners .entry)) (now (homes .entry)) ⌝ }
+) -> u32
+    ensures { λ r. ⌜ left r (now (head .exit)) (now (leaves .exit)) (now (inners .exit)) (now (homes .exit)) ≡ flat.make fan limit lengths (given (now (head .entry)) (now (leaves .entry)) (now (inners .entry)) (now (homes .entry))) ⌝ }
 {
+    if head.len() != 15 {
+        return 10;
+    }
     let r = new(fan, limit, lengths_from(lengths), leaves, inners, homes);
-    outcome_reply(r)
+    let after = r.head;
+    let answer = r.answer;
+    put_head(head, after);
+    outcome_of(answer)
 }
 
 #[no_mangle]
 pub extern "C" fn smelvock_reset(
-    head: FlatHead,
+    head: &mut [u32],
     leaves: &mut [u32],
     inners: &mut [u32],
     homes: &mut [u32],
     lengths: FlatLengths,
-) -> FlatOutcomeReply
-    ensures { λ r. ⌜ left r (now (leaves .exit)) (now (inners .exit)) (now (homes .exit)) ≡ flat.reset (given head (now (leaves .entry)) (now (inners .entry)) (now (homes .entry))) lengths ⌝ }
+) -> u32
+    ensures { λ r. ⌜ left r (now (head .exit)) (now (leaves .exit)) (now (inners .exit)) (now (homes .exit)) ≡ flat.reset (given (now (head .entry)) (now (leaves .entry)) (now (inners .entry)) (now (homes .entry))) lengths ⌝ }
 {
-    if bad_flag(head.present) {
-        return refused_outcome(head, 10);
+    if bad_head(head) {
+        return 10;
     }
     let r = reset(
         head_from(head),
@@ -49,5 +56,9 @@ pub extern "C" fn smelvock_reset(
         inners,
         homes,
     );
-    outcome_reply(r)
+    let after = r.head;
+    let answer = r.answer;
+    let a = outcome_of(answer);
+    settle(head, a, after);
+    a
 }

@@ -5,12 +5,11 @@ use crate::answered::refused_standing;
 use crate::answered::standing_of;
 use crate::answered::standing_of_next;
 use crate::flat::FlatCursor;
-use crate::flat::FlatHead;
 use crate::flat::FlatNumber;
 use crate::flat::FlatStanding;
-use crate::given::bad_flag;
 use crate::given::cursor_from;
-use crate::given::head_from;
+use crate::head::bad_head;
+use crate::head::head_from;
 use calls_read::order::cmp;
 use calls_read::order::first;
 use calls_read::order::next;
@@ -20,14 +19,14 @@ ghost use Rattle.smelvock.specs.Reads.{given};
 
 #[no_mangle]
 pub extern "C" fn smelvock_first(
-    head: FlatHead,
+    head: &[u32],
     leaves: &[u32],
     inners: &[u32],
     homes: &[u32],
 ) -> FlatStanding
-    ensures { λ r. ⌜ r ≡ flat.first (given head (now (leaves .entry)) (now (inners .entry)) (now (homes .entry))) ⌝ }
+    ensures { λ r. ⌜ r ≡ flat.first (given (now (head .entry)) (now (leaves .entry)) (now (inners .entry)) (now (homes .entry))) ⌝ }
 {
-    if bad_flag(head.present) {
+    if bad_head(head) {
         return refused_standing(10);
     }
     let a = first(head_from(head), leaves, inners, homes);
@@ -36,15 +35,15 @@ pub extern "C" fn smelvock_first(
 
 #[no_mangle]
 pub extern "C" fn smelvock_next(
-    head: FlatHead,
+    head: &[u32],
     leaves: &[u32],
     inners: &[u32],
     homes: &[u32],
     at: FlatCursor,
 ) -> FlatStanding
-    ensures { λ r. ⌜ r ≡ flat.next (given head (now (leaves .entry)) (now (inners .entry)) (now (homes .entry))) at ⌝ }
+    ensures { λ r. ⌜ r ≡ flat.next (given (now (head .entry)) (now (leaves .entry)) (now (inners .entry)) (now (homes .entry))) at ⌝ }
 {
-    if bad_flag(head.present) {
+    if bad_head(head) {
         return refused_standing(10);
     }
     let a = next(head_from(head), leaves, inners, homes, cursor_from(at));
@@ -53,16 +52,16 @@ pub extern "C" fn smelvock_next(
 
 #[no_mangle]
 pub extern "C" fn smelvock_cmp(
-    head: FlatHead,
+    head: &[u32],
     leaves: &[u32],
     inners: &[u32],
     homes: &[u32],
     a: FlatCursor,
     b: FlatCursor,
 ) -> FlatNumber
-    ensures { λ r. ⌜ r ≡ flat.cmp (given head (now (leaves .entry)) (now (inners .entry)) (now (homes .entry))) a b ⌝ }
+    ensures { λ r. ⌜ r ≡ flat.cmp (given (now (head .entry)) (now (leaves .entry)) (now (inners .entry)) (now (homes .entry))) a b ⌝ }
 {
-    if bad_flag(head.present) {
+    if bad_head(head) {
         return refused_number(10);
     }
     let c = cmp(

@@ -8,15 +8,14 @@ use crate::answered::refused_number;
 use crate::answered::refused_standing;
 use crate::answered::standing_of;
 use crate::flat::FlatCursor;
-use crate::flat::FlatHead;
 use crate::flat::FlatMeasured;
 use crate::flat::FlatNumber;
 use crate::flat::FlatStanding;
-use crate::given::bad_flag;
-use crate::given::bad_flags;
 use crate::given::cursor_from;
-use crate::given::head_from;
 use crate::given::view_from;
+use crate::head::bad_flag;
+use crate::head::bad_head;
+use crate::head::head_from;
 use calls_read::read::cursor;
 use calls_read::read::entry_to_char_index;
 use calls_read::read::id;
@@ -29,10 +28,10 @@ ghost use Rattle.smelvock.specs.Reads as flat;
 ghost use Rattle.smelvock.specs.Reads.{given};
 
 #[no_mangle]
-pub extern "C" fn smelvock_len(head: FlatHead) -> FlatNumber
-    ensures { λ r. ⌜ r ≡ flat.len head ⌝ }
+pub extern "C" fn smelvock_len(head: &[u32]) -> FlatNumber
+    ensures { λ r. ⌜ r ≡ flat.len (now (head .entry)) ⌝ }
 {
-    if bad_flag(head.present) {
+    if bad_head(head) {
         return refused_number(10);
     }
     let a = len(head_from(head));
@@ -40,10 +39,10 @@ pub extern "C" fn smelvock_len(head: FlatHead) -> FlatNumber
 }
 
 #[no_mangle]
-pub extern "C" fn smelvock_is_empty(head: FlatHead) -> FlatNumber
-    ensures { λ r. ⌜ r ≡ flat.isEmpty head ⌝ }
+pub extern "C" fn smelvock_is_empty(head: &[u32]) -> FlatNumber
+    ensures { λ r. ⌜ r ≡ flat.isEmpty (now (head .entry)) ⌝ }
 {
-    if bad_flag(head.present) {
+    if bad_head(head) {
         return refused_number(10);
     }
     let a = is_empty(head_from(head));
@@ -52,15 +51,15 @@ pub extern "C" fn smelvock_is_empty(head: FlatHead) -> FlatNumber
 
 #[no_mangle]
 pub extern "C" fn smelvock_id(
-    head: FlatHead,
+    head: &[u32],
     leaves: &[u32],
     inners: &[u32],
     homes: &[u32],
     at: FlatCursor,
 ) -> FlatNumber
-    ensures { λ r. ⌜ r ≡ flat.id (given head (now (leaves .entry)) (now (inners .entry)) (now (homes .entry))) at ⌝ }
+    ensures { λ r. ⌜ r ≡ flat.id (given (now (head .entry)) (now (leaves .entry)) (now (inners .entry)) (now (homes .entry))) at ⌝ }
 {
-    if bad_flag(head.present) {
+    if bad_head(head) {
         return refused_number(10);
     }
     let a = id(head_from(head), leaves, inners, homes, cursor_from(at));
@@ -69,15 +68,15 @@ pub extern "C" fn smelvock_id(
 
 #[no_mangle]
 pub extern "C" fn smelvock_lengths(
-    head: FlatHead,
+    head: &[u32],
     leaves: &[u32],
     inners: &[u32],
     homes: &[u32],
     at: FlatCursor,
 ) -> FlatMeasured
-    ensures { λ r. ⌜ r ≡ flat.lengths (given head (now (leaves .entry)) (now (inners .entry)) (now (homes .entry))) at ⌝ }
+    ensures { λ r. ⌜ r ≡ flat.lengths (given (now (head .entry)) (now (leaves .entry)) (now (inners .entry)) (now (homes .entry))) at ⌝ }
 {
-    if bad_flag(head.present) {
+    if bad_head(head) {
         return refused_measured(10);
     }
     let a = lengths(head_from(head), leaves, inners, homes, cursor_from(at));
@@ -86,15 +85,15 @@ pub extern "C" fn smelvock_lengths(
 
 #[no_mangle]
 pub extern "C" fn smelvock_cursor(
-    head: FlatHead,
+    head: &[u32],
     leaves: &[u32],
     inners: &[u32],
     homes: &[u32],
     id: u32,
 ) -> FlatStanding
-    ensures { λ r. ⌜ r ≡ flat.cursor (given head (now (leaves .entry)) (now (inners .entry)) (now (homes .entry))) id ⌝ }
+    ensures { λ r. ⌜ r ≡ flat.cursor (given (now (head .entry)) (now (leaves .entry)) (now (inners .entry)) (now (homes .entry))) id ⌝ }
 {
-    if bad_flag(head.present) {
+    if bad_head(head) {
         return refused_standing(10);
     }
     let a = cursor(head_from(head), leaves, inners, homes, EntryId(id));
@@ -103,16 +102,16 @@ pub extern "C" fn smelvock_cursor(
 
 #[no_mangle]
 pub extern "C" fn smelvock_entry_to_char_index(
-    head: FlatHead,
+    head: &[u32],
     leaves: &[u32],
     inners: &[u32],
     homes: &[u32],
     view: u32,
     at: FlatCursor,
 ) -> FlatNumber
-    ensures { λ r. ⌜ r ≡ flat.entryToCharIndex (given head (now (leaves .entry)) (now (inners .entry)) (now (homes .entry))) view at ⌝ }
+    ensures { λ r. ⌜ r ≡ flat.entryToCharIndex (given (now (head .entry)) (now (leaves .entry)) (now (inners .entry)) (now (homes .entry))) view at ⌝ }
 {
-    if bad_flags(head.present, view) {
+    if bad_flag(head, view) {
         return refused_number(10);
     }
     let a = entry_to_char_index(

@@ -1,6 +1,6 @@
-//! Every export on words that may be any, in areas with guard words around them.
+//! Every export on words that may be any, in a head and areas with guard words around them.
 
-use smelvock::raw::{self, Areas, AreasMut, Cursor, Head, Lengths};
+use smelvock::raw::{self, Areas, AreasMut, Cursor, Lengths};
 
 const GUARD: u32 = 0xA5A5_5A5A;
 const GUARDS: usize = 16;
@@ -32,7 +32,7 @@ impl Area {
 /// A tree, sound or not.
 #[derive(Clone, PartialEq, Eq, Debug)]
 pub struct Tree {
-    pub head: Head,
+    pub head: Area,
     pub leaves: Area,
     pub inners: Area,
     pub homes: Area,
@@ -41,20 +41,41 @@ pub struct Tree {
 impl Tree {
     pub fn of<const N: usize>(tree: &smelvock::PrepareEffectTree<N>) -> Tree {
         let Areas { leaves, inners, homes } = tree.areas();
-        Tree { head: tree.head(), leaves: Area::new(leaves), inners: Area::new(inners), homes: Area::new(homes) }
+        let [head, leaves, inners, homes] = [&tree.head()[..], leaves, inners, homes].map(Area::new);
+        Tree { head, leaves, inners, homes }
+    }
+
+    /// One word of the head, by its number in `raw::word`.
+    pub fn word(&self, word: usize) -> u32 {
+        self.head.words()[word]
+    }
+
+    /// The tree with another word in its head.
+    pub fn with(&self, word: usize, value: u32) -> Tree {
+        let mut tree = self.clone();
+        tree.head.words_mut()[word] = value;
+        tree
     }
 
     fn areas(&self) -> Areas<'_> {
         Areas { leaves: self.leaves.words(), inners: self.inners.words(), homes: self.homes.words() }
     }
 
-    fn areas_mut(&mut self) -> AreasMut<'_> {
-        let Tree { leaves, inners, homes, .. } = self;
-        AreasMut { leaves: leaves.words_mut(), inners: inners.words_mut(), homes: homes.words_mut() }
+    fn looked(&mut self) -> (&mut [u32], Areas<'_>) {
+        let Tree { head, leaves, inners, homes } = self;
+        (head.words_mut(), Areas { leaves: leaves.words(), inners: inners.words(), homes: homes.words() })
+    }
+
+    fn changed(&mut self) -> (&mut [u32], AreasMut<'_>) {
+        let Tree { head, leaves, inners, homes } = self;
+        (
+            head.words_mut(),
+            AreasMut { leaves: leaves.words_mut(), inners: inners.words_mut(), homes: homes.words_mut() },
+        )
     }
 
     fn guarded(&self) -> bool {
-        [&self.leaves, &self.inners, &self.homes].iter().all(|area| area.guarded())
+        [&self.head, &self.leaves, &self.inners, &self.homes].iter().all(|area| area.guarded())
     }
 }
 
@@ -130,62 +151,51 @@ fn answer(number: u32, values: &[u32]) -> Answer {
 }
 
 impl Export {
-    /// Makes the call; the tree has the head that it hands back. The guard words must be whole after it.
+    /// Makes the call. The guard words must be whole after it.
     pub fn play(self, tree: &mut Tree, given: &Given) -> Answer {
-        let answer = self.change(tree, given).unwrap_or_else(|| self.read(tree, given));
-        assert!(tree.guarded(), "{self:?} wrote outside the areas");
+        let answer = match self {
+            Export::CharIndexToEntry | Export::Locate => self.look(tree, given),
+            _ => self.change(tree, given).unwrap_or_else(|| self.read(tree, given)),
+        };
+        assert!(tree.guarded(), "{self:?} wrote outside head and areas");
         answer
     }
 
+    fn look(self, tree: &mut Tree, given: &Given) -> Answer {
+        let (head, areas) = tree.looked();
+        if self == Export::Locate {
+            let r = raw::locate(head, areas, given.view, given.index);
+            return answer(r.number, &[r.at.leaf, r.at.slot, r.at.stamp, r.offset, r.position]);
+        }
+        let r = raw::char_index_to_entry(head, areas, given.view, given.index);
+        answer(r.number, &[r.at.leaf, r.at.slot, r.at.stamp, r.offset])
+    }
+
     fn change(self, tree: &mut Tree, given: &Given) -> Option<Answer> {
-        let head = tree.head;
-        let Given { at, lengths, end, before, view, index, .. } = *given;
-        let (after, answer) = match self {
-            Export::New => {
-                let r = raw::new(given.fan, given.limit, lengths, tree.areas_mut());
-                (r.head, answer(r.number, &[]))
-            }
-            Export::Reset => {
-                let r = raw::reset(head, tree.areas_mut(), lengths);
-                (r.head, answer(r.number, &[]))
-            }
-            Export::CharIndexToEntry => {
-                let r = raw::char_index_to_entry(head, tree.areas(), view, index);
-                (r.head, answer(r.number, &[r.at.leaf, r.at.slot, r.at.stamp, r.offset]))
-            }
-            Export::Locate => {
-                let r = raw::locate(head, tree.areas(), view, index);
-                (r.head, answer(r.number, &[r.at.leaf, r.at.slot, r.at.stamp, r.offset, r.position]))
-            }
-            Export::SetLengths => {
-                let r = raw::set_lengths(head, tree.areas_mut(), at, lengths);
-                (r.head, answer(r.number, &[]))
-            }
-            Export::Update => {
-                let r = raw::update(head, tree.areas_mut(), at, lengths);
-                (r.head, answer(r.number, &[r.value]))
-            }
+        let (head, areas) = tree.changed();
+        let Given { at, lengths, end, before, fan, limit, .. } = *given;
+        let number = |r: raw::Number| answer(r.number, &[r.value]);
+        Some(match self {
+            Export::New => answer(raw::new(fan, limit, lengths, head, areas), &[]),
+            Export::Reset => answer(raw::reset(head, areas, lengths), &[]),
+            Export::SetLengths => answer(raw::set_lengths(head, areas, at, lengths), &[]),
+            Export::Update => number(raw::update(head, areas, at, lengths)),
             Export::Insert => {
-                let r = raw::insert(head, tree.areas_mut(), end, at, lengths);
-                (r.head, answer(r.number, &[r.id, r.position]))
+                let r = raw::insert(head, areas, end, at, lengths);
+                answer(r.number, &[r.id, r.position])
             }
-            Export::Add => {
-                let r = raw::add(head, tree.areas_mut(), end, at, lengths);
-                (r.head, answer(r.number, &[r.value]))
-            }
+            Export::Add => number(raw::add(head, areas, end, at, lengths)),
             Export::SplitEntry => {
-                let r = raw::split_entry(head, tree.areas_mut(), at, lengths, before);
+                let r = raw::split_entry(head, areas, at, lengths, before);
                 let [a, b] = [r.first, r.second];
-                (r.head, answer(r.number, &[r.id, a.leaf, a.slot, a.stamp, b.leaf, b.slot, b.stamp]))
+                answer(r.number, &[r.id, a.leaf, a.slot, a.stamp, b.leaf, b.slot, b.stamp])
             }
             _ => return None,
-        };
-        tree.head = after;
-        Some(answer)
+        })
     }
 
     fn read(self, tree: &Tree, given: &Given) -> Answer {
-        let (head, areas) = (tree.head, tree.areas());
+        let (head, areas) = (tree.head.words(), tree.areas());
         let standing = |r: raw::Standing| answer(r.number, &[r.at.leaf, r.at.slot, r.at.stamp]);
         let number = |r: raw::Number| answer(r.number, &[r.value]);
         match self {

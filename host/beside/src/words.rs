@@ -5,51 +5,22 @@ use smelvock::raw;
 
 /// The head as the oracle has it; a finger is there unless `present` is 0.
 pub fn head_of(head: raw::Head) -> Head {
-    let finger = Finger {
-        view: head.view,
-        leaf: head.leaf,
-        start: head.start,
-        effect: head.effect,
-        slot: head.slot,
-        within: head.within,
-        effect_within: head.effect_within,
-    };
-    Head {
-        fan: head.fan,
-        limit: head.limit,
-        root: head.root,
-        levels: head.levels,
-        entry_count: head.entries,
-        leaf_count: head.leaves,
-        inner_count: head.inners,
-        finger: (head.present != 0).then_some(finger),
-    }
+    let [fan, limit, root, levels, leaf_count, inner_count, entry_count, present, finger @ ..] = head;
+    let [view, leaf, start, effect, slot, within, effect_within] = finger;
+    let finger = Finger { view, leaf, start, effect, slot, within, effect_within };
+    let finger = (present != 0).then_some(finger);
+    Head { fan, limit, root, levels, entry_count, leaf_count, inner_count, finger }
 }
 
 /// The head as the port has it, the words of an absent finger 0.
 pub fn raw_of(head: Head) -> raw::Head {
-    let whole = raw::Head {
-        fan: head.fan,
-        limit: head.limit,
-        root: head.root,
-        levels: head.levels,
-        leaves: head.leaf_count,
-        inners: head.inner_count,
-        entries: head.entry_count,
-        ..raw::Head::default()
-    };
-    let Some(finger) = head.finger else { return whole };
-    raw::Head {
-        present: 1,
-        view: finger.view,
-        leaf: finger.leaf,
-        start: finger.start,
-        effect: finger.effect,
-        slot: finger.slot,
-        within: finger.within,
-        effect_within: finger.effect_within,
-        ..whole
-    }
+    let Head { fan, limit, root, levels, entry_count, leaf_count, inner_count, finger } = head;
+    let counts = [fan, limit, root, levels, leaf_count, inner_count, entry_count];
+    let finger = finger.map_or([0; 8], |finger| {
+        let Finger { view, leaf, start, effect, slot, within, effect_within } = finger;
+        [1, view, leaf, start, effect, slot, within, effect_within]
+    });
+    std::array::from_fn(|word| if word < 7 { counts[word] } else { finger[word - 7] })
 }
 
 /// The port's tree with the words of a state.

@@ -7,7 +7,8 @@ use beside::words::head_of;
 use oracle::audit::{audit, Verdict};
 use oracle::random::Random;
 use oracle::state::State;
-use smelvock::raw::{Cursor, Head, Lengths};
+use smelvock::raw::word::{ENTRIES, FAN, LEAVES, LIMIT, PRESENT};
+use smelvock::raw::{Cursor, Lengths};
 use smelvock::{PrepareEffectTree, View};
 
 const SCALE: u64 = if cfg!(debug_assertions) { 1 } else { 10 };
@@ -34,8 +35,9 @@ fn sound<const N: usize>(entries: u32) -> Tree {
 fn audited(tree: &Tree, given: &Given, met: &mut Met) {
     let answer = Export::Audit.play(&mut tree.clone(), given);
     let [leaves, inners, homes] = [&tree.leaves, &tree.inners, &tree.homes].map(|area| area.words().to_vec());
-    let wanted = match audit(&State { head: head_of(tree.head), leaves, inners, homes }) {
-        _ if tree.head.present > 1 => [10, 0],
+    let head = tree.head.words().try_into().expect("fifteen words");
+    let wanted = match audit(&State { head: head_of(head), leaves, inners, homes }) {
+        _ if tree.word(PRESENT) > 1 => [10, 0],
         Verdict::Refused(number) => [number as u32, 0],
         Verdict::Yes => [0, 1],
         Verdict::No(_) => [0, 0],
@@ -57,43 +59,22 @@ fn every_export(tree: &Tree, random: &mut Random, met: &mut Met) {
 
 /// Arguments that are often good: a place within the areas, the stamp of the head, a position near by.
 fn given(tree: &Tree, random: &mut Random) -> Given {
-    let head = tree.head;
     let mut small = |end: u32| random.below(end.clamp(1, 1 << 20) as u64 + 1) as u32;
-    let mut at = || Cursor { leaf: small(head.leaves), slot: small(head.fan / 2), stamp: head.entries };
+    let mut at =
+        || Cursor { leaf: small(tree.word(LEAVES)), slot: small(tree.word(FAN) / 2), stamp: tree.word(ENTRIES) };
     let [at, other] = [at(), at()];
     Given {
         at,
         other,
-        id: small(head.entries),
+        id: small(tree.word(ENTRIES)),
         view: small(1),
         index: small(200),
         lengths: Lengths { prepare: small(3), effect: small(3) },
         end: small(1),
         before: small(1),
-        fan: head.fan,
-        limit: head.limit,
+        fan: tree.word(FAN),
+        limit: tree.word(LIMIT),
     }
-}
-
-fn head_words(head: &mut Head) -> [&mut u32; 15] {
-    let Head {
-        fan,
-        limit,
-        root,
-        levels,
-        leaves,
-        inners,
-        entries,
-        present,
-        view,
-        leaf,
-        start,
-        effect,
-        slot,
-        within,
-        effect_within,
-    } = head;
-    [fan, limit, root, levels, leaves, inners, entries, present, view, leaf, start, effect, slot, within, effect_within]
 }
 
 /// Other values for a word: its neighbours, some single bits, and the ends.
@@ -117,7 +98,7 @@ fn flip_every_word(mut tree: Tree, met: &mut Met) {
         }
         *self::word(&mut tree, area, at) = word;
     }
-    println!("fan {}, {} entries: {flips} flips, every export after each", tree.head.fan, tree.head.entries);
+    println!("fan {}, {} entries: {flips} flips, every export after each", tree.word(FAN), tree.word(ENTRIES));
 }
 
 fn word(tree: &mut Tree, area: usize, at: usize) -> &mut u32 {
@@ -125,7 +106,7 @@ fn word(tree: &mut Tree, area: usize, at: usize) -> &mut u32 {
         0 => &mut tree.leaves.words_mut()[at],
         1 => &mut tree.inners.words_mut()[at],
         2 => &mut tree.homes.words_mut()[at],
-        _ => head_words(&mut tree.head)[at],
+        _ => &mut tree.head.words_mut()[at],
     }
 }
 
@@ -187,27 +168,12 @@ fn random_words() {
         };
         let words = nodes * (3 + 3 * fan);
         let [leaves, inners, homes] = [draw(words), draw(words), draw(limit)];
-        let [leaf, start, effect, slot, within, effect_within] = [0; 6].map(|_: u32| random.below(6) as u32);
+        let finger: [u32; 6] = [0; 6].map(|_: u32| random.below(6) as u32);
         let [root, used, inners_used] = [0; 3].map(|_: u32| random.below(nodes as u64 + 1) as u32);
         let (levels, entries) = (random.below(6) as u32, random.below(limit as u64 + 2) as u32);
         let (present, view) = (random.below(2) as u32, random.below(3) as u32);
-        let head = Head {
-            fan,
-            limit,
-            root,
-            levels,
-            leaves: used,
-            inners: inners_used,
-            entries,
-            present,
-            view,
-            leaf,
-            start,
-            effect,
-            slot,
-            within,
-            effect_within,
-        };
+        let counts = [fan, limit, root, levels, used, inners_used, entries, present, view];
+        let head = Area::new(&[&counts[..], &finger].concat());
         every_export(&Tree { head, leaves, inners, homes }, &mut random, &mut met);
     }
     println!("{met:?}");

@@ -1,9 +1,10 @@
 //! Each cause of a refusal on the exports themselves: its number, zeros for values, head and areas as they were. The numbers
 //! wanted are document 01's ("When a call cannot be done"), written down here.
 
-use beside::exports::{Export, Given, Tree, EXPORTS};
+use beside::exports::{Area, Export, Given, Tree, EXPORTS};
 use beside::port::pair;
-use smelvock::raw::{Cursor, Head, Lengths};
+use smelvock::raw::word::{FAN, LEAVES, LIMIT, PRESENT, ROOT};
+use smelvock::raw::{Cursor, Lengths};
 use smelvock::{PrepareEffectTree, View};
 use std::sync::atomic::{AtomicU64, Ordering};
 
@@ -47,8 +48,8 @@ fn whole<const N: usize>() -> (Tree, Given) {
 }
 
 fn totals(tree: &Tree) -> [u32; 2] {
-    let size = (3 + 3 * tree.head.fan) as usize;
-    let root = &tree.inners.words()[tree.head.root as usize * size..][..size];
+    let size = (3 + 3 * tree.word(FAN)) as usize;
+    let root = &tree.inners.words()[tree.word(ROOT) as usize * size..][..size];
     [1, 2].map(|view| root[3..].chunks_exact(3).take(root[0] as usize).map(|slot| slot[view]).sum())
 }
 
@@ -58,7 +59,7 @@ fn refused(number: u32, export: Export, tree: &Tree, given: &Given) {
     let answer = export.play(&mut after, given);
     assert_eq!(answer.number, number, "{export:?} {given:?} on {:?}", tree.head);
     assert!(answer.values.iter().all(|&value| value == 0), "{export:?} {answer:?}");
-    let head = if export == New { Head::default() } else { tree.head };
+    let head = if export == New && number != 10 { Area::new(&[0; 15]) } else { tree.head.clone() };
     assert_eq!(after, Tree { head, ..tree.clone() }, "{export:?}");
     PLAYED.fetch_add(1, Ordering::Relaxed);
 }
@@ -75,13 +76,13 @@ fn fan_or_limit_outside_its_values_is_1() {
     at_each_fan(|tree, given| {
         for fan in [0, 1, 3, 33, 64, u32::MAX] {
             EXPORTS.iter().for_each(|&export| {
-                let tree = Tree { head: Head { fan, ..tree.head }, ..tree.clone() };
+                let tree = tree.with(FAN, fan);
                 refused(1, export, &tree, &Given { fan, ..given })
             });
         }
         for limit in [0, 65_537, u32::MAX] {
             EXPORTS.iter().for_each(|&export| {
-                let tree = Tree { head: Head { limit, ..tree.head }, ..tree.clone() };
+                let tree = tree.with(LIMIT, limit);
                 refused(1, export, &tree, &Given { limit, ..given })
             });
         }
@@ -91,7 +92,6 @@ fn fan_or_limit_outside_its_values_is_1() {
 /// Each of the three areas one word too short, and empty. `len` and `is_empty` are given no area.
 #[test]
 fn an_area_too_short_is_2() {
-    use beside::exports::Area;
     at_each_fan(|tree, given| {
         let with_areas = EXPORTS.iter().filter(|export| ![Len, IsEmpty].contains(export));
         for (export, which) in with_areas.flat_map(|&export| (0..3).map(move |which| (export, which))) {
@@ -114,11 +114,11 @@ fn an_area_too_short_is_2() {
 fn a_cursor_that_is_not_current_is_3() {
     at_each_fan(|tree, given| {
         let good = given.at;
-        let len = tree.leaves.words()[good.leaf as usize * (3 + 3 * tree.head.fan as usize)];
+        let len = tree.leaves.words()[good.leaf as usize * (3 + 3 * tree.word(FAN) as usize)];
         let mut bad = Vec::new();
         bad.extend([0, 1, 29, 31, u32::MAX].map(|stamp| Cursor { stamp, ..good }));
-        bad.extend([tree.head.leaves, tree.head.leaves + 1, u32::MAX].map(|leaf| Cursor { leaf, ..good }));
-        bad.extend([len, len + 1, tree.head.fan, u32::MAX].map(|slot| Cursor { slot, ..good }));
+        bad.extend([tree.word(LEAVES), tree.word(LEAVES) + 1, u32::MAX].map(|leaf| Cursor { leaf, ..good }));
+        bad.extend([len, len + 1, tree.word(FAN), u32::MAX].map(|slot| Cursor { slot, ..good }));
         for at in bad {
             AT.iter().chain(&ADDING).for_each(|&export| refused(3, export, &tree, &Given { at, ..given }));
             refused(3, Cmp, &tree, &Given { other: at, ..given });
@@ -151,16 +151,13 @@ fn an_id_not_below_the_number_of_entries_is_4() {
     });
 }
 
-/// With and without a finger, the finger in the same view and in the other; the head comes back with it as it was.
+/// With and without a finger, the finger in the same view and in the other; its words stay, those of an absent one too.
 #[test]
 fn a_position_at_or_past_the_total_is_5() {
     at_each_fan(|tree, given| {
         let totals = totals(&tree);
         for present in [0, 1] {
-            let Head { fan, limit, root, levels, leaves, inners, entries, .. } = tree.head;
-            let without = Head { fan, limit, root, levels, leaves, inners, entries, ..Head::default() };
-            let head = if present == 1 { tree.head } else { without };
-            let tree = Tree { head, ..tree.clone() };
+            let tree = tree.with(PRESENT, present);
             for (view, export) in [0, 1].into_iter().flat_map(|view| [(view, Locate), (view, CharIndexToEntry)]) {
                 let total = totals[view as usize];
                 for index in [total, total + 1, u32::MAX - 1, u32::MAX] {
@@ -227,7 +224,7 @@ fn a_view_or_flag_outside_its_values_is_10() {
     at_each_fan(|tree, given| {
         for bad in [2, 3, u32::MAX] {
             let with_head = EXPORTS.iter().filter(|&&export| export != New);
-            let flagged = Tree { head: Head { present: bad, ..tree.head }, ..tree.clone() };
+            let flagged = tree.with(PRESENT, bad);
             with_head.for_each(|&export| refused(10, export, &flagged, &given));
             VIEWS.iter().for_each(|&export| refused(10, export, &tree, &Given { view: bad, ..given }));
             ADDING.iter().for_each(|&export| refused(10, export, &tree, &Given { end: bad, ..given }));
@@ -236,16 +233,27 @@ fn a_view_or_flag_outside_its_values_is_10() {
     });
 }
 
+/// A head of fewer words, of more, and of none.
+#[test]
+fn a_head_that_is_not_fifteen_words_is_10() {
+    at_each_fan(|tree, given| {
+        for words in [0, 1, 7, 8, 14, 16, 30] {
+            let head = tree.head.words().iter().copied().cycle().take(words).collect::<Vec<_>>();
+            let tree = Tree { head: Area::new(&head), ..tree.clone() };
+            EXPORTS.iter().for_each(|&export| refused(10, export, &tree, &given));
+        }
+    });
+}
+
 /// Several causes at once: 10 comes first, then 1 to 8 in rising order.
 #[test]
 fn the_order_of_the_refusals() {
-    use beside::exports::Area;
     at_each_fan(|mut tree, given| {
         assert_eq!(Add.play(&mut tree, &given).number, 0);
         let current = Cursor { stamp: 31, ..given.at };
         let wide = Lengths { prepare: u32::MAX, effect: u32::MAX };
         let all = Given { lengths: wide, view: 2, end: 2, before: 2, index: u32::MAX, ..given };
-        let bad_fan = Tree { head: Head { fan: 3, ..tree.head }, homes: Area::new(&[]), ..tree.clone() };
+        let bad_fan = Tree { homes: Area::new(&[]), ..tree.with(FAN, 3) };
         let short = Tree { homes: Area::new(&[]), ..tree.clone() };
         for export in [Locate, EntryToCharIndex, Insert, Add, SplitEntry] {
             refused(10, export, &bad_fan, &all);

@@ -1,15 +1,15 @@
 /* PrepareEffectTree through C linkage: libsmelvock.a, which `rt staticlib smelvock` writes, for x86-64 Linux.
  *
- * The caller lends three areas of words and keeps the head: each call takes the head by value and hands the one after it
- * back. Fan 4 to 32, limit 1 to 65,536. The leaf area and the inner area each need max(1, limit / (fan / 2)) nodes of
- * 3 + 3 * fan words, homes needs limit words; an area is a pointer and its count of words. Areas may not overlap.
+ * The caller lends a head of fifteen words and three areas of words, each as a pointer and its count. Fan 4 to 32, limit 1 to
+ * 65,536. The leaf area and the inner area each need max(1, limit / (fan / 2)) nodes of 3 + 3 * fan words, homes needs limit
+ * words. Head and areas may not overlap. A tree's head is made by smelvock_new or smelvock_reset and written by the calls.
  *
- * Every call ends, writes only in the areas, and answers a number: 0, or that of its refusal.
+ * Every call ends, writes only in head and areas, and answers a number: 0, or that of its refusal.
  *    1  fan or limit outside its values       6  a split moves more than the entry has
  *    2  an area is too short                  7  a view's total would pass 4,294,967,295
  *    3  the cursor is not current             8  the tree holds its limit
  *    4  no such entry                         9  a link of an unsound tree leads outside
- *    5  position at or past the total        10  a view or flag is neither 0 nor 1
+ *    5  position at or past the total        10  a view or flag is neither 0 nor 1, or the head not fifteen words
  * Refused: the other values are 0 and, but for 9, head and areas are as they were. */
 #ifndef SMELVOCK_H
 #define SMELVOCK_H
@@ -26,11 +26,12 @@ extern "C" {
 /* The leaf of the cursor after the last entry. */
 #define SMELVOCK_NONE 4294967295u
 
-/* The finger (present 0 or 1, then seven words) is a tree's memory of its last lookup; its words are 0 where absent. */
-typedef struct {
-    uint32_t fan, limit, root, levels, leaves, inners, entries;
-    uint32_t present, view, leaf, start, effect, slot, within, effect_within;
-} smelvock_head;
+/* The words of a head. The finger (present 0 or 1, then seven words) is a tree's memory of its last lookup; its words are of no
+ * account where absent. */
+enum {
+    SMELVOCK_FAN, SMELVOCK_LIMIT, SMELVOCK_ROOT, SMELVOCK_LEVELS, SMELVOCK_LEAVES, SMELVOCK_INNERS, SMELVOCK_ENTRIES,
+    SMELVOCK_PRESENT, SMELVOCK_FINGER, SMELVOCK_HEAD_WORDS = 15
+};
 
 /* An entry's place, current until the next insertion or split. */
 typedef struct {
@@ -56,83 +57,72 @@ typedef struct {
 } smelvock_standing;
 
 typedef struct {
-    smelvock_head head;
-    uint32_t number;
-} smelvock_outcome_reply;
-
-typedef struct {
-    smelvock_head head;
-    uint32_t number, value;
-} smelvock_number_reply;
-
-typedef struct {
-    smelvock_head head;
     uint32_t number;
     smelvock_cursor_at at;
     uint32_t offset;
-} smelvock_selected_reply;
+} smelvock_selected;
 
 typedef struct {
-    smelvock_head head;
     uint32_t number;
     smelvock_cursor_at at;
     uint32_t offset, position;
-} smelvock_located_reply;
+} smelvock_located;
 
 typedef struct {
-    smelvock_head head;
     uint32_t number, id, position;
-} smelvock_inserted_reply;
+} smelvock_inserted;
 
 typedef struct {
-    smelvock_head head;
     uint32_t number, id;
     smelvock_cursor_at first, second;
-} smelvock_divided_reply;
+} smelvock_divided;
 
+#define SMELVOCK_HEAD const uint32_t *head, size_t head_words
+#define SMELVOCK_HEAD_WRITTEN uint32_t *head, size_t head_words
 #define SMELVOCK_AREAS \
     const uint32_t *leaves, size_t leaf_words, const uint32_t *inners, size_t inner_words, const uint32_t *homes, size_t home_words
 #define SMELVOCK_AREAS_WRITTEN \
     uint32_t *leaves, size_t leaf_words, uint32_t *inners, size_t inner_words, uint32_t *homes, size_t home_words
 
-/* A tree of one entry, id 0. A refused make returns a head of zeros. */
-smelvock_outcome_reply smelvock_new(uint32_t fan, uint32_t limit, smelvock_length lengths, SMELVOCK_AREAS_WRITTEN);
-smelvock_outcome_reply smelvock_reset(smelvock_head head, SMELVOCK_AREAS_WRITTEN, smelvock_length lengths);
+/* A tree of one entry, id 0; what the head holds before is of no account to new. A make refused by another number than 10 leaves a
+ * head of zeros. */
+uint32_t smelvock_new(uint32_t fan, uint32_t limit, smelvock_length lengths, SMELVOCK_HEAD_WRITTEN, SMELVOCK_AREAS_WRITTEN);
+uint32_t smelvock_reset(SMELVOCK_HEAD_WRITTEN, SMELVOCK_AREAS_WRITTEN, smelvock_length lengths);
 
 /* value: the number of entries; 0, for a tree is never empty. */
-smelvock_number smelvock_len(smelvock_head head);
-smelvock_number smelvock_is_empty(smelvock_head head);
+smelvock_number smelvock_len(SMELVOCK_HEAD);
+smelvock_number smelvock_is_empty(SMELVOCK_HEAD);
 
 /* The entry at a cursor: its id, its lengths, its position in a view. */
-smelvock_number smelvock_id(smelvock_head head, SMELVOCK_AREAS, smelvock_cursor_at at);
-smelvock_measured smelvock_lengths(smelvock_head head, SMELVOCK_AREAS, smelvock_cursor_at at);
-smelvock_number smelvock_entry_to_char_index(smelvock_head head, SMELVOCK_AREAS, uint32_t view, smelvock_cursor_at at);
+smelvock_number smelvock_id(SMELVOCK_HEAD, SMELVOCK_AREAS, smelvock_cursor_at at);
+smelvock_measured smelvock_lengths(SMELVOCK_HEAD, SMELVOCK_AREAS, smelvock_cursor_at at);
+smelvock_number smelvock_entry_to_char_index(SMELVOCK_HEAD, SMELVOCK_AREAS, uint32_t view, smelvock_cursor_at at);
 
 /* The cursor of an entry, of the first, and of the one after a cursor's. */
-smelvock_standing smelvock_cursor(smelvock_head head, SMELVOCK_AREAS, uint32_t id);
-smelvock_standing smelvock_first(smelvock_head head, SMELVOCK_AREAS);
-smelvock_standing smelvock_next(smelvock_head head, SMELVOCK_AREAS, smelvock_cursor_at at);
+smelvock_standing smelvock_cursor(SMELVOCK_HEAD, SMELVOCK_AREAS, uint32_t id);
+smelvock_standing smelvock_first(SMELVOCK_HEAD, SMELVOCK_AREAS);
+smelvock_standing smelvock_next(SMELVOCK_HEAD, SMELVOCK_AREAS, smelvock_cursor_at at);
 
 /* value: 0, 1, 2 as a stands before, is or stands after b. */
-smelvock_number smelvock_cmp(smelvock_head head, SMELVOCK_AREAS, smelvock_cursor_at a, smelvock_cursor_at b);
+smelvock_number smelvock_cmp(SMELVOCK_HEAD, SMELVOCK_AREAS, smelvock_cursor_at a, smelvock_cursor_at b);
 
 /* The entry that holds a position of a view, and the offset into it; locate also its effect position. */
-smelvock_selected_reply smelvock_char_index_to_entry(smelvock_head head, SMELVOCK_AREAS, uint32_t view, uint32_t index);
-smelvock_located_reply smelvock_locate(smelvock_head head, SMELVOCK_AREAS, uint32_t view, uint32_t index);
+smelvock_selected smelvock_char_index_to_entry(SMELVOCK_HEAD_WRITTEN, SMELVOCK_AREAS, uint32_t view, uint32_t index);
+smelvock_located smelvock_locate(SMELVOCK_HEAD_WRITTEN, SMELVOCK_AREAS, uint32_t view, uint32_t index);
 
 /* Gives an entry lengths; update also answers its effect position. */
-smelvock_outcome_reply smelvock_set_lengths(smelvock_head head, SMELVOCK_AREAS_WRITTEN, smelvock_cursor_at at, smelvock_length lengths);
-smelvock_number_reply smelvock_update(smelvock_head head, SMELVOCK_AREAS_WRITTEN, smelvock_cursor_at at, smelvock_length lengths);
+uint32_t smelvock_set_lengths(SMELVOCK_HEAD_WRITTEN, SMELVOCK_AREAS_WRITTEN, smelvock_cursor_at at, smelvock_length lengths);
+smelvock_number smelvock_update(SMELVOCK_HEAD_WRITTEN, SMELVOCK_AREAS_WRITTEN, smelvock_cursor_at at, smelvock_length lengths);
 
 /* A new entry before a cursor, or at the end where end is 1 and the cursor is of no account: its id, and its effect position. */
-smelvock_inserted_reply smelvock_insert(smelvock_head head, SMELVOCK_AREAS_WRITTEN, uint32_t end, smelvock_cursor_at before, smelvock_length lengths);
-smelvock_number_reply smelvock_add(smelvock_head head, SMELVOCK_AREAS_WRITTEN, uint32_t end, smelvock_cursor_at before, smelvock_length lengths);
+smelvock_inserted smelvock_insert(SMELVOCK_HEAD_WRITTEN, SMELVOCK_AREAS_WRITTEN, uint32_t end, smelvock_cursor_at before, smelvock_length lengths);
+smelvock_number smelvock_add(SMELVOCK_HEAD_WRITTEN, SMELVOCK_AREAS_WRITTEN, uint32_t end, smelvock_cursor_at before, smelvock_length lengths);
 
 /* Takes lengths out of an entry into a new one just before it (before 1) or after it (0): its id, and both cursors in order. */
-smelvock_divided_reply smelvock_split_entry(smelvock_head head, SMELVOCK_AREAS_WRITTEN, smelvock_cursor_at at, smelvock_length lengths, uint32_t before);
+smelvock_divided smelvock_split_entry(SMELVOCK_HEAD_WRITTEN, SMELVOCK_AREAS_WRITTEN, smelvock_cursor_at at, smelvock_length lengths, uint32_t before);
 
 /* value: 1 if the tree is sound, else 0. */
-smelvock_number smelvock_audit(smelvock_head head, SMELVOCK_AREAS);
+smelvock_number smelvock_audit(SMELVOCK_HEAD, SMELVOCK_AREAS);
 
 #ifdef __cplusplus
 }

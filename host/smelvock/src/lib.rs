@@ -57,15 +57,11 @@ impl<const N: usize> PrepareEffectTree<N> {
     pub fn with_limit(limit: u32, lengths: Lengths) -> Result<Self, Refusal> {
         let fan = u32::try_from(N).unwrap_or(0);
         let [nodes, homes] = words(fan, limit);
-        let mut tree = PrepareEffectTree {
-            head: raw::Head::default(),
-            leaves: vec![0; nodes],
-            inners: vec![0; nodes],
-            homes: vec![0; homes],
-        };
-        let reply = raw::new(fan, limit, lengths.into(), tree.areas_mut());
-        tree.head = reply.head;
-        Refusal::unless(reply.number, || tree)
+        let mut tree =
+            PrepareEffectTree { head: [0; 15], leaves: vec![0; nodes], inners: vec![0; nodes], homes: vec![0; homes] };
+        let (head, areas) = tree.parts();
+        let number = raw::new(fan, limit, lengths.into(), head, areas);
+        Refusal::unless(number, || tree)
     }
 
     /// A tree of any words: every call ends on them, and [`audit`](Self::audit) says whether they are a sound tree.
@@ -81,56 +77,57 @@ impl<const N: usize> PrepareEffectTree<N> {
         Areas { leaves: &self.leaves, inners: &self.inners, homes: &self.homes }
     }
 
-    fn areas_mut(&mut self) -> AreasMut<'_> {
-        AreasMut { leaves: &mut self.leaves, inners: &mut self.inners, homes: &mut self.homes }
+    fn parts(&mut self) -> (&mut raw::Head, AreasMut<'_>) {
+        let PrepareEffectTree { head, leaves, inners, homes } = self;
+        (head, AreasMut { leaves, inners, homes })
     }
 
     /// Makes this a tree of one entry again, reusing its memory.
     pub fn reset(&mut self, lengths: Lengths) -> Result<(), Refusal> {
-        let reply = raw::reset(self.head, self.areas_mut(), lengths.into());
-        self.head = reply.head;
-        Refusal::unless(reply.number, || ())
+        let (head, areas) = self.parts();
+        let number = raw::reset(head, areas, lengths.into());
+        Refusal::unless(number, || ())
     }
 
     /// The number of entries, including those of length 0: entries are never removed.
     pub fn len(&self) -> Result<usize, Refusal> {
-        let reply = raw::len(self.head);
+        let reply = raw::len(&self.head);
         Refusal::unless(reply.number, || reply.value as usize)
     }
 
     /// Always false: a tree holds at least one entry.
     pub fn is_empty(&self) -> Result<bool, Refusal> {
-        let reply = raw::is_empty(self.head);
+        let reply = raw::is_empty(&self.head);
         Refusal::unless(reply.number, || reply.value == 1)
     }
 
     pub fn first(&self) -> Result<Cursor, Refusal> {
-        let reply = raw::first(self.head, self.areas());
+        let reply = raw::first(&self.head, self.areas());
         Refusal::unless(reply.number, || reply.at.into())
     }
 
     pub fn next(&self, at: Cursor) -> Result<Option<Cursor>, Refusal> {
-        let reply = raw::next(self.head, self.areas(), at.into());
+        let reply = raw::next(&self.head, self.areas(), at.into());
         Refusal::unless(reply.number, || (reply.at.leaf != raw::NONE).then(|| reply.at.into()))
     }
 
     pub fn id(&self, at: Cursor) -> Result<EntryId, Refusal> {
-        let reply = raw::id(self.head, self.areas(), at.into());
+        let reply = raw::id(&self.head, self.areas(), at.into());
         Refusal::unless(reply.number, || reply.value)
     }
 
     pub fn lengths(&self, at: Cursor) -> Result<Lengths, Refusal> {
-        let reply = raw::lengths(self.head, self.areas(), at.into());
+        let reply = raw::lengths(&self.head, self.areas(), at.into());
         Refusal::unless(reply.number, || reply.lengths.into())
     }
 
     pub fn cursor(&self, id: EntryId) -> Result<Cursor, Refusal> {
-        let reply = raw::cursor(self.head, self.areas(), id);
+        let reply = raw::cursor(&self.head, self.areas(), id);
         Refusal::unless(reply.number, || reply.at.into())
     }
 
     pub fn cmp(&self, a: Cursor, b: Cursor) -> Result<Ordering, Refusal> {
-        let reply = raw::cmp(self.head, self.areas(), a.into(), b.into());
+        let reply = raw::cmp(&self.head, self.areas(), a.into(), b.into());
         Refusal::unless(reply.number, || reply.value.cmp(&1))
     }
 
@@ -143,27 +140,27 @@ impl<const N: usize> PrepareEffectTree<N> {
     /// Selects as [`char_index_to_entry`](Self::char_index_to_entry) does, also returning the
     /// entry's position in the effect version.
     pub fn locate(&mut self, view: View, index: u32) -> Result<(Cursor, u32, u32), Refusal> {
-        let reply = raw::locate(self.head, self.areas(), view as u32, index);
-        self.head = reply.head;
+        let PrepareEffectTree { head, leaves, inners, homes } = self;
+        let reply = raw::locate(head, Areas { leaves, inners, homes }, view as u32, index);
         Refusal::unless(reply.number, || (reply.at.into(), reply.offset, reply.position))
     }
 
     /// Ranks an entry: its position in `view`.
     pub fn entry_to_char_index(&self, view: View, at: Cursor) -> Result<u32, Refusal> {
-        let reply = raw::entry_to_char_index(self.head, self.areas(), view as u32, at.into());
+        let reply = raw::entry_to_char_index(&self.head, self.areas(), view as u32, at.into());
         Refusal::unless(reply.number, || reply.value)
     }
 
     pub fn set_lengths(&mut self, at: Cursor, lengths: Lengths) -> Result<(), Refusal> {
-        let reply = raw::set_lengths(self.head, self.areas_mut(), at.into(), lengths.into());
-        self.head = reply.head;
-        Refusal::unless(reply.number, || ())
+        let (head, areas) = self.parts();
+        let number = raw::set_lengths(head, areas, at.into(), lengths.into());
+        Refusal::unless(number, || ())
     }
 
     /// Sets an entry's lengths and ranks it in the effect version.
     pub fn update(&mut self, at: Cursor, lengths: Lengths) -> Result<u32, Refusal> {
-        let reply = raw::update(self.head, self.areas_mut(), at.into(), lengths.into());
-        self.head = reply.head;
+        let (head, areas) = self.parts();
+        let reply = raw::update(head, areas, at.into(), lengths.into());
         Refusal::unless(reply.number, || reply.value)
     }
 
@@ -171,16 +168,16 @@ impl<const N: usize> PrepareEffectTree<N> {
     /// position in the effect version.
     pub fn insert(&mut self, before: Option<Cursor>, lengths: Lengths) -> Result<(EntryId, u32), Refusal> {
         let (end, before) = target(before);
-        let reply = raw::insert(self.head, self.areas_mut(), end, before, lengths.into());
-        self.head = reply.head;
+        let (head, areas) = self.parts();
+        let reply = raw::insert(head, areas, end, before, lengths.into());
         Refusal::unless(reply.number, || (reply.id, reply.position))
     }
 
     /// Inserts as [`insert`](Self::insert) does, without ranking the new entry.
     pub fn add(&mut self, before: Option<Cursor>, lengths: Lengths) -> Result<EntryId, Refusal> {
         let (end, before) = target(before);
-        let reply = raw::add(self.head, self.areas_mut(), end, before, lengths.into());
-        self.head = reply.head;
+        let (head, areas) = self.parts();
+        let reply = raw::add(head, areas, end, before, lengths.into());
         Refusal::unless(reply.number, || reply.value)
     }
 
@@ -192,14 +189,14 @@ impl<const N: usize> PrepareEffectTree<N> {
         lengths: Lengths,
         before: bool,
     ) -> Result<(EntryId, [Cursor; 2]), Refusal> {
-        let reply = raw::split_entry(self.head, self.areas_mut(), at.into(), lengths.into(), before as u32);
-        self.head = reply.head;
+        let (head, areas) = self.parts();
+        let reply = raw::split_entry(head, areas, at.into(), lengths.into(), before as u32);
         Refusal::unless(reply.number, || (reply.id, [reply.first.into(), reply.second.into()]))
     }
 
     /// Whether the tree is sound.
     pub fn audit(&self) -> Result<bool, Refusal> {
-        let reply = raw::audit(self.head, self.areas());
+        let reply = raw::audit(&self.head, self.areas());
         Refusal::unless(reply.number, || reply.value == 1)
     }
 }

@@ -1,25 +1,20 @@
 //! The exports themselves, on words: crates/smelvock declares each with its contract. Every function here takes any
-//! words in head and areas, and any number for a view or a flag.
+//! words for head and areas, however many, and any number for a view or a flag.
 
-/// What a tree keeps beside its areas. The finger's seven words are zero where `present` is 0.
-#[repr(C)]
-#[derive(Clone, Copy, PartialEq, Eq, Debug, Default)]
-pub struct Head {
-    pub fan: u32,
-    pub limit: u32,
-    pub root: u32,
-    pub levels: u32,
-    pub leaves: u32,
-    pub inners: u32,
-    pub entries: u32,
-    pub present: u32,
-    pub view: u32,
-    pub leaf: u32,
-    pub start: u32,
-    pub effect: u32,
-    pub slot: u32,
-    pub within: u32,
-    pub effect_within: u32,
+/// What a tree keeps beside its areas, as the words that the exports are lent: fan, limit, root, levels, the counts of leaves, inner
+/// nodes and entries in use, 1 or 0 for a finger or none, and the finger's seven words.
+pub type Head = [u32; 15];
+
+/// Where a head has its fan, limit, root and so on.
+pub mod word {
+    pub const FAN: usize = 0;
+    pub const LIMIT: usize = 1;
+    pub const ROOT: usize = 2;
+    pub const LEVELS: usize = 3;
+    pub const LEAVES: usize = 4;
+    pub const INNERS: usize = 5;
+    pub const ENTRIES: usize = 6;
+    pub const PRESENT: usize = 7;
 }
 
 #[repr(C)]
@@ -59,26 +54,9 @@ pub struct Standing {
     pub at: Cursor,
 }
 
-/// The same with the head after the call.
 #[repr(C)]
 #[derive(Clone, Copy, PartialEq, Eq, Debug)]
-pub struct OutcomeReply {
-    pub head: Head,
-    pub number: u32,
-}
-
-#[repr(C)]
-#[derive(Clone, Copy, PartialEq, Eq, Debug)]
-pub struct NumberReply {
-    pub head: Head,
-    pub number: u32,
-    pub value: u32,
-}
-
-#[repr(C)]
-#[derive(Clone, Copy, PartialEq, Eq, Debug)]
-pub struct SelectedReply {
-    pub head: Head,
+pub struct Selected {
     pub number: u32,
     pub at: Cursor,
     pub offset: u32,
@@ -86,8 +64,7 @@ pub struct SelectedReply {
 
 #[repr(C)]
 #[derive(Clone, Copy, PartialEq, Eq, Debug)]
-pub struct LocatedReply {
-    pub head: Head,
+pub struct Located {
     pub number: u32,
     pub at: Cursor,
     pub offset: u32,
@@ -96,8 +73,7 @@ pub struct LocatedReply {
 
 #[repr(C)]
 #[derive(Clone, Copy, PartialEq, Eq, Debug)]
-pub struct InsertedReply {
-    pub head: Head,
+pub struct Inserted {
     pub number: u32,
     pub id: u32,
     pub position: u32,
@@ -105,8 +81,7 @@ pub struct InsertedReply {
 
 #[repr(C)]
 #[derive(Clone, Copy, PartialEq, Eq, Debug)]
-pub struct DividedReply {
-    pub head: Head,
+pub struct Divided {
     pub number: u32,
     pub id: u32,
     pub first: Cursor,
@@ -131,97 +106,86 @@ pub struct AreasMut<'a> {
     pub homes: &'a mut [u32],
 }
 
-/// Declares exports that read the areas, each with a safe function over it.
-macro_rules! reading {
-    ($($name:ident as $export:ident($($arg:ident: $kind:ty),*) -> $reply:ty;)*) => {
-        mod reads {
-            use super::*;
-            extern "C" {
-                $(pub fn $export(
-                    head: Head,
-                    leaves: *const u32, leaf_words: usize,
-                    inners: *const u32, inner_words: usize,
-                    homes: *const u32, home_words: usize,
-                    $($arg: $kind),*
-                ) -> $reply;)*
-            }
-        }
-        $(#[inline]
-        pub fn $name(head: Head, areas: Areas<'_>, $($arg: $kind),*) -> $reply {
-            let Areas { leaves, inners, homes } = areas;
-            // SAFETY: the export is proved to read these words and nothing else, whatever they hold.
-            unsafe {
-                reads::$export(head, leaves.as_ptr(), leaves.len(), inners.as_ptr(), inners.len(), homes.as_ptr(), homes.len(), $($arg),*)
-            }
-        })*
-    };
-}
-
-reading! {
-    id as smelvock_id(at: Cursor) -> Number;
-    lengths as smelvock_lengths(at: Cursor) -> Measured;
-    cursor as smelvock_cursor(id: u32) -> Standing;
-    entry_to_char_index as smelvock_entry_to_char_index(view: u32, at: Cursor) -> Number;
-    first as smelvock_first() -> Standing;
-    next as smelvock_next(at: Cursor) -> Standing;
-    cmp as smelvock_cmp(a: Cursor, b: Cursor) -> Number;
-    char_index_to_entry as smelvock_char_index_to_entry(view: u32, index: u32) -> SelectedReply;
-    locate as smelvock_locate(view: u32, index: u32) -> LocatedReply;
-    audit as smelvock_audit() -> Number;
-}
-
-/// The same for exports that write the areas.
-macro_rules! writing {
-    ($($name:ident as $export:ident($($before:ident: $kind_before:ty),*; $($after:ident: $kind_after:ty),*) -> $reply:ty;)*) => {
-        mod writes {
+/// Declares exports with the kinds of pointers to head and areas that they are lent, each with a safe function over it.
+macro_rules! exports {
+    ($module:ident: $areas:ident, $head:ty, $head_ptr:ident, $head_kind:ty, $area_ptr:ident, $area_kind:ty;
+     $($name:ident as $export:ident($($before:ident: $kind_before:ty),*; $($after:ident: $kind_after:ty),*) -> $reply:ty;)*) => {
+        mod $module {
             use super::*;
             extern "C" {
                 $(pub fn $export(
                     $($before: $kind_before,)*
-                    leaves: *mut u32, leaf_words: usize,
-                    inners: *mut u32, inner_words: usize,
-                    homes: *mut u32, home_words: usize,
+                    head: $head_kind, head_words: usize,
+                    leaves: $area_kind, leaf_words: usize,
+                    inners: $area_kind, inner_words: usize,
+                    homes: $area_kind, home_words: usize,
                     $($after: $kind_after),*
                 ) -> $reply;)*
             }
         }
         $(#[inline]
-        pub fn $name($($before: $kind_before,)* areas: AreasMut<'_>, $($after: $kind_after),*) -> $reply {
-            let AreasMut { leaves, inners, homes } = areas;
-            // SAFETY: the export is proved to read and write these words and nothing else, whatever they hold.
+        pub fn $name($($before: $kind_before,)* head: $head, areas: $areas<'_>, $($after: $kind_after),*) -> $reply {
+            let $areas { leaves, inners, homes } = areas;
+            // SAFETY: the export is proved to read these words, and to write those lent for that, and no others, whatever they hold.
             unsafe {
-                writes::$export($($before,)* leaves.as_mut_ptr(), leaves.len(), inners.as_mut_ptr(), inners.len(), homes.as_mut_ptr(), homes.len(), $($after),*)
+                $module::$export(
+                    $($before,)*
+                    head.$head_ptr(), head.len(),
+                    leaves.$area_ptr(), leaves.len(),
+                    inners.$area_ptr(), inners.len(),
+                    homes.$area_ptr(), homes.len(),
+                    $($after),*
+                )
             }
         })*
     };
 }
 
-writing! {
-    new as smelvock_new(fan: u32, limit: u32, lengths: Lengths;) -> OutcomeReply;
-    reset as smelvock_reset(head: Head; lengths: Lengths) -> OutcomeReply;
-    insert as smelvock_insert(head: Head; end: u32, before: Cursor, lengths: Lengths) -> InsertedReply;
-    add as smelvock_add(head: Head; end: u32, before: Cursor, lengths: Lengths) -> NumberReply;
-    split_entry as smelvock_split_entry(head: Head; at: Cursor, lengths: Lengths, before: u32) -> DividedReply;
-    set_lengths as smelvock_set_lengths(head: Head; at: Cursor, lengths: Lengths) -> OutcomeReply;
-    update as smelvock_update(head: Head; at: Cursor, lengths: Lengths) -> NumberReply;
+exports! {
+    reading: Areas, &[u32], as_ptr, *const u32, as_ptr, *const u32;
+    id as smelvock_id(; at: Cursor) -> Number;
+    lengths as smelvock_lengths(; at: Cursor) -> Measured;
+    cursor as smelvock_cursor(; id: u32) -> Standing;
+    entry_to_char_index as smelvock_entry_to_char_index(; view: u32, at: Cursor) -> Number;
+    first as smelvock_first(;) -> Standing;
+    next as smelvock_next(; at: Cursor) -> Standing;
+    cmp as smelvock_cmp(; a: Cursor, b: Cursor) -> Number;
+    audit as smelvock_audit(;) -> Number;
+}
+
+exports! {
+    looking: Areas, &mut [u32], as_mut_ptr, *mut u32, as_ptr, *const u32;
+    char_index_to_entry as smelvock_char_index_to_entry(; view: u32, index: u32) -> Selected;
+    locate as smelvock_locate(; view: u32, index: u32) -> Located;
+}
+
+exports! {
+    changing: AreasMut, &mut [u32], as_mut_ptr, *mut u32, as_mut_ptr, *mut u32;
+    new as smelvock_new(fan: u32, limit: u32, lengths: Lengths;) -> u32;
+    reset as smelvock_reset(; lengths: Lengths) -> u32;
+    insert as smelvock_insert(; end: u32, before: Cursor, lengths: Lengths) -> Inserted;
+    add as smelvock_add(; end: u32, before: Cursor, lengths: Lengths) -> Number;
+    split_entry as smelvock_split_entry(; at: Cursor, lengths: Lengths, before: u32) -> Divided;
+    set_lengths as smelvock_set_lengths(; at: Cursor, lengths: Lengths) -> u32;
+    update as smelvock_update(; at: Cursor, lengths: Lengths) -> Number;
 }
 
 mod heads {
-    use super::{Head, Number};
+    use super::Number;
     extern "C" {
-        pub fn smelvock_len(head: Head) -> Number;
-        pub fn smelvock_is_empty(head: Head) -> Number;
+        pub fn smelvock_len(head: *const u32, head_words: usize) -> Number;
+        pub fn smelvock_is_empty(head: *const u32, head_words: usize) -> Number;
     }
 }
 
 #[inline]
-pub fn len(head: Head) -> Number {
-    // SAFETY: the export takes a head by value and no pointer.
-    unsafe { heads::smelvock_len(head) }
+pub fn len(head: &[u32]) -> Number {
+    // SAFETY: the export is proved to read these words and nothing else, whatever they hold.
+    unsafe { heads::smelvock_len(head.as_ptr(), head.len()) }
 }
 
 #[inline]
-pub fn is_empty(head: Head) -> Number {
+pub fn is_empty(head: &[u32]) -> Number {
     // SAFETY: as above.
-    unsafe { heads::smelvock_is_empty(head) }
+    unsafe { heads::smelvock_is_empty(head.as_ptr(), head.len()) }
 }

@@ -28,6 +28,7 @@ len 0 5
 is_empty 0 0
 audit 0 1
 view 2: 10
+14 words: 10
 short: 2
 reset 0 1 0
 add 0 1

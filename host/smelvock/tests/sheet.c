@@ -7,43 +7,39 @@
 #define WORDS (2u * (3u + 3u * FAN))
 
 static uint32_t leaves[WORDS], inners[WORDS], homes[LIMIT];
-static smelvock_head head;
+static uint32_t head[SMELVOCK_HEAD_WORDS];
+#define HEAD head, SMELVOCK_HEAD_WORDS
 #define AREAS leaves, WORDS, inners, WORDS, homes, LIMIT
 
 static const smelvock_cursor_at nowhere;
 
 static smelvock_cursor_at at(uint32_t id) {
-    return smelvock_cursor(head, AREAS, id).at;
+    return smelvock_cursor(HEAD, AREAS, id).at;
 }
 
 static void insert(uint32_t end, smelvock_cursor_at before, smelvock_length lengths) {
-    smelvock_inserted_reply r = smelvock_insert(head, AREAS, end, before, lengths);
-    head = r.head;
+    smelvock_inserted r = smelvock_insert(HEAD, AREAS, end, before, lengths);
     printf("insert %u %u %u\n", r.number, r.id, r.position);
 }
 
 static void locate(uint32_t view, uint32_t index) {
-    smelvock_located_reply r = smelvock_locate(head, AREAS, view, index);
-    head = r.head;
-    uint32_t id = r.number ? 0 : smelvock_id(head, AREAS, r.at).value;
+    smelvock_located r = smelvock_locate(HEAD, AREAS, view, index);
+    uint32_t id = r.number ? 0 : smelvock_id(HEAD, AREAS, r.at).value;
     printf("locate %u %u %u %u\n", r.number, id, r.offset, r.position);
 }
 
 static void split(uint32_t id, smelvock_length lengths) {
-    smelvock_divided_reply r = smelvock_split_entry(head, AREAS, at(id), lengths, 1);
-    head = r.head;
+    smelvock_divided r = smelvock_split_entry(HEAD, AREAS, at(id), lengths, 1);
     printf("split_entry %u %u %u %u %u %u\n", r.number, r.id, r.first.leaf, r.first.slot, r.second.leaf, r.second.slot);
 }
 
 int main(void) {
-    smelvock_outcome_reply made = smelvock_new(FAN, LIMIT, (smelvock_length){3, 3}, AREAS);
-    head = made.head;
-    printf("new %u\n", made.number);
+    printf("new %u\n", smelvock_new(FAN, LIMIT, (smelvock_length){3, 3}, HEAD, AREAS));
     insert(1, nowhere, (smelvock_length){2, 0});
     insert(0, at(0), (smelvock_length){0, 5});
     locate(SMELVOCK_PREPARE, 0);
     locate(SMELVOCK_PREPARE, 5);
-    smelvock_standing after = smelvock_next(head, AREAS, at(1));
+    smelvock_standing after = smelvock_next(HEAD, AREAS, at(1));
     printf("next %u %u\n", after.number, after.at.leaf == SMELVOCK_NONE);
     locate(SMELVOCK_EFFECT, 0);
     locate(SMELVOCK_EFFECT, 8);
@@ -53,33 +49,30 @@ int main(void) {
     insert(1, nowhere, (smelvock_length){0, 0});
     split(0, (smelvock_length){3, 0});
     printf("row");
-    for (smelvock_cursor_at c = smelvock_first(head, AREAS).at; c.leaf != SMELVOCK_NONE; c = smelvock_next(head, AREAS, c).at)
-        printf(" %u", smelvock_id(head, AREAS, c).value);
+    for (smelvock_cursor_at c = smelvock_first(HEAD, AREAS).at; c.leaf != SMELVOCK_NONE; c = smelvock_next(HEAD, AREAS, c).at)
+        printf(" %u", smelvock_id(HEAD, AREAS, c).value);
     printf("\n");
 
-    smelvock_selected_reply selected = smelvock_char_index_to_entry(head, AREAS, SMELVOCK_EFFECT, 9);
+    smelvock_selected selected = smelvock_char_index_to_entry(HEAD, AREAS, SMELVOCK_EFFECT, 9);
     printf("char_index_to_entry %u %u %u %u\n", selected.number, selected.at.leaf, selected.at.slot, selected.offset);
-    smelvock_number_reply updated = smelvock_update(head, AREAS, at(3), (smelvock_length){4, 2});
-    head = updated.head;
+    smelvock_number updated = smelvock_update(HEAD, AREAS, at(3), (smelvock_length){4, 2});
     printf("update %u %u\n", updated.number, updated.value);
-    smelvock_outcome_reply set = smelvock_set_lengths(head, AREAS, at(3), (smelvock_length){1, 1});
-    head = set.head;
-    printf("set_lengths %u\n", set.number);
-    smelvock_measured measured = smelvock_lengths(head, AREAS, at(3));
+    printf("set_lengths %u\n", smelvock_set_lengths(HEAD, AREAS, at(3), (smelvock_length){1, 1}));
+    smelvock_measured measured = smelvock_lengths(HEAD, AREAS, at(3));
     printf("lengths %u %u %u\n", measured.number, measured.lengths.prepare, measured.lengths.effect);
-    smelvock_number rank = smelvock_entry_to_char_index(head, AREAS, SMELVOCK_EFFECT, at(4));
+    smelvock_number rank = smelvock_entry_to_char_index(HEAD, AREAS, SMELVOCK_EFFECT, at(4));
     printf("entry_to_char_index %u %u\n", rank.number, rank.value);
-    smelvock_number order = smelvock_cmp(head, AREAS, at(0), at(3));
+    smelvock_number order = smelvock_cmp(HEAD, AREAS, at(0), at(3));
     printf("cmp %u %u\n", order.number, order.value);
-    printf("len %u %u\n", smelvock_len(head).number, smelvock_len(head).value);
-    printf("is_empty %u %u\n", smelvock_is_empty(head).number, smelvock_is_empty(head).value);
-    printf("audit %u %u\n", smelvock_audit(head, AREAS).number, smelvock_audit(head, AREAS).value);
-    printf("view 2: %u\n", smelvock_locate(head, AREAS, 2, 0).number);
-    printf("short: %u\n", smelvock_first(head, leaves, WORDS - 1, inners, WORDS, homes, LIMIT).number);
-    smelvock_outcome_reply reset = smelvock_reset(head, AREAS, (smelvock_length){1, 0});
-    head = reset.head;
-    printf("reset %u %u %u\n", reset.number, head.entries, head.present);
-    smelvock_number_reply added = smelvock_add(head, AREAS, 1, nowhere, (smelvock_length){1, 1});
+    printf("len %u %u\n", smelvock_len(HEAD).number, smelvock_len(HEAD).value);
+    printf("is_empty %u %u\n", smelvock_is_empty(HEAD).number, smelvock_is_empty(HEAD).value);
+    printf("audit %u %u\n", smelvock_audit(HEAD, AREAS).number, smelvock_audit(HEAD, AREAS).value);
+    printf("view 2: %u\n", smelvock_locate(HEAD, AREAS, 2, 0).number);
+    printf("14 words: %u\n", smelvock_len(head, SMELVOCK_HEAD_WORDS - 1).number);
+    printf("short: %u\n", smelvock_first(HEAD, leaves, WORDS - 1, inners, WORDS, homes, LIMIT).number);
+    uint32_t reset = smelvock_reset(HEAD, AREAS, (smelvock_length){1, 0});
+    printf("reset %u %u %u\n", reset, head[SMELVOCK_ENTRIES], head[SMELVOCK_PRESENT]);
+    smelvock_number added = smelvock_add(HEAD, AREAS, 1, nowhere, (smelvock_length){1, 1});
     printf("add %u %u\n", added.number, added.value);
     return 0;
 }

@@ -1,14 +1,28 @@
--- `smelvock::make::smelvock_new`: the call's head and answer in words.
+-- `smelvock::make::smelvock_new`: 10 where the head is not fifteen words, else the call's head and answer in words.
 use borrow.Author.Needs.{needs}
-use mathlib.Core.Path.{ap, _∙_}
-use Rattle.smelvock.specs.Flat.{outcomeReplyOf}
+use mathlib.Core.Path.{refl, ap, _∙_}
+use mathlib.Core.Bool.{not}
+use mathlib.Core.List.{List}
+use Prim.Native.Nat.{ℕ}
+use lib.ListN.{length}
+use borrow.Author.Tests.{eq-eqb, ne-eqb}
 use Rattle.model.specs.Answer.{outcomeAnswer}
-use Rattle.smelvock.specs.Changes as flat
-use Rattle.smelvock.proofs.FlatLaws.{reply-of}
 use Rattle.model.specs.Calls as calls
+use Rattle.model.specs.declared.head.Head.{Head}
 use Rattle.model.specs.declared.length.Lengths.{Lengths}
+use Rattle.smelvock.specs.Flat.{headWords}
+use Rattle.smelvock.specs.Reads.{given}
+use Rattle.smelvock.specs.Changes as flat
+use Rattle.smelvock.specs.Changes.{numberAlone}
+use Rattle.smelvock.proofs.FlatLaws.{reply-refused, reply-good}
 use Rattle.smelvock.proofs.make.smelvock_new.Statement.{statement}
 use Rattle.smelvock.proofs.make.smelvock_new.Tie as tie
+
+returns : tie.Need-returns
+unfolding flat.make
+returns c =
+    let a = c .before .before .before .before .before .args in
+    reply-refused numberAlone outcomeAnswer (λ (n : ℕ) (h : Head) (w : List ℕ). headWords h) _ (given (a .head .now) (a .leaves .now) (a .inners .now) (a .homes .now)) _ _ (ap not (ne-eqb (length (a .head .now)) 15 (c .if1 .taken))) refl
 
 lengths-from-requires : tie.Need-lengths-from-requires
 lengths-from-requires c κs = search needs
@@ -16,8 +30,11 @@ lengths-from-requires c κs = search needs
 new-requires : tie.Need-new-requires
 new-requires c κs = search needs
 
-outcome-reply-requires : tie.Need-outcome-reply-requires
-outcome-reply-requires c κs = search needs
+put-head-requires : tie.Need-put-head-requires
+put-head-requires c κs = search needs
+
+outcome-of-requires : tie.Need-outcome-of-requires
+outcome-of-requires c κs = search needs
 
 same-length : tie.Need-same-length
 same-length c = search needs
@@ -28,20 +45,26 @@ same-length-2 c = search needs
 same-length-3 : tie.Need-same-length-3
 same-length-3 c = search needs
 
-returns : tie.Need-returns
+same-length-4 : tie.Need-same-length-4
+same-length-4 c = search needs
+
+returns-2 : tie.Need-returns-2
 unfolding flat.make
-returns c =
-    let a = c .before .before .before .before .before .before .before .before .before .before .before .before .before .before .before .args in
-    reply-of outcomeReplyOf outcomeAnswer _ _ _ _ _ _ _ (c .outcome-reply .ensures) (c .before .before .before .before .before .before .before .new .ensures ∙ ap (λ (l : Lengths). calls.make (a .fan) (a .limit) l (a .leaves .now) (a .inners .now) (a .homes .now)) (c .before .before .before .before .before .before .before .before .before .before .before .lengths-from .ensures))
+returns-2 c =
+    let a = c .before .before .before .before .before .before .before .before .before .before .before .before .before .before .before .before .before .before .before .before .before .before .args in
+    reply-good numberAlone outcomeAnswer (λ (n : ℕ) (h : Head) (w : List ℕ). headWords h) _ (given (a .head .now) (a .leaves .now) (a .inners .now) (a .homes .now)) _ _ _ _ _ _ _ _ (ap not (eq-eqb (length (a .head .now)) 15 (c .before .before .before .before .before .before .before .before .before .before .before .before .before .before .before .before .before .if1 .left))) (c .outcome-of .ensures) (c .before .before .before .put-head .ensures) (c .before .before .before .before .before .before .before .before .before .before .before .before .new .ensures ∙ ap (λ (l : Lengths). calls.make (a .fan) (a .limit) l (a .leaves .now) (a .inners .now) (a .homes .now)) (c .before .before .before .before .before .before .before .before .before .before .before .before .before .before .before .before .lengths-from .ensures))
 
 pub smelvock-new-spec : {M : Type 1} → statement M
 smelvock-new-spec =
     tie.close
     (tie.spec
+    returns
     lengths-from-requires
     new-requires
-    outcome-reply-requires
+    put-head-requires
+    outcome-of-requires
     same-length
     same-length-2
     same-length-3
-    returns)
+    same-length-4
+    returns-2)

@@ -1,32 +1,35 @@
--- `smelvock::make::smelvock_reset`: 10 where a flag is bad, else the call's head and answer in words.
+-- `smelvock::make::smelvock_reset`: 10 where head or flag is bad, else the call's answer in words, and its head where it was done.
 use borrow.Author.Needs.{needs}
-use mathlib.Core.Path.{sym, ap₂, _∙_}
-use Rattle.smelvock.specs.Flat.{outcomeReplyOf}
+use Prim.Native.Nat.{ℕ}
+use mathlib.Core.Path.{refl, sym, ap₂, _∙_}
+use Rattle.smelvock.specs.Flat.{headAfter}
 use Rattle.model.specs.Answer.{outcomeAnswer}
 use Rattle.model.specs.State.{state}
 use Rattle.smelvock.specs.Reads.{given}
 use Rattle.smelvock.specs.Changes as flat
-use Rattle.smelvock.proofs.FlatLaws.{reply-refused, reply-good}
+use Rattle.smelvock.specs.Changes.{numberAlone}
+use Rattle.smelvock.proofs.FlatLaws.{reply-refused, reply-settled}
+use Rattle.smelvock.proofs.HeadLaws.{good-head}
 use Rattle.model.specs.Calls as calls
 use Rattle.model.specs.declared.head.Head.{Head}
 use Rattle.model.specs.declared.length.Lengths.{Lengths}
 use Rattle.smelvock.proofs.make.smelvock_reset.Statement.{statement}
 use Rattle.smelvock.proofs.make.smelvock_reset.Tie as tie
 
-bad-flag-requires : tie.Need-bad-flag-requires
-bad-flag-requires c κs = search needs
+bad-head-requires : tie.Need-bad-head-requires
+bad-head-requires c κs = search needs
 
-refused-outcome-requires : tie.Need-refused-outcome-requires
-refused-outcome-requires c κs = search needs
+same-length : tie.Need-same-length
+same-length c = search needs
 
 returns : tie.Need-returns
 unfolding flat.reset
 returns c =
-    let a = c .before .before .before .before .before .before .args in
-    reply-refused outcomeReplyOf outcomeAnswer _ _ (given (a .head) (a .leaves .now) (a .inners .now) (a .homes .now)) _ (sym (c .before .before .bad-flag .ensures) ∙ c .before .if1 .taken) (c .refused-outcome .ensures)
+    let a = c .before .before .before .before .before .before .before .args in
+    reply-refused numberAlone outcomeAnswer headAfter _ (given (a .head .now) (a .leaves .now) (a .inners .now) (a .homes .now)) _ _ (sym (c .before .bad-head .ensures) ∙ c .if1 .taken) refl
 
 head-from-requires : tie.Need-head-from-requires
-head-from-requires c κs = search needs
+head-from-requires c κs = good-head _ (sym (c .before .before .bad-head .ensures) ∙ c .before .if1 .left)
 
 lengths-from-requires : tie.Need-lengths-from-requires
 lengths-from-requires c κs = search needs
@@ -34,11 +37,11 @@ lengths-from-requires c κs = search needs
 reset-requires : tie.Need-reset-requires
 reset-requires c κs = search needs
 
-outcome-reply-requires : tie.Need-outcome-reply-requires
-outcome-reply-requires c κs = search needs
+outcome-of-requires : tie.Need-outcome-of-requires
+outcome-of-requires c κs = search needs
 
-same-length : tie.Need-same-length
-same-length c = search needs
+settle-requires : tie.Need-settle-requires
+settle-requires c κs = good-head _ (sym (c .before .before .before .before .before .before .before .before .before .before .before .before .before .before .before .before .before .bad-head .ensures) ∙ c .before .before .before .before .before .before .before .before .before .before .before .before .before .before .before .before .if1 .left)
 
 same-length-2 : tie.Need-same-length-2
 same-length-2 c = search needs
@@ -46,24 +49,32 @@ same-length-2 c = search needs
 same-length-3 : tie.Need-same-length-3
 same-length-3 c = search needs
 
+same-length-4 : tie.Need-same-length-4
+same-length-4 c = search needs
+
+same-length-5 : tie.Need-same-length-5
+same-length-5 c = search needs
+
 returns-2 : tie.Need-returns-2
 unfolding flat.reset
 returns-2 c =
-    let a = c .before .before .before .before .before .before .before .before .before .before .before .before .before .before .before .before .before .before .args in
-    reply-good outcomeReplyOf outcomeAnswer _ _ (given (a .head) (a .leaves .now) (a .inners .now) (a .homes .now)) _ _ _ _ _ _ (sym (c .before .before .before .before .before .before .before .before .before .before .before .before .before .before .bad-flag .ensures) ∙ c .before .before .before .before .before .before .before .before .before .before .before .before .before .if1 .left) (c .outcome-reply .ensures) (c .before .before .before .before .before .before .before .reset .ensures ∙ ap₂ (λ (h : Head) (l : Lengths). calls.reset (state h (a .leaves .now) (a .inners .now) (a .homes .now)) l) (c .before .before .before .before .before .before .before .before .before .before .before .before .head-from .ensures) (c .before .before .before .before .before .before .before .before .before .before .before .lengths-from .ensures))
+    let a = c .before .before .before .before .before .before .before .before .before .before .before .before .before .before .before .before .before .before .before .before .before .before .before .before .before .before .args in
+    reply-settled numberAlone outcomeAnswer (λ (q : ℕ). q) (λ x. refl) _ (given (a .head .now) (a .leaves .now) (a .inners .now) (a .homes .now)) _ _ _ _ _ _ _ _ (sym (c .before .before .before .before .before .before .before .before .before .before .before .before .before .before .before .before .before .before .before .before .bad-head .ensures) ∙ c .before .before .before .before .before .before .before .before .before .before .before .before .before .before .before .before .before .before .before .if1 .left) (c .before .before .before .before .outcome-of .ensures) (c .before .before .settle .ensures) (c .before .before .before .before .before .before .before .before .before .before .before .before .reset .ensures ∙ ap₂ (λ (h : Head) (l : Lengths). calls.reset (state h (a .leaves .now) (a .inners .now) (a .homes .now)) l) (c .before .before .before .before .before .before .before .before .before .before .before .before .before .before .before .before .before .head-from .ensures) (c .before .before .before .before .before .before .before .before .before .before .before .before .before .before .before .before .lengths-from .ensures))
 
 pub smelvock-reset-spec : {M : Type 1} → statement M
 smelvock-reset-spec =
     tie.close
     (tie.spec
-    bad-flag-requires
-    refused-outcome-requires
+    bad-head-requires
+    same-length
     returns
     head-from-requires
     lengths-from-requires
     reset-requires
-    outcome-reply-requires
-    same-length
+    outcome-of-requires
+    settle-requires
     same-length-2
     same-length-3
+    same-length-4
+    same-length-5
     returns-2)

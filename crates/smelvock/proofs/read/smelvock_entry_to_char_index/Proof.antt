@@ -1,4 +1,4 @@
--- `smelvock::read::smelvock_entry_to_char_index`: 10 where a flag is bad, else the call's answer in words.
+-- `smelvock::read::smelvock_entry_to_char_index`: 10 where head or flag is bad, else the call's answer in words.
 use borrow.Author.Needs.{needs}
 use mathlib.Core.Path.{sym, ap, _∙_}
 use Rattle.smelvock.specs.Flat.{numberOf}
@@ -6,6 +6,7 @@ use Rattle.model.specs.Answer.{numberAnswer}
 use Rattle.model.specs.State.{state}
 use Rattle.smelvock.specs.Reads as flat
 use Rattle.smelvock.proofs.FlatLaws.{answer-refused, answer-good, ap₃}
+use Rattle.smelvock.proofs.HeadLaws.{good-flag}
 use Rattle.model.specs.Calls as calls
 use Rattle.model.specs.declared.head.Head.{Head}
 use Rattle.model.specs.declared.head.Cursor.{Cursor}
@@ -13,18 +14,18 @@ use Rattle.model.specs.declared.length.View.{View}
 use Rattle.smelvock.proofs.read.smelvock_entry_to_char_index.Statement.{statement}
 use Rattle.smelvock.proofs.read.smelvock_entry_to_char_index.Tie as tie
 
-bad-flags-requires : tie.Need-bad-flags-requires
-bad-flags-requires c κs = search needs
+bad-flag-requires : tie.Need-bad-flag-requires
+bad-flag-requires c κs = search needs
 
 refused-number-requires : tie.Need-refused-number-requires
 refused-number-requires c κs = search needs
 
 returns : tie.Need-returns
 unfolding flat.entryToCharIndex
-returns c = answer-refused numberOf _ _ _ (sym (c .before .before .bad-flags .ensures) ∙ c .before .if1 .taken) (c .refused-number .ensures)
+returns c = answer-refused numberOf _ _ _ (sym (c .before .before .bad-flag .ensures) ∙ c .before .if1 .taken) (c .refused-number .ensures)
 
 head-from-requires : tie.Need-head-from-requires
-head-from-requires c κs = search needs
+head-from-requires c κs = good-flag _ _ (sym (c .before .bad-flag .ensures) ∙ c .if1 .left)
 
 view-from-requires : tie.Need-view-from-requires
 view-from-requires c κs = search needs
@@ -41,14 +42,14 @@ number-of-requires c κs = search needs
 returns-2 : tie.Need-returns-2
 unfolding flat.entryToCharIndex
 returns-2 c =
-    let a = c .before .before .before .before .before .before .before .before .before .before .args in
-    answer-good numberOf _ _ _ _ (sym (c .before .before .before .before .before .before .bad-flags .ensures) ∙ c .before .before .before .before .before .if1 .left) (c .number-of .ensures) (ap numberAnswer (c .before .entry-to-char-index .ensures ∙ ap₃ (λ (h : Head) (v : View) (k : Cursor). calls.entryToCharIndex (state h (a .leaves .now) (a .inners .now) (a .homes .now)) v k) (c .before .before .before .before .head-from .ensures) (c .before .before .before .view-from .ensures) (c .before .before .cursor-from .ensures)))
+    let a = c .before .before .before .before .before .before .before .before .before .before .before .args in
+    answer-good numberOf _ _ _ _ (sym (c .before .before .before .before .before .before .bad-flag .ensures) ∙ c .before .before .before .before .before .if1 .left) (c .number-of .ensures) (ap numberAnswer (c .before .entry-to-char-index .ensures ∙ ap₃ (λ (h : Head) (v : View) (k : Cursor). calls.entryToCharIndex (state h (a .leaves .now) (a .inners .now) (a .homes .now)) v k) (c .before .before .before .before .head-from .ensures) (c .before .before .before .view-from .ensures) (c .before .before .cursor-from .ensures)))
 
 pub smelvock-entry-to-char-index-spec : {M : Type 1} → statement M
 smelvock-entry-to-char-index-spec =
     tie.close
     (tie.spec
-    bad-flags-requires
+    bad-flag-requires
     refused-number-requires
     returns
     head-from-requires

@@ -1,26 +1,27 @@
--- `smelvock::read::smelvock_len`: 10 where a flag is bad, else the call's answer in words.
+-- `smelvock::read::smelvock_len`: 10 where head or flag is bad, else the call's answer in words.
 use borrow.Author.Needs.{needs}
 use mathlib.Core.Path.{sym, ap, _∙_}
 use Rattle.smelvock.specs.Flat.{numberOf}
 use Rattle.model.specs.Answer.{numberAnswer}
 use Rattle.smelvock.specs.Reads as flat
 use Rattle.smelvock.proofs.FlatLaws.{answer-refused, answer-good}
+use Rattle.smelvock.proofs.HeadLaws.{good-head}
 use Rattle.model.specs.Calls as calls
 use Rattle.smelvock.proofs.read.smelvock_len.Statement.{statement}
 use Rattle.smelvock.proofs.read.smelvock_len.Tie as tie
 
-bad-flag-requires : tie.Need-bad-flag-requires
-bad-flag-requires c κs = search needs
+bad-head-requires : tie.Need-bad-head-requires
+bad-head-requires c κs = search needs
 
 refused-number-requires : tie.Need-refused-number-requires
 refused-number-requires c κs = search needs
 
 returns : tie.Need-returns
 unfolding flat.len
-returns c = answer-refused numberOf _ _ _ (sym (c .before .before .bad-flag .ensures) ∙ c .before .if1 .taken) (c .refused-number .ensures)
+returns c = answer-refused numberOf _ _ _ (sym (c .before .before .bad-head .ensures) ∙ c .before .if1 .taken) (c .refused-number .ensures)
 
 head-from-requires : tie.Need-head-from-requires
-head-from-requires c κs = search needs
+head-from-requires c κs = good-head _ (sym (c .before .bad-head .ensures) ∙ c .if1 .left)
 
 len-requires : tie.Need-len-requires
 len-requires c κs = search needs
@@ -30,13 +31,13 @@ number-of-requires c κs = search needs
 
 returns-2 : tie.Need-returns-2
 unfolding flat.len
-returns-2 c = answer-good numberOf _ _ _ _ (sym (c .before .before .before .before .bad-flag .ensures) ∙ c .before .before .before .if1 .left) (c .number-of .ensures) (ap numberAnswer (c .before .len .ensures ∙ ap calls.len (c .before .before .head-from .ensures)))
+returns-2 c = answer-good numberOf _ _ _ _ (sym (c .before .before .before .before .bad-head .ensures) ∙ c .before .before .before .if1 .left) (c .number-of .ensures) (ap numberAnswer (c .before .len .ensures ∙ ap calls.len (c .before .before .head-from .ensures)))
 
 pub smelvock-len-spec : {M : Type 1} → statement M
 smelvock-len-spec =
     tie.close
     (tie.spec
-    bad-flag-requires
+    bad-head-requires
     refused-number-requires
     returns
     head-from-requires

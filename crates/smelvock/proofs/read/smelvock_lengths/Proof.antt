@@ -1,4 +1,4 @@
--- `smelvock::read::smelvock_lengths`: 10 where a flag is bad, else the call's answer in words.
+-- `smelvock::read::smelvock_lengths`: 10 where head or flag is bad, else the call's answer in words.
 use borrow.Author.Needs.{needs}
 use mathlib.Core.Path.{sym, ap, ap₂, _∙_}
 use Rattle.smelvock.specs.Flat.{measuredOf}
@@ -6,24 +6,25 @@ use Rattle.model.specs.Answer.{measuredAnswer}
 use Rattle.model.specs.State.{state}
 use Rattle.smelvock.specs.Reads as flat
 use Rattle.smelvock.proofs.FlatLaws.{answer-refused, answer-good}
+use Rattle.smelvock.proofs.HeadLaws.{good-head}
 use Rattle.model.specs.Calls as calls
 use Rattle.model.specs.declared.head.Head.{Head}
 use Rattle.model.specs.declared.head.Cursor.{Cursor}
 use Rattle.smelvock.proofs.read.smelvock_lengths.Statement.{statement}
 use Rattle.smelvock.proofs.read.smelvock_lengths.Tie as tie
 
-bad-flag-requires : tie.Need-bad-flag-requires
-bad-flag-requires c κs = search needs
+bad-head-requires : tie.Need-bad-head-requires
+bad-head-requires c κs = search needs
 
 refused-measured-requires : tie.Need-refused-measured-requires
 refused-measured-requires c κs = search needs
 
 returns : tie.Need-returns
 unfolding flat.lengths
-returns c = answer-refused measuredOf _ _ _ (sym (c .before .before .bad-flag .ensures) ∙ c .before .if1 .taken) (c .refused-measured .ensures)
+returns c = answer-refused measuredOf _ _ _ (sym (c .before .before .bad-head .ensures) ∙ c .before .if1 .taken) (c .refused-measured .ensures)
 
 head-from-requires : tie.Need-head-from-requires
-head-from-requires c κs = search needs
+head-from-requires c κs = good-head _ (sym (c .before .bad-head .ensures) ∙ c .if1 .left)
 
 cursor-from-requires : tie.Need-cursor-from-requires
 cursor-from-requires c κs = search needs
@@ -37,14 +38,14 @@ measured-of-requires c κs = search needs
 returns-2 : tie.Need-returns-2
 unfolding flat.lengths
 returns-2 c =
-    let a = c .before .before .before .before .before .before .before .before .before .args in
-    answer-good measuredOf _ _ _ _ (sym (c .before .before .before .before .before .bad-flag .ensures) ∙ c .before .before .before .before .if1 .left) (c .measured-of .ensures) (ap measuredAnswer (c .before .lengths .ensures ∙ ap₂ (λ (h : Head) (k : Cursor). calls.lengthsOf (state h (a .leaves .now) (a .inners .now) (a .homes .now)) k) (c .before .before .before .head-from .ensures) (c .before .before .cursor-from .ensures)))
+    let a = c .before .before .before .before .before .before .before .before .before .before .args in
+    answer-good measuredOf _ _ _ _ (sym (c .before .before .before .before .before .bad-head .ensures) ∙ c .before .before .before .before .if1 .left) (c .measured-of .ensures) (ap measuredAnswer (c .before .lengths .ensures ∙ ap₂ (λ (h : Head) (k : Cursor). calls.lengthsOf (state h (a .leaves .now) (a .inners .now) (a .homes .now)) k) (c .before .before .before .head-from .ensures) (c .before .before .cursor-from .ensures)))
 
 pub smelvock-lengths-spec : {M : Type 1} → statement M
 smelvock-lengths-spec =
     tie.close
     (tie.spec
-    bad-flag-requires
+    bad-head-requires
     refused-measured-requires
     returns
     head-from-requires
