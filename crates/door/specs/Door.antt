@@ -1,0 +1,24 @@
+-- What the door answers (document 01, "Door and program"): the plain row's answer records, from one entry of lengths 0, 0. Assumes nothing.
+use mathlib.Core.Bool.{cond}
+use mathlib.Core.List.{List}
+use Prim.Native.Nat.{ℕ}
+use Rattle.model.specs.Row.{Row, madeRow, rowStep}
+use Rattle.model.specs.declared.length.Lengths.{Lengths}
+use Rattle.row.specs.Run.{recordsOf, played, fit}
+
+-- the number returned, and the output
+pub record Opened : Type 0 where
+  pub number : ℕ
+  pub out : List ℕ
+
+abbrev pub opened : ℕ → List ℕ → Opened
+opened n out = record { number = n; out = out }
+
+abbrev pub firstLengths : Lengths
+firstLengths = record { prepare = 0; effect = 0 }
+
+abbrev pub doorRow : Row
+doorRow = madeRow 512 firstLengths
+
+unfoldable pub doorOn : List ℕ → List ℕ → Opened
+doorOn bs out = cond (fit bs out) (opened 0 (played rowStep doorRow (recordsOf bs))) (opened 11 out)
