@@ -18,7 +18,6 @@ use model::answer::Standing;
 use model::answer::Verdict;
 use model::head::Cursor;
 ghost use mathlib.Core.Path.{_≡_};
-ghost use mathlib.Core.List.{[], _∷_};
 ghost use Rattle.model.specs.Answer.{outcomeAnswer, numberAnswer, verdictAnswer, standingAnswer, nextAnswer, namedAnswer, measuredAnswer, comparedAnswer, locatedAnswer, insertedAnswer, dividedAnswer, cursorValues};
 ghost use Rattle.model.specs.Row.{refused, done};
 ghost use Rattle.smelvock.specs.Flat.{numberOf, measuredOf, standingOf, locatedOf, insertedOf, dividedOf};
