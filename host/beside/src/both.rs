@@ -47,6 +47,13 @@ impl<const N: usize> Both<N> {
         }
     }
 
+    /// The port's tree with other words in its place, for the tests that must fail.
+    pub fn spoil(&mut self, spoil: impl Fn(&mut Head, [&mut [u32]; 3])) {
+        let State { mut head, mut leaves, mut inners, mut homes } = self.state();
+        spoil(&mut head, [&mut leaves, &mut inners, &mut homes]);
+        self.port = Port(PrepareEffectTree::from_words(raw_of(head), leaves, inners, homes));
+    }
+
     /// What the port answers to a row call that is refused: the refusal of `cursor` or of the call itself.
     fn refusal(&mut self, call: Call) -> Option<Refusal> {
         let [first, second] = call.ids().map(|id| id.map(|id| self.port.0.cursor(id)));
