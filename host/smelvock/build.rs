@@ -1,5 +1,5 @@
-//! Links the static library that `rt staticlib smelvock` writes, and makes it where it is missing or older than the code.
-//! A copy stands in OUT_DIR, so that the build doesn't need the repository's target/ again, which `rt ci` removes.
+//! Links the static libraries that `rt staticlib` writes, and makes them where they are missing or older than the code.
+//! Copies stand in OUT_DIR, so that the build doesn't need the repository's target/ again, which `rt ci` removes.
 
 use std::path::{Path, PathBuf};
 use std::process::Command;
@@ -8,23 +8,31 @@ use std::{env, fs};
 
 fn main() {
     let root = PathBuf::from(env::var("CARGO_MANIFEST_DIR").expect("cargo sets it")).join("../..");
-    let library = root.join("target/staticlib/libsmelvock.a");
     let copies = PathBuf::from(env::var("OUT_DIR").expect("cargo sets it"));
-    let copy = copies.join("libsmelvock.a");
     let code = newest(&root.join("crates"));
+    for name in ["smelvock", "door"] {
+        link(name, &root, &copies, code);
+    }
+    println!("cargo:rerun-if-changed=build.rs");
+    println!("cargo:rerun-if-changed={}", root.join("crates").display());
+    println!("cargo:rustc-link-search=native={}", copies.display());
+    println!("cargo:rustc-env=SMELVOCK_LIBRARY={}", copies.join("libsmelvock.a").display());
+}
+
+/// Links the library of one crate, made anew where the code is newer.
+fn link(name: &str, root: &Path, copies: &Path, code: SystemTime) {
+    let file = format!("lib{name}.a");
+    let library = root.join("target/staticlib").join(&file);
+    let copy = copies.join(&file);
     if modified(&library).max(modified(&copy)) < code {
-        let done = Command::new("rt").args(["staticlib", "smelvock"]).current_dir(&root).status();
-        assert!(done.is_ok_and(|status| status.success()), "rt staticlib smelvock failed; its log is in target/log");
+        let done = Command::new("rt").args(["staticlib", name]).current_dir(root).status();
+        assert!(done.is_ok_and(|status| status.success()), "rt staticlib {name} failed; its log is in target/log");
     }
     if modified(&library) >= modified(&copy) {
         fs::copy(&library, &copy).expect("the library is there");
     }
-    println!("cargo:rerun-if-changed=build.rs");
-    println!("cargo:rerun-if-changed={}", root.join("crates").display());
     println!("cargo:rerun-if-changed={}", library.display());
-    println!("cargo:rustc-link-search=native={}", copies.display());
-    println!("cargo:rustc-link-lib=static=smelvock");
-    println!("cargo:rustc-env=SMELVOCK_LIBRARY={}", copy.display());
+    println!("cargo:rustc-link-lib=static={name}");
 }
 
 /// When a file was last written; a missing one is older than any.

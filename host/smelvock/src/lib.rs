@@ -1,9 +1,11 @@
 //! lib.rs's `PrepareEffectTree` over the proved calls: its names and signatures, on areas that the tree owns, with a
 //! [`Refusal`] where lib.rs panics, wraps or answers by chance.
 
+mod door;
 pub mod raw;
 mod refusal;
 
+pub use door::{door, door_into};
 use raw::{Areas, AreasMut};
 pub use refusal::Refusal;
 use std::cmp::Ordering;

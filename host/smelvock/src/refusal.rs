@@ -3,7 +3,7 @@ use std::{error, fmt};
 /// Why a call was not done. Head and areas are as they were, but for number 9.
 #[derive(Clone, Copy, PartialEq, Eq, Debug)]
 pub struct Refusal {
-    /// Document 01's number, 1 to 10.
+    /// Document 01's number, 1 to 11.
     pub number: u32,
 }
 
@@ -29,7 +29,8 @@ impl fmt::Display for Refusal {
             7 => "a total would pass 4,294,967,295",
             8 => "the tree holds its limit",
             9 => "a link of the tree leads outside",
-            _ => "the head is not fifteen words, or a view or a flag is neither 0 nor 1",
+            10 => "the head is not fifteen words, or a view or a flag is neither 0 nor 1",
+            _ => "records and output are unequally long, or not a multiple of 16",
         };
         write!(f, "refused by {}: {cause}", self.number)
     }
