@@ -45,6 +45,8 @@ const PLANS: [Plan; 5] = [
 /// A list as it is stored: as text with everything answered, and its records as bytes.
 pub struct Stored {
     pub name: &'static str,
+    /// Fan, limit, prepare and effect length of the first entry.
+    pub made: [u32; 4],
     pub text: String,
     pub records: Vec<u8>,
     pub coverage: Coverage,
@@ -72,6 +74,34 @@ pub fn stored() -> Vec<Stored> {
         .collect()
 }
 
+/// The standard input of the program `replay`: for each list two records of kind 0, whose words are
+/// its make and its number of records, then its records.
+pub fn replay_input(lists: &[Stored]) -> Vec<u8> {
+    let mut input = Vec::new();
+    for list in lists {
+        let [fan, limit, prepare, effect] = list.made;
+        input.extend(Record::new(0, 0, fan, limit, prepare).encode());
+        input.extend(Record::new(0, 0, effect, list.coverage.calls() as u32, 0).encode());
+        input.extend(&list.records);
+    }
+    input
+}
+
+/// What `replay` must print: the stored answers, number and three fields a line.
+pub fn replay_output(lists: &[Stored]) -> String {
+    lists.iter().map(answers_text).collect()
+}
+
+/// Number and three fields of each call of a list, a line each.
+pub fn answers_text(list: &Stored) -> String {
+    let fields = |line: &str| {
+        let words: Vec<&str> = line.split(' ').collect();
+        assert_eq!(words.len(), 14);
+        words[6..10].join(" ") + "\n"
+    };
+    list.text.lines().skip(1).map(fields).collect()
+}
+
 /// What each list meets, one line a list.
 pub fn coverage_text(lists: &[Stored]) -> String {
     lists.iter().map(|list| format!("{}: {} calls, {:?}\n", list.name, list.coverage.calls(), list.coverage)).collect()
@@ -94,7 +124,7 @@ fn play<const N: usize>(plan: &Plan) -> Stored {
         text += &line_text(&line);
         records.extend(record.encode());
     }
-    Stored { name, text, records, coverage: driver.coverage }
+    Stored { name, made: [fan, limit, prepare, effect], text, records, coverage: driver.coverage }
 }
 
 /// Lookups in between, and enough changes to fill a small tree.
