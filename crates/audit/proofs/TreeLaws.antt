@@ -15,7 +15,7 @@ use Rattle.model.specs.Audit.{isSum, isFinger}
 use Rattle.model.specs.declared.shape.Shape.{Shape}
 use Rattle.model.specs.declared.head.Head.{Head}
 use Rattle.model.specs.declared.head.Finger.{Finger}
-use Rattle.model.specs.declared.walk.Sum.{Sum}
+use Rattle.model.specs.declared.way.Sum.{Sum}
 
 -- a sum over the numbers from i up to n
 module _ (f : ℕ → ℕ) (i n : ℕ) where

@@ -11,7 +11,7 @@ use model::head::Finger;
 use model::head::Head;
 use model::head::Held;
 use model::shape::Shape;
-use model::walk::Sum;
+use model::way::Sum;
 use open::open::Opened;
 use open::open::open_areas;
 use walk::climb::rank_up;

@@ -17,10 +17,10 @@ use Rattle.model.specs.Refuse.{effect, shapeOf}
 use Rattle.model.specs.Calls.{Reply, reply, aim, endOf, insertCauses, insert, add}
 use Rattle.model.specs.declared.shape.Shape.{Shape}
 use Rattle.model.specs.declared.length.Lengths.{Lengths}
-use Rattle.model.specs.declared.walk.Leaf.{Leaf}
-use Rattle.model.specs.declared.walk.Leaf.the-variants as leaf
-use Rattle.model.specs.declared.walk.Sum.{Sum}
-use Rattle.model.specs.declared.walk.Sum.the-variants as sum
+use Rattle.model.specs.declared.way.Leaf.{Leaf}
+use Rattle.model.specs.declared.way.Leaf.the-variants as leaf
+use Rattle.model.specs.declared.way.Sum.{Sum}
+use Rattle.model.specs.declared.way.Sum.the-variants as sum
 use Rattle.model.specs.declared.answer.Target.{Target}
 use Rattle.model.specs.declared.answer.Target.the-variants as target
 use Rattle.model.specs.declared.answer.Inserted.{Inserted}

@@ -19,8 +19,8 @@ use Rattle.model.specs.declared.shape.Shape.{Shape}
 use Rattle.model.specs.declared.number.LeafNo.{LeafNo}
 use Rattle.model.specs.declared.length.Lengths.{Lengths}
 use Rattle.model.specs.declared.head.Cursor.{Cursor}
-use Rattle.model.specs.declared.walk.Leaf.{Leaf}
-use Rattle.model.specs.declared.walk.Leaf.the-variants as leaf
+use Rattle.model.specs.declared.way.Leaf.{Leaf}
+use Rattle.model.specs.declared.way.Leaf.the-variants as leaf
 use Rattle.model.specs.declared.answer.Target.{Target}
 use Rattle.model.specs.declared.answer.Target.the-variants as target
 use Rattle.laws.specs.Lens.{by-test}

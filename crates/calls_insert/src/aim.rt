@@ -5,7 +5,7 @@ use model::head::Head;
 use model::length::Lengths;
 use model::number::LeafNo;
 use model::shape::Shape;
-use model::walk::Leaf;
+use model::way::Leaf;
 use open::lengths::past;
 use open::open::Opened;
 use open::open::full;

@@ -10,7 +10,7 @@ use model::head::Head;
 use model::length::Lengths;
 use model::number::EntryId;
 use model::shape::Shape;
-use model::walk::Sum;
+use model::way::Sum;
 use open::open::Opened;
 use place::change::Change;
 use place::entry::place;

@@ -9,8 +9,8 @@ use Rattle.model.specs.Calls.{Reply, reply, byFinger, bySearch, locate, lessEff
 use Rattle.model.specs.declared.shape.Shape.{Shape}
 use Rattle.model.specs.declared.length.View.{View}
 use Rattle.model.specs.declared.head.Finger.{Finger}
-use Rattle.model.specs.declared.walk.Search.{Search}
-use Rattle.model.specs.declared.walk.Search.the-variants as search
+use Rattle.model.specs.declared.way.Search.{Search}
+use Rattle.model.specs.declared.way.Search.the-variants as search
 use Rattle.model.specs.declared.answer.Selected.{Selected}
 use Rattle.model.specs.declared.answer.Located.{Located}
 use Rattle.model.specs.declared.answer.Located.the-variants as located

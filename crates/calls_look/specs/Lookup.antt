@@ -6,8 +6,8 @@ use Rattle.model.specs.Calls.{cursorAt}
 use Rattle.model.specs.declared.head.Head.{Head}
 use Rattle.model.specs.declared.head.Finger.{Finger}
 use Rattle.model.specs.declared.head.Held.the-variants as held
-use Rattle.model.specs.declared.walk.Search.{Search}
-use Rattle.model.specs.declared.walk.Search.the-variants as search
+use Rattle.model.specs.declared.way.Search.{Search}
+use Rattle.model.specs.declared.way.Search.the-variants as search
 use Rattle.model.specs.declared.answer.Located.{Located}
 use Rattle.model.specs.declared.answer.Located.the-variants as located
 use Rattle.model.specs.declared.answer.LocatedReply.{LocatedReply}

@@ -1,4 +1,6 @@
 // The lookups: first from the finger, then from the root. The head comes back with the finger that was found.
+use finger_search::finger::served_by;
+use finger_search::search::from_root;
 use model::answer::Located;
 use model::answer::LocatedReply;
 use model::answer::Selected;
@@ -9,11 +11,9 @@ use model::head::Head;
 use model::head::Held;
 use model::length::View;
 use model::number::LeafNo;
-use model::walk::Search;
+use model::way::Search;
 use open::open::Opened;
 use open::open::open;
-use walk::finger::served_by;
-use walk::search::from_root;
 ghost use mathlib.Core.Path.{_≡_};
 ghost use Rattle.model.specs.State.{state};
 ghost use Rattle.model.specs.Calls as calls;

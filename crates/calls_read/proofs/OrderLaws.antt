@@ -17,7 +17,7 @@ use Rattle.model.specs.Calls.{cursorAt, firstOf, first, nextOf, nextAfter, inOr
 use Rattle.model.specs.declared.shape.Shape.{Shape}
 use Rattle.model.specs.declared.head.Cursor.{Cursor}
 use Rattle.model.specs.declared.head.Path.{Path}
-use Rattle.model.specs.declared.walk.Leaf.{Leaf}
+use Rattle.model.specs.declared.way.Leaf.{Leaf}
 use Rattle.model.specs.declared.answer.Standing.{Standing}
 use Rattle.model.specs.declared.answer.Standing.the-variants as standing
 use Rattle.model.specs.declared.answer.Next.{Next}

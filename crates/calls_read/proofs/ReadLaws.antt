@@ -20,7 +20,7 @@ use Rattle.model.specs.declared.length.Lengths.{Lengths}
 use Rattle.model.specs.declared.length.View.{View}
 use Rattle.model.specs.declared.shape.Place.{Place}
 use Rattle.model.specs.declared.shape.Place.the-variants as slot
-use Rattle.model.specs.declared.walk.Sum.{Sum}
+use Rattle.model.specs.declared.way.Sum.{Sum}
 use Rattle.model.specs.declared.answer.Number.{Number}
 use Rattle.model.specs.declared.answer.Number.the-variants as number
 use Rattle.model.specs.declared.answer.Standing.{Standing}

@@ -10,7 +10,7 @@ use model::head::Head;
 use model::head::Path;
 use model::number::LeafNo;
 use model::shape::Shape;
-use model::walk::Leaf;
+use model::way::Leaf;
 use open::open::Opened;
 use open::open::current;
 use open::open::open;

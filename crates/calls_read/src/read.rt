@@ -16,7 +16,7 @@ use model::number::EntryId;
 use model::number::LeafNo;
 use model::shape::Place;
 use model::shape::Shape;
-use model::walk::Sum;
+use model::way::Sum;
 use open::lengths::lengths_at;
 use open::open::Opened;
 use open::open::bad_size;

@@ -7,7 +7,7 @@ use model::head::Cursor;
 use model::head::Head;
 use model::length::Lengths;
 use model::shape::Shape;
-use model::walk::Sum;
+use model::way::Sum;
 use open::lengths::lengths_at;
 use open::lengths::past;
 use open::open::Opened;

@@ -14,7 +14,7 @@ use Rattle.model.specs.Node.{start}
 use Rattle.model.specs.State.{nodeAt}
 use Rattle.model.specs.Climb.{inside, rankUp, raised, climbUp, stepsUp}
 use Rattle.model.specs.declared.shape.Shape.{Shape}
-use Rattle.model.specs.declared.walk.Sum.the-variants as sum
+use Rattle.model.specs.declared.way.Sum.the-variants as sum
 use Rattle.laws.specs.Lists.{and-true}
 use Rattle.laws.specs.Words.{part-none, part-front, part-after, set-put}
 

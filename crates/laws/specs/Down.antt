@@ -13,9 +13,9 @@ use Rattle.model.specs.Climb.{leafNo, firstDown, lastDown, nextUp}
 use Rattle.model.specs.Locate.{descend}
 use Rattle.model.specs.declared.shape.Shape.{Shape}
 use Rattle.model.specs.declared.shape.Found.the-variants.{At, Nothing}
-use Rattle.model.specs.declared.walk.Leaf.the-variants as leaf
-use Rattle.model.specs.declared.walk.Descent.{Descent}
-use Rattle.model.specs.declared.walk.Descent.the-variants as descent
+use Rattle.model.specs.declared.way.Leaf.the-variants as leaf
+use Rattle.model.specs.declared.way.Descent.{Descent}
+use Rattle.model.specs.declared.way.Descent.the-variants as descent
 use Rattle.laws.specs.Lists.{and-true}
 
 -- whether node k is in the area and says no more slots than it has

@@ -19,8 +19,8 @@ use Rattle.model.specs.declared.shape.Shape.{Shape}
 use Rattle.model.specs.declared.shape.Found.{Found}
 use Rattle.model.specs.declared.shape.Found.the-variants.{At, Nothing}
 use Rattle.model.specs.declared.number.LeafNo.{LeafNo}
-use Rattle.model.specs.declared.walk.Descent.{Descent}
-use Rattle.model.specs.declared.walk.Descent.the-variants as descent
+use Rattle.model.specs.declared.way.Descent.{Descent}
+use Rattle.model.specs.declared.way.Descent.the-variants as descent
 use Rattle.model.specs.declared.answer.Compared.the-variants as compared
 use Rattle.laws.specs.Lists.{All-take, All-drop}
 use Rattle.laws.specs.Words.{getD-part}

@@ -16,8 +16,8 @@ use Rattle.model.specs.declared.shape.Shape.{Shape}
 use Rattle.model.specs.declared.shape.Found.the-variants.{At, Nothing}
 use Rattle.model.specs.declared.head.Finger.{Finger}
 use Rattle.model.specs.declared.head.Held.the-variants as held
-use Rattle.model.specs.declared.walk.Descent.the-variants as descent
-use Rattle.model.specs.declared.walk.Search.the-variants as search
+use Rattle.model.specs.declared.way.Descent.the-variants as descent
+use Rattle.model.specs.declared.way.Search.the-variants as search
 use Rattle.laws.specs.Down.{sized}
 
 -- a slot in use is that slot

@@ -22,12 +22,12 @@ use Rattle.model.specs.declared.head.Cursor.{Cursor}
 use Rattle.model.specs.declared.head.Finger.{Finger}
 use Rattle.model.specs.declared.head.Head.{Head}
 use Rattle.model.specs.declared.head.Held.the-variants as held
-use Rattle.model.specs.declared.walk.Sum.{Sum}
-use Rattle.model.specs.declared.walk.Sum.the-variants as sum
-use Rattle.model.specs.declared.walk.Leaf.{Leaf}
-use Rattle.model.specs.declared.walk.Leaf.the-variants as leaf
-use Rattle.model.specs.declared.walk.Search.{Search}
-use Rattle.model.specs.declared.walk.Search.the-variants as search
+use Rattle.model.specs.declared.way.Sum.{Sum}
+use Rattle.model.specs.declared.way.Sum.the-variants as sum
+use Rattle.model.specs.declared.way.Leaf.{Leaf}
+use Rattle.model.specs.declared.way.Leaf.the-variants as leaf
+use Rattle.model.specs.declared.way.Search.{Search}
+use Rattle.model.specs.declared.way.Search.the-variants as search
 use Rattle.model.specs.declared.answer.Target.{Target}
 use Rattle.model.specs.declared.answer.Target.the-variants as target
 use Rattle.model.specs.declared.answer.Outcome.{Outcome}

@@ -9,10 +9,10 @@ use Rattle.model.specs.Node.{Node, child, start, plus, lengthsAt, withLe
 use Rattle.model.specs.State.{nodeAt, putNode}
 use Rattle.model.specs.declared.shape.Shape.{Shape}
 use Rattle.model.specs.declared.number.LeafNo.{LeafNo}
-use Rattle.model.specs.declared.walk.Sum.{Sum}
-use Rattle.model.specs.declared.walk.Sum.the-variants as sum
-use Rattle.model.specs.declared.walk.Leaf.{Leaf}
-use Rattle.model.specs.declared.walk.Leaf.the-variants as leaf
+use Rattle.model.specs.declared.way.Sum.{Sum}
+use Rattle.model.specs.declared.way.Sum.the-variants as sum
+use Rattle.model.specs.declared.way.Leaf.{Leaf}
+use Rattle.model.specs.declared.way.Leaf.the-variants as leaf
 
 -- whether node k is in the area and i is a place in it
 abbrev pub inside : Shape → ℕ → ℕ → Bool

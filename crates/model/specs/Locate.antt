@@ -13,10 +13,10 @@ use Rattle.model.specs.declared.shape.Found.the-variants.{At, Nothing}
 use Rattle.model.specs.declared.head.Finger.{Finger}
 use Rattle.model.specs.declared.head.Held.{Held}
 use Rattle.model.specs.declared.head.Held.the-variants as held
-use Rattle.model.specs.declared.walk.Descent.{Descent}
-use Rattle.model.specs.declared.walk.Descent.the-variants as descent
-use Rattle.model.specs.declared.walk.Search.{Search}
-use Rattle.model.specs.declared.walk.Search.the-variants as search
+use Rattle.model.specs.declared.way.Descent.{Descent}
+use Rattle.model.specs.declared.way.Descent.the-variants as descent
+use Rattle.model.specs.declared.way.Search.{Search}
+use Rattle.model.specs.declared.way.Search.the-variants as search
 
 abbrev pub finger : ℕ → ℕ → ℕ → ℕ → ℕ → ℕ → ℕ → Finger
 finger view leaf start effect slot within effectWithin =

@@ -13,8 +13,8 @@ use Rattle.model.specs.Grow.{Areas, areas, Top, top, Grown, addChild}
 use Rattle.model.specs.declared.shape.Shape.{Shape}
 use Rattle.model.specs.declared.head.Head.{Head}
 use Rattle.model.specs.declared.head.Held.{Held}
-use Rattle.model.specs.declared.walk.Sum.{Sum}
-use Rattle.model.specs.declared.walk.Sum.the-variants as sum
+use Rattle.model.specs.declared.way.Sum.{Sum}
+use Rattle.model.specs.declared.way.Sum.the-variants as sum
 
 -- a change on its way: 0 or 9, the state so far, the slot at which it happens
 pub record Change : Type 0 where

@@ -14,8 +14,8 @@ use Rattle.model.specs.Node.{Node, child, lengths, lengthIn, used, start, plus,
 use Rattle.model.specs.State.{nodeAt, putNode}
 use Rattle.model.specs.Climb.{inside, rankUp, raised, climbUp}
 use Rattle.model.specs.declared.shape.Shape.{Shape}
-use Rattle.model.specs.declared.walk.Sum.{Sum}
-use Rattle.model.specs.declared.walk.Sum.the-variants as sum
+use Rattle.model.specs.declared.way.Sum.{Sum}
+use Rattle.model.specs.declared.way.Sum.the-variants as sum
 use Rattle.laws.specs.Lists.{All-at, All-set, length-zip}
 use Rattle.laws.specs.Areas.{node-other}
 use Rattle.theory.specs.Fits.{Sized, fits}

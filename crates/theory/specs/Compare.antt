@@ -20,7 +20,7 @@ use Rattle.model.specs.Calls.{cursorAt, inOrder, byPath}
 use Rattle.model.specs.ById.{withCursor, treeStep}
 use Rattle.model.specs.Answer.{comparedAnswer}
 use Rattle.model.specs.declared.head.Cursor.{Cursor}
-use Rattle.model.specs.declared.walk.Leaf.the-variants as leaf
+use Rattle.model.specs.declared.way.Leaf.the-variants as leaf
 use Rattle.model.specs.declared.answer.Compared.the-variants as compared
 use Rattle.abstract_tree.specs.Levels.{total}
 use Rattle.abstract_tree.specs.Next.{Lex}

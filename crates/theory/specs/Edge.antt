@@ -14,8 +14,8 @@ use Rattle.model.specs.Node.{Node, child, used}
 use Rattle.model.specs.State.{State}
 use Rattle.model.specs.Climb.{leafNo, firstDown, lastDown, nextUp}
 use Rattle.model.specs.Sound.{shapeIn, leafIn, innerIn}
-use Rattle.model.specs.declared.walk.Leaf.{Leaf}
-use Rattle.model.specs.declared.walk.Leaf.the-variants as leaf
+use Rattle.model.specs.declared.way.Leaf.{Leaf}
+use Rattle.model.specs.declared.way.Leaf.the-variants as leaf
 use Rattle.abstract_tree.specs.Lists.{cat, cat-append, All-map, All-map₂, All-right}
 use Rattle.abstract_tree.specs.Levels.{noSlot, Slot, Area, Links, total, Parent, find-parent}
 use Rattle.abstract_tree.specs.Next.{Step, node, end, firstOf, nextOf, headOf, next-is}

@@ -21,8 +21,8 @@ use Rattle.model.specs.declared.shape.Shape.{Shape}
 use Rattle.model.specs.declared.shape.Found.{Found}
 use Rattle.model.specs.declared.shape.Found.the-variants.{At, Nothing}
 use Rattle.model.specs.declared.number.LeafNo.{LeafNo}
-use Rattle.model.specs.declared.walk.Descent.{Descent}
-use Rattle.model.specs.declared.walk.Descent.the-variants as descent
+use Rattle.model.specs.declared.way.Descent.{Descent}
+use Rattle.model.specs.declared.way.Descent.the-variants as descent
 use Rattle.abstract_tree.specs.Lists.{cat, cat-append, map-append, MapAt, map-split, All-right}
 use Rattle.abstract_tree.specs.Levels.{Area, Mark, marks, marks-append, told, said, Links, total, len, wtOf}
 use Rattle.abstract_tree.specs.Rank.{level-sum, front-sum}

@@ -30,7 +30,7 @@ use Rattle.model.specs.declared.answer.Target.{Target}
 use Rattle.model.specs.declared.answer.Target.the-variants as target
 use Rattle.model.specs.declared.answer.Inserted.the-variants as insertion
 use Rattle.model.specs.declared.answer.Named.the-variants as named
-use Rattle.model.specs.declared.walk.Leaf.the-variants as leaf
+use Rattle.model.specs.declared.way.Leaf.the-variants as leaf
 use Rattle.abstract_tree.specs.Lists.{sumBy-append, All-map, All-cat}
 use Rattle.abstract_tree.specs.Levels.{Slot, len}
 use Rattle.abstract_tree.specs.Insert as insert

@@ -22,9 +22,9 @@ use Rattle.model.specs.declared.shape.Found.the-variants.{At, Nothing}
 use Rattle.model.specs.declared.head.Finger.{Finger}
 use Rattle.model.specs.declared.head.Held.{Held}
 use Rattle.model.specs.declared.head.Held.the-variants as held
-use Rattle.model.specs.declared.walk.Descent.the-variants as descent
-use Rattle.model.specs.declared.walk.Search.{Search}
-use Rattle.model.specs.declared.walk.Search.the-variants as search
+use Rattle.model.specs.declared.way.Descent.the-variants as descent
+use Rattle.model.specs.declared.way.Search.{Search}
+use Rattle.model.specs.declared.way.Search.the-variants as search
 use Rattle.abstract_tree.specs.Lists.{cat, cat-append, sumBy-append, sumBy-cat}
 use Rattle.abstract_tree.specs.Levels.{Slot, Area, total, len, climb}
 use Rattle.abstract_tree.specs.Pigeon.{In, is-in}

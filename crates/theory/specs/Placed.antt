@@ -17,8 +17,8 @@ use Rattle.model.specs.Place.{Change, change, enter, climb, summed}
 use Rattle.model.specs.Row.{entry}
 use Rattle.model.specs.Sound.{shapeIn, leafIn, Sound, entriesOf}
 use Rattle.model.specs.declared.length.Lengths.{Lengths}
-use Rattle.model.specs.declared.walk.Sum.{Sum}
-use Rattle.model.specs.declared.walk.Sum.the-variants as sum
+use Rattle.model.specs.declared.way.Sum.{Sum}
+use Rattle.model.specs.declared.way.Sum.the-variants as sum
 use Rattle.abstract_tree.specs.Lists.{sumBy-append}
 use Rattle.abstract_tree.specs.Levels.{Slot, Area, len}
 use Rattle.abstract_tree.specs.Insert as insert

@@ -24,8 +24,8 @@ use Rattle.model.specs.ById.{idAnswer, standingAnswer, nextAnswer, treeStep}
 use Rattle.model.specs.Answer.{numberAnswer, measuredAnswer}
 use Rattle.model.specs.declared.length.View.{View}
 use Rattle.model.specs.declared.length.View.the-variants as view
-use Rattle.model.specs.declared.walk.Sum.the-variants as sum
-use Rattle.model.specs.declared.walk.Leaf.the-variants as leaf
+use Rattle.model.specs.declared.way.Sum.the-variants as sum
+use Rattle.model.specs.declared.way.Leaf.the-variants as leaf
 use Rattle.model.specs.declared.answer.Number.the-variants as number
 use Rattle.model.specs.declared.answer.Named.{Named}
 use Rattle.model.specs.declared.answer.Named.the-variants as named

@@ -28,7 +28,7 @@ use Rattle.model.specs.Answer.{outcomeAnswer, numberAnswer}
 use Rattle.model.specs.declared.length.Lengths.{Lengths}
 use Rattle.model.specs.declared.head.Held.{Held}
 use Rattle.model.specs.declared.head.Held.the-variants as held
-use Rattle.model.specs.declared.walk.Sum.{Sum}
+use Rattle.model.specs.declared.way.Sum.{Sum}
 use Rattle.model.specs.declared.answer.Outcome.the-variants as outcome
 use Rattle.model.specs.declared.answer.Number.the-variants as number
 use Rattle.laws.specs.Lists.{All-at, length-zip}

@@ -15,7 +15,7 @@ use Rattle.model.specs.Climb.{rankUp}
 use Rattle.model.specs.Place as place
 use Rattle.model.specs.Place.{change}
 use Rattle.model.specs.Sound.{shapeIn, leafIn}
-use Rattle.model.specs.declared.walk.Sum.the-variants as sum
+use Rattle.model.specs.declared.way.Sum.the-variants as sum
 use Rattle.abstract_tree.specs.Lists.{cat}
 use Rattle.abstract_tree.specs.Levels.{total, len, climb}
 use Rattle.abstract_tree.specs.Tree.{Tree, leafSlots, BodyAt}

@@ -14,7 +14,7 @@ use Rattle.model.specs.Locate.{finger, less, Stand, back, movedTo, walked}
 use Rattle.model.specs.declared.shape.Found.{Found}
 use Rattle.model.specs.declared.shape.Found.the-variants.{At, Nothing}
 use Rattle.model.specs.declared.head.Finger.{Finger}
-use Rattle.model.specs.declared.walk.Search.the-variants as search
+use Rattle.model.specs.declared.way.Search.the-variants as search
 use Rattle.abstract_tree.specs.Lists.{sumBy-append}
 use Rattle.theory.specs.Find.{Hit, find-hit, find-miss}
 

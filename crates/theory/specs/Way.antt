@@ -12,7 +12,7 @@ use Rattle.model.specs.Node.{used, start}
 use Rattle.model.specs.State.{State}
 use Rattle.model.specs.Climb.{inside, rankUp, stepsUp}
 use Rattle.model.specs.Sound.{shapeIn, leafIn, innerIn}
-use Rattle.model.specs.declared.walk.Sum.the-variants as sum
+use Rattle.model.specs.declared.way.Sum.the-variants as sum
 use Rattle.abstract_tree.specs.Lists.{All-right}
 use Rattle.abstract_tree.specs.Levels.{Area, Links, total, len, climb, Parent, find-parent}
 use Rattle.abstract_tree.specs.Next.{path}

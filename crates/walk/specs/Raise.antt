@@ -8,8 +8,8 @@ use Rattle.model.specs.Node.{start}
 use Rattle.model.specs.State.{nodeAt}
 use Rattle.model.specs.Climb.{inside, raised, climbUp}
 use Rattle.model.specs.declared.shape.Shape.{Shape}
-use Rattle.model.specs.declared.walk.Sum.{Sum}
-use Rattle.model.specs.declared.walk.Sum.the-variants as sum
+use Rattle.model.specs.declared.way.Sum.{Sum}
+use Rattle.model.specs.declared.way.Sum.the-variants as sum
 
 -- delta added to the lengths at place i of inner node k, and so on up n levels
 module _ (g : Shape) (delta : List ℕ) where

@@ -7,7 +7,7 @@ use area::word::start_in;
 use model::answer::Compared;
 use model::head::Path;
 use model::shape::Shape;
-use model::walk::Sum;
+use model::way::Sum;
 ghost use mathlib.Core.Path.{_≡_};
 ghost use mathlib.Core.List.{[]};
 ghost use Prim.Native.Nat.{_+_, _<_, _≤_};

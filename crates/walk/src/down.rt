@@ -7,7 +7,7 @@ use area::word::len_of;
 use area::word::parent_of;
 use model::number::LeafNo;
 use model::shape::Shape;
-use model::walk::Leaf;
+use model::way::Leaf;
 ghost use mathlib.Core.Path.{_≡_};
 ghost use Prim.Native.Nat.{_+_, _<_, _≤_};
 ghost use lib.ListN.{length};

@@ -1,8 +1,6 @@
-// Walks over links: up to the root, down an edge, down to a position; and the finger.
+// Walks over links: up to the root, and down an edge.
 // Every contract is one equation with the model's definition, on any words: each stored link is compared before it is used.
-// Stands on model, laws and node.
+// Stands on model, laws, node and area.
 pub mod bounds;
 pub mod climb;
 pub mod down;
-pub mod finger;
-pub mod search;

@@ -1,10 +1,10 @@
--- `walk::finger::served`: each test is the definition's, and a finger that passes them all is moved from its own slot.
+-- `finger_search::finger::served`: each test is the definition's, and a finger that passes them all is moved from its own slot.
 use mathlib.Core.Path.{sym, _∙_}
 use native.Mathlib.Omega.{arith}
 use borrow.Author.Needs.{needs}
 use Rattle.laws.specs.Locate.{served-other, served-early, served-out, served-full, served-past, served-on}
-use Rattle.walk.proofs.finger.served.Statement.{statement}
-use Rattle.walk.proofs.finger.served.Tie as tie
+use Rattle.finger_search.proofs.finger.served.Statement.{statement}
+use Rattle.finger_search.proofs.finger.served.Tie as tie
 
 cast-if1 : tie.Need-cast-if1
 cast-if1 c = search needs

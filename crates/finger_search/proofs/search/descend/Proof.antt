@@ -1,4 +1,4 @@
--- `walk::search::descend`: the descent from here on is the descent asked for; each turn goes down one level to the slot found.
+-- `finger_search::search::descend`: the descent from here on is the descent asked for; each turn goes down one level to the slot found.
 use Prim.Native.Nat.{ℕ, _-_, _*_, _≤_}
 use mathlib.Core.Path.{_≡_, sym, _∙_}
 use mathlib.Core.Bool.{true, cond}
@@ -7,12 +7,12 @@ use lib.Dec.{ltb}
 use borrow.Author.Needs.{needs}
 use borrow.Author.Tests.{not-true, not-false, lt-ltb, le-ltb}
 use Rattle.model.specs.Locate.{descend}
-use Rattle.model.specs.declared.walk.Descent.{Descent}
-use Rattle.model.specs.declared.walk.Descent.the-variants as descent
+use Rattle.model.specs.declared.way.Descent.{Descent}
+use Rattle.model.specs.declared.way.Descent.the-variants as descent
 use Rattle.laws.specs.Down.{sized, sized-in, descend-end, descend-broken, descend-miss, descend-on}
 use Rattle.laws.specs.Find.{used-ranged}
-use Rattle.walk.proofs.search.descend.Statement.{statement}
-use Rattle.walk.proofs.search.descend.Tie as tie
+use Rattle.finger_search.proofs.search.descend.Statement.{statement}
+use Rattle.finger_search.proofs.search.descend.Tie as tie
 
 -- what a node answers that doesn't hold the position: the root Nothing, a lower one Broken
 abbrev missAt : ℕ → ℕ → Descent

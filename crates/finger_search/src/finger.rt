@@ -6,7 +6,7 @@ use model::head::Finger;
 use model::head::Held;
 use model::shape::Found;
 use model::shape::Shape;
-use model::walk::Search;
+use model::way::Search;
 ghost use mathlib.Core.Path.{_≡_};
 ghost use Prim.Native.Nat.{_+_, _<_, _≤_};
 ghost use lib.ListN.{length};

@@ -1,4 +1,4 @@
--- `walk::finger::back`: back from here is back from the finger's slot; each turn goes one slot back.
+-- `finger_search::finger::back`: back from here is back from the finger's slot; each turn goes one slot back.
 use Prim.Native.Nat.{_-_, _≤_}
 use mathlib.Core.Path.{_≡_, refl, sym, _∙_}
 use native.Mathlib.Omega.{arith}
@@ -8,8 +8,8 @@ use Rattle.model.specs.State.{nodeAt}
 use Rattle.model.specs.Locate.{back}
 use Rattle.node.proofs.Turns.{wrapped-less}
 use Rattle.laws.specs.Locate.{back-first, back-here, back-turn}
-use Rattle.walk.proofs.finger.back.Statement.{statement}
-use Rattle.walk.proofs.finger.back.Tie as tie
+use Rattle.finger_search.proofs.finger.back.Statement.{statement}
+use Rattle.finger_search.proofs.finger.back.Tie as tie
 
 abbrev Inv-loop : tie.InvT-loop
 Inv-loop leaves g view effect index leaf slot₀ within₀ effect-within₀ slot within effect-within =

@@ -37,10 +37,10 @@ use Rattle.model.specs.Locate.{rewound}
 use Rattle.model.specs.declared.head.Finger.{Finger}
 use Rattle.model.proofs.head.Finger as T
 use Rattle.model.proofs.head.Finger.Laws as T′
-use Rattle.walk.proofs.finger.rewind as f
-use Rattle.walk.proofs.finger.rewind.Code as code
-use Rattle.walk.proofs.finger.rewind.Key.{name as #rewind}
-use Rattle.walk.proofs.finger.rewind.Statement as stated
+use Rattle.finger_search.proofs.finger.rewind as f
+use Rattle.finger_search.proofs.finger.rewind.Code as code
+use Rattle.finger_search.proofs.finger.rewind.Key.{name as #rewind}
+use Rattle.finger_search.proofs.finger.rewind.Statement as stated
 
 -- the function still has its reference at the end
 abbrev stayed : Stays (f.ended .signature .params) (f.ended .kept)

@@ -1,13 +1,13 @@
 // The search from the root.
-use crate::bounds::sized;
 use area::word::child_of;
 use area::word::find_in;
 use model::head::Finger;
 use model::number::LeafNo;
 use model::shape::Found;
 use model::shape::Shape;
-use model::walk::Descent;
-use model::walk::Search;
+use model::way::Descent;
+use model::way::Search;
+use walk::bounds::sized;
 ghost use mathlib.Core.Path.{_≡_};
 ghost use Prim.Native.Nat.{_+_, _<_, _≤_};
 ghost use lib.ListN.{length};

@@ -1,10 +1,10 @@
--- `walk::search::from_root`: the leaf that the descent comes to is searched; an answer without a leaf is passed on.
+-- `finger_search::search::from_root`: the leaf that the descent comes to is searched; an answer without a leaf is passed on.
 use mathlib.Core.Path.{sym, _∙_}
 use borrow.Author.Needs.{needs}
 use Rattle.model.specs.Locate.{fromRoot}
 use Rattle.laws.specs.Find.{descend-rests, nothing-rests}
-use Rattle.walk.proofs.search.from_root.Statement.{statement}
-use Rattle.walk.proofs.search.from_root.Tie as tie
+use Rattle.finger_search.proofs.search.from_root.Statement.{statement}
+use Rattle.finger_search.proofs.search.from_root.Tie as tie
 
 descend-requires : tie.Need-descend-requires
 descend-requires c κs = (c .before .before .pre .1, c .before .before .pre .2, c .before .before .pre .3, c .before .before .pre .4)

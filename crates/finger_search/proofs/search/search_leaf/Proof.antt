@@ -1,4 +1,4 @@
--- `walk::search::search_leaf`: each answer is the definition's at what the search in the leaf finds.
+-- `finger_search::search::search_leaf`: each answer is the definition's at what the search in the leaf finds.
 use mathlib.Core.Path.{_≡_, sym, _∙_}
 use mathlib.Core.Bool.{true}
 use Prim.Native.Nat.{_≤_, _<_}
@@ -8,8 +8,8 @@ use borrow.Author.Tests.{not-true, not-false}
 use Rattle.laws.specs.Down.{sized, sized-in}
 use Rattle.laws.specs.Find.{used-ranged}
 use Rattle.laws.specs.Locate.{leaf-broken, leaf-miss, leaf-found}
-use Rattle.walk.proofs.search.search_leaf.Statement.{statement}
-use Rattle.walk.proofs.search.search_leaf.Tie as tie
+use Rattle.finger_search.proofs.search.search_leaf.Statement.{statement}
+use Rattle.finger_search.proofs.search.search_leaf.Tie as tie
 
 -- the leaf is in the area and says no more slots than it has
 whole : (c : tie.Else1) → sized (c .before .before .before .args .g) (c .before .before .before .args .k) (c .before .before .before .args .leaves .now) ≡ true

@@ -1,7 +1,7 @@
--- `walk::finger::served_by`: the definition's two cases.
+-- `finger_search::finger::served_by`: the definition's two cases.
 use borrow.Author.Needs.{needs}
-use Rattle.walk.proofs.finger.served_by.Statement.{statement}
-use Rattle.walk.proofs.finger.served_by.Tie as tie
+use Rattle.finger_search.proofs.finger.served_by.Statement.{statement}
+use Rattle.finger_search.proofs.finger.served_by.Tie as tie
 
 enum-told : tie.Need-enum-told
 enum-told c = search needs

@@ -42,14 +42,14 @@ use Rattle.model.specs.Locate.{rewound}
 use Rattle.model.specs.declared.head.Finger.{Finger}
 use Rattle.model.proofs.head.Finger as T
 use Rattle.model.proofs.head.Finger.Laws as T′
-use Rattle.walk.proofs.finger.rewind as rewind
-use Rattle.walk.proofs.finger.rewind.Met as rewind-thm
-use Rattle.walk.proofs.finger.rewind.Symbol as rewind-def
-use Rattle.walk.proofs.finger.rewind.Symbol.{name as #rewind}
-use Rattle.walk.proofs.finger.rewound as f
-use Rattle.walk.proofs.finger.rewound.Code as code
-use Rattle.walk.proofs.finger.rewound.Key.{name as #rewound}
-use Rattle.walk.proofs.finger.rewound.Statement as stated
+use Rattle.finger_search.proofs.finger.rewind as rewind
+use Rattle.finger_search.proofs.finger.rewind.Met as rewind-thm
+use Rattle.finger_search.proofs.finger.rewind.Symbol as rewind-def
+use Rattle.finger_search.proofs.finger.rewind.Symbol.{name as #rewind}
+use Rattle.finger_search.proofs.finger.rewound as f
+use Rattle.finger_search.proofs.finger.rewound.Code as code
+use Rattle.finger_search.proofs.finger.rewound.Key.{name as #rewound}
+use Rattle.finger_search.proofs.finger.rewound.Statement as stated
 
 -- nothing is left to say of a parameter by value
 abbrev stayed : Stays (f.ended .signature .params) (f.ended .kept)
@@ -144,4 +144,4 @@ rewound-spec 𝓤 H 𝓜 𝓖 𝓡 =
     (WpFn 𝓤 H (𝓣 .C) (𝓣 .Λ) code.function) (WpFn-mono 𝓤 H (W .laws) 𝓣 code.function)
     (walked 𝓤 H (𝓖 .A) f.ended stayed (f.clauses 𝓤 H (𝓖 .A) (𝓜 .mem) (𝓡 .run)) (WpFn 𝓤 H (𝓣 .C) (𝓣 .Λ) code.function) (λ κs. (LL.vals T.the-type T′.the-laws, tt)) (λ κs. (LL.tells T.the-type T′.the-laws, tt))
     (λ κs qs bounds a g are. via 𝓤 _ (fst∗ 𝓤 _ (emp 𝓤)) (walk 𝓤 H (𝓖 .A) (𝓜 .mem) (𝓡 .run) W (a .0) (𝓣 .C) (𝓣 .Λ) (fmOf 𝓤 H (W .laws) 𝓣)
-    (cited 𝓤 H (Rewind 𝓤 H (𝓖 .A) (𝓜 .mem) (𝓡 .run)) 𝓜 𝓡 code.env #rewind rewind-def.routine code.calls-walk·finger·rewind (rewind-thm.met 𝓤 H 𝓜 𝓖 𝓡)) (are .0)))))
+    (cited 𝓤 H (Rewind 𝓤 H (𝓖 .A) (𝓜 .mem) (𝓡 .run)) 𝓜 𝓡 code.env #rewind rewind-def.routine code.calls-finger-search·finger·rewind (rewind-thm.met 𝓤 H 𝓜 𝓖 𝓡)) (are .0)))))

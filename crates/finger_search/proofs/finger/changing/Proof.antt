@@ -1,9 +1,9 @@
--- `walk::finger::changing`: each case is the definition's.
+-- `finger_search::finger::changing`: each case is the definition's.
 use mathlib.Core.Path.{sym}
 use borrow.Author.Needs.{needs}
 use Rattle.laws.specs.Locate.{changing-gone, changing-back, changing-kept}
-use Rattle.walk.proofs.finger.changing.Statement.{statement}
-use Rattle.walk.proofs.finger.changing.Tie as tie
+use Rattle.finger_search.proofs.finger.changing.Statement.{statement}
+use Rattle.finger_search.proofs.finger.changing.Tie as tie
 
 enum-told : tie.Need-enum-told
 enum-told c = search needs

@@ -1,4 +1,4 @@
--- `walk::finger::walked`: each answer is the definition's at the slot to which the finger goes back.
+-- `finger_search::finger::walked`: each answer is the definition's at the slot to which the finger goes back.
 use mathlib.Core.Path.{sym, ap, _∙_}
 use Prim.Native.Nat.{_-_, _≤_, _<_}
 use native.Mathlib.Omega.{arith}
@@ -7,8 +7,8 @@ use Rattle.model.specs.Node.{used}
 use Rattle.model.specs.State.{nodeAt}
 use Rattle.laws.specs.Find.{used-ranged}
 use Rattle.laws.specs.Locate.{back-slot, walked-broken, walked-miss, walked-found}
-use Rattle.walk.proofs.finger.walked.Statement.{statement}
-use Rattle.walk.proofs.finger.walked.Tie as tie
+use Rattle.finger_search.proofs.finger.walked.Statement.{statement}
+use Rattle.finger_search.proofs.finger.walked.Tie as tie
 
 -- the finger goes back to a slot in use
 from : (c : tie.After-back)
