@@ -108,5 +108,5 @@ pub fn raise_in(area: &mut [u32], g: Shape, delta: &[u32], k: u32, i: u32)
     let size = g.size;
     let a = k as usize * size;
     let e = a + size;
-    node::write::add_lengths(&mut area[a..e], g, i as usize, delta);
+    node_write::write::add_lengths(&mut area[a..e], g, i as usize, delta);
 }

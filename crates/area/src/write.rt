@@ -16,7 +16,7 @@ pub fn set_lengths(area: &mut [u32], g: Shape, k: u32, i: usize, ls: &[u32])
     let size = g.size;
     let a = k as usize * size;
     let e = a + size;
-    node::write::set_lengths(&mut area[a..e], g, i, ls);
+    node_write::write::set_lengths(&mut area[a..e], g, i, ls);
 }
 
 // The slot x put at place i of node k.
@@ -27,7 +27,7 @@ pub fn insert(area: &mut [u32], g: Shape, k: u32, i: usize, x: &[u32])
     let size = g.size;
     let a = k as usize * size;
     let e = a + size;
-    node::write::insert(&mut area[a..e], g, i, x);
+    node_write::write::insert(&mut area[a..e], g, i, x);
 }
 
 // The lengths of x taken from slot i of node k, and x put just before it or just after.
@@ -38,7 +38,7 @@ pub fn split_child(area: &mut [u32], g: Shape, k: u32, before: bool, i: usize, x
     let size = g.size;
     let a = k as usize * size;
     let e = a + size;
-    node::write::split_child(&mut area[a..e], g, before, i, x);
+    node_write::write::split_child(&mut area[a..e], g, before, i, x);
 }
 
 // Node k made anew with the slot x alone.
@@ -49,7 +49,7 @@ pub fn new_one(area: &mut [u32], g: Shape, k: u32, parent: u32, x: &[u32])
     let size = g.size;
     let a = k as usize * size;
     let e = a + size;
-    node::split::new_one(&mut area[a..e], g, parent, x);
+    node_write::split::new_one(&mut area[a..e], g, parent, x);
 }
 
 // Node k made anew with the slots x and y.
@@ -60,5 +60,5 @@ pub fn new_two(area: &mut [u32], g: Shape, k: u32, parent: u32, x: &[u32], y: &[
     let size = g.size;
     let a = k as usize * size;
     let e = a + size;
-    node::split::new_two(&mut area[a..e], g, parent, x, y);
+    node_write::split::new_two(&mut area[a..e], g, parent, x, y);
 }

@@ -30,7 +30,7 @@ use Rattle.model.specs.declared.answer.Named.the-variants as named
 use Rattle.laws.specs.Lens.{by-test}
 use Rattle.area.specs.Area.{Area}
 use Rattle.walk.specs.Raise.{raiseUp, whole, raise-climb}
-use Rattle.grow.specs.Fits.{Fits}
+use Rattle.links.specs.Fits.{Fits}
 use Rattle.place.proofs.LevelLaws.{entered-levels, entered-in}
 use Rattle.node.specs.Shaped.{Shaped}
 use Rattle.open.proofs.Causes.{call-refused, call-good}

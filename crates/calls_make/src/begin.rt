@@ -7,7 +7,7 @@ use model::length::Lengths;
 use model::length::Slot;
 use model::number::NodeNo;
 use model::shape::Shape;
-use node::split::new_one;
+use node_write::split::new_one;
 use open::open::Opened;
 use open::open::open_areas;
 ghost use mathlib.Core.Path.{_≡_};

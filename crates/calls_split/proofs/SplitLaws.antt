@@ -19,7 +19,7 @@ use Rattle.model.specs.declared.head.Cursor.{Cursor}
 use Rattle.model.specs.declared.length.Lengths.{Lengths}
 use Rattle.model.specs.declared.answer.Divided.{Divided}
 use Rattle.model.specs.declared.answer.Divided.the-variants as divided
-use Rattle.grow.specs.Fits.{Fits}
+use Rattle.links.specs.Fits.{Fits}
 use Rattle.place.specs.Room.{roomyIn}
 use Rattle.place.proofs.EntryLaws.{roomy}
 use Rattle.open.proofs.Causes.{opened-first, opened-next, opened-none, opened-stop, opened-more, good-shape, good-front, good-rest, call-refused, call-good}

@@ -14,9 +14,9 @@ use Rattle.model.specs.Grow.{Areas, areas, areaOf, nodeIn, Top, Grown, grown, A
 use Rattle.model.specs.declared.shape.Shape.{Shape}
 use Rattle.model.specs.declared.shape.Place.the-variants.{Slot, Missing}
 use Rattle.laws.specs.Lens.{both, Roomy, Parted, split-room}
-use Rattle.grow.specs.Fits.{Fits, Room}
+use Rattle.links.specs.Fits.{Fits, Room}
 use Rattle.grow.specs.Standing.{tests, standing}
-use Rattle.grow.specs.Tops.{toppedBy}
+use Rattle.links.specs.Tops.{toppedBy}
 
 module _ (g : Shape) (c level p after new : ℕ) (a : Areas) where
   pub no-node : c ≤ p → Missing ≡ standing g c level p after new a

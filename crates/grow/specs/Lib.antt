@@ -1,3 +1,1 @@
-pub mod Fits
-pub mod Tops
 pub mod Standing

@@ -1,10 +1,10 @@
 // A new child for an inner node; a full one is divided, and its upper half is a new child one level up.
-use crate::link::link;
-use crate::parts::word;
-use crate::parts::word_of;
-use crate::split::divide;
-use crate::split::grow_root;
-use crate::top::Top;
+use links::link::link;
+use links::parts::word;
+use links::parts::word_of;
+use links::split::divide;
+use links::split::grow_root;
+use links::top::Top;
 use model::number::NodeNo;
 use model::shape::Place;
 use model::shape::Shape;
@@ -12,9 +12,9 @@ ghost use mathlib.Core.Path.{_≡_};
 ghost use Prim.Native.Nat.{_-_, _/_, _<_, _≤_};
 ghost use lib.ListN.{length};
 ghost use Rattle.model.specs.Grow.{areas, link, splitNode, linkHalf, addTo, aboveOf};
-ghost use Rattle.grow.specs.Fits.{Fits, Room};
+ghost use Rattle.links.specs.Fits.{Fits, Room};
+ghost use Rattle.links.specs.Tops.{topOf, grownOf, toppedBy};
 ghost use Rattle.grow.specs.Standing.{standing};
-ghost use Rattle.grow.specs.Tops.{topOf, grownOf, toppedBy};
 
 // The place of node after in inner node p, behind which node new comes; every number and place is tested.
 fn standing(

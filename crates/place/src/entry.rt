@@ -17,7 +17,7 @@ ghost use Rattle.model.specs.Node.{inserted, childSplit};
 ghost use Rattle.model.specs.State.{state, nodeAt};
 ghost use Rattle.model.specs.Place.{change, enter, entering, makeRoom};
 ghost use Rattle.area.specs.Area.{Area};
-ghost use Rattle.grow.specs.Fits.{Fits};
+ghost use Rattle.links.specs.Fits.{Fits};
 ghost use Rattle.place.specs.Room.{roomyIn};
 
 // Whether leaf k is in the area and has room, with at least w slots in use from slot i on.

@@ -5,18 +5,18 @@ use crate::home::rehome;
 use area::word::len_of;
 use area::word::parent_of;
 use grow::grow::add_child;
-use grow::top::Top;
+use links::top::Top;
 use model::head::Head;
 use model::number::LeafNo;
 use model::number::NodeNo;
 use model::shape::Shape;
-use node::split::split_off;
+use node_write::split::split_off;
 ghost use mathlib.Core.Path.{_≡_};
 ghost use Prim.Native.Nat.{_<_, _≤_};
 ghost use lib.ListN.{length};
 ghost use Rattle.model.specs.State.{state};
 ghost use Rattle.model.specs.Place.{change, splitLeaf, makeRoom};
-ghost use Rattle.grow.specs.Fits.{Fits};
+ghost use Rattle.links.specs.Fits.{Fits};
 
 // The slots of leaf k from half on go to the next unused leaf, which gets its slot above (split_leaf).
 pub fn split_leaf(

@@ -1,7 +1,7 @@
 -- `calls_size::size::minus`: each wrapping difference is the definition's.
 use borrow.Author.Needs.{needs}
 use native.Mathlib.Omega.{arith}
-use Rattle.node.proofs.Turns.{wrapped-less}
+use Rattle.words.proofs.Turns.{wrapped-less}
 use Rattle.calls_size.proofs.SizeLaws.{differences}
 use Rattle.calls_size.proofs.size.minus.Statement.{statement}
 use Rattle.calls_size.proofs.size.minus.Tie as tie

@@ -6,7 +6,7 @@ use borrow.Author.Needs.{needs}
 use Rattle.model.specs.Node.{used}
 use Rattle.model.specs.State.{nodeAt}
 use Rattle.model.specs.Locate.{back}
-use Rattle.node.proofs.Turns.{wrapped-less}
+use Rattle.words.proofs.Turns.{wrapped-less}
 use Rattle.laws.specs.Locate.{back-first, back-here, back-turn}
 use Rattle.finger_search.proofs.finger.back.Statement.{statement}
 use Rattle.finger_search.proofs.finger.back.Tie as tie

@@ -7,7 +7,7 @@ use Rattle.model.specs.Node.{nodeOf}
 use Rattle.model.specs.Grow.{areas, linkHalf, aboveOf}
 use Rattle.laws.specs.AreaRead.{node-end}
 use Rattle.laws.specs.Grow.{split-bad, split-ok, above-none, above-more}
-use Rattle.grow.specs.Tops.{topOf}
+use Rattle.links.specs.Tops.{topOf}
 use Rattle.grow.proofs.Steps.{Stands, stands, add-missing, add-room, add-none, add-split, halves}
 use Prim.Native.Nat.{ℕ, _+_, _-_, _*_, _<_}
 use borrow.Author.Needs.{needs}
@@ -22,9 +22,9 @@ use Rattle.grow.proofs.grow.+add_child+split_node.Lts-split_node as spl
 use Rattle.grow.proofs.grow.link_half.Reads as link-half-reads
 use Rattle.grow.proofs.grow.link_top.Reads as link-top-reads
 use Rattle.grow.proofs.grow.standing.Reads as standing-reads
-use Rattle.grow.proofs.parts.word.Reads as word-reads
-use Rattle.grow.proofs.split.divide.Reads as divide-reads
-use Rattle.grow.proofs.split.grow_root.Reads as grow-root-reads
+use Rattle.links.proofs.parts.word.Reads as word-reads
+use Rattle.links.proofs.split.divide.Reads as divide-reads
+use Rattle.links.proofs.split.grow_root.Reads as grow-root-reads
 use Rattle.grow.proofs.grow.+add_child+split_node.{statement}
 use Rattle.grow.proofs.grow.+add_child+split_node.Tie.{close}
 

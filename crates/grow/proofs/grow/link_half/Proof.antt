@@ -2,7 +2,7 @@
 use Prim.Native.Nat.{_-_}
 use mathlib.Core.Path.{_∙_}
 use Rattle.laws.specs.Grow.{half-bad, half-low, half-high}
-use Rattle.grow.specs.Tops.{grownOf}
+use Rattle.links.specs.Tops.{grownOf}
 use borrow.Author.Needs.{needs}
 use Rattle.grow.proofs.grow.link_half.Statement.{statement}
 use Rattle.grow.proofs.grow.link_half.Tie as tie

@@ -1,7 +1,7 @@
 -- `grow::grow::link_top`: nothing but the number and the areas changes.
 use Prim.Native.Nat.{_-_}
 use mathlib.Core.Path.{ap}
-use Rattle.grow.specs.Tops.{topOf, toppedBy}
+use Rattle.links.specs.Tops.{topOf, toppedBy}
 use borrow.Author.Needs.{needs}
 use Rattle.grow.proofs.grow.link_top.Statement.{statement}
 use Rattle.grow.proofs.grow.link_top.Tie as tie

@@ -1,0 +1,99 @@
+-- `links::parts::adopt_all`: what is left to do from place i on, of the areas as they are, is what there was to do at the start.
+use Prim.Native.Nat.{_+_, _-_, _*_, _≤_}
+use mathlib.Core.Path.{_≡_, refl, sym, _∙_}
+use native.Mathlib.Omega.{arith}
+use lib.ListN.{length}
+use Rattle.model.specs.Grow.{areas, adoptAll}
+use Rattle.laws.specs.AreaRead.{node-end}
+use Rattle.laws.specs.Grow.{all-end, all-bad, all-more}
+use Rattle.node.specs.Shaped.{slot-in}
+use borrow.Author.Needs.{needs}
+use Rattle.links.proofs.parts.adopt_all.Statement.{statement}
+use Rattle.links.proofs.parts.adopt_all.Tie as tie
+
+abbrev Inv-loop : tie.InvT-loop
+Inv-loop leaves₀ inners₀ g level p from to nodes stride parent i₀ leaves inners i = (length leaves ≡ length leaves₀) × (length inners ≡ length inners₀) × (adoptAll g level (p .0) (to - i) i (areas leaves inners) ≡ adoptAll g level (p .0) (to - from) from (areas leaves₀ inners₀))
+
+abbrev μ-loop : tie.MeasureT-loop
+μ-loop leaves₀ inners₀ g level p from to nodes stride parent i₀ leaves inners i = to - i
+
+-- the slot at place i ends within the node
+turn : (c : tie.In-loop Inv-loop μ-loop) → 3 + c .before .loop .i * c .before .before .before .before .before .args .g .stride + c .before .before .before .before .before .args .g .stride ≤ c .before .before .before .before .before .args .g .size
+turn c =
+    let s = c .before .before .before .before .before in
+    slot-in (s .args .g) (s .args .g .size) (s .pre .0 .shaped) refl (c .before .loop .i) (omega (arith, c .loop-test .taken, s .pre .2))
+
+cast-parent : tie.Need-cast-parent Inv-loop μ-loop
+cast-parent c = search needs
+
+loop-holds : tie.Need-loop-holds Inv-loop μ-loop
+loop-holds c = (refl, refl, refl)
+
+add-next : tie.Need-add-next Inv-loop μ-loop
+add-next c = omega (arith, c .loop-test .taken, c .before .before .before .before .before .pre .2, c .before .before .before .before .before .pre .0 .shaped .few)
+
+mul-word : tie.Need-mul-word Inv-loop μ-loop
+mul-word c = omega (arith, turn (c .before), c .before .before .before .before .before .before .pre .0 .shaped .narrow, c .before .before .before .before .before .before .pre .0 .shaped .few, c .before .before .before .before .before .before .pre .0 .shaped .words)
+
+add-word : tie.Need-add-word Inv-loop μ-loop
+add-word c = omega (arith, turn (c .before), c .before .before .before .before .before .before .pre .0 .shaped .narrow, c .before .before .before .before .before .before .pre .0 .shaped .few, c .before .before .before .before .before .before .pre .0 .shaped .words)
+
+word-requires : tie.Need-word-requires Inv-loop μ-loop
+word-requires c κs = (omega (arith, turn (c .before), c .before .before .before .before .before .before .pre .0 .shaped .columns), rw (c .before .before .loop .inv .1) (node-end (c .before .before .before .before .before .before .args .g) (c .before .before .before .before .before .before .args .p .0) (length (c .before .before .before .before .before .before .args .inners .now)) (c .before .before .before .before .before .before .pre .1) (c .before .before .before .before .before .before .pre .0 .inners)))
+
+cast-k : tie.Need-cast-k Inv-loop μ-loop
+cast-k c = search needs
+
+same-length : tie.Need-same-length Inv-loop μ-loop
+same-length c = c .before .before .before .before .loop .inv .0
+
+same-length-2 : tie.Need-same-length-2 Inv-loop μ-loop
+same-length-2 c = c .before .before .before .before .loop .inv .1
+
+returns : tie.Need-returns Inv-loop μ-loop
+returns c = sym (all-bad _ _ _ _ _ _ _ (c .before .before .before .loop-test .taken) (c .before .before .before .before .before .before .before .before .pre .2) (omega (arith, c .before .before .before .before .before .before .before .before .pre .0 .shaped .columns)) (c .before .word .ensures) (c .if1 .taken)) ∙ c .before .before .before .before .loop .inv .2
+
+cast-adopt : tie.Need-cast-adopt Inv-loop μ-loop
+cast-adopt c = omega (arith, c .before .before .before .before .before .loop-test .taken, c .before .before .before .before .before .before .before .before .before .before .pre .2, c .before .before .before .before .before .before .before .before .before .before .pre .0 .shaped .few)
+
+adopt-requires : tie.Need-adopt-requires Inv-loop μ-loop
+adopt-requires c κs = (rw (c .before .before .before .before .before .before .loop .inv .0, c .before .before .before .before .before .before .loop .inv .1) (c .before .before .before .before .before .before .before .before .before .before .pre .0), c .before .before .if1 .left)
+
+loop-less : tie.Need-loop-less Inv-loop μ-loop
+loop-less c = omega (arith, c .before .before .before .before .before .before .before .before .before .before .loop-test .taken)
+
+loop-again : tie.Need-loop-again Inv-loop μ-loop
+loop-again c = (c .before .before .before .before .adopt .kept .0 ∙ c .before .before .before .before .before .before .before .before .before .before .before .loop .inv .0, c .before .before .before .before .adopt .kept .1 .0 ∙ c .before .before .before .before .before .before .before .before .before .before .before .loop .inv .1, all-more _ _ _ _ _ _ _ (c .before .before .before .before .before .before .before .before .before .before .loop-test .taken) (c .before .before .before .before .before .before .before .before .before .before .before .before .before .before .before .pre .2) (omega (arith, c .before .before .before .before .before .before .before .before .before .before .before .before .before .before .before .pre .0 .shaped .columns)) (c .before .before .before .before .before .before .before .before .word .ensures) _ (c .before .before .before .before .before .before .before .if1 .left) (c .before .before .before .before .adopt .ensures) ∙ c .before .before .before .before .before .before .before .before .before .before .before .loop .inv .2)
+
+same-length-3 : tie.Need-same-length-3 Inv-loop μ-loop
+same-length-3 c = c .before .loop .inv .0
+
+same-length-4 : tie.Need-same-length-4 Inv-loop μ-loop
+same-length-4 c = c .before .loop .inv .1
+
+returns-2 : tie.Need-returns-2 Inv-loop μ-loop
+returns-2 c = sym (all-end _ _ _ _ _ _ (c .loop-test .left)) ∙ c .before .loop .inv .2
+
+pub adopt-all-spec : {M : Type 1} → statement M
+adopt-all-spec =
+    tie.close
+    (tie.spec
+    Inv-loop
+    μ-loop
+    cast-parent
+    loop-holds
+    add-next
+    mul-word
+    add-word
+    word-requires
+    cast-k
+    same-length
+    same-length-2
+    returns
+    cast-adopt
+    adopt-requires
+    loop-less
+    loop-again
+    same-length-3
+    same-length-4
+    returns-2)

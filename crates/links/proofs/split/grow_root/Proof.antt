@@ -1,0 +1,107 @@
+-- `links::split::grow_root`: the next unused number is the root's, its slots are summed up from both nodes, and these learn it.
+use Prim.Native.Nat.{_-_}
+use mathlib.Core.List.{[], _∷_}
+use native.Mathlib.Omega.{arith}
+use Rattle.laws.specs.Fronts.{front-in, front-back, front-again}
+use Rattle.laws.specs.Grow.{root-none, root-as}
+use Rattle.links.specs.Tops.{topOf}
+use borrow.Author.Needs.{needs}
+use Rattle.links.proofs.split.grow_root.Statement.{statement}
+use Rattle.links.proofs.split.grow_root.Tie as tie
+
+cast-if1 : tie.Need-cast-if1
+cast-if1 c = search needs
+
+returns : tie.Need-returns
+returns c = root-none (c .before .before .before .before .args .g) (topOf (c .before .before .before .before .args .t)) (c .before .before .before .before .args .k .0) (c .before .before .before .before .args .m .0) _ _ (c .if1 .taken)
+
+sub-sum-node : tie.Need-sub-sum-node
+sub-sum-node c = search needs
+
+part-x-start : tie.Need-part-x-start
+part-x-start c = search needs
+
+part-x-end : tie.Need-part-x-end
+part-x-end c = search needs
+
+sum-node-requires : tie.Need-sum-node-requires
+sum-node-requires c κs = search needs
+
+sub-sum-node-2 : tie.Need-sub-sum-node-2
+sub-sum-node-2 c = search needs
+
+part-y-start : tie.Need-part-y-start
+part-y-start c = search needs
+
+part-y-end : tie.Need-part-y-end
+part-y-end c = search needs
+
+sum-node-requires-2 : tie.Need-sum-node-requires-2
+sum-node-requires-2 c κs = search needs
+
+sub-new-two : tie.Need-sub-new-two
+sub-new-two c = search needs
+
+part-new-two-start : tie.Need-part-new-two-start
+part-new-two-start c = search needs
+
+part-new-two-end : tie.Need-part-new-two-end
+part-new-two-end c = front-in (c .before .before .before .before .before .before .before .before .before .before .before .before .before .before .args .g .stride) (c .before .before .before .before .before .before .before .sum-node .last .1 .1 .1 .0) _ (0 ∷ 0 ∷ 0 ∷ 0 ∷ []) (c .before .before .before .before .before .before .before .sum-node .kept .1 .1 .1 .0) (c .before .before .before .before .before .before .before .before .before .before .before .before .before .before .pre .0 .shaped .narrow)
+
+sub-new-two-2 : tie.Need-sub-new-two-2
+sub-new-two-2 c = search needs
+
+part-new-two-start-2 : tie.Need-part-new-two-start-2
+part-new-two-start-2 c = search needs
+
+part-new-two-end-2 : tie.Need-part-new-two-end-2
+part-new-two-end-2 c = front-in (c .before .before .before .before .before .before .before .before .before .before .before .before .before .before .before .before .args .g .stride) (c .before .before .before .before .before .sum-node2 .last .1 .1 .1 .0) _ (0 ∷ 0 ∷ 0 ∷ 0 ∷ []) (c .before .before .before .before .before .sum-node2 .kept .1 .1 .1 .0) (c .before .before .before .before .before .before .before .before .before .before .before .before .before .before .before .before .pre .0 .shaped .narrow)
+
+new-two-requires : tie.Need-new-two-requires
+new-two-requires c κs = (record { shaped = c .before .before .before .before .before .before .before .before .before .before .before .before .before .before .before .before .before .pre .0 .shaped; room = c .before .before .before .before .before .before .before .before .before .before .before .before .before .before .before .before .before .pre .0 .inners }, c .before .before .before .before .before .before .before .before .before .before .before .before .before .if1 .left, front-again (c .before .before .before .before .before .before .before .before .before .before .before .before .before .before .before .before .before .args .g .stride) (c .before .before .before .before .before .before .before .before .before .before .sum-node .last .1 .1 .1 .0) _ (0 ∷ 0 ∷ 0 ∷ 0 ∷ []) (c .before .before .before .before .before .before .before .before .before .before .sum-node .kept .1 .1 .1 .0) (c .before .before .before .before .before .before .before .before .before .before .before .before .before .before .before .before .before .pre .0 .shaped .narrow), front-again (c .before .before .before .before .before .before .before .before .before .before .before .before .before .before .before .before .before .args .g .stride) (c .before .before .before .before .before .before .sum-node2 .last .1 .1 .1 .0) _ (0 ∷ 0 ∷ 0 ∷ 0 ∷ []) (c .before .before .before .before .before .before .sum-node2 .kept .1 .1 .1 .0) (c .before .before .before .before .before .before .before .before .before .before .before .before .before .before .before .before .before .pre .0 .shaped .narrow))
+
+adopt-all-requires : tie.Need-adopt-all-requires
+adopt-all-requires c κs = (rw (c .before .before .before .before .new-two .kept .0) (c .before .before .before .before .before .before .before .before .before .before .before .before .before .before .before .before .before .before .before .before .before .before .pre .0), c .before .before .before .before .before .before .before .before .before .before .before .before .before .before .before .before .before .before .if1 .left, omega (arith, c .before .before .before .before .before .before .before .before .before .before .before .before .before .before .before .before .before .before .before .before .before .before .pre .0 .shaped .slots))
+
+add-t47 : tie.Need-add-t47
+add-t47 c = omega (arith, c .before .before .before .before .before .before .before .before .before .before .before .before .before .before .before .before .before .before .before .before .before .before .before .if1 .left, c .before .before .before .before .before .before .before .before .before .before .before .before .before .before .before .before .before .before .before .before .before .before .before .before .before .before .before .pre .0 .shaped .areas)
+
+add-t48 : tie.Need-add-t48
+add-t48 c = search needs
+
+same-length : tie.Need-same-length
+same-length c = search needs
+
+same-length-2 : tie.Need-same-length-2
+same-length-2 c = search needs
+
+returns-2 : tie.Need-returns-2
+returns-2 c = root-as (c .before .before .before .before .before .before .before .before .before .before .before .before .before .before .before .before .before .before .before .before .before .before .before .before .before .before .before .args .g) (topOf (c .before .before .before .before .before .before .before .before .before .before .before .before .before .before .before .before .before .before .before .before .before .before .before .before .before .before .before .args .t)) (c .before .before .before .before .before .before .before .before .before .before .before .before .before .before .before .before .before .before .before .before .before .before .before .before .before .before .before .args .k .0) (c .before .before .before .before .before .before .before .before .before .before .before .before .before .before .before .before .before .before .before .before .before .before .before .before .before .before .before .args .m .0) _ _ (c .before .before .before .before .before .before .before .before .before .before .before .before .before .before .before .before .before .before .before .before .sum-node .last .1 .1 .1 .0) (c .before .before .before .before .before .before .before .before .before .before .before .before .before .before .before .before .sum-node2 .last .1 .1 .1 .0) _ _ _ _ _ (c .before .before .before .before .before .before .before .before .before .before .before .before .before .before .before .before .before .before .before .before .before .before .before .if1 .left) (c .before .before .before .before .before .before .before .before .before .before .before .before .before .before .before .before .before .before .before .before .sum-node .ensures) (c .before .before .before .before .before .before .before .before .before .before .before .before .before .before .before .before .sum-node2 .ensures) (front-back (c .before .before .before .before .before .before .before .before .before .before .before .before .before .before .before .before .before .before .before .before .before .before .before .before .before .before .before .args .g .stride) (c .before .before .before .before .before .before .before .before .before .before .before .before .before .before .before .before .before .before .before .before .sum-node .last .1 .1 .1 .0) _ (0 ∷ 0 ∷ 0 ∷ 0 ∷ []) (c .before .before .before .before .before .before .before .before .before .before .before .before .before .before .before .before .before .before .before .before .sum-node .kept .1 .1 .1 .0) (c .before .before .before .before .before .before .before .before .before .before .before .before .before .before .before .before .before .before .before .before .before .before .before .before .before .before .before .pre .0 .shaped .narrow)) (front-back (c .before .before .before .before .before .before .before .before .before .before .before .before .before .before .before .before .before .before .before .before .before .before .before .before .before .before .before .args .g .stride) (c .before .before .before .before .before .before .before .before .before .before .before .before .before .before .before .before .sum-node2 .last .1 .1 .1 .0) _ (0 ∷ 0 ∷ 0 ∷ 0 ∷ []) (c .before .before .before .before .before .before .before .before .before .before .before .before .before .before .before .before .sum-node2 .kept .1 .1 .1 .0) (c .before .before .before .before .before .before .before .before .before .before .before .before .before .before .before .before .before .before .before .before .before .before .before .before .before .before .before .pre .0 .shaped .narrow)) (c .before .before .before .before .before .before .before .before .before .new-two .ensures) (c .before .before .before .before .adopt-all .ensures)
+
+pub grow-root-spec : {M : Type 1} → statement M
+grow-root-spec =
+    tie.close
+    (tie.spec
+    cast-if1
+    returns
+    sub-sum-node
+    part-x-start
+    part-x-end
+    sum-node-requires
+    sub-sum-node-2
+    part-y-start
+    part-y-end
+    sum-node-requires-2
+    sub-new-two
+    part-new-two-start
+    part-new-two-end
+    sub-new-two-2
+    part-new-two-start-2
+    part-new-two-end-2
+    new-two-requires
+    adopt-all-requires
+    add-t47
+    add-t48
+    same-length
+    same-length-2
+    returns-2)

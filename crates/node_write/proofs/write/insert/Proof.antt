@@ -1,0 +1,71 @@
+-- `node_write::write::insert`: the slots in use from slot i on move up by one slot, and x comes into the gap.
+use Prim.Native.Nat.{_+_, _*_, _≤_}
+use mathlib.Core.Path.{_∙_}
+use native.Mathlib.Omega.{arith}
+use lib.ListN.{length, getD, length-set}
+use Rattle.laws.specs.Lists.{rows-le}
+use Rattle.laws.specs.Changes.{insert-words}
+use Rattle.node.specs.Shaped.{whole, slot-in}
+use Rattle.node_write.proofs.write.insert.Statement.{statement}
+use Rattle.node_write.proofs.write.insert.Tie as tie
+
+-- slot i begins before the slot behind those in use, which lies in the node
+room : (c : tie.Start) → (c .args .i * c .args .g .stride ≤ getD (c .args .node .now) 0 0 * c .args .g .stride) × (3 + getD (c .args .node .now) 0 0 * c .args .g .stride + c .args .g .stride ≤ length (c .args .node .now))
+room c = (rows-le (c .args .i) (getD (c .args .node .now) 0 0) (c .args .g .stride) (c .pre .2), slot-in (c .args .g) _ (c .pre .0) (c .pre .1) _ (c .pre .3))
+
+slice-read-len : tie.Need-slice-read-len
+slice-read-len c = omega (arith, room (c .before .before .before))
+
+mul-p : tie.Need-mul-p
+mul-p c = omega (arith, room (c .before .before .before))
+
+add-p : tie.Need-add-p
+add-p c = omega (arith, room (c .before .before .before))
+
+cast-q : tie.Need-cast-q
+cast-q c = omega (arith, c .slice-known2 .given 0)
+
+mul-q : tie.Need-mul-q
+mul-q c = omega (arith, room (c .before .before .before))
+
+add-q : tie.Need-add-q
+add-q c = omega (arith, room (c .before .before .before))
+
+shift-requires : tie.Need-shift-requires
+shift-requires c κs = omega (arith, room (c .before .before .before .before))
+
+put-requires : tie.Need-put-requires
+put-requires c κs = omega (arith, room (c .before .before .before .before .before .before .before .before), c .before .before .before .shift .kept .0, c .before .before .before .before .before .before .before .before .pre .4)
+
+add-node : tie.Need-add-node
+add-node c =
+    let s = c .before .before .before .before .before .before .before .before .before .before .before in
+    omega (arith, s .pre .0, s .pre .3)
+
+slice-write-node : tie.Need-slice-write-node
+slice-write-node c = omega (arith, room (c .before .before .before .before .before .before .before .before .before .before .before), c .before .before .put .kept .0, c .before .before .before .before .before .before .shift .kept .0)
+
+same-length : tie.Need-same-length
+same-length c = simp length-set (c .before .before .put .kept .0 ∙ c .before .before .before .before .before .before .shift .kept .0)
+
+returns : tie.Need-returns
+returns c =
+    let s = c .before .before .before .before .before .before .before .before .before .before .before in
+    rw (c .before .before .put .ensures, c .before .before .before .before .before .before .shift .ensures) (insert-words _ _ _ (whole _ _ (s .pre .0) (s .pre .1)) _ _ (s .pre .4) (s .pre .2) (s .pre .3))
+
+pub insert-spec : {M : Type 1} → statement M
+insert-spec =
+    tie.close
+    (tie.spec
+    slice-read-len
+    mul-p
+    add-p
+    cast-q
+    mul-q
+    add-q
+    shift-requires
+    put-requires
+    add-node
+    slice-write-node
+    same-length
+    returns)
