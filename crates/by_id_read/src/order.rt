@@ -20,7 +20,7 @@ ghost use Rattle.by_id_read.specs.Answer.{followingAnswer};
 pub fn first(head: Head, leaves: &[u32], inners: &[u32], homes: &[u32]) -> Named
     ensures { λ r. ⌜ moved (state head (now (leaves .entry)) (now (inners .entry)) (now (homes .entry))) (namedAnswer r) ≡ treeStep (state head (now (leaves .entry)) (now (inners .entry)) (now (homes .entry))) row.first ⌝ }
 {
-    match calls_read::order::first(head, leaves, inners, homes) {
+    match calls_order::order::first(head, leaves, inners, homes) {
         Standing::Refused(n) => Named::Refused(n),
         Standing::At(c) => id(head, leaves, inners, homes, c),
     }
@@ -32,7 +32,7 @@ pub fn next(head: Head, leaves: &[u32], inners: &[u32], homes: &[u32], at: Entry
 {
     match cursor(head, leaves, inners, homes, at) {
         Standing::Refused(n) => Following::Refused(n),
-        Standing::At(c) => match calls_read::order::next(head, leaves, inners, homes, c) {
+        Standing::At(c) => match calls_order::order::next(head, leaves, inners, homes, c) {
             Next::Refused(n) => Following::Refused(n),
             Next::Nothing => Following::Nothing,
             Next::At(d) => match id(head, leaves, inners, homes, d) {
@@ -58,7 +58,7 @@ pub fn cmp(
         Standing::Refused(n) => Compared::Refused(n),
         Standing::At(x) => match cursor(head, leaves, inners, homes, b) {
             Standing::Refused(n) => Compared::Refused(n),
-            Standing::At(y) => calls_read::order::cmp(head, leaves, inners, homes, x, y),
+            Standing::At(y) => calls_order::order::cmp(head, leaves, inners, homes, x, y),
         },
     }
 }

@@ -43,7 +43,7 @@ pub fn entry_to_char_index(
 {
     match cursor(head, leaves, inners, homes, id) {
         Standing::Refused(n) => Number::Refused(n),
-        Standing::At(c) => calls_read::read::entry_to_char_index(
+        Standing::At(c) => calls_order::order::entry_to_char_index(
             head,
             leaves,
             inners,

@@ -2,36 +2,27 @@
 use mathlib.Core.Path.{_≡_, refl, sym, ap, _∙_}
 use mathlib.Core.Bool.{Bool, true, false, cond, _&&_}
 use mathlib.Core.List.{List, [], _∷_, _++_}
-use Prim.Native.Nat.{ℕ, suc, _+_, _*_, _<_, _≤_}
+use Prim.Native.Nat.{ℕ, suc, _+_, _<_, _≤_}
 use native.Mathlib.Omega.{arith}
 use lib.ListN.{length, getD}
 use lib.Dec.{ltb, leb, eqb}
 use borrow.Author.Tests.{lt-ltb, le-ltb, lt-leb, le-leb}
-use Rattle.model.specs.Lists.{part}
-use Rattle.model.specs.Node.{nodeOf, child, lengths, used, start, indexFrom}
+use Rattle.model.specs.Node.{child, lengths, used, indexFrom}
 use Rattle.model.specs.State.{State, nodeAt}
 use Rattle.model.specs.Refuse.{shapeOf, opening, atCursor, noSuchId}
-use Rattle.model.specs.Length.{viewNumber, listOf}
-use Rattle.model.specs.Climb.{rankUp}
-use Rattle.model.specs.Calls.{entryId, id, lengthsFrom, lengthsOf, rankOf, entryToCharIndex, standingIn, cursor}
+use Rattle.model.specs.Length.{listOf}
+use Rattle.model.specs.Calls.{entryId, id, lengthsFrom, lengthsOf, standingIn, cursor}
 use Rattle.model.specs.declared.shape.Shape.{Shape}
 use Rattle.model.specs.declared.head.Cursor.{Cursor}
 use Rattle.model.specs.declared.length.Lengths.{Lengths}
-use Rattle.model.specs.declared.length.View.{View}
 use Rattle.model.specs.declared.shape.Place.{Place}
 use Rattle.model.specs.declared.shape.Place.the-variants as slot
-use Rattle.model.specs.declared.way.Sum.{Sum}
-use Rattle.model.specs.declared.answer.Number.{Number}
-use Rattle.model.specs.declared.answer.Number.the-variants as number
 use Rattle.model.specs.declared.answer.Standing.{Standing}
 use Rattle.model.specs.declared.answer.Standing.the-variants as standing
 use Rattle.model.specs.declared.answer.Named.{Named}
 use Rattle.model.specs.declared.answer.Measured.{Measured}
 use Rattle.model.specs.declared.answer.Named.the-variants as named
 use Rattle.model.specs.declared.answer.Measured.the-variants as measured
-use Rattle.laws.specs.Lists.{in-row}
-use Rattle.laws.specs.Words.{getD-part}
-use Rattle.laws.specs.Slots.{column}
 use Rattle.laws.specs.AreaRead.{used-length}
 use Rattle.node.specs.Shaped.{Shaped}
 use Rattle.open.proofs.Causes.{opened-first, opened-next, opened-none, opened-stop, opened-more, good-shape, call-refused, call-good}
@@ -50,11 +41,6 @@ module _ (s : State) (c : Cursor) where
   abbrev idBy : Shape → Named
   idBy g = named.Entry (entryId (child (slotBy g)))
 
-  abbrev climbBy : View → Shape → Sum
-  climbBy v g =
-      let m = nodeAt g (c .leaf .0) (s .leaves) in
-      rankUp g (viewNumber v) (s .head .levels) (m .parent) (m .at) (start (viewNumber v) (c .slot) m) (s .inners)
-
   abbrev lengthsBy : Shape → Measured
   lengthsBy g = measured.Are (lengthsFrom (lengths (slotBy g)))
 
@@ -67,10 +53,6 @@ module _ (s : State) (c : Cursor) (o : Opened) (e : o ≡ openedBy (opening s ++
   unfolding lengthsOf
   lengths-refused n d = call-refused measured.Refused (lengthsBy s c) _ (shapeOf (s .head)) o e n d
 
-  pub rank-refused : (v : View) (n : ℕ) → o ≡ Refused n → number.Refused n ≡ entryToCharIndex s v c
-  unfolding entryToCharIndex
-  rank-refused v n d = call-refused number.Refused (λ (x : Shape). rankOf (climbBy s c v x)) _ (shapeOf (s .head)) o e n d
-
   module _ (g : Shape) (d : o ≡ Good g) where
     pub id-good : (x : ℕ) → x ≡ child (slotBy s c g) → named.Entry (entryId x) ≡ id s c
     unfolding id
@@ -79,15 +61,6 @@ module _ (s : State) (c : Cursor) (o : Opened) (e : o ≡ openedBy (opening s ++
     pub lengths-good : (l : Lengths) → lengths (slotBy s c g) ≡ listOf l → measured.Are l ≡ lengthsOf s c
     unfolding lengthsOf
     lengths-good l p = call-good measured.Refused (lengthsBy s c) _ (shapeOf (s .head)) o e g d _ (rw p)
-
-    -- the climb starts with the leaf's own place and what stands before the slot in it
-    pub rank-good : (v : View) (w p a b : ℕ) (r q : Sum) → w ≡ viewNumber v → b ≡ start w (c .slot) (nodeAt g (c .leaf .0) (s .leaves))
-        → p ≡ nodeAt g (c .leaf .0) (s .leaves) .parent → a ≡ nodeAt g (c .leaf .0) (s .leaves) .at → r ≡ rankUp g w (s .head .levels) p a b (s .inners) → r ≡ q
-        → rankOf q ≡ entryToCharIndex s v c
-    unfolding entryToCharIndex
-    rank-good v w p a b r q ew eb ep ea er eq =
-        let whole : rankUp g w (s .head .levels) p a b (s .inners) ≡ climbBy s c v g = rw (ep, ea, eb, ew) in
-        call-good number.Refused (λ (x : Shape). rankOf (climbBy s c v x)) _ (shapeOf (s .head)) o e g d _ (ap rankOf (sym eq ∙ er ∙ whole))
 
 -- the slot that holds a child is one of those that were searched
 index-step : (b : Bool) (k n j : ℕ) (p : Place) → (p ≡ slot.Slot j → j < k + 1 + n) → cond b (slot.Slot k) p ≡ slot.Slot j → j < k + suc n

@@ -1,9 +1,6 @@
 // The calls that read a count or one entry.
-use area::word::at_of;
 use area::word::child_of;
 use area::word::len_of;
-use area::word::parent_of;
-use area::word::start_in;
 use model::answer::Measured;
 use model::answer::Named;
 use model::answer::Number;
@@ -11,18 +8,15 @@ use model::answer::Standing;
 use model::answer::Verdict;
 use model::head::Cursor;
 use model::head::Head;
-use model::length::View;
 use model::number::EntryId;
 use model::number::LeafNo;
 use model::shape::Place;
 use model::shape::Shape;
-use model::way::Sum;
 use open::lengths::lengths_at;
 use open::open::Opened;
 use open::open::bad_size;
 use open::open::open;
 use open::open::open_at;
-use walk::climb::rank_up;
 ghost use mathlib.Core.Path.{_≡_};
 ghost use Prim.Native.Nat.{_<_, _≤_};
 ghost use lib.ListN.{length};
@@ -80,33 +74,6 @@ pub fn lengths(head: Head, leaves: &[u32], inners: &[u32], homes: &[u32], at: Cu
         Opened::Good(g) => {
             let own = lengths_at(leaves, g, at.leaf.0, at.slot);
             Measured::Are(own)
-        }
-    }
-}
-
-// The position in a view of the entry at a cursor: the lengths before it.
-pub fn entry_to_char_index(
-    head: Head,
-    leaves: &[u32],
-    inners: &[u32],
-    homes: &[u32],
-    view: View,
-    at: Cursor,
-) -> Number
-    ensures { λ r. ⌜ r ≡ calls.entryToCharIndex (state head (now (leaves .entry)) (now (inners .entry)) (now (homes .entry))) view at ⌝ }
-{
-    match open_at(head, leaves, inners, homes, at) {
-        Opened::Refused(n) => Number::Refused(n),
-        Opened::Good(g) => {
-            let v = view.number();
-            let k = at.leaf.0;
-            let before = start_in(leaves, g, v, k, at.slot);
-            let parent = parent_of(leaves, g, k);
-            let place = at_of(leaves, g, k);
-            match rank_up(inners, g, v, head.levels, parent, place, before) {
-                Sum::Is(n) => Number::Is((n % 4294967296) as u32),
-                Sum::Broken => Number::Refused(9),
-            }
         }
     }
 }

@@ -1,9 +1,9 @@
--- `calls_read::order::first`: down from the root by first slots to a leaf, and there slot 0.
+-- `calls_order::order::first`: down from the root by first slots to a leaf, and there slot 0.
 use borrow.Author.Needs.{needs}
 use Rattle.open.proofs.ReadyLaws.{ready, inner-area}
-use Rattle.calls_read.proofs.OrderLaws.{first-refused, first-good}
-use Rattle.calls_read.proofs.order.first.Statement.{statement}
-use Rattle.calls_read.proofs.order.first.Tie as tie
+use Rattle.calls_order.proofs.OrderLaws.{first-refused, first-good}
+use Rattle.calls_order.proofs.order.first.Statement.{statement}
+use Rattle.calls_order.proofs.order.first.Tie as tie
 
 open-requires : tie.Need-open-requires
 open-requires c κs = search needs

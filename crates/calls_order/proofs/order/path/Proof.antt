@@ -1,7 +1,7 @@
--- `calls_read::order::path`: the climb starts with the leaf's own place.
+-- `calls_order::order::path`: the climb starts with the leaf's own place.
 use borrow.Author.Needs.{needs}
-use Rattle.calls_read.proofs.order.path.Statement.{statement}
-use Rattle.calls_read.proofs.order.path.Tie as tie
+use Rattle.calls_order.proofs.order.path.Statement.{statement}
+use Rattle.calls_order.proofs.order.path.Tie as tie
 
 parent-of-requires : tie.Need-parent-of-requires
 parent-of-requires c κs = search needs

@@ -2,7 +2,7 @@
 use mathlib.Core.Path.{_≡_, refl, sym, ap, _∙_}
 use mathlib.Core.Bool.{Bool, true, false, cond, not}
 use mathlib.Core.List.{List, [], _∷_, _++_}
-use Prim.Native.Nat.{ℕ, suc, _+_, _<_, _≤_}
+use Prim.Native.Nat.{ℕ, _+_, _<_, _≤_}
 use native.Mathlib.Omega.{arith}
 use native.Mathlib.Nat.{lt-of-lt-of-le}
 use lib.ListN.{length, take}
@@ -10,14 +10,19 @@ use lib.Seq.{length-take-le}
 use lib.Dec.{ltb, eqb}
 use borrow.Author.Tests.{lt-ltb, le-ltb, eq-eqb, ne-eqb, not-false}
 use Rattle.model.specs.Lists.{Cause}
-use Rattle.model.specs.Climb.{stepsUp, firstDown, nextUp}
+use Rattle.model.specs.Node.{start}
+use Rattle.model.specs.Length.{viewNumber}
+use Rattle.model.specs.Climb.{rankUp, stepsUp, firstDown, nextUp}
 use Rattle.model.specs.State.{State, nodeAt}
 use Rattle.model.specs.Refuse.{shapeOf, opening, current, stale, atCursor}
-use Rattle.model.specs.Calls.{cursorAt, firstOf, first, nextOf, nextAfter, inOrder, byPath, path, cmp}
+use Rattle.model.specs.Calls.{rankOf, entryToCharIndex, cursorAt, firstOf, first, nextOf, nextAfter, inOrder, byPath, path, cmp}
 use Rattle.model.specs.declared.shape.Shape.{Shape}
 use Rattle.model.specs.declared.head.Cursor.{Cursor}
 use Rattle.model.specs.declared.head.Path.{Path}
+use Rattle.model.specs.declared.length.View.{View}
+use Rattle.model.specs.declared.way.Sum.{Sum}
 use Rattle.model.specs.declared.way.Leaf.{Leaf}
+use Rattle.model.specs.declared.answer.Number.the-variants as number
 use Rattle.model.specs.declared.answer.Standing.{Standing}
 use Rattle.model.specs.declared.answer.Standing.the-variants as standing
 use Rattle.model.specs.declared.answer.Next.{Next}
@@ -33,6 +38,28 @@ use Rattle.open.proofs.CursorLaws.{current-leaf}
 use Rattle.open.specs.Open.{openedBy}
 use Rattle.open.specs.declared.open.Opened.{Opened}
 use Rattle.open.specs.declared.open.Opened.the-variants.{Good, Refused}
+
+-- entry_to_char_index ---------------------------------------------------------------------------------------------------------------------
+
+module _ (s : State) (c : Cursor) where
+  abbrev climbBy : View → Shape → Sum
+  climbBy v g =
+      let m = nodeAt g (c .leaf .0) (s .leaves) in
+      rankUp g (viewNumber v) (s .head .levels) (m .parent) (m .at) (start (viewNumber v) (c .slot) m) (s .inners)
+
+  module _ (o : Opened) (e : o ≡ openedBy (opening s ++ atCursor s c) (shapeOf (s .head))) where
+    pub rank-refused : (v : View) (n : ℕ) → o ≡ Refused n → number.Refused n ≡ entryToCharIndex s v c
+    unfolding entryToCharIndex
+    rank-refused v n d = call-refused number.Refused (λ (x : Shape). rankOf (climbBy v x)) _ (shapeOf (s .head)) o e n d
+
+    -- the climb starts with the leaf's own place and what stands before the slot in it
+    pub rank-good : (g : Shape) → o ≡ Good g → (v : View) (w p a b : ℕ) (r q : Sum) → w ≡ viewNumber v → b ≡ start w (c .slot) (nodeAt g (c .leaf .0) (s .leaves))
+        → p ≡ nodeAt g (c .leaf .0) (s .leaves) .parent → a ≡ nodeAt g (c .leaf .0) (s .leaves) .at → r ≡ rankUp g w (s .head .levels) p a b (s .inners) → r ≡ q
+        → rankOf q ≡ entryToCharIndex s v c
+    unfolding entryToCharIndex
+    rank-good g d v w p a b r q ew eb ep ea er eq =
+        let whole : rankUp g w (s .head .levels) p a b (s .inners) ≡ climbBy v g = rw (ep, ea, eb, ew) in
+        call-good number.Refused (λ (x : Shape). rankOf (climbBy v x)) _ (shapeOf (s .head)) o e g d _ (ap rankOf (sym eq ∙ er ∙ whole))
 
 -- first -----------------------------------------------------------------------------------------------------------------------------------
 

@@ -1,11 +1,11 @@
--- `calls_read::read::entry_to_char_index`: the lengths before the slot in its leaf, and those before the leaf on the way up.
+-- `calls_order::order::entry_to_char_index`: the lengths before the slot in its leaf, and those before the leaf on the way up.
 use borrow.Author.Needs.{needs}
 use native.Mathlib.Omega.{arith}
 use Rattle.open.proofs.CursorLaws.{stands, slot-in}
 use Rattle.open.proofs.ReadyLaws.{inner-area, view-in, view-few}
-use Rattle.calls_read.proofs.ReadLaws.{rank-refused, rank-good}
-use Rattle.calls_read.proofs.read.entry_to_char_index.Statement.{statement}
-use Rattle.calls_read.proofs.read.entry_to_char_index.Tie as tie
+use Rattle.calls_order.proofs.OrderLaws.{rank-refused, rank-good}
+use Rattle.calls_order.proofs.order.entry_to_char_index.Statement.{statement}
+use Rattle.calls_order.proofs.order.entry_to_char_index.Tie as tie
 
 open-at-requires : tie.Need-open-at-requires
 open-at-requires c κs = search needs

@@ -1,11 +1,11 @@
--- `calls_read::order::next`: the slot after in the same leaf, or slot 0 of the leaf after.
+-- `calls_order::order::next`: the slot after in the same leaf, or slot 0 of the leaf after.
 use borrow.Author.Needs.{needs}
 use native.Mathlib.Omega.{arith}
 use Rattle.open.proofs.ReadyLaws.{inner-area}
 use Rattle.open.proofs.CursorLaws.{stands, slot-in}
-use Rattle.calls_read.proofs.OrderLaws.{next-refused, next-here, next-on}
-use Rattle.calls_read.proofs.order.next.Statement.{statement}
-use Rattle.calls_read.proofs.order.next.Tie as tie
+use Rattle.calls_order.proofs.OrderLaws.{next-refused, next-here, next-on}
+use Rattle.calls_order.proofs.order.next.Statement.{statement}
+use Rattle.calls_order.proofs.order.next.Tie as tie
 
 open-at-requires : tie.Need-open-at-requires
 open-at-requires c κs = search needs

@@ -1,21 +1,26 @@
-// The calls that follow the order of the entries.
+// The calls that follow the order of the entries: an entry's position, the first, the next, and which of two stands first.
 use area::word::at_of;
 use area::word::len_of;
 use area::word::parent_of;
+use area::word::start_in;
 use model::answer::Compared;
 use model::answer::Next;
+use model::answer::Number;
 use model::answer::Standing;
 use model::head::Cursor;
 use model::head::Head;
 use model::head::Path;
+use model::length::View;
 use model::number::LeafNo;
 use model::shape::Shape;
 use model::way::Leaf;
+use model::way::Sum;
 use open::open::Opened;
 use open::open::current;
 use open::open::open;
 use open::open::open_at;
 use walk::climb::in_order;
+use walk::climb::rank_up;
 use walk::climb::steps_up;
 use walk::down::first_down;
 use walk::down::next_up;
@@ -28,6 +33,33 @@ ghost use Rattle.model.specs.State.{state, nodeAt};
 ghost use Rattle.model.specs.Calls as calls;
 ghost use Rattle.area.specs.Area.{Area};
 ghost use Rattle.walk.specs.Steps.{stepsOf, Stepped};
+
+// The position in a view of the entry at a cursor: the lengths before it.
+pub fn entry_to_char_index(
+    head: Head,
+    leaves: &[u32],
+    inners: &[u32],
+    homes: &[u32],
+    view: View,
+    at: Cursor,
+) -> Number
+    ensures { λ r. ⌜ r ≡ calls.entryToCharIndex (state head (now (leaves .entry)) (now (inners .entry)) (now (homes .entry))) view at ⌝ }
+{
+    match open_at(head, leaves, inners, homes, at) {
+        Opened::Refused(n) => Number::Refused(n),
+        Opened::Good(g) => {
+            let v = view.number();
+            let k = at.leaf.0;
+            let before = start_in(leaves, g, v, k, at.slot);
+            let parent = parent_of(leaves, g, k);
+            let place = at_of(leaves, g, k);
+            match rank_up(inners, g, v, head.levels, parent, place, before) {
+                Sum::Is(n) => Number::Is((n % 4294967296) as u32),
+                Sum::Broken => Number::Refused(9),
+            }
+        }
+    }
+}
 
 // The cursor of the first entry.
 pub fn first(head: Head, leaves: &[u32], inners: &[u32], homes: &[u32]) -> Standing

@@ -1,8 +1,8 @@
--- `calls_read::order::by_slot`: one step each, compared.
+-- `calls_order::order::by_slot`: one step each, compared.
 use borrow.Author.Tests.{lt-ltb, le-ltb}
 use Rattle.model.specs.Calls.{inOrder}
-use Rattle.calls_read.proofs.order.by_slot.Statement.{statement}
-use Rattle.calls_read.proofs.order.by_slot.Tie as tie
+use Rattle.calls_order.proofs.order.by_slot.Statement.{statement}
+use Rattle.calls_order.proofs.order.by_slot.Tie as tie
 
 returns : tie.Need-returns
 unfolding inOrder

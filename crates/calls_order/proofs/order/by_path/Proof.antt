@@ -1,9 +1,9 @@
--- `calls_read::order::by_path`: a path with no steps is broken, and two with steps are compared in order.
+-- `calls_order::order::by_path`: a path with no steps is broken, and two with steps are compared in order.
 use borrow.Author.Needs.{needs}
 use mathlib.Core.Path.{_∙_}
-use Rattle.calls_read.proofs.OrderLaws.{by-second, by-both}
-use Rattle.calls_read.proofs.order.by_path.Statement.{statement}
-use Rattle.calls_read.proofs.order.by_path.Tie as tie
+use Rattle.calls_order.proofs.OrderLaws.{by-second, by-both}
+use Rattle.calls_order.proofs.order.by_path.Statement.{statement}
+use Rattle.calls_order.proofs.order.by_path.Tie as tie
 
 returns : tie.Need-returns
 returns c = search needs

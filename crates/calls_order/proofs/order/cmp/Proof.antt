@@ -1,9 +1,9 @@
--- `calls_read::order::cmp`: both cursors are tested, the first before the second; then slots of one leaf are compared, or paths.
+-- `calls_order::order::cmp`: both cursors are tested, the first before the second; then slots of one leaf are compared, or paths.
 use borrow.Author.Needs.{needs}
 use Rattle.open.proofs.ReadyLaws.{ready, leaf-area}
-use Rattle.calls_read.proofs.OrderLaws.{path-in, cmp-refused, cmp-first, cmp-second, cmp-slot, cmp-path}
-use Rattle.calls_read.proofs.order.cmp.Statement.{statement}
-use Rattle.calls_read.proofs.order.cmp.Tie as tie
+use Rattle.calls_order.proofs.OrderLaws.{path-in, cmp-refused, cmp-first, cmp-second, cmp-slot, cmp-path}
+use Rattle.calls_order.proofs.order.cmp.Statement.{statement}
+use Rattle.calls_order.proofs.order.cmp.Tie as tie
 
 open-requires : tie.Need-open-requires
 open-requires c κs = search needs
