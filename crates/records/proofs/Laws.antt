@@ -1,12 +1,14 @@
 -- A record's kind picks its call from the list of kinds; sixteen bytes written in order. Assumes nothing.
-use mathlib.Core.Path.{_≡_, refl, sym, ap, _∙_}
+use mathlib.Core.Path.{_≡_, refl, sym, ap, subst, _∙_}
 use mathlib.Core.Bool.{Bool, true, false, _&&_}
 use mathlib.Core.List.{List, [], _∷_, _++_, append-nil}
-use Prim.Native.Nat.{ℕ, zero, suc, _+_}
+use Prim.Native.Nat.{ℕ, zero, suc, _+_, _%_, _<_, _≤_}
+use mir.Syntax.{w8, w32}
+use mir.Val.{Fits}
 use native.Mathlib.Omega.{arith}
 use lib.ListN.{length, getD, drop-of-length-le}
-use lib.Dec.{eqb}
-use lib.Seq.{sets, sets-eq}
+use lib.Dec.{T, eqb, leb, ltb, lit≤, lit<}
+use lib.Seq.{sets, sets-eq, lt-length-sets}
 use Rattle.model.specs.Row as row
 use Rattle.model.specs.Record.{Fields, kinds, only, plain, binary, noLengths, viewOf, lengthsOf}
 use Rattle.model.specs.declared.length.View.{View}
@@ -77,3 +79,19 @@ filled l vs e =
     sets-eq vs l 0 (omega (arith, e))
     ∙ ap (λ (r : List ℕ). vs ++ r) (drop-of-length-le l {i = 0 + length vs} (omega (arith, e)))
     ∙ append-nil vs
+
+-- a record's bytes reach as far as k
+pub reach : (n k : ℕ) → n ≡ 16 → T (leb k 16) → k ≤ n
+reach n k e h = subst (λ (m : ℕ). k ≤ m) (sym e) (lit≤ h)
+
+-- the sum of two bytes fits
+pub sum-fits : (x y : ℕ) → x < 256 → y < 256 → Fits w32 (x + y)
+sum-fits x y p q = record { fits = omega arith }
+
+-- a byte fits
+pub byte : (n : ℕ) → Fits w8 (n % 256)
+byte n = record { fits = omega arith }
+
+-- the place of byte k, after some were written
+pub byte-in : (l vs : List ℕ) (k : ℕ) → length l ≡ 16 → T (ltb k 16) → k < length (sets l 0 vs)
+byte-in l vs k e h = lt-length-sets l 0 vs (subst (λ (n : ℕ). k < n) (sym e) (lit< h))

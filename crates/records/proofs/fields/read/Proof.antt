@@ -1,48 +1,48 @@
 -- `records::fields::read`: each field is read at its own bytes.
-use borrow.Author.Needs.{needs}
 use Rattle.model.specs.Record.{fieldsOf}
+use Rattle.records.proofs.Laws.{reach, sum-fits}
 use Rattle.records.proofs.fields.read.Statement.{statement}
 use Rattle.records.proofs.fields.read.Tie as tie
 
 shared-slice-read-wide : tie.Need-shared-slice-read-wide
-shared-slice-read-wide c = search needs
+shared-slice-read-wide c = reach _ 1 (c .before .before .pre) tt
 
 wide-requires : tie.Need-wide-requires
-wide-requires c κs = search needs
+wide-requires c κs = tt
 
 shared-slice-read-wide-2 : tie.Need-shared-slice-read-wide-2
-shared-slice-read-wide-2 c = search needs
+shared-slice-read-wide-2 c = reach _ 2 (c .before .before .before .before .pre) tt
 
 wide-requires-2 : tie.Need-wide-requires-2
-wide-requires-2 c κs = search needs
+wide-requires-2 c κs = tt
 
 shared-slice-read-wide-3 : tie.Need-shared-slice-read-wide-3
-shared-slice-read-wide-3 c = search needs
+shared-slice-read-wide-3 c = reach _ 3 (c .before .before .before .before .before .before .pre) tt
 
 wide-requires-3 : tie.Need-wide-requires-3
-wide-requires-3 c κs = search needs
+wide-requires-3 c κs = tt
 
 shared-slice-read-wide-4 : tie.Need-shared-slice-read-wide-4
-shared-slice-read-wide-4 c = search needs
+shared-slice-read-wide-4 c = reach _ 4 (c .before .before .before .before .before .before .before .before .pre) tt
 
 wide-requires-4 : tie.Need-wide-requires-4
-wide-requires-4 c κs = search needs
+wide-requires-4 c κs = tt
 
 add-t14 : tie.Need-add-t14
-add-t14 c = search needs
+add-t14 c = sum-fits _ _ (c .before .before .wide3 .ensures .1) (c .wide4 .ensures .1)
 
 word-at-requires : tie.Need-word-at-requires
-word-at-requires c κs = search needs
+word-at-requires c κs = reach _ 8 (c .before .before .before .before .before .before .before .before .before .pre) tt
 
 word-at-requires-2 : tie.Need-word-at-requires-2
-word-at-requires-2 c κs = search needs
+word-at-requires-2 c κs = reach _ 12 (c .before .before .before .before .before .before .before .before .before .before .pre) tt
 
 word-at-requires-3 : tie.Need-word-at-requires-3
-word-at-requires-3 c κs = search needs
+word-at-requires-3 c κs = reach _ 16 (c .before .before .before .before .before .before .before .before .before .before .before .pre) tt
 
 returns : tie.Need-returns
 unfolding fieldsOf
-returns c = cc
+returns c = rw (c .before .before .before .before .before .before .before .before .before .wide .ensures .0, c .before .before .before .before .before .before .before .wide2 .ensures .0, c .before .before .before .before .before .wide3 .ensures .0, c .before .before .before .wide4 .ensures .0, c .before .before .word-at .ensures, c .before .word-at2 .ensures, c .word-at3 .ensures)
 
 pub read-spec : {M : Type 1} → statement M
 read-spec =
