@@ -1,4 +1,3 @@
 pub mod AsRow
 pub mod RunLaws
-pub mod StepLaws
 pub mod Words

@@ -20,7 +20,7 @@ use Rattle.records.specs.Said.{plainFields, callOf, said, filled}
 use Rattle.records.specs.declared.fields.Fields.{Fields}
 use Rattle.records.specs.declared.call.Call.{Call}
 use Rattle.records.specs.declared.answer.Answer.{Answer}
-use Rattle.row.specs.Step.{Stepped, stepped, stepBy}
+use Rattle.row_step.specs.Step.{Stepped, stepped, stepBy}
 use Rattle.row.specs.Run.{records, recordsOf, written, Turned, turned, turn, turns, fit, Ran, ran, runOn, AsRow}
 use Rattle.row.proofs.AsRow.{as-row}
 use Rattle.row.proofs.Words.{Bytes}

@@ -1,11 +1,11 @@
 // Records on a tree, each answer into its own sixteen bytes of an output.
-use crate::step::step;
 use model::answer::Outcome;
 use model::answer::OutcomeReply;
 use model::head::Head;
 use records::answer::write;
 use records::call::decode;
 use records::fields::read;
+use row_step::step::step;
 ghost use mathlib.Core.Path.{_≡_};
 ghost use mathlib.Core.Bool.{true};
 ghost use Prim.Native.Nat.{_%_};

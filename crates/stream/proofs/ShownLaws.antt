@@ -12,7 +12,7 @@ use Rattle.model.specs.ById.{treeStep}
 use Rattle.records.specs.Said.{said, answerOf}
 use Rattle.records.specs.declared.answer.Answer.{Answer}
 use Rattle.row.specs.Run.{records, callsOf}
-use Rattle.row.specs.Step.{Stepped, stepped, stepBy}
+use Rattle.row_step.specs.Step.{Stepped, stepped, stepBy}
 use Rattle.text.specs.Text.{line, put}
 use Rattle.text.proofs.TextLaws.{behind, put-more, put-nil, line-short}
 use Rattle.theory.specs.Whole.{answers, finally}

@@ -3,7 +3,7 @@ use crate::rest::keep;
 use model::head::Head;
 use records::call::decode;
 use records::fields::read;
-use row::step::step;
+use row_step::step::step;
 use text::line::line;
 ghost use mathlib.Core.Path.{_≡_};
 ghost use Prim.Native.Nat.{_+_, _*_, _/_, _%_, _≤_};
