@@ -2,12 +2,13 @@
 use mathlib.Core.Path.{_≡_, refl, sym, ap, _∙_, subst}
 use mathlib.Core.Bool.{Bool, true, false, cond, _&&_}
 use mathlib.Core.List.{List, [], _∷_, _++_, append-assoc, append-nil}
-use Prim.Native.Nat.{ℕ, zero, suc, _+_, _-_, _%_, _≤_, _<_}
+use Prim.Native.Nat.{ℕ, zero, suc, _+_, _-_, _*_, _%_, _/_, _≤_, _<_}
 use native.Mathlib.Omega.{arith}
 use lib.ListN.{length, take, drop, length-append}
 use lib.Dec.{eqb}
 use lib.Seq.{length-take-le, take-at, take-all, drop-drop}
 use borrow.Author.Tests.{eq-eqb, ne-eqb}
+use borrow.Rule.Slice.PartAt.{part-count}
 use borrow.Rule.Slice.PartMut.{putMid, postOf}
 use Rattle.model.specs.Row as row
 use Rattle.model.specs.Record.{fieldsOf, decode, encode}
@@ -76,10 +77,33 @@ next-turn whole s bs out at n w pos room t o e =
     ∙ more s bs out at (n - 1) t o e′
     ∙ ap (turned (m .after)) (put-turn out o (m .out) at (at + 16) refl room lo)
 
-pub last-turn : (whole : Turned) (s : State) (bs out : List ℕ) (at n : ℕ) → whole ≡ onward s bs out at n → n ≡ 0 → length out ≤ at → turned s out ≡ whole
+pub last-turn : (whole : Turned) (s : State) (bs out : List ℕ) (at n : ℕ) → whole ≡ onward s bs out at n → n ≤ 0 → length out ≤ at → turned s out ≡ whole
 unfolding records answers finally written
 last-turn whole s bs out at n w z h =
-    sym (w ∙ ap (onward s bs out at) z ∙ ap (turned s) (append-nil (take at out) ∙ take-all at out h))
+    let none : n ≡ 0 = omega arith in
+    sym (w ∙ ap (onward s bs out at) none ∙ ap (turned s) (append-nil (take at out) ∙ take-all at out h))
+
+-- where the next record stands: from byte at on there are n more of sixteen bytes each, in a list of whole
+pub all-left : (whole : ℕ) → whole % 16 ≡ 0 → 0 + 16 * (whole / 16) ≡ whole
+all-left whole h = omega arith
+
+pub ahead : (at : ℕ) → at ≤ at + 16
+ahead at = omega arith
+
+pub room-for : (at n whole : ℕ) → at + 16 * n ≡ whole → 0 < n → at + 16 ≤ whole
+room-for at n whole e h = omega arith
+
+pub left-after : (at n whole : ℕ) → at + 16 * n ≡ whole → 0 < n → at + 16 + 16 * (n - 1) ≡ whole
+left-after at n whole e h = omega arith
+
+pub one-less : (n : ℕ) → 0 < n → n - 1 < n
+one-less n h = omega arith
+
+pub part-long : (at : ℕ) (l : List ℕ) → at + 16 ≤ length l → length (take (at + 16 - at) (drop at l)) ≡ 16
+part-long at l h = omega (arith, part-count l at (at + 16) (ahead at, h))
+
+pub at-end : (at n whole : ℕ) → at + 16 * n ≡ whole → n ≤ 0 → whole ≤ at
+at-end at n whole e h = omega arith
 
 -- the lengths
 unequal : (bs out : List ℕ) → (length bs ≡ length out → ⊥) → fit bs out ≡ false

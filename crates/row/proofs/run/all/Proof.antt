@@ -1,11 +1,12 @@
 -- `row::run::all`: what is written so far, with what the records left will give, is what all of them give.
-use mathlib.Core.Path.{_≡_, refl}
-use Prim.Native.Nat.{_+_, _*_, _≤_, _<_}
+use mathlib.Core.Path.{_≡_, refl, sym, _∙_}
+use Prim.Native.Nat.{_+_, _-_, _*_, _≤_}
 use native.Mathlib.Omega.{arith}
+use borrow.Rule.Slice.PartMut.{same-len-mid}
 use lib.ListN.{length}
 use Rattle.model.specs.State.{state}
 use Rattle.row.specs.Run.{recordsOf, turns}
-use Rattle.row.proofs.RunLaws.{onward, next-turn, last-turn}
+use Rattle.row.proofs.RunLaws.{onward, next-turn, last-turn, all-left, ahead, room-for, left-after, one-less, part-long, at-end}
 use Rattle.row.proofs.run.all.Statement.{statement}
 use Rattle.row.proofs.run.all.Tie as tie
 
@@ -19,70 +20,73 @@ abbrev μ-loop : tie.MeasureT-loop
 μ-loop leaves₀ inners₀ homes₀ records out₀ h₀ at₀ more₀ leaves inners homes out h at more = more
 
 loop-holds : tie.Need-loop-holds Inv-loop μ-loop
-loop-holds c = (omega arith, omega arith, refl, refl, refl, refl, refl)
+loop-holds c = (all-left (length (c .before .before .before .before .before .args .records .now)) (c .before .before .before .before .before .pre .1), c .before .before .before .before .before .pre .0, refl, refl, refl, refl, refl)
 
 add-end : tie.Need-add-end Inv-loop μ-loop
 add-end c = omega arith
 
 sub-one : tie.Need-sub-one Inv-loop μ-loop
-sub-one c = omega arith
+sub-one c = ahead (c .before .before .before .before .loop .at)
 
 part-one-start : tie.Need-part-one-start Inv-loop μ-loop
-part-one-start c = omega arith
+part-one-start c = ahead (c .before .before .before .before .loop .at)
 
 part-one-end : tie.Need-part-one-end Inv-loop μ-loop
-part-one-end c = omega arith
+part-one-end c = room-for (c .before .before .before .before .loop .at) (c .before .before .before .before .loop .more) _ (c .before .before .before .before .loop .inv .0) (c .before .before .before .loop-test .taken)
 
 sub-one-2 : tie.Need-sub-one-2 Inv-loop μ-loop
-sub-one-2 c = omega arith
+sub-one-2 c = ahead (c .before .before .before .before .before .loop .at)
 
 part-one-start-2 : tie.Need-part-one-start-2 Inv-loop μ-loop
-part-one-start-2 c = omega arith
+part-one-start-2 c = ahead (c .before .before .before .before .before .loop .at)
 
 part-one-end-2 : tie.Need-part-one-end-2 Inv-loop μ-loop
-part-one-end-2 c = omega arith
+part-one-end-2 c = room-for (c .before .before .before .before .before .loop .at) (c .before .before .before .before .before .loop .more) _ (c .before .before .before .before .before .loop .inv .0 ∙ c .before .before .before .before .before .loop .inv .1 ∙ sym (c .before .before .before .before .before .loop .inv .2)) (c .before .before .before .before .loop-test .taken)
 
 one-requires : tie.Need-one-requires Inv-loop μ-loop
-one-requires c κs = omega arith
+one-requires c κs =
+    let l = c .before .before .before .before .before .before .loop in (
+      part-long (l .at) (c .before .before .before .before .before .before .before .before .before .before .before .before .args .records .now) (room-for (l .at) (l .more) _ (l .inv .0) (c .before .before .before .before .before .loop-test .taken)),
+      part-long (l .at) (l .out) (room-for (l .at) (l .more) _ (l .inv .0 ∙ l .inv .1 ∙ sym (l .inv .2)) (c .before .before .before .before .before .loop-test .taken)),
+    )
 
 sub-more : tie.Need-sub-more Inv-loop μ-loop
-sub-more c = omega arith
+sub-more c = c .before .before .before .before .before .before .before .before .before .before .before .before .before .before .loop-test .taken
 
 loop-less : tie.Need-loop-less Inv-loop μ-loop
-loop-less c = omega arith
+loop-less c = one-less (c .before .before .before .before .before .before .before .before .before .before .before .before .before .before .before .loop .more) (c .before .before .before .before .before .before .before .before .before .before .before .before .before .before .loop-test .taken)
 
 loop-again : tie.Need-loop-again Inv-loop μ-loop
 loop-again c =
     let l = c .before .before .before .before .before .before .before .before .before .before .before .before .before .before .before .loop in
-    let pos : 0 < l .more = omega arith in
-    let room : l .at + 16 ≤ length (l .out) = omega arith in (
-      omega arith,
-      omega arith,
-      omega arith,
-      omega arith,
-      omega arith,
-      omega arith,
-      next-turn _ _ _ _ (l .at) (l .more) (l .inv .6) pos room _ _ (c .before .before .before .before .before .before .before .before .one .ensures),
+    let p = c .before .before .before .before .before .before .before .before .one in
+    let room : l .at + 16 ≤ length (l .out) = room-for (l .at) (l .more) _ (l .inv .0 ∙ l .inv .1 ∙ sym (l .inv .2)) (c .before .before .before .before .before .before .before .before .before .before .before .before .before .before .loop-test .taken) in (
+      left-after (l .at) (l .more) _ (l .inv .0) (c .before .before .before .before .before .before .before .before .before .before .before .before .before .before .loop-test .taken),
+      l .inv .1,
+      same-len-mid (l .at) (l .at + 16 - l .at) (l .out) (p .last .1 .1 .1 .1 .1 .0) (p .kept .1 .1 .1 .1 .1 .0) ∙ l .inv .2,
+      p .kept .1 .0 ∙ l .inv .3,
+      p .kept .1 .1 .0 ∙ l .inv .4,
+      p .kept .1 .1 .1 .0 ∙ l .inv .5,
+      next-turn _ _ _ _ (l .at) (l .more) (l .inv .6) (c .before .before .before .before .before .before .before .before .before .before .before .before .before .before .loop-test .taken) room _ _ (p .ensures),
     )
 
 same-length : tie.Need-same-length Inv-loop μ-loop
-same-length c = omega arith
+same-length c = c .before .loop .inv .3
 
 same-length-2 : tie.Need-same-length-2 Inv-loop μ-loop
-same-length-2 c = omega arith
+same-length-2 c = c .before .loop .inv .4
 
 same-length-3 : tie.Need-same-length-3 Inv-loop μ-loop
-same-length-3 c = omega arith
+same-length-3 c = c .before .loop .inv .5
 
 same-length-4 : tie.Need-same-length-4 Inv-loop μ-loop
-same-length-4 c = omega arith
+same-length-4 c = c .before .loop .inv .2
 
 returns : tie.Need-returns Inv-loop μ-loop
 returns c =
     let l = c .before .loop in
-    let none : l .more ≡ 0 = omega arith in
-    let whole : length (l .out) ≤ l .at = omega arith in
-    last-turn _ _ _ _ _ (l .more) (l .inv .6) none whole
+    let whole : length (l .out) ≤ l .at = at-end (l .at) (l .more) _ (l .inv .0 ∙ l .inv .1 ∙ sym (l .inv .2)) (c .loop-test .left) in
+    last-turn _ _ _ _ _ (l .more) (l .inv .6) (c .loop-test .left) whole
 
 pub all-spec : {M : Type 1} → statement M
 all-spec =
