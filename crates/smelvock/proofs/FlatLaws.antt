@@ -7,7 +7,7 @@ use Rattle.model.specs.Row.{Answer, refused}
 use Rattle.model.specs.State.{state}
 use Rattle.model.specs.Calls.{Reply, reply}
 use Rattle.model.specs.declared.head.Head.{Head}
-use Rattle.smelvock.specs.Flat.{headAfter}
+use Rattle.marshal.specs.Flat.{headAfter}
 use Rattle.smelvock.specs.Reads as reads
 use Rattle.smelvock.specs.Reads.{Given}
 use Rattle.smelvock.specs.Changes.{left, leftBy}

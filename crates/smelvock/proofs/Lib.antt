@@ -1,3 +1,2 @@
 mod FlatLaws
-mod HeadLaws
 mod LookLaws

@@ -9,11 +9,11 @@ use Rattle.model.specs.Calls as calls
 use Rattle.model.specs.Calls.{Reply, reply, lessEffect}
 use Rattle.model.specs.declared.answer.Located.{Located}
 use Rattle.model.specs.declared.answer.Located.the-variants as located
-use Rattle.smelvock.specs.Flat.{badHead, viewFrom, headAfter, selectedOf, locatedOf}
+use Rattle.marshal.specs.Flat.{badHead, viewFrom, headAfter, selectedOf, locatedOf}
 use Rattle.smelvock.specs.Reads.{Given, stateOf}
 use Rattle.smelvock.specs.Changes.{Left, left, leftBy, locate, charIndexToEntry}
-use Rattle.smelvock.specs.declared.flat.FlatSelected.{FlatSelected}
-use Rattle.smelvock.specs.declared.flat.FlatLocated.{FlatLocated}
+use Rattle.marshal.specs.declared.flat.FlatSelected.{FlatSelected}
+use Rattle.marshal.specs.declared.flat.FlatLocated.{FlatLocated}
 
 abbrev pub less : FlatLocated → FlatSelected
 less r = record { number = r .number; leaf = r .leaf; slot = r .slot; stamp = r .stamp; offset = r .offset }

@@ -11,15 +11,15 @@ use Rattle.model.specs.Answer.{outcomeAnswer, numberAnswer, namedAnswer, select
 use Rattle.model.specs.Calls as calls
 use Rattle.model.specs.Calls.{Reply}
 use Rattle.model.specs.declared.head.Head.{Head}
-use Rattle.smelvock.specs.Flat.{cursorFrom, lengthsFrom, viewFrom, targetFrom, badHead, headWords, headAfter, numberOf, selectedOf, locatedOf, insertedOf, dividedOf}
+use Rattle.marshal.specs.Flat.{cursorFrom, lengthsFrom, viewFrom, targetFrom, badHead, headWords, headAfter, numberOf, selectedOf, locatedOf, insertedOf, dividedOf}
 use Rattle.smelvock.specs.Reads.{Given, stateOf}
-use Rattle.smelvock.specs.declared.flat.FlatCursor.{FlatCursor}
-use Rattle.smelvock.specs.declared.flat.FlatLengths.{FlatLengths}
-use Rattle.smelvock.specs.declared.flat.FlatNumber.{FlatNumber}
-use Rattle.smelvock.specs.declared.flat.FlatSelected.{FlatSelected}
-use Rattle.smelvock.specs.declared.flat.FlatLocated.{FlatLocated}
-use Rattle.smelvock.specs.declared.flat.FlatInserted.{FlatInserted}
-use Rattle.smelvock.specs.declared.flat.FlatDivided.{FlatDivided}
+use Rattle.marshal.specs.declared.flat.FlatCursor.{FlatCursor}
+use Rattle.marshal.specs.declared.flat.FlatLengths.{FlatLengths}
+use Rattle.marshal.specs.declared.flat.FlatNumber.{FlatNumber}
+use Rattle.marshal.specs.declared.flat.FlatSelected.{FlatSelected}
+use Rattle.marshal.specs.declared.flat.FlatLocated.{FlatLocated}
+use Rattle.marshal.specs.declared.flat.FlatInserted.{FlatInserted}
+use Rattle.marshal.specs.declared.flat.FlatDivided.{FlatDivided}
 
 -- what a host has after a call: the reply's words, its head and its areas
 pub record Left (R : Type 0) : Type 0 where

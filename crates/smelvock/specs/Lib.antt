@@ -1,3 +1,2 @@
 pub mod Changes
-pub mod Flat
 pub mod Reads

@@ -9,11 +9,11 @@ use Rattle.model.specs.State.{State, state}
 use Rattle.model.specs.Answer.{numberAnswer, verdictAnswer, standingAnswer, nextAnswer, namedAnswer, measuredAnswer, comparedAnswer}
 use Rattle.model.specs.Calls as calls
 use Rattle.model.specs.Audit as checks
-use Rattle.smelvock.specs.Flat.{badHead, headFrom, cursorFrom, viewFrom, numberOf, measuredOf, standingOf}
-use Rattle.smelvock.specs.declared.flat.FlatCursor.{FlatCursor}
-use Rattle.smelvock.specs.declared.flat.FlatNumber.{FlatNumber}
-use Rattle.smelvock.specs.declared.flat.FlatMeasured.{FlatMeasured}
-use Rattle.smelvock.specs.declared.flat.FlatStanding.{FlatStanding}
+use Rattle.marshal.specs.Flat.{badHead, headFrom, cursorFrom, viewFrom, numberOf, measuredOf, standingOf}
+use Rattle.marshal.specs.declared.flat.FlatCursor.{FlatCursor}
+use Rattle.marshal.specs.declared.flat.FlatNumber.{FlatNumber}
+use Rattle.marshal.specs.declared.flat.FlatMeasured.{FlatMeasured}
+use Rattle.marshal.specs.declared.flat.FlatStanding.{FlatStanding}
 
 -- head and areas as a host lends them
 pub record Given : Type 0 where

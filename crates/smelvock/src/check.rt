@@ -1,10 +1,10 @@
 // The exported audit.
-use crate::answered::number_of_verdict;
-use crate::answered::refused_number;
-use crate::flat::FlatNumber;
-use crate::head::bad_head;
-use crate::head::head_from;
 use audit::tree::audit;
+use marshal::answered::number_of_verdict;
+use marshal::answered::refused_number;
+use marshal::flat::FlatNumber;
+use marshal::head::bad_head;
+use marshal::head::head_from;
 ghost use mathlib.Core.Path.{_≡_};
 ghost use Rattle.smelvock.specs.Reads as flat;
 ghost use Rattle.smelvock.specs.Reads.{given};

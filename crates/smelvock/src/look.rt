@@ -1,13 +1,13 @@
 // The exported lookups.
-use crate::answered::located_of;
-use crate::answered::refused_located;
-use crate::flat::FlatLocated;
-use crate::flat::FlatSelected;
-use crate::given::view_from;
-use crate::head::bad_flag;
-use crate::head::head_from;
-use crate::head::settle;
 use calls_look::lookup::locate;
+use marshal::answered::located_of;
+use marshal::answered::refused_located;
+use marshal::flat::FlatLocated;
+use marshal::flat::FlatSelected;
+use marshal::given::view_from;
+use marshal::head::bad_flag;
+use marshal::head::head_from;
+use marshal::head::settle;
 ghost use mathlib.Core.Path.{_≡_};
 ghost use Rattle.smelvock.specs.Reads.{given};
 ghost use Rattle.smelvock.specs.Changes as flat;

@@ -1,13 +1,13 @@
 // The exported calls that make a tree.
-use crate::answered::outcome_of;
-use crate::flat::FlatLengths;
-use crate::given::lengths_from;
-use crate::head::bad_head;
-use crate::head::head_from;
-use crate::head::put_head;
-use crate::head::settle;
 use calls_make::begin::new;
 use calls_make::begin::reset;
+use marshal::answered::outcome_of;
+use marshal::flat::FlatLengths;
+use marshal::given::lengths_from;
+use marshal::head::bad_head;
+use marshal::head::head_from;
+use marshal::head::put_head;
+use marshal::head::settle;
 ghost use mathlib.Core.Path.{_≡_};
 ghost use Rattle.smelvock.specs.Reads.{given};
 ghost use Rattle.smelvock.specs.Changes as flat;

@@ -1,19 +1,19 @@
 -- `smelvock::change::smelvock_split_entry`: 10 where head or flag is bad, else the call's answer in words, and its head where it was done.
 use borrow.Author.Needs.{needs}
 use mathlib.Core.Path.{refl, sym, _∙_}
-use Rattle.smelvock.specs.Flat.{headAfter, dividedOf}
+use Rattle.marshal.specs.Flat.{headAfter, dividedOf}
 use Rattle.model.specs.Answer.{dividedAnswer}
 use Rattle.model.specs.State.{state}
 use Rattle.smelvock.specs.Reads.{given}
 use Rattle.smelvock.specs.Changes as flat
 use Rattle.smelvock.proofs.FlatLaws.{reply-refused, reply-settled, ap₃}
-use Rattle.smelvock.proofs.HeadLaws.{good-flag}
+use Rattle.marshal.proofs.HeadLaws.{good-flag}
 use Rattle.model.specs.Calls as calls
 use Rattle.model.specs.declared.head.Head.{Head}
 use Rattle.model.specs.declared.head.Cursor.{Cursor}
 use Rattle.model.specs.declared.length.Lengths.{Lengths}
 use lib.Dec.{eqb}
-use Rattle.smelvock.specs.declared.flat.FlatDivided.{FlatDivided}
+use Rattle.marshal.specs.declared.flat.FlatDivided.{FlatDivided}
 use Rattle.smelvock.proofs.change.smelvock_split_entry.Statement.{statement}
 use Rattle.smelvock.proofs.change.smelvock_split_entry.Tie as tie
 

@@ -1,12 +1,12 @@
 -- `smelvock::check::smelvock_audit`: 10 where head or flag is bad, else the call's answer in words.
 use borrow.Author.Needs.{needs}
 use mathlib.Core.Path.{sym, ap, _∙_}
-use Rattle.smelvock.specs.Flat.{numberOf}
+use Rattle.marshal.specs.Flat.{numberOf}
 use Rattle.model.specs.Answer.{verdictAnswer}
 use Rattle.model.specs.State.{state}
 use Rattle.smelvock.specs.Reads as flat
 use Rattle.smelvock.proofs.FlatLaws.{answer-refused, answer-good}
-use Rattle.smelvock.proofs.HeadLaws.{good-head}
+use Rattle.marshal.proofs.HeadLaws.{good-head}
 use Rattle.model.specs.Audit as checks
 use Rattle.model.specs.declared.head.Head.{Head}
 use Rattle.smelvock.proofs.check.smelvock_audit.Statement.{statement}

@@ -1,17 +1,17 @@
 -- `smelvock::look::smelvock_locate`: 10 where head or flag is bad, else the call's answer in words, and its head where it was done.
 use borrow.Author.Needs.{needs}
 use mathlib.Core.Path.{refl, sym, ap₂, _∙_}
-use Rattle.smelvock.specs.Flat.{headAfter, locatedOf}
+use Rattle.marshal.specs.Flat.{headAfter, locatedOf}
 use Rattle.model.specs.Answer.{locatedAnswer}
 use Rattle.model.specs.State.{state}
 use Rattle.smelvock.specs.Reads.{given}
 use Rattle.smelvock.specs.Changes as flat
 use Rattle.smelvock.proofs.FlatLaws.{reply-refused, reply-settled}
-use Rattle.smelvock.proofs.HeadLaws.{good-flag}
+use Rattle.marshal.proofs.HeadLaws.{good-flag}
 use Rattle.model.specs.Calls as calls
 use Rattle.model.specs.declared.head.Head.{Head}
 use Rattle.model.specs.declared.length.View.{View}
-use Rattle.smelvock.specs.declared.flat.FlatLocated.{FlatLocated}
+use Rattle.marshal.specs.declared.flat.FlatLocated.{FlatLocated}
 use Rattle.smelvock.proofs.look.smelvock_locate.Statement.{statement}
 use Rattle.smelvock.proofs.look.smelvock_locate.Tie as tie
 

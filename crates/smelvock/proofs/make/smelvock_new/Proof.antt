@@ -10,7 +10,7 @@ use Rattle.model.specs.Answer.{outcomeAnswer}
 use Rattle.model.specs.Calls as calls
 use Rattle.model.specs.declared.head.Head.{Head}
 use Rattle.model.specs.declared.length.Lengths.{Lengths}
-use Rattle.smelvock.specs.Flat.{headWords}
+use Rattle.marshal.specs.Flat.{headWords}
 use Rattle.smelvock.specs.Reads.{given}
 use Rattle.smelvock.specs.Changes as flat
 use Rattle.smelvock.specs.Changes.{numberAlone}

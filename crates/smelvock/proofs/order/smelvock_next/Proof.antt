@@ -1,12 +1,12 @@
 -- `smelvock::order::smelvock_next`: 10 where head or flag is bad, else the call's answer in words.
 use borrow.Author.Needs.{needs}
 use mathlib.Core.Path.{sym, ap, ap₂, _∙_}
-use Rattle.smelvock.specs.Flat.{standingOf}
+use Rattle.marshal.specs.Flat.{standingOf}
 use Rattle.model.specs.Answer.{nextAnswer}
 use Rattle.model.specs.State.{state}
 use Rattle.smelvock.specs.Reads as flat
 use Rattle.smelvock.proofs.FlatLaws.{answer-refused, answer-good}
-use Rattle.smelvock.proofs.HeadLaws.{good-head}
+use Rattle.marshal.proofs.HeadLaws.{good-head}
 use Rattle.model.specs.Calls as calls
 use Rattle.model.specs.declared.head.Head.{Head}
 use Rattle.model.specs.declared.head.Cursor.{Cursor}

@@ -1,12 +1,12 @@
 -- `smelvock::read::smelvock_entry_to_char_index`: 10 where head or flag is bad, else the call's answer in words.
 use borrow.Author.Needs.{needs}
 use mathlib.Core.Path.{sym, ap, _∙_}
-use Rattle.smelvock.specs.Flat.{numberOf}
+use Rattle.marshal.specs.Flat.{numberOf}
 use Rattle.model.specs.Answer.{numberAnswer}
 use Rattle.model.specs.State.{state}
 use Rattle.smelvock.specs.Reads as flat
 use Rattle.smelvock.proofs.FlatLaws.{answer-refused, answer-good, ap₃}
-use Rattle.smelvock.proofs.HeadLaws.{good-flag}
+use Rattle.marshal.proofs.HeadLaws.{good-flag}
 use Rattle.model.specs.Calls as calls
 use Rattle.model.specs.declared.head.Head.{Head}
 use Rattle.model.specs.declared.head.Cursor.{Cursor}

@@ -1,0 +1,27 @@
+-- `marshal::answered::divided_of`: one case of the answer at a time.
+use borrow.Author.Needs.{needs}
+use mathlib.Core.Path.{sym, ap, _∙_}
+use Rattle.model.specs.Answer.{dividedAnswer}
+use Rattle.model.specs.declared.answer.Divided.{Divided}
+use Rattle.marshal.specs.Flat.{dividedOf}
+use Rattle.marshal.proofs.answered.divided_of.Statement.{statement}
+use Rattle.marshal.proofs.answered.divided_of.Tie as tie
+
+enum-known-a : tie.Need-enum-known-a
+enum-known-a c = search needs
+
+enum-known-a-2 : tie.Need-enum-known-a-2
+enum-known-a-2 c = search needs
+
+refused-divided-requires : tie.Need-refused-divided-requires
+refused-divided-requires c κs = search needs
+
+returns : tie.Need-returns
+returns c = ap (λ (x : Divided). dividedOf (dividedAnswer x)) (sym (c .before .before .before .a .given .1))
+
+returns-2 : tie.Need-returns-2
+returns-2 c = c .refused-divided .ensures ∙ ap (λ (x : Divided). dividedOf (dividedAnswer x)) (sym (c .before .before .a2 .given .1))
+
+pub divided-of-spec : {M : Type 1} → statement M
+divided-of-spec =
+    tie.close (tie.spec enum-known-a enum-known-a-2 refused-divided-requires returns returns-2)

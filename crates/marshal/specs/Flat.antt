@@ -1,0 +1,105 @@
+-- Heads, cursors, lengths, views and answers as the words that cross the C boundary, and back. Assumes nothing.
+use mathlib.Core.Bool.{Bool, cond, not, _||_}
+use mathlib.Core.List.{List, [], _∷_}
+use Prim.Native.Nat.{ℕ}
+use lib.ListN.{length, getD}
+use lib.Dec.{eqb, ltb}
+use Rattle.model.specs.Row.{Answer}
+use Rattle.model.specs.State.{headOf}
+use Rattle.model.specs.declared.head.Cursor.{Cursor}
+use Rattle.model.specs.declared.head.Finger.{Finger}
+use Rattle.model.specs.declared.head.Head.{Head}
+use Rattle.model.specs.declared.head.Held.{Held}
+use Rattle.model.specs.declared.head.Held.the-variants as held
+use Rattle.model.specs.declared.length.Lengths.{Lengths}
+use Rattle.model.specs.declared.length.View.{View}
+use Rattle.model.specs.declared.length.View.the-variants as view
+use Rattle.model.specs.declared.answer.Target.{Target}
+use Rattle.model.specs.declared.answer.Target.the-variants as target
+use Rattle.marshal.specs.declared.flat.FlatCursor.{FlatCursor}
+use Rattle.marshal.specs.declared.flat.FlatLengths.{FlatLengths}
+use Rattle.marshal.specs.declared.flat.FlatNumber.{FlatNumber}
+use Rattle.marshal.specs.declared.flat.FlatMeasured.{FlatMeasured}
+use Rattle.marshal.specs.declared.flat.FlatStanding.{FlatStanding}
+use Rattle.marshal.specs.declared.flat.FlatSelected.{FlatSelected}
+use Rattle.marshal.specs.declared.flat.FlatLocated.{FlatLocated}
+use Rattle.marshal.specs.declared.flat.FlatInserted.{FlatInserted}
+use Rattle.marshal.specs.declared.flat.FlatDivided.{FlatDivided}
+
+-- what a host hands over ------------------------------------------------------------------------------------------------------------------
+
+-- fifteen words; the eighth says whether there is a finger
+unfoldable pub badHead : List ℕ → Bool
+badHead w = not (eqb (length w) 15) || ltb 1 (getD w 7 0)
+
+abbrev pub fingerFrom : List ℕ → Finger
+fingerFrom w =
+    record { view = getD w 8 0; leaf = getD w 9 0; start = getD w 10 0; effect = getD w 11 0; slot = getD w 12 0; within = getD w 13 0; «effect_within» = getD w 14 0 }
+
+unfoldable pub heldFrom : List ℕ → Held
+heldFrom w = cond (eqb (getD w 7 0) 0) held.Absent (held.At (fingerFrom w))
+
+unfoldable pub headFrom : List ℕ → Head
+headFrom w = headOf (getD w 0 0) (getD w 1 0) (getD w 2 0) (getD w 3 0) (getD w 4 0) (getD w 5 0) (getD w 6 0) (heldFrom w)
+
+abbrev pub cursorFrom : FlatCursor → Cursor
+cursorFrom c = record { leaf = record { 0 = c .leaf }; slot = c .slot; stamp = c .stamp }
+
+abbrev pub lengthsFrom : FlatLengths → Lengths
+lengthsFrom l = record { prepare = l .prepare; effect = l .effect }
+
+-- a view is prepare (0) or effect (1); the calls refuse any other number
+unfoldable pub viewFrom : ℕ → View
+viewFrom n = cond (eqb n 0) view.Prepare view.Effect
+
+-- before a cursor (0) or at the end (1); the calls refuse any other number
+unfoldable pub targetFrom : ℕ → FlatCursor → Target
+targetFrom n c = cond (eqb n 0) (target.Before (cursorFrom c)) target.End
+
+-- what it gets back -----------------------------------------------------------------------------------------------------------------------
+
+abbrev pub presentOf : Held → ℕ
+presentOf held.Absent = 0
+presentOf (held.At f) = 1
+
+-- zeros where there is no finger
+abbrev pub fingerOf : Held → Finger
+fingerOf held.Absent = record { view = 0; leaf = 0; start = 0; effect = 0; slot = 0; within = 0; «effect_within» = 0 }
+fingerOf (held.At f) = f
+
+abbrev pub wordsWith : Head → ℕ → Finger → List ℕ
+wordsWith h present f =
+    h .fan ∷ h .limit ∷ h .root .0 ∷ h .levels ∷ h .leaves ∷ h .inners ∷ h .entries ∷ present ∷ f .view ∷ f .leaf ∷ f .start ∷ f .effect ∷ f .slot ∷ f .within ∷ f .«effect_within» ∷ []
+
+unfoldable pub headWords : Head → List ℕ
+headWords h = wordsWith h (presentOf (h .finger)) (fingerOf (h .finger))
+
+-- the lent words after a call with this number: a refused one leaves them
+unfoldable pub headAfter : ℕ → Head → List ℕ → List ℕ
+headAfter number h w = cond (eqb number 0) (headWords h) w
+
+-- value i of an answer, 0 where there is none: a refusal has no values
+abbrev pub value : ℕ → Answer → ℕ
+value i a = getD (a .values) i 0
+
+abbrev pub numberOf : Answer → FlatNumber
+numberOf a = record { number = a .number; value = value 0 a }
+
+abbrev pub measuredOf : Answer → FlatMeasured
+measuredOf a = record { number = a .number; prepare = value 0 a; effect = value 1 a }
+
+abbrev pub standingOf : Answer → FlatStanding
+standingOf a = record { number = a .number; leaf = value 0 a; slot = value 1 a; stamp = value 2 a }
+
+abbrev pub selectedOf : Answer → FlatSelected
+selectedOf a = record { number = a .number; leaf = value 0 a; slot = value 1 a; stamp = value 2 a; offset = value 3 a }
+
+abbrev pub locatedOf : Answer → FlatLocated
+locatedOf a = record { number = a .number; leaf = value 0 a; slot = value 1 a; stamp = value 2 a; offset = value 3 a; position = value 4 a }
+
+abbrev pub insertedOf : Answer → FlatInserted
+insertedOf a = record { number = a .number; id = value 0 a; position = value 1 a }
+
+abbrev pub dividedOf : Answer → FlatDivided
+dividedOf a =
+    record { number = a .number; id = value 0 a; leaf = value 1 a; slot = value 2 a; stamp = value 3 a; «next_leaf» = value 4 a; «next_slot» = value 5 a; «next_stamp» = value 6 a }

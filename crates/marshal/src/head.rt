@@ -1,0 +1,127 @@
+// The head in the fifteen words that a host lends.
+use model::head::Finger;
+use model::head::Head;
+use model::head::Held;
+use model::number::NodeNo;
+ghost use mathlib.Core.Path.{_≡_};
+ghost use mathlib.Core.Bool.{_||_};
+ghost use lib.Dec.{ltb};
+ghost use lib.ListN.{length};
+ghost use Rattle.marshal.specs.Flat.{badHead, heldFrom, headFrom, presentOf, fingerOf, headWords, headAfter};
+
+// Whether it isn't fifteen words, or has neither 0 nor 1 for its finger.
+pub fn bad_head(head: &[u32]) -> bool
+    ensures { λ r. ⌜ r ≡ badHead (now (head .entry)) ⌝ }
+{
+    if head.len() != 15 {
+        return true;
+    }
+    1 < head[7]
+}
+
+// The same, or whether a view or flag is neither 0 nor 1.
+pub fn bad_flag(head: &[u32], flag: u32) -> bool
+    ensures { λ r. ⌜ r ≡ (badHead (now (head .entry)) || ltb 1 flag) ⌝ }
+{
+    if bad_head(head) {
+        return true;
+    }
+    1 < flag
+}
+
+fn held_from(head: &[u32]) -> Held
+    requires { ⌜ length (now head) ≡ 15 ⌝ }
+    ensures { λ r. ⌜ r ≡ heldFrom (now (head .entry)) ⌝ }
+{
+    if head[7] == 0 {
+        return Held::Absent;
+    }
+    Held::At(Finger {
+        view: head[8],
+        leaf: head[9],
+        start: head[10],
+        effect: head[11],
+        slot: head[12],
+        within: head[13],
+        effect_within: head[14],
+    })
+}
+
+pub fn head_from(head: &[u32]) -> Head
+    requires { ⌜ length (now head) ≡ 15 ⌝ }
+    ensures { λ r. ⌜ r ≡ headFrom (now (head .entry)) ⌝ }
+{
+    let finger = held_from(head);
+    Head {
+        fan: head[0],
+        limit: head[1],
+        root: NodeNo(head[2]),
+        levels: head[3],
+        leaves: head[4],
+        inners: head[5],
+        entries: head[6],
+        finger: finger,
+    }
+}
+
+fn present_of(finger: Held) -> u32
+    ensures { λ r. ⌜ r ≡ presentOf finger ⌝ }
+{
+    match finger {
+        Held::Absent => 0,
+        Held::At(f) => 1,
+    }
+}
+
+// The finger's words: zeros where there is none.
+fn finger_of(finger: Held) -> Finger
+    ensures { λ r. ⌜ r ≡ fingerOf finger ⌝ }
+{
+    match finger {
+        Held::Absent => Finger {
+            view: 0,
+            leaf: 0,
+            start: 0,
+            effect: 0,
+            slot: 0,
+            within: 0,
+            effect_within: 0,
+        },
+        Held::At(f) => f,
+    }
+}
+
+pub fn put_head(head: &mut [u32], h: Head)
+    requires { ⌜ length (now head) ≡ 15 ⌝ }
+    ensures { λ _. ⌜ now (head .exit) ≡ headWords h ⌝ }
+{
+    let root = h.root;
+    let finger = h.finger;
+    let present = present_of(finger);
+    let f = finger_of(finger);
+    head[0] = h.fan;
+    head[1] = h.limit;
+    head[2] = root.0;
+    head[3] = h.levels;
+    head[4] = h.leaves;
+    head[5] = h.inners;
+    head[6] = h.entries;
+    head[7] = present;
+    head[8] = f.view;
+    head[9] = f.leaf;
+    head[10] = f.start;
+    head[11] = f.effect;
+    head[12] = f.slot;
+    head[13] = f.within;
+    head[14] = f.effect_within;
+}
+
+// The head after a call that answered so: a refused one leaves it.
+pub fn settle(head: &mut [u32], number: u32, h: Head)
+    requires { ⌜ length (now head) ≡ 15 ⌝ }
+    ensures { λ _. ⌜ now (head .exit) ≡ headAfter number h (now (head .entry)) ⌝ }
+{
+    if number == 0 {
+        put_head(head, h);
+    }
+}
