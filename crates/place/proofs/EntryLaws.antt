@@ -1,19 +1,22 @@
 -- One entry more in a leaf: where there is no room, and where there is. Assumes nothing.
-use mathlib.Core.Path.{_≡_, refl, sym, ap, ap₂, _∙_}
+use mathlib.Core.Path.{_≡_, refl, sym, ap, _∙_}
 use mathlib.Core.Bool.{Bool, true, false, cond, _&&_}
 use mathlib.Core.List.{List}
 use Prim.Native.Nat.{ℕ, _+_, _<_, _≤_}
 use lib.ListN.{set}
 use lib.Dec.{ltb, leb, eqb}
 use borrow.Author.Tests.{ltb-true, leb-true, eq-eqb, ne-eqb}
-use Rattle.model.specs.Node.{Node, half}
-use Rattle.model.specs.State.{State, state, nodeAt, putNode}
+use Rattle.model.specs.Node.{Node}
+use Rattle.model.specs.State.{state, nodeAt, putNode}
 use Rattle.model.specs.Locate.{changing}
-use Rattle.model.specs.Place.{Change, change, withEntry, linkLeaf, splitLeaf, makeRoom, enter, entering}
+use Rattle.model.specs.Grow.{Top, top}
+use Rattle.model.specs.Place.{Change, change, withEntry, enter, entering}
 use Rattle.model.specs.declared.shape.Shape.{Shape}
 use Rattle.model.specs.declared.head.Head.{Head}
 use Rattle.model.specs.declared.head.Held.{Held}
-use Rattle.place.specs.Room.{roomyIn}
+use Rattle.model.specs.declared.number.LeafNo.{LeafNo}
+use Rattle.place.specs.declared.change.Room.{Room}
+use Rattle.place.specs.Room.{roomyIn, least, putBy, lost, counted, headIn, changeOf, headEntered}
 
 both : (a b : Bool) → (a && b) ≡ true → (a ≡ true) × (b ≡ true)
 both true b e = (refl, e)
@@ -40,30 +43,56 @@ module _ (g : Shape) (f : Node → Node) (w k i : ℕ) (h : Head) (ls xs hs : Li
   unfolding enter
   enter-done e ls′ fin h′ el ef eh = rw (sym eb ∙ e, eh, ef, el)
 
--- making room leaves the entry count
-picked : (b : Bool) (x y : Change) (n : ℕ) → x .state .head .entries ≡ n → y .state .head .entries ≡ n → cond b x y .state .head .entries ≡ n
-picked true x y n p q = p
-picked false x y n p q = q
+-- what `put_slot` answers and leaves, by the way s that it went: b is whether the leaf has room for that
+module _ (g : Shape) (split before s b : Bool) (k i : ℕ) (x ls : List ℕ) (es : split ≡ s) (eb : b ≡ roomyIn g k i (least s) ls) where
+  tested : b ≡ roomyIn g k i (least split) ls
+  tested = eb ∙ ap (λ (y : Bool). roomyIn g k i (least y) ls) (sym es)
 
-link-count : (g : Shape) (s : State) (k i parent : ℕ) (ls : List ℕ) (hs : ℕ × List ℕ) → linkLeaf g s k i parent ls hs .state .head .entries ≡ s .head .entries
-unfolding linkLeaf
-link-count g s k i parent ls hs = picked (eqb (hs .0) 0) _ _ _ (picked (ltb i (half (g .fan))) _ _ _ refl refl) refl
+  pub put-none : b ≡ false → (false ≡ roomyIn g k i (least split) ls) × (ls ≡ ls)
+  put-none e = (sym e ∙ tested, refl)
 
-split-count : (g : Shape) (s : State) (k i : ℕ) → splitLeaf g s k i .state .head .entries ≡ s .head .entries
-unfolding splitLeaf
-split-count g s k i = picked (ltb (s .head .leaves) (g .nodes)) _ _ _ (link-count g s k i _ _ _) refl
-
-pub room-count : (g : Shape) (s : State) (k i : ℕ) → makeRoom g s k i .state .head .entries ≡ s .head .entries
-unfolding makeRoom
-room-count g s k i =
-    let len = nodeAt g k (s .leaves) .len in
-    picked (ltb k (s .head .leaves) && leb i len && leb len (g .fan)) (cond (ltb len (g .fan)) (change 0 s k i) (splitLeaf g s k i)) (change 9 s k i) _
-    (picked (ltb len (g .fan)) (change 0 s k i) (splitLeaf g s k i) _ refl (split-count g s k i)) refl
+  pub put-done : b ≡ true → (ls′ : List ℕ) → ls′ ≡ putNode g k (putBy s before i x (nodeAt g k ls)) ls
+      → (true ≡ roomyIn g k i (least split) ls) × (ls′ ≡ putNode g k (putBy split before i x (nodeAt g k ls)) ls)
+  put-done e ls′ el = (sym e ∙ tested, el ∙ ap (λ (y : Bool). putNode g k (putBy y before i x (nodeAt g k ls)) ls) (sym es))
 
 -- an entry comes where room was made, or a 9 is passed on
-module _ (g : Shape) (f : ℕ → Node → Node) (w : ℕ) (r m : Change) (er : r ≡ m) where
-  pub entered-not : (r .number ≡ 0 → ⊥) → r ≡ entering g f w m
-  entered-not d = er ∙ sym (rw (ne-eqb _ _ (λ z. d (ap (λ (c : Change). c .number) er ∙ z))))
+module _ (g : Shape) (f : ℕ → Node → Node) (w : ℕ) (r : Room) (entries : ℕ) (h : Head) (ls xs hs : List ℕ) (m : Change) (er : changeOf r entries h ls xs hs ≡ m) where
+  pub entered-not : (r .number ≡ 0 → ⊥) → change (r .number) (state (headEntered r entries h) ls xs hs) (r .leaf .0) (r .slot) ≡ entering g f w m
+  entered-not d = rw (ne-eqb _ _ d) (er ∙ sym (rw (ne-eqb _ _ (λ z. d (ap (λ (c : Change). c .number) er ∙ z)))))
 
-  pub entered : r .number ≡ 0 → (c : Change) → c ≡ enter g (f (r .slot)) w (r .state) (r .leaf) (r .slot) → c ≡ entering g f w m
-  entered d c ec = ec ∙ rw er (sym (rw (eq-eqb _ _ (sym (ap (λ (x : Change). x .number) er) ∙ d))))
+  module _ (z : r .number ≡ 0) (b : Bool) (ls′ : List ℕ)
+      (e : (b ≡ roomyIn g (r .leaf .0) (r .slot) w ls) × (ls′ ≡ cond b (putNode g (r .leaf .0) (f (r .slot) (nodeAt g (r .leaf .0) ls)) ls) ls)) where
+    wrote : ls′ ≡ cond b (putNode g (r .leaf .0) (f (r .slot) (nodeAt g (r .leaf .0) ls)) ls) ls → (y : Bool) → b ≡ y → ls′ ≡ cond y (putNode g (r .leaf .0) (f (r .slot) (nodeAt g (r .leaf .0) ls)) ls) ls
+    wrote q y d = rw (← d) q
+
+    came : enter g (f (r .slot)) w (state (headIn r entries h) ls xs hs) (r .leaf .0) (r .slot) ≡ entering g f w m
+    came = sym (ap (entering g f w) (sym er) ∙ rw (eq-eqb _ _ z))
+
+    pub entered-none : b ≡ false → (s : Room) → s ≡ lost r → change (s .number) (state (headEntered s entries h) ls′ xs hs) (s .leaf .0) (s .slot) ≡ entering g f w m
+    entered-none d s es =
+        ap (λ (y : Room). change (y .number) (state (headEntered y entries h) ls′ xs hs) (y .leaf .0) (y .slot)) es
+        ∙ ap (λ (l : List ℕ). change 9 (state (headIn r entries h) l xs hs) (r .leaf .0) (r .slot)) (wrote (e .1) false d)
+        ∙ enter-none g (f (r .slot)) w (r .leaf .0) (r .slot) (headIn r entries h) ls xs hs b (e .0) d
+        ∙ came
+
+    pub entered-done : b ≡ true → change (r .number) (state (headEntered r entries h) ls′ xs (set hs entries (r .leaf .0))) (r .leaf .0) (r .slot) ≡ entering g f w m
+    entered-done d =
+        ap (λ (n : ℕ). change n (state (cond (eqb n 0) (withEntry (changing (r .leaf .0) (r .slot) (h .finger)) (headIn r entries h)) (headIn r entries h)) ls′ xs (set hs entries (r .leaf .0))) (r .leaf .0) (r .slot)) z
+        ∙ enter-done g (f (r .slot)) w (r .leaf .0) (r .slot) (headIn r entries h) ls xs hs b (e .0) d ls′ _ _ (wrote (e .1) true d) refl refl
+        ∙ came
+
+-- the head when an entry has come, or not
+module _ (r : Room) (h after : Head) (ea : after ≡ headIn r (h .entries) h) where
+  pub head-not : (r .number ≡ 0 → ⊥) → after ≡ headEntered r (h .entries) h
+  head-not d = ea ∙ sym (rw (ne-eqb _ _ d))
+
+  pub head-done : r .number ≡ 0 → (fin : Held) (h′ : Head) → fin ≡ changing (r .leaf .0) (r .slot) (after .finger) → h′ ≡ withEntry fin after → h′ ≡ headEntered r (h .entries) h
+  head-done z fin h′ ef eh = eh ∙ ap (λ (f : Held). withEntry f after) ef ∙ ap (λ (y : Head). withEntry (changing (r .leaf .0) (r .slot) (y .finger)) y) ea ∙ sym (rw (eq-eqb _ _ z))
+
+-- a change field by field
+pub by-field : {n n′ i i′ : ℕ} {a b : Head} {k k′ : LeafNo} (ls xs hs : List ℕ) → (n ≡ n′) × (a ≡ b) × (k ≡ k′) × (i ≡ i′) → change n (state a ls xs hs) (k .0) i ≡ change n′ (state b ls xs hs) (k′ .0) i′
+by-field ls xs hs (p, q, r, s) = rw (p, q, r, s)
+
+-- a head's own counts
+pub own : (h : Head) (t : Top) → t ≡ top (h .inners) (h .root .0) (h .levels) → counted (h .leaves) t (h .entries) h ≡ h
+own h t e = ap (λ (u : Top). counted (h .leaves) u (h .entries) h) e

@@ -13,6 +13,8 @@ use Rattle.model.specs.Grow.{areas, Top, top, Grown, grown, addTo, aboveOf}
 use Rattle.model.specs.Place.{Change, change, withLeaf, rehome, linkLeaf, splitLeaf, makeRoom}
 use Rattle.model.specs.declared.shape.Shape.{Shape}
 use Rattle.model.specs.declared.head.Head.{Head}
+use Rattle.place.specs.declared.change.Room.{Room}
+use Rattle.place.specs.Room.{roomAt, counted, changeOf}
 use Rattle.laws.specs.Lists.{row-end}
 use Rattle.laws.specs.Nodes.{Formed}
 use Rattle.laws.specs.Formed.{formed-lower, formed-upper}
@@ -90,6 +92,11 @@ module _ (g : Shape) (k i : ℕ) (h : Head) (ls xs hs : List ℕ) where
 
       pub split-high : half (g .fan) ≤ i → change (r .number) (state h2 (r .areas .leaves) (r .areas .inners) homes) (h .leaves) (i - half (g .fan)) ≡ splitLeaf g (state h ls xs hs) k i
       split-high l = sym (begun ∙ link-high g k i (nodeAt g k now .parent) h ls xs hs now (n, homes) r h2 d er e2 l)
+
+-- what a room at hand answers
+pub at-room : {r : Room} {number leaves : ℕ} {k i : ℕ} {m : Change} (t : Top) (entries : ℕ) (h : Head) (ls xs hs : List ℕ) → r ≡ roomAt number leaves t k i
+    → change number (state (counted leaves t entries h) ls xs hs) k i ≡ m → changeOf r entries h ls xs hs ≡ m
+at-room t entries h ls xs hs e q = ap (λ (r : Room). changeOf r entries h ls xs hs) e ∙ q
 
 -- `make_room` test by test: len is the leaf's as it was read
 module _ (g : Shape) (k i len : ℕ) (h : Head) (ls xs hs : List ℕ) (el : len ≡ nodeAt g k ls .len) where

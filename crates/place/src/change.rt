@@ -1,12 +1,16 @@
 // A change on its way, and the heads that it leaves.
+use links::top::Top;
 use model::head::Head;
 use model::head::Held;
 use model::number::LeafNo;
 use model::number::NodeNo;
+use finger_search::finger::changing;
 ghost use mathlib.Core.Path.{_≡_};
 ghost use Prim.Native.Nat.{_+_, _<_};
 ghost use Rattle.model.specs.Grow.{top};
-ghost use Rattle.model.specs.Place.{withFinger, withEntry, withLeaf};
+ghost use Rattle.model.specs.Place.{withFinger, withEntry};
+ghost use Rattle.links.specs.Tops.{topOf};
+ghost use Rattle.place.specs.Room.{roomAt, lost, headIn, headEntered};
 
 // 0 or 9, the head so far, the slot at which the change happens.
 pub struct Change {
@@ -14,6 +18,19 @@ pub struct Change {
     pub head: Head,
     pub leaf: LeafNo,
     pub slot: u32,
+}
+
+// What changes beside the areas and the finger when room is made for an entry: 0 or 9, the slot at which the entry comes, and
+// the leaves, inner nodes, levels and root that are in use then. No two fields stand side by side in Change too: the compiler
+// would copy both at once, and that copy waits for both to be written.
+pub struct Room {
+    pub number: u32,
+    pub leaves: u32,
+    pub leaf: LeafNo,
+    pub inners: u32,
+    pub slot: u32,
+    pub levels: u32,
+    pub root: NodeNo,
 }
 
 // The head with another finger.
@@ -51,20 +68,91 @@ pub fn with_entry(f: Held, h: Head) -> Head
     }
 }
 
-// The head with one leaf more, and with the inner nodes, root and levels that it took.
-pub fn with_leaf(inners: u32, root: NodeNo, levels: u32, h: Head) -> Head
-    requires { ⌜ h .leaves < 4294967295 ⌝ }
-    ensures { λ r. ⌜ r ≡ withLeaf (top inners (root .0) levels) h ⌝ }
+// A room at slot i of leaf k, with so many leaves, and the inner nodes, levels and root of t.
+pub fn room_at(number: u32, leaves: u32, t: Top, k: u32, i: u32) -> Room
+    ensures { λ r. ⌜ r ≡ roomAt number leaves (topOf t) k i ⌝ }
 {
+    let root = t.root;
+    Room {
+        number: number,
+        leaves: leaves,
+        leaf: LeafNo(k),
+        inners: t.inners,
+        slot: i,
+        levels: t.levels,
+        root: root,
+    }
+}
+
+// What adding a node changes beside the areas, as a head has it.
+pub fn top_of(h: Head) -> Top
+    ensures { λ t. ⌜ topOf t ≡ top (h .inners) (h .root .0) (h .levels) ⌝ }
+{
+    let root = h.root;
+    Top {
+        number: 0,
+        inners: h.inners,
+        root: root,
+        levels: h.levels,
+    }
+}
+
+// A room whose slot leads outside.
+pub fn astray(r: Room) -> Room
+    ensures { λ s. ⌜ s ≡ lost r ⌝ }
+{
+    let root = r.root;
+    let leaf = r.leaf;
+    Room {
+        number: 9,
+        leaves: r.leaves,
+        leaf: leaf,
+        inners: r.inners,
+        slot: r.slot,
+        levels: r.levels,
+        root: root,
+    }
+}
+
+// The head with the counts of a room.
+pub fn with_room(r: Room, h: Head) -> Head
+    ensures { λ s. ⌜ s ≡ headIn r (h .entries) h ⌝ }
+{
+    let root = r.root;
     let finger = h.finger;
     Head {
         fan: h.fan,
         limit: h.limit,
         root: root,
-        levels: levels,
-        leaves: h.leaves + 1,
-        inners: inners,
+        levels: r.levels,
+        leaves: r.leaves,
+        inners: r.inners,
         entries: h.entries,
         finger: finger,
+    }
+}
+
+// The change that a room for an entry leaves, and with 0 the entry too.
+pub fn entered(r: Room, h: Head) -> Change
+    requires { ⌜ h .entries < 4294967295 ⌝ }
+    ensures { λ s. ⌜ (s .number ≡ r .number) × (s .head ≡ headEntered r (h .entries) h) × (s .leaf ≡ r .leaf) × (s .slot ≡ r .slot) ⌝ }
+{
+    let leaf = r.leaf;
+    let after = with_room(r, h);
+    if r.number != 0 {
+        return Change {
+            number: r.number,
+            head: after,
+            leaf: leaf,
+            slot: r.slot,
+        };
+    }
+    let finger = after.finger;
+    let moved = changing(finger, leaf.0, r.slot);
+    Change {
+        number: 0,
+        head: with_entry(moved, after),
+        leaf: leaf,
+        slot: r.slot,
     }
 }

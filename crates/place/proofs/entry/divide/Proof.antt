@@ -1,15 +1,24 @@
--- `place::entry::divide`: room is made, and then the entry comes in; a 9 on the way is passed on.
-use mathlib.Core.Path.{_≡_, refl, sym, ap, _∙_}
+-- `place::entry::divide`: the entry comes with the head's own counts, and the head follows.
+use mathlib.Core.Path.{_≡_, ap, _∙_}
 use native.Mathlib.Omega.{arith}
 use Rattle.model.specs.Node.{childSplit}
-use Rattle.model.specs.Place.{Change}
-use Rattle.place.proofs.EntryLaws.{room-count, entered-not, entered}
+use Rattle.model.specs.State.{state}
+use Rattle.model.specs.Grow.{Top}
+use Rattle.model.specs.Place.{makeRoom, entering}
+use Rattle.model.specs.declared.head.Head.{Head}
+use Rattle.place.proofs.EntryLaws.{by-field, own}
 use borrow.Author.Needs.{needs}
 use Rattle.place.proofs.entry.divide.Statement.{statement}
 use Rattle.place.proofs.entry.divide.Tie as tie
 
-make-room-requires : tie.Need-make-room-requires
-make-room-requires c κs = search needs
+top-of-requires : tie.Need-top-of-requires
+top-of-requires c κs = search needs
+
+enter-requires : tie.Need-enter-requires
+enter-requires c κs = (c .before .before .before .before .before .before .before .before .pre .0, c .before .before .before .before .before .before .before .before .pre .1, omega (arith, c .before .before .before .before .before .before .before .before .pre .2, ap (λ (t : Top). t .inners) (c .before .before .before .top-of .ensures)), omega (arith, c .before .before .before .before .before .before .before .before .pre .3, ap (λ (t : Top). t .levels) (c .before .before .before .top-of .ensures)), omega (arith, c .before .before .before .before .before .before .before .before .pre .4, ap (λ (t : Top). t .levels) (c .before .before .before .top-of .ensures)), c .before .before .before .before .before .before .before .before .pre .5, c .before .before .before .before .before .before .before .before .pre .7)
+
+entered-requires : tie.Need-entered-requires
+entered-requires c κs = search needs
 
 same-length : tie.Need-same-length
 same-length c = search needs
@@ -21,34 +30,16 @@ same-length-3 : tie.Need-same-length-3
 same-length-3 c = search needs
 
 returns : tie.Need-returns
-returns c = entered-not (c .before .before .before .before .before .before .before .before .before .before .before .before .before .before .before .before .args .g) (λ j. childSplit (c .before .before .before .before .before .before .before .before .before .before .before .before .before .before .before .before .args .before) j (c .before .before .before .before .before .before .before .before .before .before .before .before .before .before .before .before .args .x .now)) 1 _ _ (c .before .before .before .before .before .before .before .before .make-room .ensures) (c .if1 .taken)
-
-enter-split-requires : tie.Need-enter-split-requires
-enter-split-requires c κs = let n = ap (λ (r : Change). r .state .head .entries) (c .before .before .before .before .before .before .before .before .before .before .before .make-room .ensures) ∙ room-count (c .before .before .before .before .before .before .before .before .before .before .before .before .before .before .before .before .before .before .before .args .g) _ (c .before .before .before .before .before .before .before .before .before .before .before .before .before .before .before .before .before .before .before .args .k) (c .before .before .before .before .before .before .before .before .before .before .before .before .before .before .before .before .before .before .before .args .i) in (record { shaped = c .before .before .before .before .before .before .before .before .before .before .before .before .before .before .before .before .before .before .before .pre .0 .shaped; room = omega (arith, c .before .before .before .before .before .before .before .before .before .before .before .before .before .before .before .before .before .before .before .pre .0 .leaves, c .before .before .before .before .before .before .before .before .before .before .before .make-room .kept .1 .0) }, omega (arith, n, c .before .before .before .before .before .before .before .before .before .before .before .make-room .kept .1 .1 .1 .0), omega (arith, n), c .before .before .before .before .before .before .before .before .before .before .before .before .before .before .before .before .before .before .before .pre .7)
-
-same-length-4 : tie.Need-same-length-4
-same-length-4 c = search needs
-
-same-length-5 : tie.Need-same-length-5
-same-length-5 c = search needs
-
-same-length-6 : tie.Need-same-length-6
-same-length-6 c = search needs
-
-returns-2 : tie.Need-returns-2
-returns-2 c = entered (c .before .before .before .before .before .before .before .before .before .before .before .before .before .before .before .before .before .before .before .before .before .before .before .before .args .g) (λ j. childSplit (c .before .before .before .before .before .before .before .before .before .before .before .before .before .before .before .before .before .before .before .before .before .before .before .before .args .before) j (c .before .before .before .before .before .before .before .before .before .before .before .before .before .before .before .before .before .before .before .before .before .before .before .before .args .x .now)) 1 _ _ (c .before .before .before .before .before .before .before .before .before .before .before .before .before .before .before .before .make-room .ensures) (c .before .before .before .before .before .before .before .before .if1 .left) _ (c .before .before .before .before .enter-split .ensures _)
+returns c = by-field _ _ _ (c .entered .ensures) ∙ c .before .before .before .before .before .before .before .enter .ensures (c .before .before .before .before .before .before .before .before .before .before .before .before .before .before .before .before .args .head) ∙ ap (λ (h : Head). entering (c .before .before .before .before .before .before .before .before .before .before .before .before .before .before .before .before .args .g) (λ j. childSplit (c .before .before .before .before .before .before .before .before .before .before .before .before .before .before .before .before .args .before) j (c .before .before .before .before .before .before .before .before .before .before .before .before .before .before .before .before .args .x .now)) 1 (makeRoom (c .before .before .before .before .before .before .before .before .before .before .before .before .before .before .before .before .args .g) (state h (c .before .before .before .before .before .before .before .before .before .before .before .before .before .before .before .before .args .leaves .now) (c .before .before .before .before .before .before .before .before .before .before .before .before .before .before .before .before .args .inners .now) (c .before .before .before .before .before .before .before .before .before .before .before .before .before .before .before .before .args .homes .now)) (c .before .before .before .before .before .before .before .before .before .before .before .before .before .before .before .before .args .k) (c .before .before .before .before .before .before .before .before .before .before .before .before .before .before .before .before .args .i))) (own _ _ (c .before .before .before .before .before .before .before .before .before .before .before .top-of .ensures))
 
 pub divide-spec : {M : Type 1} → statement M
 divide-spec =
     tie.close
     (tie.spec
-    make-room-requires
+    top-of-requires
+    enter-requires
+    entered-requires
     same-length
     same-length-2
     same-length-3
-    returns
-    enter-split-requires
-    same-length-4
-    same-length-5
-    same-length-6
-    returns-2)
+    returns)

@@ -1,13 +1,17 @@
 -- `place::room::make_room`: each test is one of the definition's, in its order.
-use mathlib.Core.Path.{_≡_, refl, sym, ap, _∙_}
-use native.Mathlib.Omega.{arith}
-use Rattle.place.proofs.RoomLaws.{room-unused, room-past, room-over, room-there, room-made}
+use mathlib.Core.Path.{refl}
+use Rattle.links.specs.Tops.{topOf}
+use Rattle.place.specs.Room.{counted}
+use Rattle.place.proofs.RoomLaws.{at-room, room-unused, room-past, room-over, room-there, room-made}
 use borrow.Author.Needs.{needs}
 use Rattle.place.proofs.room.make_room.Statement.{statement}
 use Rattle.place.proofs.room.make_room.Tie as tie
 
+room-at-requires : tie.Need-room-at-requires
+room-at-requires c κs = search needs
+
 returns : tie.Need-returns
-returns c = room-unused (c .before .before .before .before .before .args .g) _ _ _ _ (c .before .before .before .before .before .args .leaves .now) (c .before .before .before .before .before .args .inners .now) (c .before .before .before .before .before .args .homes .now) refl (c .if1 .taken)
+returns c = λ h. at-room _ _ h _ _ _ (c .room-at .ensures) (room-unused (c .before .before .before .before .before .args .g) _ _ _ (counted (c .before .before .before .before .before .args .used) (topOf (c .before .before .before .before .before .args .t)) (c .before .before .before .before .before .args .entries) h) (c .before .before .before .before .before .args .leaves .now) (c .before .before .before .before .before .args .inners .now) (c .before .before .before .before .before .args .homes .now) refl (c .before .if1 .taken))
 
 len-of-requires : tie.Need-len-of-requires
 len-of-requires c κs = search needs
@@ -15,23 +19,32 @@ len-of-requires c κs = search needs
 cast-len : tie.Need-cast-len
 cast-len c = search needs
 
+room-at-requires-2 : tie.Need-room-at-requires-2
+room-at-requires-2 c κs = search needs
+
 same-length : tie.Need-same-length
 same-length c = search needs
 
 returns-2 : tie.Need-returns-2
-returns-2 c = room-past (c .before .before .before .before .before .before .before .before .args .g) _ _ _ _ (c .before .before .before .before .before .before .before .before .args .leaves .now) (c .before .before .before .before .before .before .before .before .args .inners .now) (c .before .before .before .before .before .before .before .before .args .homes .now) (c .before .len-of .ensures) (c .before .before .before .if1 .left) (c .if2 .taken)
+returns-2 c = λ h. at-room _ _ h _ _ _ (c .room-at2 .ensures) (room-past (c .before .before .before .before .before .before .before .before .args .g) _ _ _ (counted (c .before .before .before .before .before .before .before .before .args .used) (topOf (c .before .before .before .before .before .before .before .before .args .t)) (c .before .before .before .before .before .before .before .before .args .entries) h) (c .before .before .before .before .before .before .before .before .args .leaves .now) (c .before .before .before .before .before .before .before .before .args .inners .now) (c .before .before .before .before .before .before .before .before .args .homes .now) (c .before .before .len-of .ensures) (c .before .before .before .before .if1 .left) (c .before .if2 .taken))
+
+room-at-requires-3 : tie.Need-room-at-requires-3
+room-at-requires-3 c κs = search needs
 
 same-length-2 : tie.Need-same-length-2
 same-length-2 c = search needs
 
 returns-3 : tie.Need-returns-3
-returns-3 c = room-over (c .before .before .before .before .before .before .before .before .before .args .g) _ _ _ _ (c .before .before .before .before .before .before .before .before .before .args .leaves .now) (c .before .before .before .before .before .before .before .before .before .args .inners .now) (c .before .before .before .before .before .before .before .before .before .args .homes .now) (c .before .before .len-of .ensures) (c .before .before .before .before .if1 .left) (c .before .if2 .left) (c .if3 .taken)
+returns-3 c = λ h. at-room _ _ h _ _ _ (c .room-at3 .ensures) (room-over (c .before .before .before .before .before .before .before .before .before .args .g) _ _ _ (counted (c .before .before .before .before .before .before .before .before .before .args .used) (topOf (c .before .before .before .before .before .before .before .before .before .args .t)) (c .before .before .before .before .before .before .before .before .before .args .entries) h) (c .before .before .before .before .before .before .before .before .before .args .leaves .now) (c .before .before .before .before .before .before .before .before .before .args .inners .now) (c .before .before .before .before .before .before .before .before .before .args .homes .now) (c .before .before .before .len-of .ensures) (c .before .before .before .before .before .if1 .left) (c .before .before .if2 .left) (c .before .if3 .taken))
+
+room-at-requires-4 : tie.Need-room-at-requires-4
+room-at-requires-4 c κs = search needs
 
 same-length-3 : tie.Need-same-length-3
 same-length-3 c = search needs
 
 returns-4 : tie.Need-returns-4
-returns-4 c = room-there (c .before .before .before .before .before .before .before .before .before .before .args .g) _ _ _ _ (c .before .before .before .before .before .before .before .before .before .before .args .leaves .now) (c .before .before .before .before .before .before .before .before .before .before .args .inners .now) (c .before .before .before .before .before .before .before .before .before .before .args .homes .now) (c .before .before .before .len-of .ensures) (c .before .before .before .before .before .if1 .left) (c .before .before .if2 .left) (c .before .if3 .left) (c .if4 .taken)
+returns-4 c = λ h. at-room _ _ h _ _ _ (c .room-at4 .ensures) (room-there (c .before .before .before .before .before .before .before .before .before .before .args .g) _ _ _ (counted (c .before .before .before .before .before .before .before .before .before .before .args .used) (topOf (c .before .before .before .before .before .before .before .before .before .before .args .t)) (c .before .before .before .before .before .before .before .before .before .before .args .entries) h) (c .before .before .before .before .before .before .before .before .before .before .args .leaves .now) (c .before .before .before .before .before .before .before .before .before .before .args .inners .now) (c .before .before .before .before .before .before .before .before .before .before .args .homes .now) (c .before .before .before .before .len-of .ensures) (c .before .before .before .before .before .before .if1 .left) (c .before .before .before .if2 .left) (c .before .before .if3 .left) (c .before .if4 .taken))
 
 split-leaf-requires : tie.Need-split-leaf-requires
 split-leaf-requires c κs = search needs
@@ -46,19 +59,23 @@ same-length-6 : tie.Need-same-length-6
 same-length-6 c = search needs
 
 returns-5 : tie.Need-returns-5
-returns-5 c = room-made (c .before .before .before .before .before .before .before .before .before .before .before .before .before .before .before .before .before .before .before .before .args .g) _ _ _ _ (c .before .before .before .before .before .before .before .before .before .before .before .before .before .before .before .before .before .before .before .before .args .leaves .now) (c .before .before .before .before .before .before .before .before .before .before .before .before .before .before .before .before .before .before .before .before .args .inners .now) (c .before .before .before .before .before .before .before .before .before .before .before .before .before .before .before .before .before .before .before .before .args .homes .now) (c .before .before .before .before .before .before .before .before .before .before .before .before .before .len-of .ensures) (c .before .before .before .before .before .before .before .before .before .before .before .before .before .before .before .if1 .left) (c .before .before .before .before .before .before .before .before .before .before .before .before .if2 .left) (c .before .before .before .before .before .before .before .before .before .before .before .if3 .left) (c .before .before .before .before .before .before .before .before .before .before .if4 .left) _ (c .before .before .before .before .before .before .split-leaf .ensures)
+returns-5 c = λ h. room-made (c .before .before .before .before .before .before .before .before .before .before .before .before .before .before .before .before .before .before .before .args .g) _ _ _ (counted (c .before .before .before .before .before .before .before .before .before .before .before .before .before .before .before .before .before .before .before .args .used) (topOf (c .before .before .before .before .before .before .before .before .before .before .before .before .before .before .before .before .before .before .before .args .t)) (c .before .before .before .before .before .before .before .before .before .before .before .before .before .before .before .before .before .before .before .args .entries) h) (c .before .before .before .before .before .before .before .before .before .before .before .before .before .before .before .before .before .before .before .args .leaves .now) (c .before .before .before .before .before .before .before .before .before .before .before .before .before .before .before .before .before .before .before .args .inners .now) (c .before .before .before .before .before .before .before .before .before .before .before .before .before .before .before .before .before .before .before .args .homes .now) (c .before .before .before .before .before .before .before .before .before .before .before .before .before .len-of .ensures) (c .before .before .before .before .before .before .before .before .before .before .before .before .before .before .before .if1 .left) (c .before .before .before .before .before .before .before .before .before .before .before .before .if2 .left) (c .before .before .before .before .before .before .before .before .before .before .before .if3 .left) (c .before .before .before .before .before .before .before .before .before .before .if4 .left) _ (c .before .before .before .before .before .before .split-leaf .ensures h)
 
 pub make-room-spec : {M : Type 1} → statement M
 make-room-spec =
     tie.close
     (tie.spec
+    room-at-requires
     returns
     len-of-requires
     cast-len
+    room-at-requires-2
     same-length
     returns-2
+    room-at-requires-3
     same-length-2
     returns-3
+    room-at-requires-4
     same-length-3
     returns-4
     split-leaf-requires

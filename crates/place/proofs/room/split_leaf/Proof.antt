@@ -1,26 +1,28 @@
 -- `place::room::split_leaf`: the halves are written and the homes follow; then the new leaf gets its slot above.
-use mathlib.Core.Path.{_≡_, refl, sym, ap, _∙_}
+use mathlib.Core.Path.{_≡_, refl, _∙_}
 use native.Mathlib.Omega.{arith}
 use Rattle.laws.specs.AreaRead.{node-end}
-use Rattle.place.proofs.RoomLaws.{halves, few, split-none, split-lost, split-low, split-high}
+use Rattle.links.specs.Tops.{topOf}
+use Rattle.place.specs.Room.{counted}
+use Rattle.place.proofs.RoomLaws.{at-room, halves, few, split-none, split-lost, split-low, split-high}
 use borrow.Author.Needs.{needs}
 use Rattle.place.proofs.room.split_leaf.Statement.{statement}
 use Rattle.place.proofs.room.split_leaf.Tie as tie
 
-cast-if1 : tie.Need-cast-if1
-cast-if1 c = search needs
+room-at-requires : tie.Need-room-at-requires
+room-at-requires c κs = search needs
 
 returns : tie.Need-returns
-returns c = split-none (c .before .before .before .before .before .args .g) _ _ _ (c .before .before .before .before .before .args .leaves .now) (c .before .before .before .before .before .args .inners .now) (c .before .before .before .before .before .args .homes .now) (c .if1 .taken)
-
-cast-split-off : tie.Need-cast-split-off
-cast-split-off c = search needs
+returns c = λ h. at-room _ _ h _ _ _ (c .room-at .ensures) (split-none (c .before .before .before .before .before .args .g) _ _ (counted (c .before .before .before .before .before .args .used) (topOf (c .before .before .before .before .before .args .t)) (c .before .before .before .before .before .args .entries) h) (c .before .before .before .before .before .args .leaves .now) (c .before .before .before .before .before .args .inners .now) (c .before .before .before .before .before .args .homes .now) (c .before .if1 .taken))
 
 split-off-requires : tie.Need-split-off-requires
-split-off-requires c κs = (c .before .before .before .before .before .before .pre .0 .shaped, c .before .before .before .before .before .before .pre .1, node-end (c .before .before .before .before .before .before .args .g) (c .before .before .before .before .before .before .args .head .leaves) _ (c .before .if1 .left) (c .before .before .before .before .before .before .pre .0 .leaves))
+split-off-requires c κs = (c .before .before .before .before .before .pre .0 .shaped, c .before .before .before .before .before .pre .1, node-end (c .before .before .before .before .before .args .g) (c .before .before .before .before .before .args .used) _ (c .before .if1 .left) (c .before .before .before .before .before .pre .0 .leaves))
 
 rehome-requires : tie.Need-rehome-requires
-rehome-requires c κs = let z = (halves (c .before .before .before .before .before .before .before .before .before .before .before .args .g) (c .before .before .before .before .before .before .before .before .before .before .before .args .k) (c .before .before .before .before .before .before .before .before .before .before .before .args .head .leaves) (c .before .before .before .before .before .before .before .before .before .before .before .args .leaves .now) _ (c .before .before .before .before .before .before .before .before .before .before .before .pre .0 .shaped .words) (omega (arith, c .before .before .before .before .before .before .before .before .before .before .before .pre .0 .shaped)) (c .before .before .before .before .before .before .before .before .before .before .before .pre .1) (node-end (c .before .before .before .before .before .before .before .before .before .before .before .args .g) (c .before .before .before .before .before .before .before .before .before .before .before .args .head .leaves) _ (c .before .before .before .before .before .before .if1 .left) (c .before .before .before .before .before .before .before .before .before .before .before .pre .0 .leaves)) (c .before .before .before .before .split-off .ensures)) in (record { shaped = c .before .before .before .before .before .before .before .before .before .before .before .pre .0 .shaped; room = rw (z .long) (c .before .before .before .before .before .before .before .before .before .before .before .pre .0 .leaves) }, c .before .before .before .before .before .before .if1 .left, few z, c .before .before .before .before .before .before .before .before .before .before .before .pre .5)
+rehome-requires c κs = let z = (halves (c .before .before .before .before .before .before .before .before .before .before .args .g) (c .before .before .before .before .before .before .before .before .before .before .args .k) (c .before .before .before .before .before .before .before .before .before .before .args .used) (c .before .before .before .before .before .before .before .before .before .before .args .leaves .now) _ (c .before .before .before .before .before .before .before .before .before .before .pre .0 .shaped .words) (omega (arith, c .before .before .before .before .before .before .before .before .before .before .pre .0 .shaped)) (c .before .before .before .before .before .before .before .before .before .before .pre .1) (node-end (c .before .before .before .before .before .before .before .before .before .before .args .g) (c .before .before .before .before .before .before .before .before .before .before .args .used) _ (c .before .before .before .before .before .before .if1 .left) (c .before .before .before .before .before .before .before .before .before .before .pre .0 .leaves)) (c .before .before .before .before .split-off .ensures)) in (record { shaped = c .before .before .before .before .before .before .before .before .before .before .pre .0 .shaped; room = rw (z .long) (c .before .before .before .before .before .before .before .before .before .before .pre .0 .leaves) }, c .before .before .before .before .before .before .if1 .left, few z, c .before .before .before .before .before .before .before .before .before .before .pre .5)
+
+room-at-requires-2 : tie.Need-room-at-requires-2
+room-at-requires-2 c κs = search needs
 
 same-length : tie.Need-same-length
 same-length c = search needs
@@ -29,7 +31,7 @@ same-length-2 : tie.Need-same-length-2
 same-length-2 c = search needs
 
 returns-2 : tie.Need-returns-2
-returns-2 c = split-lost (c .before .before .before .before .before .before .before .before .before .before .before .before .before .before .before .args .g) _ _ _ (c .before .before .before .before .before .before .before .before .before .before .before .before .before .before .before .args .leaves .now) (c .before .before .before .before .before .before .before .before .before .before .before .before .before .before .before .args .inners .now) (c .before .before .before .before .before .before .before .before .before .before .before .before .before .before .before .args .homes .now) _ _ _ (halves (c .before .before .before .before .before .before .before .before .before .before .before .before .before .before .before .args .g) (c .before .before .before .before .before .before .before .before .before .before .before .before .before .before .before .args .k) (c .before .before .before .before .before .before .before .before .before .before .before .before .before .before .before .args .head .leaves) (c .before .before .before .before .before .before .before .before .before .before .before .before .before .before .before .args .leaves .now) _ (c .before .before .before .before .before .before .before .before .before .before .before .before .before .before .before .pre .0 .shaped .words) (omega (arith, c .before .before .before .before .before .before .before .before .before .before .before .before .before .before .before .pre .0 .shaped)) (c .before .before .before .before .before .before .before .before .before .before .before .before .before .before .before .pre .1) (node-end (c .before .before .before .before .before .before .before .before .before .before .before .before .before .before .before .args .g) (c .before .before .before .before .before .before .before .before .before .before .before .before .before .before .before .args .head .leaves) _ (c .before .before .before .before .before .before .before .before .before .before .if1 .left) (c .before .before .before .before .before .before .before .before .before .before .before .before .before .before .before .pre .0 .leaves)) (c .before .before .before .before .before .before .before .before .split-off .ensures)) (c .before .before .before .before .before .before .before .before .before .before .if1 .left) (c .before .before .before .rehome .ensures) (c .if2 .taken)
+returns-2 c = λ h. at-room _ _ h _ _ _ (c .room-at2 .ensures) (split-lost (c .before .before .before .before .before .before .before .before .before .before .before .before .before .before .before .args .g) _ _ (counted (c .before .before .before .before .before .before .before .before .before .before .before .before .before .before .before .args .used) (topOf (c .before .before .before .before .before .before .before .before .before .before .before .before .before .before .before .args .t)) (c .before .before .before .before .before .before .before .before .before .before .before .before .before .before .before .args .entries) h) (c .before .before .before .before .before .before .before .before .before .before .before .before .before .before .before .args .leaves .now) (c .before .before .before .before .before .before .before .before .before .before .before .before .before .before .before .args .inners .now) (c .before .before .before .before .before .before .before .before .before .before .before .before .before .before .before .args .homes .now) _ _ _ (halves (c .before .before .before .before .before .before .before .before .before .before .before .before .before .before .before .args .g) (c .before .before .before .before .before .before .before .before .before .before .before .before .before .before .before .args .k) (c .before .before .before .before .before .before .before .before .before .before .before .before .before .before .before .args .used) (c .before .before .before .before .before .before .before .before .before .before .before .before .before .before .before .args .leaves .now) _ (c .before .before .before .before .before .before .before .before .before .before .before .before .before .before .before .pre .0 .shaped .words) (omega (arith, c .before .before .before .before .before .before .before .before .before .before .before .before .before .before .before .pre .0 .shaped)) (c .before .before .before .before .before .before .before .before .before .before .before .before .before .before .before .pre .1) (node-end (c .before .before .before .before .before .before .before .before .before .before .before .before .before .before .before .args .g) (c .before .before .before .before .before .before .before .before .before .before .before .before .before .before .before .args .used) _ (c .before .before .before .before .before .before .before .before .before .before .before .if1 .left) (c .before .before .before .before .before .before .before .before .before .before .before .before .before .before .before .pre .0 .leaves)) (c .before .before .before .before .before .before .before .before .before .split-off .ensures)) (c .before .before .before .before .before .before .before .before .before .before .before .if1 .left) (c .before .before .before .before .rehome .ensures) (c .before .if2 .taken))
 
 parent-of-requires : tie.Need-parent-of-requires
 parent-of-requires c κs = search needs
@@ -40,11 +42,14 @@ sub-add-child c = search needs
 add-child-requires : tie.Need-add-child-requires
 add-child-requires c κs = search needs
 
-with-leaf-requires : tie.Need-with-leaf-requires
-with-leaf-requires c κs = omega (arith, c .before .before .before .before .before .before .before .before .before .before .before .before .before .before .before .before .before .before .before .before .if1 .left, c .before .before .before .before .before .before .before .before .before .before .before .before .before .before .before .before .before .before .before .before .before .before .before .before .before .pre .0 .shaped)
+add-room-at : tie.Need-add-room-at
+add-room-at c = omega (arith, c .before .before .before .before .before .before .before .before .before .before .before .before .before .before .before .before .before .before .before .before .before .if1 .left, c .before .before .before .before .before .before .before .before .before .before .before .before .before .before .before .before .before .before .before .before .before .before .before .before .before .pre .0 .shaped)
+
+room-at-requires-3 : tie.Need-room-at-requires-3
+room-at-requires-3 c κs = search needs
 
 same-length-3 : tie.Need-same-length-3
-same-length-3 c = c .before .before .before .before .before .before .before .before .add-child .kept .0 ∙ c .before .before .before .before .before .before .before .before .before .before .before .before .before .before .before .before .before .before .before .before .before .split-off .kept .0
+same-length-3 c = c .before .before .before .before .before .before .before .add-child .kept .0 ∙ c .before .before .before .before .before .before .before .before .before .before .before .before .before .before .before .before .before .before .before .before .split-off .kept .0
 
 same-length-4 : tie.Need-same-length-4
 same-length-4 c = search needs
@@ -53,16 +58,22 @@ same-length-5 : tie.Need-same-length-5
 same-length-5 c = search needs
 
 returns-3 : tie.Need-returns-3
-returns-3 c = split-low (c .before .before .before .before .before .before .before .before .before .before .before .before .before .before .before .before .before .before .before .before .before .before .before .before .before .before .before .before .args .g) _ _ _ (c .before .before .before .before .before .before .before .before .before .before .before .before .before .before .before .before .before .before .before .before .before .before .before .before .before .before .before .before .args .leaves .now) (c .before .before .before .before .before .before .before .before .before .before .before .before .before .before .before .before .before .before .before .before .before .before .before .before .before .before .before .before .args .inners .now) (c .before .before .before .before .before .before .before .before .before .before .before .before .before .before .before .before .before .before .before .before .before .before .before .before .before .before .before .before .args .homes .now) _ _ _ (halves (c .before .before .before .before .before .before .before .before .before .before .before .before .before .before .before .before .before .before .before .before .before .before .before .before .before .before .before .before .args .g) (c .before .before .before .before .before .before .before .before .before .before .before .before .before .before .before .before .before .before .before .before .before .before .before .before .before .before .before .before .args .k) (c .before .before .before .before .before .before .before .before .before .before .before .before .before .before .before .before .before .before .before .before .before .before .before .before .before .before .before .before .args .head .leaves) (c .before .before .before .before .before .before .before .before .before .before .before .before .before .before .before .before .before .before .before .before .before .before .before .before .before .before .before .before .args .leaves .now) _ (c .before .before .before .before .before .before .before .before .before .before .before .before .before .before .before .before .before .before .before .before .before .before .before .before .before .before .before .before .pre .0 .shaped .words) (omega (arith, c .before .before .before .before .before .before .before .before .before .before .before .before .before .before .before .before .before .before .before .before .before .before .before .before .before .before .before .before .pre .0 .shaped)) (c .before .before .before .before .before .before .before .before .before .before .before .before .before .before .before .before .before .before .before .before .before .before .before .before .before .before .before .before .pre .1) (node-end (c .before .before .before .before .before .before .before .before .before .before .before .before .before .before .before .before .before .before .before .before .before .before .before .before .before .before .before .before .args .g) (c .before .before .before .before .before .before .before .before .before .before .before .before .before .before .before .before .before .before .before .before .before .before .before .before .before .before .before .before .args .head .leaves) _ (c .before .before .before .before .before .before .before .before .before .before .before .before .before .before .before .before .before .before .before .before .before .before .before .if1 .left) (c .before .before .before .before .before .before .before .before .before .before .before .before .before .before .before .before .before .before .before .before .before .before .before .before .before .before .before .before .pre .0 .leaves)) (c .before .before .before .before .before .before .before .before .before .before .before .before .before .before .before .before .before .before .before .before .before .split-off .ensures)) (c .before .before .before .before .before .before .before .before .before .before .before .before .before .before .before .before .before .before .before .before .before .before .before .if1 .left) (c .before .before .before .before .before .before .before .before .before .before .before .before .before .before .before .before .rehome .ensures) _ _ (c .before .before .before .before .before .before .before .before .before .before .before .before .before .if2 .left) (rw (c .before .before .before .before .before .before .before .before .before .before .before .parent-of .ensures) at (c .before .before .before .before .before .before .before .before .add-child .ensures)) (c .before .before .with-leaf .ensures) (c .if3 .taken)
+returns-3 c = λ h. at-room _ _ h _ _ _ (c .room-at3 .ensures) (split-low (c .before .before .before .before .before .before .before .before .before .before .before .before .before .before .before .before .before .before .before .before .before .before .before .before .before .before .args .g) _ _ (counted (c .before .before .before .before .before .before .before .before .before .before .before .before .before .before .before .before .before .before .before .before .before .before .before .before .before .before .args .used) (topOf (c .before .before .before .before .before .before .before .before .before .before .before .before .before .before .before .before .before .before .before .before .before .before .before .before .before .before .args .t)) (c .before .before .before .before .before .before .before .before .before .before .before .before .before .before .before .before .before .before .before .before .before .before .before .before .before .before .args .entries) h) (c .before .before .before .before .before .before .before .before .before .before .before .before .before .before .before .before .before .before .before .before .before .before .before .before .before .before .args .leaves .now) (c .before .before .before .before .before .before .before .before .before .before .before .before .before .before .before .before .before .before .before .before .before .before .before .before .before .before .args .inners .now) (c .before .before .before .before .before .before .before .before .before .before .before .before .before .before .before .before .before .before .before .before .before .before .before .before .before .before .args .homes .now) _ _ _ (halves (c .before .before .before .before .before .before .before .before .before .before .before .before .before .before .before .before .before .before .before .before .before .before .before .before .before .before .args .g) (c .before .before .before .before .before .before .before .before .before .before .before .before .before .before .before .before .before .before .before .before .before .before .before .before .before .before .args .k) (c .before .before .before .before .before .before .before .before .before .before .before .before .before .before .before .before .before .before .before .before .before .before .before .before .before .before .args .used) (c .before .before .before .before .before .before .before .before .before .before .before .before .before .before .before .before .before .before .before .before .before .before .before .before .before .before .args .leaves .now) _ (c .before .before .before .before .before .before .before .before .before .before .before .before .before .before .before .before .before .before .before .before .before .before .before .before .before .before .pre .0 .shaped .words) (omega (arith, c .before .before .before .before .before .before .before .before .before .before .before .before .before .before .before .before .before .before .before .before .before .before .before .before .before .before .pre .0 .shaped)) (c .before .before .before .before .before .before .before .before .before .before .before .before .before .before .before .before .before .before .before .before .before .before .before .before .before .before .pre .1) (node-end (c .before .before .before .before .before .before .before .before .before .before .before .before .before .before .before .before .before .before .before .before .before .before .before .before .before .before .args .g) (c .before .before .before .before .before .before .before .before .before .before .before .before .before .before .before .before .before .before .before .before .before .before .before .before .before .before .args .used) _ (c .before .before .before .before .before .before .before .before .before .before .before .before .before .before .before .before .before .before .before .before .before .before .if1 .left) (c .before .before .before .before .before .before .before .before .before .before .before .before .before .before .before .before .before .before .before .before .before .before .before .before .before .before .pre .0 .leaves)) (c .before .before .before .before .before .before .before .before .before .before .before .before .before .before .before .before .before .before .before .before .split-off .ensures)) (c .before .before .before .before .before .before .before .before .before .before .before .before .before .before .before .before .before .before .before .before .before .before .if1 .left) (c .before .before .before .before .before .before .before .before .before .before .before .before .before .before .before .rehome .ensures) _ _ (c .before .before .before .before .before .before .before .before .before .before .before .before .if2 .left) (rw (c .before .before .before .before .before .before .before .before .before .before .parent-of .ensures) at (c .before .before .before .before .before .before .before .add-child .ensures)) refl (c .before .if3 .taken))
 
-cast-t38 : tie.Need-cast-t38
-cast-t38 c = omega (arith, c .before .before .before .before .before .before .before .before .before .before .before .before .before .before .before .before .before .before .before .before .before .before .before .before .before .before .before .before .pre .0 .shaped)
+add-room-at-2 : tie.Need-add-room-at-2
+add-room-at-2 c = omega (arith, c .before .before .before .before .before .before .before .before .before .before .before .before .before .before .before .before .before .before .before .before .before .if1 .left, c .before .before .before .before .before .before .before .before .before .before .before .before .before .before .before .before .before .before .before .before .before .before .before .before .before .pre .0 .shaped)
 
-sub-t41 : tie.Need-sub-t41
-sub-t41 c = search needs
+cast-room-at : tie.Need-cast-room-at
+cast-room-at c = omega (arith, c .before .before .before .before .before .before .before .before .before .before .before .before .before .before .before .before .before .before .before .before .before .before .before .before .before .pre .0 .shaped)
+
+sub-room-at : tie.Need-sub-room-at
+sub-room-at c = search needs
+
+room-at-requires-4 : tie.Need-room-at-requires-4
+room-at-requires-4 c κs = search needs
 
 same-length-6 : tie.Need-same-length-6
-same-length-6 c = c .before .before .before .before .before .before .before .before .add-child .kept .0 ∙ c .before .before .before .before .before .before .before .before .before .before .before .before .before .before .before .before .before .before .before .before .before .split-off .kept .0
+same-length-6 c = c .before .before .before .before .before .before .before .add-child .kept .0 ∙ c .before .before .before .before .before .before .before .before .before .before .before .before .before .before .before .before .before .before .before .before .split-off .kept .0
 
 same-length-7 : tie.Need-same-length-7
 same-length-7 c = search needs
@@ -71,30 +82,33 @@ same-length-8 : tie.Need-same-length-8
 same-length-8 c = search needs
 
 returns-4 : tie.Need-returns-4
-returns-4 c = split-high (c .before .before .before .before .before .before .before .before .before .before .before .before .before .before .before .before .before .before .before .before .before .before .before .before .before .before .before .before .args .g) _ _ _ (c .before .before .before .before .before .before .before .before .before .before .before .before .before .before .before .before .before .before .before .before .before .before .before .before .before .before .before .before .args .leaves .now) (c .before .before .before .before .before .before .before .before .before .before .before .before .before .before .before .before .before .before .before .before .before .before .before .before .before .before .before .before .args .inners .now) (c .before .before .before .before .before .before .before .before .before .before .before .before .before .before .before .before .before .before .before .before .before .before .before .before .before .before .before .before .args .homes .now) _ _ _ (halves (c .before .before .before .before .before .before .before .before .before .before .before .before .before .before .before .before .before .before .before .before .before .before .before .before .before .before .before .before .args .g) (c .before .before .before .before .before .before .before .before .before .before .before .before .before .before .before .before .before .before .before .before .before .before .before .before .before .before .before .before .args .k) (c .before .before .before .before .before .before .before .before .before .before .before .before .before .before .before .before .before .before .before .before .before .before .before .before .before .before .before .before .args .head .leaves) (c .before .before .before .before .before .before .before .before .before .before .before .before .before .before .before .before .before .before .before .before .before .before .before .before .before .before .before .before .args .leaves .now) _ (c .before .before .before .before .before .before .before .before .before .before .before .before .before .before .before .before .before .before .before .before .before .before .before .before .before .before .before .before .pre .0 .shaped .words) (omega (arith, c .before .before .before .before .before .before .before .before .before .before .before .before .before .before .before .before .before .before .before .before .before .before .before .before .before .before .before .before .pre .0 .shaped)) (c .before .before .before .before .before .before .before .before .before .before .before .before .before .before .before .before .before .before .before .before .before .before .before .before .before .before .before .before .pre .1) (node-end (c .before .before .before .before .before .before .before .before .before .before .before .before .before .before .before .before .before .before .before .before .before .before .before .before .before .before .before .before .args .g) (c .before .before .before .before .before .before .before .before .before .before .before .before .before .before .before .before .before .before .before .before .before .before .before .before .before .before .before .before .args .head .leaves) _ (c .before .before .before .before .before .before .before .before .before .before .before .before .before .before .before .before .before .before .before .before .before .before .before .if1 .left) (c .before .before .before .before .before .before .before .before .before .before .before .before .before .before .before .before .before .before .before .before .before .before .before .before .before .before .before .before .pre .0 .leaves)) (c .before .before .before .before .before .before .before .before .before .before .before .before .before .before .before .before .before .before .before .before .before .split-off .ensures)) (c .before .before .before .before .before .before .before .before .before .before .before .before .before .before .before .before .before .before .before .before .before .before .before .if1 .left) (c .before .before .before .before .before .before .before .before .before .before .before .before .before .before .before .before .rehome .ensures) _ _ (c .before .before .before .before .before .before .before .before .before .before .before .before .before .if2 .left) (rw (c .before .before .before .before .before .before .before .before .before .before .before .parent-of .ensures) at (c .before .before .before .before .before .before .before .before .add-child .ensures)) (c .before .before .with-leaf .ensures) (c .if3 .left)
+returns-4 c = λ h. at-room _ _ h _ _ _ (c .room-at4 .ensures) (split-high (c .before .before .before .before .before .before .before .before .before .before .before .before .before .before .before .before .before .before .before .before .before .before .before .before .before .before .args .g) _ _ (counted (c .before .before .before .before .before .before .before .before .before .before .before .before .before .before .before .before .before .before .before .before .before .before .before .before .before .before .args .used) (topOf (c .before .before .before .before .before .before .before .before .before .before .before .before .before .before .before .before .before .before .before .before .before .before .before .before .before .before .args .t)) (c .before .before .before .before .before .before .before .before .before .before .before .before .before .before .before .before .before .before .before .before .before .before .before .before .before .before .args .entries) h) (c .before .before .before .before .before .before .before .before .before .before .before .before .before .before .before .before .before .before .before .before .before .before .before .before .before .before .args .leaves .now) (c .before .before .before .before .before .before .before .before .before .before .before .before .before .before .before .before .before .before .before .before .before .before .before .before .before .before .args .inners .now) (c .before .before .before .before .before .before .before .before .before .before .before .before .before .before .before .before .before .before .before .before .before .before .before .before .before .before .args .homes .now) _ _ _ (halves (c .before .before .before .before .before .before .before .before .before .before .before .before .before .before .before .before .before .before .before .before .before .before .before .before .before .before .args .g) (c .before .before .before .before .before .before .before .before .before .before .before .before .before .before .before .before .before .before .before .before .before .before .before .before .before .before .args .k) (c .before .before .before .before .before .before .before .before .before .before .before .before .before .before .before .before .before .before .before .before .before .before .before .before .before .before .args .used) (c .before .before .before .before .before .before .before .before .before .before .before .before .before .before .before .before .before .before .before .before .before .before .before .before .before .before .args .leaves .now) _ (c .before .before .before .before .before .before .before .before .before .before .before .before .before .before .before .before .before .before .before .before .before .before .before .before .before .before .pre .0 .shaped .words) (omega (arith, c .before .before .before .before .before .before .before .before .before .before .before .before .before .before .before .before .before .before .before .before .before .before .before .before .before .before .pre .0 .shaped)) (c .before .before .before .before .before .before .before .before .before .before .before .before .before .before .before .before .before .before .before .before .before .before .before .before .before .before .pre .1) (node-end (c .before .before .before .before .before .before .before .before .before .before .before .before .before .before .before .before .before .before .before .before .before .before .before .before .before .before .args .g) (c .before .before .before .before .before .before .before .before .before .before .before .before .before .before .before .before .before .before .before .before .before .before .before .before .before .before .args .used) _ (c .before .before .before .before .before .before .before .before .before .before .before .before .before .before .before .before .before .before .before .before .before .before .if1 .left) (c .before .before .before .before .before .before .before .before .before .before .before .before .before .before .before .before .before .before .before .before .before .before .before .before .before .before .pre .0 .leaves)) (c .before .before .before .before .before .before .before .before .before .before .before .before .before .before .before .before .before .before .before .before .split-off .ensures)) (c .before .before .before .before .before .before .before .before .before .before .before .before .before .before .before .before .before .before .before .before .before .before .if1 .left) (c .before .before .before .before .before .before .before .before .before .before .before .before .before .before .before .rehome .ensures) _ _ (c .before .before .before .before .before .before .before .before .before .before .before .before .if2 .left) (rw (c .before .before .before .before .before .before .before .before .before .before .parent-of .ensures) at (c .before .before .before .before .before .before .before .add-child .ensures)) refl (c .before .if3 .left))
 
 pub split-leaf-spec : {M : Type 1} → statement M
 split-leaf-spec =
     tie.close
     (tie.spec
-    cast-if1
+    room-at-requires
     returns
-    cast-split-off
     split-off-requires
     rehome-requires
+    room-at-requires-2
     same-length
     same-length-2
     returns-2
     parent-of-requires
     sub-add-child
     add-child-requires
-    with-leaf-requires
+    add-room-at
+    room-at-requires-3
     same-length-3
     same-length-4
     same-length-5
     returns-3
-    cast-t38
-    sub-t41
+    add-room-at-2
+    cast-room-at
+    sub-room-at
+    room-at-requires-4
     same-length-6
     same-length-7
     same-length-8
