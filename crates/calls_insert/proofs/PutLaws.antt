@@ -1,5 +1,5 @@
 -- What an entry more leaves, and what insert and add answer. Assumes nothing.
-use mathlib.Core.Path.{_≡_, refl, ap, _∙_}
+use mathlib.Core.Path.{_≡_, refl, sym, ap, _∙_}
 use mathlib.Core.Bool.{Bool, true, false}
 use mathlib.Core.List.{List, _∷_}
 use Prim.Native.Nat.{ℕ, _+_, _*_, _<_, _≤_}
@@ -14,7 +14,7 @@ use Rattle.model.specs.State.{State, state, nodeAt}
 use Rattle.model.specs.Climb.{climbUp, lastDown}
 use Rattle.model.specs.Place.{Change, makeRoom, entering, place, climb}
 use Rattle.model.specs.Refuse.{effect, shapeOf}
-use Rattle.model.specs.Calls.{Reply, reply, aim, endOf, insertCauses, insert, add}
+use Rattle.model.specs.Calls.{Reply, reply, entryId, aim, endOf, placed, insertCauses, insert, add}
 use Rattle.model.specs.declared.shape.Shape.{Shape}
 use Rattle.model.specs.declared.length.Lengths.{Lengths}
 use Rattle.model.specs.declared.way.Leaf.{Leaf}
@@ -25,20 +25,19 @@ use Rattle.model.specs.declared.answer.Target.{Target}
 use Rattle.model.specs.declared.answer.Target.the-variants as target
 use Rattle.model.specs.declared.answer.Inserted.{Inserted}
 use Rattle.model.specs.declared.answer.Inserted.the-variants as inserted
-use Rattle.model.specs.declared.answer.Named.{Named}
-use Rattle.model.specs.declared.answer.Named.the-variants as named
 use Rattle.laws.specs.Lens.{by-test}
 use Rattle.area.specs.Area.{Area}
-use Rattle.walk.specs.Raise.{raiseUp, whole, raise-climb}
 use Rattle.links.specs.Fits.{Fits}
+use Rattle.place.specs.Asked.{askedWay}
+use Rattle.place.proofs.SizeLaws.{asked-whole, asked-lost, asked-wrap}
 use Rattle.place.proofs.LevelLaws.{entered-levels, entered-in}
 use Rattle.node.specs.Shaped.{Shaped}
-use Rattle.open.proofs.Causes.{call-refused, call-good}
+use Rattle.open.proofs.Causes.{call-refused, call-good, answering, answering-call}
 use Rattle.open.specs.Open.{openedBy}
 use Rattle.open.specs.Ready.{Ready}
 use Rattle.open.specs.declared.open.Opened.{Opened}
 use Rattle.open.specs.declared.open.Opened.the-variants.{Good, Refused}
-use Rattle.calls_insert.specs.Put.{put, doneBy, insertedBy, addedBy}
+use Rattle.calls_insert.specs.Put.{put, insertedAs, insertedBy, enter, unplaced}
 
 pub fits : (s : State) (g : Shape) → Ready s g → Fits g (length (s .leaves)) (length (s .inners))
 fits s g h = record { shaped = h .shaped; leaves = h .leaf-area; inners = h .inner-area }
@@ -46,14 +45,6 @@ fits s g h = record { shaped = h .shaped; leaves = h .leaf-area; inners = h .inn
 -- an area after a call that keeps its length
 pub still : (g : Shape) (n m : ℕ) → Shaped g → g .nodes * g .size ≤ n → m ≡ n → Area g m
 still g n m h r e = record { shaped = h; room = omega arith }
-
--- what a climb answered, by the case that was met
-pub tied : (u v : Sum) (xs : List ℕ) (w : Sum × List ℕ) → u ≡ v → (u, xs) ≡ w → (v, xs) ≡ w
-tied u v xs w e h = rw e at h
-
-clash : (b : Bool) → b ≡ true → b ≡ false → ⊥
-clash true p q = let z : _≡_ {A = ℕ} 0 1 = cc in absurd (omega arith)
-clash false p q = let z : _≡_ {A = ℕ} 0 1 = cc in absurd (omega arith)
 
 -- what `put` answers, from what `aim` and `place` answered
 module _ (g : Shape) (s : State) (t : Target) (l : Lengths) (a : Change) (e : a ≡ aim s t) where
@@ -92,9 +83,9 @@ module _ (g : Shape) (s : State) (t : Target) (l : Lengths) (c : Change) (e : c 
       (λ _ d. entered-in g (λ j. node.inserted j (s .head .entries ∷ listOf l)) 0 s (aim s t .leaf) (aim s t .slot) _ refl d)
       (λ h d. absurd (eqb-false _ _ h d)))
 
-  -- the answer, from what `put` left and from the way up
-  module _ {A : Type 0} (refuse a : ℕ → A) where
-    pub done-lost : (c .number ≡ 0 → ⊥) → reply (state (s .head) (c .state .leaves) (c .state .inners) (c .state .homes)) (refuse (c .number)) ≡ doneBy refuse a g s t l
+  -- the answer, from what `put` left and from the way up, whose sum is asked for or not
+  module _ (b : Bool) where
+    pub done-lost : (c .number ≡ 0 → ⊥) → reply (state (s .head) (c .state .leaves) (c .state .inners) (c .state .homes)) (inserted.Refused (c .number)) ≡ insertedBy b g s t l
     unfolding climb
     done-lost d = rw (← e, ne-eqb (c .number) 0 d, ne-eqb (c .number) 0 d)
 
@@ -102,53 +93,36 @@ module _ (g : Shape) (s : State) (t : Target) (l : Lengths) (c : Change) (e : c 
       abbrev way : Sum × List ℕ
       way = let m = nodeAt g (c .leaf) (c .state .leaves) in climbUp g effect (listOf l) (c .state .head .levels) (m .parent) (m .at) (start effect (c .slot) m) (c .state .inners)
 
-      pub done-whole : (n : ℕ) → (sum.Is n, xs) ≡ way → reply (state (c .state .head) (c .state .leaves) xs (c .state .homes)) (a (wrap n)) ≡ doneBy refuse a g s t l
+      way-whole : (n : ℕ) → (sum.Is n, xs) ≡ way → reply (state (c .state .head) (c .state .leaves) xs (c .state .homes)) (insertedAs b s (wrap n)) ≡ insertedBy b g s t l
       unfolding climb
-      done-whole n q = rw (← e, eq-eqb _ _ d, ← q)
+      way-whole n q = rw (← e, eq-eqb _ _ d, ← q)
 
-      pub done-broken : (sum.Broken, xs) ≡ way → reply (state (s .head) (c .state .leaves) xs (c .state .homes)) (refuse 9) ≡ doneBy refuse a g s t l
+      way-broken : (sum.Broken, xs) ≡ way → reply (state (s .head) (c .state .leaves) xs (c .state .homes)) (inserted.Refused 9) ≡ insertedBy b g s t l
       unfolding climb
-      done-broken q = rw (← e, eq-eqb _ _ d, ← q)
+      way-broken q = rw (← e, eq-eqb _ _ d, ← q)
 
-  -- the same where the way up isn't summed: b says whether it was whole
-  module _ {A : Type 0} (refuse : ℕ → A) (x : A) (xs : List ℕ) (d : c .number ≡ 0) (b : Bool)
-      (eb : (b, xs) ≡ raiseUp g (listOf l) (c .state .head .levels) (nodeAt g (c .leaf) (c .state .leaves) .parent) (nodeAt g (c .leaf) (c .state .leaves) .at) (c .state .inners)) where
-    abbrev up : Sum × List ℕ
-    up = way refuse (λ _. x) xs d
+      module _ (r : Sum) (ec : (r, xs) ≡ askedWay b way) where
+        pub done-whole : (n : ℕ) → r ≡ sum.Is n → reply (state (c .state .head) (c .state .leaves) xs (c .state .homes)) (inserted.At (entryId (s .head .entries)) (wrap n)) ≡ insertedBy b g s t l
+        done-whole n q =
+            let w = asked-whole b xs n way (ap (λ (x : Sum). (x, xs)) (sym q) ∙ ec) in
+            ap (λ (m : ℕ). reply (state (c .state .head) (c .state .leaves) xs (c .state .homes)) (inserted.At (entryId (s .head .entries)) m)) (ap wrap (w .2) ∙ asked-wrap b (w .0))
+            ∙ way-whole (w .0) (w .1)
 
-    told : _≡_ {A = Bool × List ℕ} (b, xs) (whole (up .0), up .1)
-    told =
-        let m = nodeAt g (c .leaf) (c .state .leaves) in
-        eb ∙ raise-climb g effect (listOf l) (c .state .head .levels) (m .parent) (m .at) (start effect (c .slot) m) (c .state .inners)
+        pub done-broken : r ≡ sum.Broken → reply (state (s .head) (c .state .leaves) xs (c .state .homes)) (inserted.Refused 9) ≡ insertedBy b g s t l
+        done-broken q = way-broken (asked-lost b xs way (ap (λ (x : Sum). (x, xs)) (sym q) ∙ ec))
 
-    pub added-whole : b ≡ true → reply (state (c .state .head) (c .state .leaves) xs (c .state .homes)) x ≡ doneBy refuse (λ _. x) g s t l
-    added-whole h = go up refl told
-      where
-        go : (w : Sum × List ℕ) → w ≡ up → _≡_ {A = Bool × List ℕ} (b, xs) (whole (w .0), w .1) → reply (state (c .state .head) (c .state .leaves) xs (c .state .homes)) x ≡ doneBy refuse (λ _. x) g s t l
-        go (sum.Is n, ys) q r = rw (ap (λ (z : Bool × List ℕ). z .1) r) (done-whole refuse (λ _. x) ys d n q)
-        go (sum.Broken, ys) q r = absurd (clash b h (ap (λ (z : Bool × List ℕ). z .0) r))
+-- the call, from what its tests answered
+module _ (s : State) (t : Target) (l : Lengths) (b : Bool) (o : Opened) (e : o ≡ openedBy (insertCauses s t l) (shapeOf (s .head))) where
+  pub enter-refused : (n : ℕ) → o ≡ Refused n → reply s (inserted.Refused n) ≡ enter b s t l
+  enter-refused n d = call-refused (λ m. reply s (inserted.Refused m)) (λ g. insertedBy b g s t l) (insertCauses s t l) (shapeOf (s .head)) o e n d
 
-    pub added-broken : b ≡ false → reply (state (s .head) (c .state .leaves) xs (c .state .homes)) (refuse 9) ≡ doneBy refuse (λ _. x) g s t l
-    added-broken h = go up refl told
-      where
-        go : (w : Sum × List ℕ) → w ≡ up → _≡_ {A = Bool × List ℕ} (b, xs) (whole (w .0), w .1) → reply (state (s .head) (c .state .leaves) xs (c .state .homes)) (refuse 9) ≡ doneBy refuse (λ _. x) g s t l
-        go (sum.Is n, ys) q r = absurd (clash b (ap (λ (z : Bool × List ℕ). z .0) r) h)
-        go (sum.Broken, ys) q r = rw (ap (λ (z : Bool × List ℕ). z .1) r) (done-broken refuse (λ _. x) ys d q)
+  pub enter-done : (g : Shape) → o ≡ Good g → (r : Reply Inserted) → r ≡ insertedBy b g s t l → r ≡ enter b s t l
+  enter-done g d r q = call-good (λ m. reply s (inserted.Refused m)) (λ g. insertedBy b g s t l) (insertCauses s t l) (shapeOf (s .head)) o e g d r q
 
--- the calls, from what their tests answered
-module _ (s : State) (t : Target) (l : Lengths) (o : Opened) (e : o ≡ openedBy (insertCauses s t l) (shapeOf (s .head))) where
-  pub insert-refused : (n : ℕ) → o ≡ Refused n → reply s (inserted.Refused n) ≡ insert s t l
-  unfolding insert
-  insert-refused n d = call-refused (λ m. reply s (inserted.Refused m)) (λ g. insertedBy g s t l) (insertCauses s t l) (shapeOf (s .head)) o e n d
+pub insert-is : (s : State) (t : Target) (l : Lengths) → enter true s t l ≡ insert s t l
+unfolding insert
+insert-is s t l = refl
 
-  pub insert-done : (g : Shape) → o ≡ Good g → (r : Reply Inserted) → r ≡ insertedBy g s t l → r ≡ insert s t l
-  unfolding insert
-  insert-done g d r q = call-good (λ m. reply s (inserted.Refused m)) (λ g. insertedBy g s t l) (insertCauses s t l) (shapeOf (s .head)) o e g d r q
-
-  pub add-refused : (n : ℕ) → o ≡ Refused n → reply s (named.Refused n) ≡ add s t l
-  unfolding add
-  add-refused n d = call-refused (λ m. reply s (named.Refused m)) (λ g. addedBy g s t l) (insertCauses s t l) (shapeOf (s .head)) o e n d
-
-  pub add-done : (g : Shape) → o ≡ Good g → (r : Reply Named) → r ≡ addedBy g s t l → r ≡ add s t l
-  unfolding add
-  add-done g d r q = call-good (λ m. reply s (named.Refused m)) (λ g. addedBy g s t l) (insertCauses s t l) (shapeOf (s .head)) o e g d r q
+pub add-is : (s : State) (t : Target) (l : Lengths) (x : Reply Inserted) → x ≡ enter false s t l → reply (x .after) (unplaced (x .answer)) ≡ add s t l
+unfolding add
+add-is s t l x e = ap (answering unplaced) e ∙ answering-call unplaced (insertCauses s t l) s (placed s t l .0) inserted.Refused (insertedAs false s 0)

@@ -1,12 +1,13 @@
--- What insert and add do where no test gives a number, with the shape that the tests gave. Assumes nothing.
-use mathlib.Core.Bool.{cond}
+-- What insert and add do where no test gives a number, with the shape that the tests gave; and the one call that both are. Assumes nothing.
+use mathlib.Core.Bool.{Bool, cond}
 use Prim.Native.Nat.{ℕ}
 use lib.Dec.{eqb}
 use Rattle.model.specs.Length.{listOf}
 use Rattle.model.specs.State.{State}
 use Rattle.model.specs.Place.{Change, place, climb}
 use Rattle.model.specs.Refuse.{effect}
-use Rattle.model.specs.Calls.{Reply, settled, entryId, aim}
+use Rattle.model.specs.Calls.{Reply, reply, unless, settled, entryId, aim, placed, insertCauses}
+use Rattle.place.specs.Asked.{asked}
 use Rattle.model.specs.declared.shape.Shape.{Shape}
 use Rattle.model.specs.declared.length.Lengths.{Lengths}
 use Rattle.model.specs.declared.answer.Target.{Target}
@@ -19,18 +20,20 @@ use Rattle.model.specs.declared.answer.Named.the-variants as named
 abbrev pub put : Shape → State → Target → Lengths → Change
 put g s t l = let r = aim s t in cond (eqb (r .number) 0) (place g s (r .leaf) (r .slot) (listOf l)) r
 
--- the whole change, answered from the position
-abbrev pub doneBy : {A : Type 0} → (ℕ → A) → (ℕ → A) → Shape → State → Target → Lengths → Reply A
-doneBy refuse a g s t l = let r = climb g effect (listOf l) (put g s t l) in settled s (r .0) refuse (a (r .1))
+-- the id and, where it is asked for, the position, else 0
+abbrev pub insertedAs : Bool → State → ℕ → Inserted
+insertedAs summed s p = inserted.At (entryId (s .head .entries)) (asked summed p)
 
-abbrev pub insertedAt : State → ℕ → Inserted
-insertedAt s p = inserted.At (entryId (s .head .entries)) p
+-- the whole change, with its answer
+abbrev pub insertedBy : Bool → Shape → State → Target → Lengths → Reply Inserted
+insertedBy summed g s t l = let r = climb g effect (listOf l) (put g s t l) in settled s (r .0) inserted.Refused (insertedAs summed s (r .1))
 
-abbrev pub insertedBy : Shape → State → Target → Lengths → Reply Inserted
-insertedBy g s t l = doneBy inserted.Refused (insertedAt s) g s t l
+-- `insert`; without its position, which is then 0, `add`
+abbrev pub enter : Bool → State → Target → Lengths → Reply Inserted
+enter summed s t l =
+    let r = placed s t l in
+    unless (insertCauses s t l) (λ n. reply s (inserted.Refused n)) (settled s (r .0) inserted.Refused (insertedAs summed s (r .1)))
 
-abbrev pub addedAs : State → Named
-addedAs s = named.Entry (entryId (s .head .entries))
-
-abbrev pub addedBy : Shape → State → Target → Lengths → Reply Named
-addedBy g s t l = doneBy named.Refused (λ _. addedAs s) g s t l
+abbrev pub unplaced : Inserted → Named
+unplaced (inserted.At i p) = named.Entry i
+unplaced (inserted.Refused n) = named.Refused n

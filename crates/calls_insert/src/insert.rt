@@ -14,8 +14,7 @@ use model::way::Sum;
 use open::open::Opened;
 use place::change::Change;
 use place::entry::place;
-use place::size::add_to_ancestors;
-use place::size::climb;
+use place::size::way_up;
 ghost use mathlib.Core.Path.{_≡_};
 ghost use Prim.Native.Nat.{_<_};
 ghost use Rattle.model.specs.State.{state};
@@ -23,7 +22,7 @@ ghost use Rattle.model.specs.Place.{change};
 ghost use Rattle.model.specs.Calls as calls;
 ghost use Rattle.model.specs.Calls.{reply};
 ghost use Rattle.open.specs.Ready.{Ready};
-ghost use Rattle.calls_insert.specs.Put.{put, insertedBy, addedBy};
+ghost use Rattle.calls_insert.specs.Put.{put, insertedBy, enter, unplaced};
 
 // The entry in its leaf, with the next id; nothing goes up yet (place).
 fn put(
@@ -46,8 +45,8 @@ fn put(
     place(head, leaves, inners, homes, g, r.leaf.0, r.slot, &x)
 }
 
-// The entry in its leaf and its lengths above it; its effect position is summed up on the way.
-fn insert_open(
+// The entry in its leaf and its lengths above it; its effect position is summed up on the way where that is asked for.
+fn enter_open(
     head: Head,
     leaves: &mut [u32],
     inners: &mut [u32],
@@ -55,9 +54,10 @@ fn insert_open(
     g: Shape,
     before: Target,
     lengths: Lengths,
+    summed: bool,
 ) -> InsertedReply
     requires { ⌜ Ready (state head (now leaves) (now inners) (now homes)) g × (head .entries < head .limit) ⌝ }
-    ensures { λ r. ⌜ reply (state (r .head) (now (leaves .exit)) (now (inners .exit)) (now (homes .exit))) (r .answer) ≡ insertedBy g (state head (now (leaves .entry)) (now (inners .entry)) (now (homes .entry))) before lengths ⌝ }
+    ensures { λ r. ⌜ reply (state (r .head) (now (leaves .exit)) (now (inners .exit)) (now (homes .exit))) (r .answer) ≡ insertedBy summed g (state head (now (leaves .entry)) (now (inners .entry)) (now (homes .entry))) before lengths ⌝ }
 {
     let r = put(head, leaves, inners, homes, g, before, lengths);
     let number = r.number;
@@ -69,7 +69,17 @@ fn insert_open(
     }
     let after = r.head;
     let delta: [u32; 2] = [lengths.prepare, lengths.effect];
-    match climb(leaves, inners, g, 1, &delta, after.levels, r.leaf.0, r.slot) {
+    match way_up(
+        leaves,
+        inners,
+        g,
+        1,
+        &delta,
+        after.levels,
+        r.leaf.0,
+        r.slot,
+        summed,
+    ) {
         Sum::Is(n) => InsertedReply {
             head: after,
             answer: Inserted::At(EntryId(head.entries), (n % 4294967296) as u32),
@@ -81,38 +91,25 @@ fn insert_open(
     }
 }
 
-// The same without the position.
-fn add_open(
+// An entry before a cursor's or at the end: its id and, where it is asked for, its effect position, else 0. One function for both
+// calls, so that a host's library has it once.
+pub fn enter(
     head: Head,
     leaves: &mut [u32],
     inners: &mut [u32],
     homes: &mut [u32],
-    g: Shape,
     before: Target,
     lengths: Lengths,
-) -> NamedReply
-    requires { ⌜ Ready (state head (now leaves) (now inners) (now homes)) g × (head .entries < head .limit) ⌝ }
-    ensures { λ r. ⌜ reply (state (r .head) (now (leaves .exit)) (now (inners .exit)) (now (homes .exit))) (r .answer) ≡ addedBy g (state head (now (leaves .entry)) (now (inners .entry)) (now (homes .entry))) before lengths ⌝ }
+    summed: bool,
+) -> InsertedReply
+    ensures { λ r. ⌜ reply (state (r .head) (now (leaves .exit)) (now (inners .exit)) (now (homes .exit))) (r .answer) ≡ enter summed (state head (now (leaves .entry)) (now (inners .entry)) (now (homes .entry))) before lengths ⌝ }
 {
-    let r = put(head, leaves, inners, homes, g, before, lengths);
-    let number = r.number;
-    if number != 0 {
-        return NamedReply {
+    match open_insert(head, leaves, inners, homes, before, lengths) {
+        Opened::Refused(n) => InsertedReply {
             head: head,
-            answer: Named::Refused(number),
-        };
-    }
-    let after = r.head;
-    let delta: [u32; 2] = [lengths.prepare, lengths.effect];
-    if !add_to_ancestors(leaves, inners, g, &delta, after.levels, r.leaf.0) {
-        return NamedReply {
-            head: head,
-            answer: Named::Refused(9),
-        };
-    }
-    NamedReply {
-        head: after,
-        answer: Named::Entry(EntryId(head.entries)),
+            answer: Inserted::Refused(n),
+        },
+        Opened::Good(g) => enter_open(head, leaves, inners, homes, g, before, lengths, summed),
     }
 }
 
@@ -127,12 +124,16 @@ pub fn insert(
 ) -> InsertedReply
     ensures { λ r. ⌜ reply (state (r .head) (now (leaves .exit)) (now (inners .exit)) (now (homes .exit))) (r .answer) ≡ calls.insert (state head (now (leaves .entry)) (now (inners .entry)) (now (homes .entry))) before lengths ⌝ }
 {
-    match open_insert(head, leaves, inners, homes, before, lengths) {
-        Opened::Refused(n) => InsertedReply {
-            head: head,
-            answer: Inserted::Refused(n),
-        },
-        Opened::Good(g) => insert_open(head, leaves, inners, homes, g, before, lengths),
+    enter(head, leaves, inners, homes, before, lengths, true)
+}
+
+// An answer without its position.
+pub fn unplaced(answer: Inserted) -> Named
+    ensures { λ r. ⌜ r ≡ unplaced answer ⌝ }
+{
+    match answer {
+        Inserted::At(i, p) => Named::Entry(i),
+        Inserted::Refused(n) => Named::Refused(n),
     }
 }
 
@@ -147,11 +148,11 @@ pub fn add(
 ) -> NamedReply
     ensures { λ r. ⌜ reply (state (r .head) (now (leaves .exit)) (now (inners .exit)) (now (homes .exit))) (r .answer) ≡ calls.add (state head (now (leaves .entry)) (now (inners .entry)) (now (homes .entry))) before lengths ⌝ }
 {
-    match open_insert(head, leaves, inners, homes, before, lengths) {
-        Opened::Refused(n) => NamedReply {
-            head: head,
-            answer: Named::Refused(n),
-        },
-        Opened::Good(g) => add_open(head, leaves, inners, homes, g, before, lengths),
+    let r = enter(head, leaves, inners, homes, before, lengths, false);
+    let after = r.head;
+    let answer = r.answer;
+    NamedReply {
+        head: after,
+        answer: unplaced(answer),
     }
 }

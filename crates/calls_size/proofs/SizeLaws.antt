@@ -1,6 +1,6 @@
 -- What the calls answer that give an entry other lengths. Assumes nothing.
 use mathlib.Core.Path.{_≡_, refl, sym, ap, ap₂, _∙_}
-use mathlib.Core.Bool.{Bool, true, false, true≢false}
+use mathlib.Core.Bool.{Bool, true, false}
 use mathlib.Core.List.{List, [], _∷_, _++_, zipWith}
 use Prim.Native.Nat.{ℕ, _+_, _-_, _^_, _<_, _≤_}
 use native.Mathlib.Omega.{arith}
@@ -11,7 +11,7 @@ use Rattle.model.specs.State.{State, state, nodeAt}
 use Rattle.model.specs.Climb.{climbUp}
 use Rattle.model.specs.Place.{Change, change, replace, summed, climb}
 use Rattle.model.specs.Refuse.{effect, shapeOf, opening, atCursor, past}
-use Rattle.model.specs.Calls.{Reply, reply, settled, slotAt, resizeCauses, setLengths, update}
+use Rattle.model.specs.Calls.{Reply, reply, settled, slotAt, resized, resizeCauses, setLengths, update}
 use Rattle.model.specs.declared.shape.Shape.{Shape}
 use Rattle.model.specs.declared.head.Head.{Head}
 use Rattle.model.specs.declared.head.Cursor.{Cursor}
@@ -20,18 +20,17 @@ use Rattle.model.specs.declared.way.Sum.{Sum}
 use Rattle.model.specs.declared.way.Sum.the-variants as sum
 use Rattle.model.specs.declared.answer.Number.{Number}
 use Rattle.model.specs.declared.answer.Number.the-variants as number
-use Rattle.model.specs.declared.answer.Outcome.{Outcome}
-use Rattle.model.specs.declared.answer.Outcome.the-variants as outcome
 use Rattle.area.specs.Area.{Area}
-use Rattle.walk.specs.Raise.{raiseUp, whole, raise-climb}
-use Rattle.open.proofs.Causes.{opened-first, opened-next, opened-none, opened-stop, opened-more, good-shape, good-front, call-refused, call-good}
+use Rattle.place.specs.Asked.{asked, askedWay}
+use Rattle.place.proofs.SizeLaws.{asked-whole, asked-lost, asked-wrap}
+use Rattle.open.proofs.Causes.{opened-first, opened-next, opened-none, opened-stop, opened-more, good-shape, good-front, call-refused, call-good, answering, answering-call}
 use Rattle.open.proofs.CursorLaws.{at-numbered, stands, slot-in, own-lengths}
 use Rattle.open.proofs.ReadyLaws.{inner-area, view-in}
 use Rattle.open.specs.Open.{openedBy}
 use Rattle.open.specs.Ready.{Stands}
 use Rattle.open.specs.declared.open.Opened.{Opened}
 use Rattle.open.specs.declared.open.Opened.the-variants.{Good, Refused}
-use Rattle.calls_size.specs.Size.{replaced}
+use Rattle.calls_size.specs.Size.{replaced, resize, unnumbered}
 
 -- the two differences are those of the lists
 pub differences : (new old : Lengths) (p e : ℕ) → p ≡ wrap (new .prepare + (2 ^ 32 - old .prepare)) → e ≡ wrap (new .effect + (2 ^ 32 - old .effect))
@@ -73,9 +72,6 @@ module _ (s : State) (c : Cursor) (g : Shape) (h : Stands s c g) (n : ℕ) (en :
   three : g .stride ≡ 3
   three = ap (λ (x : Shape). x .stride) (h .ready .same)
 
-  pub add-in : Area g n × Area g (length (s .inners)) × (2 + 1 ≡ g .stride) × (c .leaf .0 < g .nodes)
-  add-in = (kept, inner-area s g (h .ready), sym three, slot-in s c g h .1)
-
   pub climb-in : Area g n × Area g (length (s .inners)) × (1 + 1 < g .stride) × (2 + 1 ≡ g .stride) × (s .head .levels ≤ 16) × (c .leaf .0 < g .nodes) × (c .slot < g .fan)
   climb-in = (kept, inner-area s g (h .ready), view-in s g 1 (h .ready) (omega arith), sym three, (let m = h .ready .levels-most in omega arith), slot-in s c g h .1, slot-in s c g h .2)
 
@@ -98,80 +94,48 @@ climbed : (g : Shape) (e : ℕ) (delta : List ℕ) (h : Head) (ls xs hs : List �
 unfolding climb
 climbed g e delta h ls xs hs k i n el = rw el
 
--- the way up from a leaf of ls, and the same without its sum
+-- the way up from a leaf of ls
 abbrev wayFrom : Shape → State → Cursor → List ℕ → List ℕ → Sum × List ℕ
 wayFrom g s c ls delta =
     let m = nodeAt g (c .leaf .0) ls in
     climbUp g effect delta (s .head .levels) (m .parent) (m .at) (start effect (c .slot) m) (s .inners)
 
-abbrev unsummed : Sum × List ℕ → Bool × List ℕ
-unsummed t = (whole (t .0), t .1)
+-- the call, from what its tests answered; its position is asked for or not
+module _ (s : State) (c : Cursor) (l : Lengths) (b : Bool) where
+  abbrev resizedBy : Shape → Reply Number
+  resizedBy g = let p = replaced g s c l in let r = climb g effect (p .1) (p .0) in settled s (r .0) number.Refused (number.Is (asked b (r .1)))
 
-whole-way : (b : Bool) (xs : List ℕ) (t : Sum × List ℕ) → (b, xs) ≡ unsummed t → b ≡ true → (n : ℕ) × ((sum.Is n, xs) ≡ t)
-whole-way b xs (sum.Is n, ys) e h = (n, ap (λ (p : Bool × List ℕ). (sum.Is n, p .1)) e)
-whole-way b xs (sum.Broken, ys) e h = absurd (true≢false (sym h ∙ ap (λ (p : Bool × List ℕ). p .0) e))
+  module _ (o : Opened) (e : o ≡ openedBy (resizeCauses s c l) (shapeOf (s .head))) where
+    pub size-refused : (n : ℕ) → o ≡ Refused n → reply s (number.Refused n) ≡ resize b s c l
+    size-refused n d = call-refused (λ (m : ℕ). reply s (number.Refused m)) resizedBy (resizeCauses s c l) (shapeOf (s .head)) o e n d
 
-broken-way : (b : Bool) (xs : List ℕ) (t : Sum × List ℕ) → (b, xs) ≡ unsummed t → b ≡ false → (sum.Broken, xs) ≡ t
-broken-way b xs (sum.Is n, ys) e h = absurd (true≢false (sym (ap (λ (p : Bool × List ℕ). p .0) e) ∙ h))
-broken-way b xs (sum.Broken, ys) e h = ap (λ (p : Bool × List ℕ). (sum.Broken, p .1)) e
+    module _ (g : Shape) (d : o ≡ Good g) (h1 : Head) (ls1 xs1 delta : List ℕ) (er : (change 0 (state h1 ls1 (s .inners) (s .homes)) (c .leaf .0) (c .slot), delta) ≡ replaced g s c l) where
+      abbrev replyBy : Sum × List ℕ → Reply Number
+      replyBy t = let r = summed g (change 0 (state h1 ls1 (s .inners) (s .homes)) (c .leaf .0) (c .slot)) t in settled s (r .0) number.Refused (number.Is (asked b (r .1)))
 
--- the replies, by what the way up gave: refuse makes the answer of a number, a that of a position
-module _ (s : State) (c : Cursor) (l : Lengths) {A : Type 0} (refuse : ℕ → A) (a : ℕ → A) where
-  abbrev resizedBy : Shape → Reply A
-  resizedBy g = let p = replaced g s c l in let r = climb g effect (p .1) (p .0) in settled s (r .0) refuse (a (r .1))
+      way-reply : (t : Sum × List ℕ) → t ≡ wayFrom g s c ls1 delta → replyBy t ≡ resize b s c l
+      way-reply t q =
+          let el : h1 .levels ≡ s .head .levels = ap (λ (x : Change × List ℕ). x .0 .state .head .levels) er ∙ levels-kept g s (c .leaf .0) (c .slot) (listOf l) in
+          call-good (λ (m : ℕ). reply s (number.Refused m)) resizedBy (resizeCauses s c l) (shapeOf (s .head)) o e g d _
+          (ap replyBy q
+          ∙ ap (λ (r : Change × ℕ). settled s (r .0) number.Refused (number.Is (asked b (r .1))))
+          (sym (climbed g effect delta h1 ls1 (s .inners) (s .homes) (c .leaf .0) (c .slot) (s .head .levels) el)
+          ∙ ap (λ (x : Change × List ℕ). climb g effect (x .1) (x .0)) er))
 
-  module _ (g : Shape) (h1 : Head) (ls1 xs1 delta : List ℕ) (er : (change 0 (state h1 ls1 (s .inners) (s .homes)) (c .leaf .0) (c .slot), delta) ≡ replaced g s c l) where
-    abbrev replyBy : Sum × List ℕ → Reply A
-    replyBy t = let r = summed g (change 0 (state h1 ls1 (s .inners) (s .homes)) (c .leaf .0) (c .slot)) t in settled s (r .0) refuse (a (r .1))
+      module _ (r : Sum) (ec : (r, xs1) ≡ askedWay b (wayFrom g s c ls1 delta)) where
+        pub size-whole : (n : ℕ) → r ≡ sum.Is n → reply (state h1 ls1 xs1 (s .homes)) (number.Is (wrap n)) ≡ resize b s c l
+        size-whole n q =
+            let w = asked-whole b xs1 n (wayFrom g s c ls1 delta) (ap (λ (t : Sum). (t, xs1)) (sym q) ∙ ec) in
+            ap (λ (m : ℕ). reply (state h1 ls1 xs1 (s .homes)) (number.Is m)) (ap wrap (w .2) ∙ asked-wrap b (w .0))
+            ∙ way-reply (sum.Is (w .0), xs1) (w .1)
 
-    way-up : replyBy (wayFrom g s c ls1 delta) ≡ resizedBy g
-    way-up =
-        let el : h1 .levels ≡ s .head .levels = ap (λ (x : Change × List ℕ). x .0 .state .head .levels) er ∙ levels-kept g s (c .leaf .0) (c .slot) (listOf l) in
-        ap (λ (r : Change × ℕ). settled s (r .0) refuse (a (r .1)))
-        (sym (climbed g effect delta h1 ls1 (s .inners) (s .homes) (c .leaf .0) (c .slot) (s .head .levels) el)
-        ∙ ap (λ (x : Change × List ℕ). climb g effect (x .1) (x .0)) er)
+        pub size-broken : r ≡ sum.Broken → reply (state (s .head) ls1 xs1 (s .homes)) (number.Refused 9) ≡ resize b s c l
+        size-broken q = way-reply (sum.Broken, xs1) (asked-lost b xs1 (wayFrom g s c ls1 delta) (ap (λ (t : Sum). (t, xs1)) (sym q) ∙ ec))
 
-    whole-reply : (n : ℕ) → (sum.Is n, xs1) ≡ wayFrom g s c ls1 delta → reply (state h1 ls1 xs1 (s .homes)) (a (wrap n)) ≡ resizedBy g
-    whole-reply n e = ap replyBy e ∙ way-up
+pub update-is : (s : State) (c : Cursor) (l : Lengths) → resize true s c l ≡ update s c l
+unfolding update
+update-is s c l = refl
 
-    broken-reply : (sum.Broken, xs1) ≡ wayFrom g s c ls1 delta → reply (state (s .head) ls1 xs1 (s .homes)) (refuse 9) ≡ resizedBy g
-    broken-reply e = ap replyBy e ∙ way-up
-
-module _ (s : State) (c : Cursor) (l : Lengths) (o : Opened) (e : o ≡ openedBy (resizeCauses s c l) (shapeOf (s .head))) where
-  pub update-refused : (n : ℕ) → o ≡ Refused n → reply s (number.Refused n) ≡ update s c l
-  unfolding update
-  update-refused n d = call-refused (λ (m : ℕ). reply s (number.Refused m)) (resizedBy s c l number.Refused number.Is) (resizeCauses s c l) (shapeOf (s .head)) o e n d
-
-  pub set-refused : (n : ℕ) → o ≡ Refused n → reply s (outcome.Refused n) ≡ setLengths s c l
-  unfolding setLengths
-  set-refused n d = call-refused (λ (m : ℕ). reply s (outcome.Refused m)) (resizedBy s c l outcome.Refused (λ m. outcome.Done)) (resizeCauses s c l) (shapeOf (s .head)) o e n d
-
-  module _ (g : Shape) (d : o ≡ Good g) (h1 : Head) (ls1 xs1 delta : List ℕ) (er : (change 0 (state h1 ls1 (s .inners) (s .homes)) (c .leaf .0) (c .slot), delta) ≡ replaced g s c l) where
-    update-good : (x : Reply Number) → x ≡ resizedBy s c l number.Refused number.Is g → x ≡ update s c l
-    unfolding update
-    update-good x q = call-good (λ (m : ℕ). reply s (number.Refused m)) (resizedBy s c l number.Refused number.Is) (resizeCauses s c l) (shapeOf (s .head)) o e g d x q
-
-    set-good : (x : Reply Outcome) → x ≡ resizedBy s c l outcome.Refused (λ m. outcome.Done) g → x ≡ setLengths s c l
-    unfolding setLengths
-    set-good x q = call-good (λ (m : ℕ). reply s (outcome.Refused m)) (resizedBy s c l outcome.Refused (λ m. outcome.Done)) (resizeCauses s c l) (shapeOf (s .head)) o e g d x q
-
-    module _ (r : Sum) (ec : (r, xs1) ≡ wayFrom g s c ls1 delta) where
-      pub update-whole : (n : ℕ) → r ≡ sum.Is n → reply (state h1 ls1 xs1 (s .homes)) (number.Is (wrap n)) ≡ update s c l
-      update-whole n q = update-good _ (whole-reply s c l number.Refused number.Is g h1 ls1 xs1 delta er n (ap (λ (t : Sum). (t, xs1)) (sym q) ∙ ec))
-
-      pub update-broken : r ≡ sum.Broken → reply (state (s .head) ls1 xs1 (s .homes)) (number.Refused 9) ≡ update s c l
-      update-broken q = update-good _ (broken-reply s c l number.Refused number.Is g h1 ls1 xs1 delta er (ap (λ (t : Sum). (t, xs1)) (sym q) ∙ ec))
-
-    module _ (b : Bool) (eb : (b, xs1) ≡ raiseUp g delta (s .head .levels) (nodeAt g (c .leaf .0) ls1 .parent) (nodeAt g (c .leaf .0) ls1 .at) (s .inners)) where
-      raised-way : (b, xs1) ≡ unsummed (wayFrom g s c ls1 delta)
-      raised-way =
-          eb
-          ∙ raise-climb g effect delta (s .head .levels) (nodeAt g (c .leaf .0) ls1 .parent) (nodeAt g (c .leaf .0) ls1 .at) (start effect (c .slot) (nodeAt g (c .leaf .0) ls1)) (s .inners)
-
-      pub set-whole : b ≡ true → reply (state h1 ls1 xs1 (s .homes)) outcome.Done ≡ setLengths s c l
-      set-whole q =
-          let w = whole-way b xs1 _ raised-way q in
-          set-good _ (whole-reply s c l outcome.Refused (λ m. outcome.Done) g h1 ls1 xs1 delta er (w .0) (w .1))
-
-      pub set-broken : b ≡ false → reply (state (s .head) ls1 xs1 (s .homes)) (outcome.Refused 9) ≡ setLengths s c l
-      set-broken q = set-good _ (broken-reply s c l outcome.Refused (λ m. outcome.Done) g h1 ls1 xs1 delta er (broken-way b xs1 _ raised-way q))
+pub set-is : (s : State) (c : Cursor) (l : Lengths) (x : Reply Number) → x ≡ resize false s c l → reply (x .after) (unnumbered (x .answer)) ≡ setLengths s c l
+unfolding setLengths
+set-is s c l x e = ap (answering unnumbered) e ∙ answering-call unnumbered (resizeCauses s c l) s (resized s c l .0) number.Refused (number.Is 0)

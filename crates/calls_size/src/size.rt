@@ -12,8 +12,7 @@ use open::lengths::lengths_at;
 use open::lengths::past;
 use open::open::Opened;
 use open::open::open_at;
-use place::size::add_to_ancestors;
-use place::size::climb;
+use place::size::way_up;
 ghost use mathlib.Core.Path.{_≡_};
 ghost use mathlib.Core.List.{List};
 ghost use Prim.Native.Nat.{ℕ, _<_};
@@ -27,7 +26,7 @@ ghost use Rattle.model.specs.Calls as calls;
 ghost use Rattle.model.specs.Calls.{reply, resizeCauses};
 ghost use Rattle.area.specs.Area.{Area};
 ghost use Rattle.open.specs.Open.{openedBy};
-ghost use Rattle.calls_size.specs.Size.{replaced};
+ghost use Rattle.calls_size.specs.Size.{replaced, resize, unnumbered};
 
 // The head with other lengths in a leaf, and the difference that goes up.
 pub struct Replaced {
@@ -84,16 +83,18 @@ fn replace(head: Head, leaves: &mut [u32], g: Shape, at: Cursor, lengths: Length
     }
 }
 
-// Other lengths for the entry at a cursor, and its effect position.
-pub fn update(
+// Other lengths for the entry at a cursor, and, where it is asked for, its effect position, else 0. One function for both calls,
+// so that a host's library has it once.
+pub fn resize(
     head: Head,
     leaves: &mut [u32],
     inners: &mut [u32],
     homes: &[u32],
     at: Cursor,
     lengths: Lengths,
+    summed: bool,
 ) -> NumberReply
-    ensures { λ r. ⌜ reply (state (r .head) (now (leaves .exit)) (now (inners .exit)) (now (homes .exit))) (r .answer) ≡ calls.update (state head (now (leaves .entry)) (now (inners .entry)) (now (homes .entry))) at lengths ⌝ }
+    ensures { λ r. ⌜ reply (state (r .head) (now (leaves .exit)) (now (inners .exit)) (now (homes .exit))) (r .answer) ≡ resize summed (state head (now (leaves .entry)) (now (inners .entry)) (now (homes .entry))) at lengths ⌝ }
 {
     match open_resize(head, leaves, inners, homes, at, lengths) {
         Opened::Refused(n) => NumberReply {
@@ -106,7 +107,7 @@ pub fn update(
             let delta: [u32; 2] = [r.delta.prepare, r.delta.effect];
             let k = at.leaf.0;
             let i = at.slot;
-            match climb(leaves, inners, g, 1, &delta, head.levels, k, i) {
+            match way_up(leaves, inners, g, 1, &delta, head.levels, k, i, summed) {
                 Sum::Is(n) => NumberReply {
                     head: after,
                     answer: Number::Is((n % 4294967296) as u32),
@@ -117,6 +118,30 @@ pub fn update(
                 },
             }
         }
+    }
+}
+
+// Other lengths for the entry at a cursor, and its effect position.
+pub fn update(
+    head: Head,
+    leaves: &mut [u32],
+    inners: &mut [u32],
+    homes: &[u32],
+    at: Cursor,
+    lengths: Lengths,
+) -> NumberReply
+    ensures { λ r. ⌜ reply (state (r .head) (now (leaves .exit)) (now (inners .exit)) (now (homes .exit))) (r .answer) ≡ calls.update (state head (now (leaves .entry)) (now (inners .entry)) (now (homes .entry))) at lengths ⌝ }
+{
+    resize(head, leaves, inners, homes, at, lengths, true)
+}
+
+// An answer without its number.
+pub fn unnumbered(answer: Number) -> Outcome
+    ensures { λ r. ⌜ r ≡ unnumbered answer ⌝ }
+{
+    match answer {
+        Number::Is(n) => Outcome::Done,
+        Number::Refused(n) => Outcome::Refused(n),
     }
 }
 
@@ -131,25 +156,11 @@ pub fn set_lengths(
 ) -> OutcomeReply
     ensures { λ r. ⌜ reply (state (r .head) (now (leaves .exit)) (now (inners .exit)) (now (homes .exit))) (r .answer) ≡ calls.setLengths (state head (now (leaves .entry)) (now (inners .entry)) (now (homes .entry))) at lengths ⌝ }
 {
-    match open_resize(head, leaves, inners, homes, at, lengths) {
-        Opened::Refused(n) => OutcomeReply {
-            head: head,
-            answer: Outcome::Refused(n),
-        },
-        Opened::Good(g) => {
-            let r = replace(head, leaves, g, at, lengths);
-            let after = r.head;
-            let delta: [u32; 2] = [r.delta.prepare, r.delta.effect];
-            if !add_to_ancestors(leaves, inners, g, &delta, head.levels, at.leaf.0) {
-                return OutcomeReply {
-                    head: head,
-                    answer: Outcome::Refused(9),
-                };
-            }
-            OutcomeReply {
-                head: after,
-                answer: Outcome::Done,
-            }
-        }
+    let r = resize(head, leaves, inners, homes, at, lengths, false);
+    let after = r.head;
+    let answer = r.answer;
+    OutcomeReply {
+        head: after,
+        answer: unnumbered(answer),
     }
 }

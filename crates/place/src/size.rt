@@ -20,6 +20,7 @@ ghost use Rattle.model.specs.Climb.{climbUp};
 ghost use Rattle.model.specs.Place.{change, replace};
 ghost use Rattle.area.specs.Area.{Area};
 ghost use Rattle.walk.specs.Raise.{raiseUp};
+ghost use Rattle.place.specs.Asked.{askedWay};
 
 // Other lengths in slot i of leaf k; the head as it is then.
 pub fn replace(head: Head, leaves: &mut [u32], g: Shape, k: u32, i: u32, ls: &[u32]) -> Head
@@ -33,7 +34,7 @@ pub fn replace(head: Head, leaves: &mut [u32], g: Shape, k: u32, i: u32, ls: &[u
 }
 
 // delta goes into every slot above leaf k, and the effect lengths before slot i of it are summed up.
-pub fn climb(
+fn climb(
     leaves: &[u32],
     inners: &mut [u32],
     g: Shape,
@@ -53,7 +54,7 @@ pub fn climb(
 }
 
 // The same without the sum; whether the way came to the root (add_to_ancestors).
-pub fn add_to_ancestors(
+fn add_to_ancestors(
     leaves: &[u32],
     inners: &mut [u32],
     g: Shape,
@@ -67,4 +68,29 @@ pub fn add_to_ancestors(
     let parent = parent_of(leaves, g, k);
     let at = at_of(leaves, g, k);
     add_up(inners, g, delta, levels, parent, at)
+}
+
+// delta goes into every slot above leaf k; the effect lengths before slot i of it are summed up on the way where that is
+// asked for.
+pub fn way_up(
+    leaves: &[u32],
+    inners: &mut [u32],
+    g: Shape,
+    effect: usize,
+    delta: &[u32],
+    levels: u32,
+    k: u32,
+    i: u32,
+    summed: bool,
+) -> Sum
+    requires { ⌜ Area g (length (now leaves)) × Area g (length (now inners)) × (effect + 1 < g .stride) × (length (now delta) + 1 ≡ g .stride) × (levels ≤ 16) × (k < g .nodes) × (i < g .fan) ⌝ }
+    ensures { λ r. ⌜ (r, now (inners .exit)) ≡ askedWay summed (climbUp g effect (now (delta .entry)) levels (nodeAt g k (now (leaves .entry)) .parent) (nodeAt g k (now (leaves .entry)) .at) (start effect i (nodeAt g k (now (leaves .entry)))) (now (inners .entry))) ⌝ }
+{
+    if summed {
+        return climb(leaves, inners, g, effect, delta, levels, k, i);
+    }
+    if !add_to_ancestors(leaves, inners, g, delta, levels, k) {
+        return Sum::Broken;
+    }
+    Sum::Is(0)
 }

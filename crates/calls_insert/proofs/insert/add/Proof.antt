@@ -1,28 +1,16 @@
--- `calls_insert::insert::add`: the tests, then the change with the shape that they gave.
-use Rattle.model.specs.State.{State, state}
-use Rattle.calls_insert.proofs.TargetLaws.{insert-room}
-use Rattle.calls_insert.proofs.PutLaws.{add-refused, add-done}
+-- `calls_insert::insert::add`: it is `enter` with the position left out.
+use mathlib.Core.Path.{ap, _∙_}
 use borrow.Author.Needs.{needs}
+use Rattle.model.specs.Calls.{reply}
+use Rattle.calls_insert.proofs.PutLaws.{add-is}
 use Rattle.calls_insert.proofs.insert.add.Statement.{statement}
 use Rattle.calls_insert.proofs.insert.add.Tie as tie
 
--- the tree as it was lent
-abbrev entry : tie.Start → State
-entry a = state (a .args .head) (a .args .leaves .now) (a .args .inners .now) (a .args .homes .now)
+enter-requires : tie.Need-enter-requires
+enter-requires c κs = search needs
 
-open-insert-requires : tie.Need-open-insert-requires
-open-insert-requires c κs = search needs
-
-enum-known-n : tie.Need-enum-known-n
-enum-known-n c = search needs
-
-enum-known-g : tie.Need-enum-known-g
-enum-known-g c = search needs
-
-add-open-requires : tie.Need-add-open-requires
-add-open-requires c κs =
-    let a = c .before .before .before .before .before .before .before .before .before .before .before .before .before in
-    insert-room (entry a) (a .args .before) (a .args .lengths) _ _ (c .before .before .before .before .before .before .open-insert .ensures) (c .before .before .before .before .g .given .1)
+unplaced-requires : tie.Need-unplaced-requires
+unplaced-requires c κs = search needs
 
 same-length : tie.Need-same-length
 same-length c = search needs
@@ -34,37 +22,9 @@ same-length-3 : tie.Need-same-length-3
 same-length-3 c = search needs
 
 returns : tie.Need-returns
-returns c =
-    let a = c .before .before .before .before .before .before .before .before .before .before in
-    add-refused (entry a) (a .args .before) (a .args .lengths) _ (c .before .before .before .open-insert .ensures) _ (c .before .n .given .1)
-
-same-length-4 : tie.Need-same-length-4
-same-length-4 c = search needs
-
-same-length-5 : tie.Need-same-length-5
-same-length-5 c = search needs
-
-same-length-6 : tie.Need-same-length-6
-same-length-6 c = search needs
-
-returns-2 : tie.Need-returns-2
-returns-2 c =
-    let a = c .before .before .before .before .before .before .before .before .before .before .before .before .before .before .before .before .before .before .before .before in
-    add-done (entry a) (a .args .before) (a .args .lengths) _ (c .before .before .before .before .before .before .before .before .before .before .before .before .before .open-insert .ensures) _ (c .before .before .before .before .before .before .before .before .before .before .before .g .given .1) _ (c .before .before .before .before .before .before .add-open .ensures)
+returns c = ap (reply _) (c .unplaced .ensures) ∙ add-is _ (c .before .before .before .before .before .before .before .before .before .before .before .before .before .before .before .args .before) (c .before .before .before .before .before .before .before .before .before .before .before .before .before .before .before .args .lengths) _ (c .before .before .before .before .before .before .before .before .enter .ensures)
 
 pub add-spec : {M : Type 1} → statement M
 add-spec =
     tie.close
-    (tie.spec
-    open-insert-requires
-    enum-known-n
-    enum-known-g
-    add-open-requires
-    same-length
-    same-length-2
-    same-length-3
-    returns
-    same-length-4
-    same-length-5
-    same-length-6
-    returns-2)
+    (tie.spec enter-requires unplaced-requires same-length same-length-2 same-length-3 returns)

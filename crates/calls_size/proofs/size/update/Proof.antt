@@ -1,36 +1,12 @@
--- `calls_size::size::update`: the leaf gets the lengths, and their difference goes up; a broken way gives 9 and the head as it was.
+-- `calls_size::size::update`: it is `resize` with the position asked for.
+use mathlib.Core.Path.{_∙_}
 use borrow.Author.Needs.{needs}
-use Rattle.open.proofs.CursorLaws.{both-in}
-use Rattle.calls_size.proofs.SizeLaws.{resize-stands, climb-in, update-refused, update-whole, update-broken}
+use Rattle.calls_size.proofs.SizeLaws.{update-is}
 use Rattle.calls_size.proofs.size.update.Statement.{statement}
 use Rattle.calls_size.proofs.size.update.Tie as tie
 
-open-resize-requires : tie.Need-open-resize-requires
-open-resize-requires c κs = search needs
-
-enum-known-n : tie.Need-enum-known-n
-enum-known-n c = search needs
-
-enum-known-g : tie.Need-enum-known-g
-enum-known-g c = search needs
-
-replace-requires : tie.Need-replace-requires
-replace-requires c κs = both-in _ (c .before .before .before .before .before .before .before .before .before .before .args .at) _ (resize-stands _ (c .before .before .before .before .before .before .before .before .before .before .args .at) (c .before .before .before .before .before .before .before .before .before .before .args .lengths) _ _ (c .before .before .before .before .open-resize .ensures) (c .before .before .g .given .1))
-
-slice-aggregate-climb : tie.Need-slice-aggregate-climb
-slice-aggregate-climb c = search needs
-
-climb-requires : tie.Need-climb-requires
-climb-requires c κs = climb-in _ (c .before .before .before .before .before .before .before .before .before .before .before .before .before .before .before .before .before .args .at) _ (resize-stands _ (c .before .before .before .before .before .before .before .before .before .before .before .before .before .before .before .before .before .args .at) (c .before .before .before .before .before .before .before .before .before .before .before .before .before .before .before .before .before .args .lengths) _ _ (c .before .before .before .before .before .before .before .before .before .before .before .open-resize .ensures) (c .before .before .before .before .before .before .before .before .before .g .given .1)) _ (c .before .before .before .before .before .before .replace .kept .1 .0)
-
-enum-known-n-2 : tie.Need-enum-known-n-2
-enum-known-n-2 c = search needs
-
-cast-t33 : tie.Need-cast-t33
-cast-t33 c = search needs
-
-enum-told : tie.Need-enum-told
-enum-told c = search needs
+resize-requires : tie.Need-resize-requires
+resize-requires c κs = search needs
 
 same-length : tie.Need-same-length
 same-length c = search needs
@@ -39,45 +15,7 @@ same-length-2 : tie.Need-same-length-2
 same-length-2 c = search needs
 
 returns : tie.Need-returns
-returns c = update-refused _ (c .before .before .before .before .before .before .before .before .before .args .at) (c .before .before .before .before .before .before .before .before .before .args .lengths) _ (c .before .before .before .open-resize .ensures) _ (c .before .n .given .1)
-
-same-length-3 : tie.Need-same-length-3
-same-length-3 c = search needs
-
-same-length-4 : tie.Need-same-length-4
-same-length-4 c = search needs
-
-returns-2 : tie.Need-returns-2
-returns-2 c = update-whole _ (c .before .before .before .before .before .before .before .before .before .before .before .before .before .before .before .before .before .before .before .before .before .before .before .args .at) (c .before .before .before .before .before .before .before .before .before .before .before .before .before .before .before .before .before .before .before .before .before .before .before .args .lengths) _ (c .before .before .before .before .before .before .before .before .before .before .before .before .before .before .before .before .before .open-resize .ensures) _ (c .before .before .before .before .before .before .before .before .before .before .before .before .before .before .before .g .given .1) _ _ _ _ (c .before .before .before .before .before .before .before .before .before .before .before .before .replace .ensures _ _) _ (c .before .before .before .before .before .climb .ensures) _ (c .before .n2 .given .1)
-
-same-length-5 : tie.Need-same-length-5
-same-length-5 c = search needs
-
-same-length-6 : tie.Need-same-length-6
-same-length-6 c = search needs
-
-returns-3 : tie.Need-returns-3
-returns-3 c = update-broken _ (c .before .before .before .before .before .before .before .before .before .before .before .before .before .before .before .before .before .before .before .before .before .before .args .at) (c .before .before .before .before .before .before .before .before .before .before .before .before .before .before .before .before .before .before .before .before .before .before .args .lengths) _ (c .before .before .before .before .before .before .before .before .before .before .before .before .before .before .before .before .open-resize .ensures) _ (c .before .before .before .before .before .before .before .before .before .before .before .before .before .before .g .given .1) _ _ _ _ (c .before .before .before .before .before .before .before .before .before .before .before .replace .ensures _ _) _ (c .before .before .before .before .climb .ensures) (c .enum-told .given .1)
+returns c = c .before .before .before .before .resize .ensures ∙ update-is _ (c .before .before .before .before .before .before .before .before .before .before .args .at) (c .before .before .before .before .before .before .before .before .before .before .args .lengths)
 
 pub update-spec : {M : Type 1} → statement M
-update-spec =
-    tie.close
-    (tie.spec
-    open-resize-requires
-    enum-known-n
-    enum-known-g
-    replace-requires
-    slice-aggregate-climb
-    climb-requires
-    enum-known-n-2
-    cast-t33
-    enum-told
-    same-length
-    same-length-2
-    returns
-    same-length-3
-    same-length-4
-    returns-2
-    same-length-5
-    same-length-6
-    returns-3)
+update-spec = tie.close (tie.spec resize-requires same-length same-length-2 returns)

@@ -1,14 +1,12 @@
--- `calls_insert::insert::insert_open`: what `put` leaves, then the climb; the head is as it was where either met 9.
+-- `calls_insert::insert::enter_open`: what `put` leaves, then the climb; the head is as it was where either met 9.
 use mathlib.Core.Path.{_≡_, ap}
 use native.Mathlib.Omega.{arith}
 use Rattle.model.specs.State.{State, state}
 use Rattle.model.specs.declared.shape.Shape.{Shape}
-use Rattle.model.specs.declared.answer.Inserted.the-variants as inserted
-use Rattle.calls_insert.specs.Put.{insertedAt}
-use Rattle.calls_insert.proofs.PutLaws.{still, tied, put-levels, put-in, done-lost, done-whole, done-broken}
+use Rattle.calls_insert.proofs.PutLaws.{still, put-levels, put-in, done-lost, done-whole, done-broken}
 use borrow.Author.Needs.{needs}
-use Rattle.calls_insert.proofs.insert.insert_open.Statement.{statement}
-use Rattle.calls_insert.proofs.insert.insert_open.Tie as tie
+use Rattle.calls_insert.proofs.insert.enter_open.Statement.{statement}
+use Rattle.calls_insert.proofs.insert.enter_open.Tie as tie
 
 -- the tree as it was lent
 abbrev entry : tie.Start → State
@@ -30,13 +28,13 @@ returns : tie.Need-returns
 returns c =
     let a = c .before .before .before .before .before .before .before .before .before .before .before .before .before .before in
     let s = entry a in
-    done-lost (a .args .g) s (a .args .before) (a .args .lengths) _ (c .before .before .before .before .before .before .before .put .ensures) inserted.Refused (insertedAt s) (c .if1 .taken)
+    done-lost (a .args .g) s (a .args .before) (a .args .lengths) _ (c .before .before .before .before .before .before .before .put .ensures) (a .args .summed) (c .if1 .taken)
 
-slice-aggregate-climb : tie.Need-slice-aggregate-climb
-slice-aggregate-climb c = search needs
+slice-aggregate-way-up : tie.Need-slice-aggregate-way-up
+slice-aggregate-way-up c = search needs
 
-climb-requires : tie.Need-climb-requires
-climb-requires c κs =
+way-up-requires : tie.Need-way-up-requires
+way-up-requires c κs =
     let a = c .before .before .before .before .before .before .before .before .before .before .before .before .before .before .before .before .before .before in
     let p = c .before .before .before .before .before .before .before .before .before .before .before .put in
     let s = entry a in
@@ -48,8 +46,8 @@ climb-requires c κs =
 enum-known-n : tie.Need-enum-known-n
 enum-known-n c = search needs
 
-cast-t31 : tie.Need-cast-t31
-cast-t31 c = search needs
+cast-t32 : tie.Need-cast-t32
+cast-t32 c = search needs
 
 enum-told : tie.Need-enum-told
 enum-told c = search needs
@@ -67,7 +65,7 @@ returns-2 : tie.Need-returns-2
 returns-2 c =
     let a = c .before .before .before .before .before .before .before .before .before .before .before .before .before .before .before .before .before .before .before .before .before .before .before .before in
     let s = entry a in
-    done-whole (a .args .g) s (a .args .before) (a .args .lengths) _ (c .before .before .before .before .before .before .before .before .before .before .before .before .before .before .before .before .before .put .ensures) inserted.Refused (insertedAt s) _ (c .before .before .before .before .before .before .before .before .before .before .if1 .left) _ (tied _ _ _ _ (c .before .n .given .1) (c .before .before .before .before .before .climb .ensures))
+    done-whole (a .args .g) s (a .args .before) (a .args .lengths) _ (c .before .before .before .before .before .before .before .before .before .before .before .before .before .before .before .before .before .put .ensures) (a .args .summed) _ (c .before .before .before .before .before .before .before .before .before .before .if1 .left) _ (c .before .before .before .before .before .way-up .ensures) _ (c .before .n .given .1)
 
 same-length-7 : tie.Need-same-length-7
 same-length-7 c = search needs
@@ -82,10 +80,10 @@ returns-3 : tie.Need-returns-3
 returns-3 c =
     let a = c .before .before .before .before .before .before .before .before .before .before .before .before .before .before .before .before .before .before .before .before .before .before .before in
     let s = entry a in
-    done-broken (a .args .g) s (a .args .before) (a .args .lengths) _ (c .before .before .before .before .before .before .before .before .before .before .before .before .before .before .before .before .put .ensures) inserted.Refused (insertedAt s) _ (c .before .before .before .before .before .before .before .before .before .if1 .left) (tied _ _ _ _ (c .enum-told .given .1) (c .before .before .before .before .climb .ensures))
+    done-broken (a .args .g) s (a .args .before) (a .args .lengths) _ (c .before .before .before .before .before .before .before .before .before .before .before .before .before .before .before .before .put .ensures) (a .args .summed) _ (c .before .before .before .before .before .before .before .before .before .if1 .left) _ (c .before .before .before .before .way-up .ensures) (c .enum-told .given .1)
 
-pub insert-open-spec : {M : Type 1} → statement M
-insert-open-spec =
+pub enter-open-spec : {M : Type 1} → statement M
+enter-open-spec =
     tie.close
     (tie.spec
     put-requires
@@ -93,10 +91,10 @@ insert-open-spec =
     same-length-2
     same-length-3
     returns
-    slice-aggregate-climb
-    climb-requires
+    slice-aggregate-way-up
+    way-up-requires
     enum-known-n
-    cast-t31
+    cast-t32
     enum-told
     same-length-4
     same-length-5
