@@ -1,11 +1,12 @@
 -- `by_id::change::split_entry`: the cursor of the id, then the split there.
 use borrow.Author.Needs.{needs}
+use mathlib.Core.Path.{refl}
 use Rattle.by_id.proofs.Laws.{split-stops, split-goes}
 use Rattle.by_id.proofs.change.split_entry.Statement.{statement}
 use Rattle.by_id.proofs.change.split_entry.Tie as tie
 
 cursor-requires : tie.Need-cursor-requires
-cursor-requires c κs = search needs
+cursor-requires c κs = tt
 
 enum-known-n : tie.Need-enum-known-n
 enum-known-n c = search needs
@@ -14,28 +15,28 @@ enum-known-c : tie.Need-enum-known-c
 enum-known-c c = search needs
 
 split-entry-requires : tie.Need-split-entry-requires
-split-entry-requires c κs = search needs
+split-entry-requires c κs = tt
 
 same-length : tie.Need-same-length
-same-length c = search needs
+same-length c = refl
 
 same-length-2 : tie.Need-same-length-2
-same-length-2 c = search needs
+same-length-2 c = refl
 
 same-length-3 : tie.Need-same-length-3
-same-length-3 c = search needs
+same-length-3 c = refl
 
 returns : tie.Need-returns
 returns c = split-stops _ _ _ _ (c .before .before .before .cursor .ensures) (c .before .before .before .before .before .before .before .before .before .before .args .before) _ (c .before .n .given .1)
 
 same-length-4 : tie.Need-same-length-4
-same-length-4 c = search needs
+same-length-4 c = c .before .before .before .before .before .before .split-entry .kept .1 .0
 
 same-length-5 : tie.Need-same-length-5
-same-length-5 c = search needs
+same-length-5 c = c .before .before .before .before .before .before .split-entry .kept .1 .1 .0
 
 same-length-6 : tie.Need-same-length-6
-same-length-6 c = search needs
+same-length-6 c = c .before .before .before .before .before .before .split-entry .kept .1 .1 .1 .0
 
 returns-2 : tie.Need-returns-2
 returns-2 c = split-goes _ _ _ _ (c .before .before .before .before .before .before .before .before .before .before .before .before .before .cursor .ensures) (c .before .before .before .before .before .before .before .before .before .before .before .before .before .before .before .before .before .before .before .before .args .before) _ (c .before .before .before .before .before .before .before .before .before .before .before .c .given .1) _ _ (c .before .before .before .before .before .before .split-entry .ensures)

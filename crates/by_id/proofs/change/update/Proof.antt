@@ -1,11 +1,12 @@
 -- `by_id::change::update`: the cursor of the id, then the lengths there.
 use borrow.Author.Needs.{needs}
+use mathlib.Core.Path.{refl}
 use Rattle.by_id.proofs.Laws.{update-stops, update-goes}
 use Rattle.by_id.proofs.change.update.Statement.{statement}
 use Rattle.by_id.proofs.change.update.Tie as tie
 
 cursor-requires : tie.Need-cursor-requires
-cursor-requires c κs = search needs
+cursor-requires c κs = tt
 
 enum-known-n : tie.Need-enum-known-n
 enum-known-n c = search needs
@@ -14,22 +15,22 @@ enum-known-c : tie.Need-enum-known-c
 enum-known-c c = search needs
 
 update-requires : tie.Need-update-requires
-update-requires c κs = search needs
+update-requires c κs = tt
 
 same-length : tie.Need-same-length
-same-length c = search needs
+same-length c = refl
 
 same-length-2 : tie.Need-same-length-2
-same-length-2 c = search needs
+same-length-2 c = refl
 
 returns : tie.Need-returns
 returns c = update-stops _ _ _ _ (c .before .before .before .cursor .ensures) _ (c .before .n .given .1)
 
 same-length-3 : tie.Need-same-length-3
-same-length-3 c = search needs
+same-length-3 c = c .before .before .before .before .update .kept .1 .0
 
 same-length-4 : tie.Need-same-length-4
-same-length-4 c = search needs
+same-length-4 c = c .before .before .before .before .update .kept .1 .1 .0
 
 returns-2 : tie.Need-returns-2
 returns-2 c = update-goes _ _ _ _ (c .before .before .before .before .before .before .before .before .before .before .cursor .ensures) _ (c .before .before .before .before .before .before .before .before .c .given .1) _ _ (c .before .before .before .before .update .ensures)

@@ -1,11 +1,12 @@
 -- `by_id::insert::insert`: where the id leads, then the call there.
 use borrow.Author.Needs.{needs}
+use mathlib.Core.Path.{refl}
 use Rattle.by_id.proofs.Laws.{insert-stops, insert-goes}
 use Rattle.by_id.proofs.insert.insert.Statement.{statement}
 use Rattle.by_id.proofs.insert.insert.Tie as tie
 
 lead-requires : tie.Need-lead-requires
-lead-requires c κs = search needs
+lead-requires c κs = tt
 
 enum-known-n : tie.Need-enum-known-n
 enum-known-n c = search needs
@@ -14,28 +15,28 @@ enum-known-t : tie.Need-enum-known-t
 enum-known-t c = search needs
 
 insert-requires : tie.Need-insert-requires
-insert-requires c κs = search needs
+insert-requires c κs = tt
 
 same-length : tie.Need-same-length
-same-length c = search needs
+same-length c = refl
 
 same-length-2 : tie.Need-same-length-2
-same-length-2 c = search needs
+same-length-2 c = refl
 
 same-length-3 : tie.Need-same-length-3
-same-length-3 c = search needs
+same-length-3 c = refl
 
 returns : tie.Need-returns
 returns c = insert-stops _ _ _ _ (c .before .before .before .lead .ensures) _ (c .before .n .given .1)
 
 same-length-4 : tie.Need-same-length-4
-same-length-4 c = search needs
+same-length-4 c = c .before .before .before .before .before .before .insert .kept .1 .0
 
 same-length-5 : tie.Need-same-length-5
-same-length-5 c = search needs
+same-length-5 c = c .before .before .before .before .before .before .insert .kept .1 .1 .0
 
 same-length-6 : tie.Need-same-length-6
-same-length-6 c = search needs
+same-length-6 c = c .before .before .before .before .before .before .insert .kept .1 .1 .1 .0
 
 returns-2 : tie.Need-returns-2
 returns-2 c = insert-goes _ _ _ _ (c .before .before .before .before .before .before .before .before .before .before .before .before .before .lead .ensures) _ (c .before .before .before .before .before .before .before .before .before .before .before .t .given .1) _ _ (c .before .before .before .before .before .before .insert .ensures)
