@@ -26,9 +26,10 @@ use Rattle.open.specs.declared.open.Opened.the-variants.{Good, Refused}
 use Rattle.open.proofs.Bools.{and-true}
 use Rattle.open.proofs.Causes.{call-refused, call-good}
 use Rattle.open.proofs.OpenLaws.{areasOf}
-use Rattle.audit.specs.Known.{Known, countsBy}
-use Rattle.audit.proofs.Every.{every-same}
-use Rattle.audit.proofs.InnerLaws.{inner-by}
+use Rattle.audit_link.specs.Known.{Known}
+use Rattle.audit.specs.Counts.{countsBy}
+use Rattle.audit_node.proofs.Every.{every-same}
+use Rattle.audit_link.proofs.InnerLaws.{inner-by}
 use Rattle.audit.proofs.TreeLaws.{finger-by}
 
 -- what good counts tell

@@ -1,11 +1,11 @@
 // The whole tree: its counts, every node in use, its totals and its finger.
-use crate::entry::is_leaf;
-use crate::link::is_inner;
-use crate::nodes::start_any;
-use crate::nodes::total_in;
 use area::word::at_of;
 use area::word::len_of;
 use area::word::parent_of;
+use audit_link::entry::is_leaf;
+use audit_link::link::is_inner;
+use audit_node::nodes::start_any;
+use audit_node::nodes::total_in;
 use model::answer::Verdict;
 use model::head::Finger;
 use model::head::Head;
@@ -26,7 +26,8 @@ ghost use Rattle.model.specs.State.{state, nodeAt};
 ghost use Rattle.model.specs.Refuse.{shapeOf};
 ghost use Rattle.model.specs.Audit.{every, inViews, isSum, isInner, isLeaf, isFinger, isHeldFinger, isSound, audit};
 ghost use Rattle.area.specs.Area.{Area};
-ghost use Rattle.audit.specs.Known.{Known, countsBy};
+ghost use Rattle.audit_link.specs.Known.{Known};
+ghost use Rattle.audit.specs.Counts.{countsBy};
 
 fn is_sum(n: u32, s: Sum) -> bool
     ensures { λ r. ⌜ r ≡ isSum n s ⌝ }

@@ -8,7 +8,7 @@ use denote.Ref.{now}
 use borrow.Author.Tests.{not-true, not-false}
 use Rattle.model.specs.State.{state}
 use Rattle.model.specs.Audit.{every, isLeaf}
-use Rattle.audit.proofs.Every.{every-all, every-stop, every-on, every-end}
+use Rattle.audit_node.proofs.Every.{every-all, every-stop, every-on, every-end}
 use Rattle.audit.proofs.tree.every_leaf.Statement.{statement}
 use Rattle.audit.proofs.tree.every_leaf.Tie as tie
 

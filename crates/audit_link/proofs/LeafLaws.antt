@@ -1,0 +1,80 @@
+-- The test of a leaf and its entries, by what its parts answer. Assumes nothing.
+use mathlib.Core.Path.{_≡_, refl, sym, ap, _∙_}
+use mathlib.Core.Bool.{Bool, true, false, not, _&&_}
+use mathlib.Core.List.{List, []}
+use Prim.Native.Nat.{ℕ, _<_, _≤_}
+use lib.ListN.{getD}
+use lib.Dec.{ltb, eqb}
+use borrow.Author.Tests.{lt-ltb, le-ltb, eq-eqb, ne-eqb, not-true, not-false}
+use Rattle.model.specs.Node.{child, used, indexFrom}
+use Rattle.model.specs.State.{state, nodeAt}
+use Rattle.model.specs.Refuse.{stride, shapeOf}
+use Rattle.model.specs.Sound.{leastLeaf}
+use Rattle.model.specs.Audit.{every, isSlot, depth, isFilled, isHeld, isEntry, isLeaf}
+use Rattle.model.specs.declared.shape.Shape.{Shape}
+use Rattle.model.specs.declared.shape.Place.{Place}
+use Rattle.model.specs.declared.head.Head.{Head}
+use Rattle.audit_link.specs.Links.{depthBy, heldBy, entryBy}
+use Rattle.audit_link.proofs.InnerLaws.{filled-few, depth-same}
+
+-- an entry
+module _ (g : Shape) (count : ℕ) (ls hs : List ℕ) (k i id : ℕ) (e : id ≡ child (getD (nodeAt g k ls .slots) i [])) where
+  pub entry-out : count ≤ id → false ≡ entryBy g count ls hs k i
+  unfolding entryBy
+  entry-out h = rw (← e, le-ltb id count h)
+
+  module _ (h : id < count) where
+    pub entry-away : (getD hs id 0 ≡ k → ⊥) → false ≡ entryBy g count ls hs k i
+    unfolding entryBy
+    entry-away n = rw (← e, lt-ltb id count h, ne-eqb (getD hs id 0) k n)
+
+    pub entry-last : getD hs id 0 ≡ k → (p q : Place) → p ≡ indexFrom id 0 (used (nodeAt g k ls)) → p ≡ q → isSlot i q ≡ entryBy g count ls hs k i
+    unfolding entryBy
+    entry-last q p r ep er = rw (← e, lt-ltb id count h, eq-eqb (getD hs id 0) k q) (ap (isSlot i) (sym er ∙ ep))
+
+-- a leaf
+module _ (h : Head) (ls xs hs : List ℕ) where
+  abbrev filledPart : Shape → ℕ → Bool
+  filledPart g k = isFilled (state h [] [] []) (leastLeaf stride (state h [] [] [])) (nodeAt g k ls)
+
+  abbrev heldPart : Shape → ℕ → Bool
+  heldPart g k = heldBy g (h .inners) xs k (nodeAt g k ls .parent) (nodeAt g k ls .at)
+
+  abbrev leafBy : Shape → ℕ → ℕ → Bool
+  leafBy g d k = filledPart g k && heldPart g k && eqb d (h .levels) && every (entryBy g (h .entries) ls hs k) 0 (nodeAt g k ls .len)
+
+  whole : (k d : ℕ) → d ≡ depth (state h ls xs hs) (h .levels) (nodeAt (shapeOf h) k ls .parent) → leafBy (shapeOf h) d k ≡ isLeaf (state h ls xs hs) k
+  unfolding isLeaf isFilled heldBy isHeld entryBy isEntry
+  whole k d e = rw (← e)
+
+  module _ (g : Shape) (e : g ≡ shapeOf h) (k : ℕ) (least : ℕ) (el : least ≡ leastLeaf stride (state h [] [] [])) (f : Bool) (ef : f ≡ isFilled (state h [] [] []) least (nodeAt g k ls)) where
+    filled : f ≡ filledPart g k
+    filled = ef ∙ ap (λ (m : ℕ). isFilled (state h [] [] []) m (nodeAt g k ls)) el
+
+    leaf-by : (p d : ℕ) → p ≡ nodeAt g k ls .parent → d ≡ depthBy g (h .inners) xs (h .levels) p → leafBy g d k ≡ isLeaf (state h ls xs hs) k
+    leaf-by p d ep ed =
+        ap (λ (x : Shape). leafBy x d k) e
+        ∙ whole k d (ed ∙ ap (depthBy g (h .inners) xs (h .levels)) ep ∙ ap (λ (x : Shape). depthBy x (h .inners) xs (h .levels) (nodeAt x k ls .parent)) e ∙ depth-same h ls xs hs (h .levels) _)
+
+    pub leaf-unfilled : not f ≡ true → false ≡ isLeaf (state h ls xs hs) k
+    leaf-unfilled n = sym (rw (sym filled ∙ not-true f n) at (sym (leaf-by _ _ refl refl)))
+
+    module _ (nf : not f ≡ false) where
+      pub leaf-few : nodeAt g k ls .len ≤ g .fan
+      leaf-few = filled-few h g least (nodeAt g k ls) e (sym ef ∙ not-false f nf)
+
+      module _ (p a : ℕ) (ep : p ≡ nodeAt g k ls .parent) (ea : a ≡ nodeAt g k ls .at) (b : Bool) (eb : b ≡ heldBy g (h .inners) xs k p a) where
+        held : b ≡ heldPart g k
+        held = eb ∙ rw (ep, ea)
+
+        pub leaf-unheld : not b ≡ true → false ≡ isLeaf (state h ls xs hs) k
+        leaf-unheld n = sym (rw (sym filled ∙ not-false f nf, sym held ∙ not-true b n) at (sym (leaf-by _ _ refl refl)))
+
+        module _ (nb : not b ≡ false) (d : ℕ) (ed : d ≡ depthBy g (h .inners) xs (h .levels) p) where
+          pub leaf-uneven : (d ≡ h .levels → ⊥) → false ≡ isLeaf (state h ls xs hs) k
+          leaf-uneven n = sym (rw (sym filled ∙ not-false f nf, sym held ∙ not-false b nb, ne-eqb d (h .levels) n) at (sym (leaf-by p d ep ed)))
+
+          pub leaf-last : d ≡ h .levels → (len : ℕ) → len ≡ nodeAt g k ls .len → (r : Bool) → r ≡ every (entryBy g (h .entries) ls hs k) 0 len → r ≡ isLeaf (state h ls xs hs) k
+          leaf-last q len en r er =
+              er ∙ ap (every (entryBy g (h .entries) ls hs k) 0) en
+              ∙ sym (rw (sym filled ∙ not-false f nf, sym held ∙ not-false b nb, eq-eqb d (h .levels) q) at (sym (leaf-by p d ep ed)))

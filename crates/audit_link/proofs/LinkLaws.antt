@@ -1,0 +1,102 @@
+-- The tests of links, each by what its parts answer. Assumes nothing.
+use mathlib.Core.Path.{_≡_, refl, sym, ap, _∙_}
+use mathlib.Core.Bool.{Bool, true, false, cond, _&&_}
+use mathlib.Core.List.{List, []}
+use Prim.Native.Nat.{ℕ, zero, suc, _+_, _-_, _<_, _≤_}
+use native.Mathlib.Omega.{arith}
+use lib.ListN.{getD}
+use lib.Dec.{ltb, leb, eqb}
+use borrow.Author.Tests.{lt-ltb, le-ltb, le-leb, lt-leb, eq-eqb, ne-eqb}
+use Rattle.model.specs.Node.{none, child, lengthIn, total, used}
+use Rattle.model.specs.State.{State, nodeAt}
+use Rattle.model.specs.Audit.{every}
+use Rattle.model.specs.declared.shape.Shape.{Shape}
+use Rattle.model.specs.declared.head.Head.{Head}
+use Rattle.audit_link.specs.Links.{depthBy, heldBy, childBy, rootBy}
+
+-- a node's depth, one step up
+module _ (g : Shape) (count : ℕ) (xs : List ℕ) where
+  pub depth-root : (n k : ℕ) → k ≡ none → depthBy g count xs n k ≡ 0
+  unfolding depthBy
+  depth-root zero k e = rw (eq-eqb k none e)
+  depth-root (suc n) k e = rw (eq-eqb k none e)
+
+  pub depth-end : (n k : ℕ) → n ≤ 0 → (k ≡ none → ⊥) → depthBy g count xs n k ≡ 1
+  unfolding depthBy
+  depth-end zero k h e = rw (ne-eqb k none e)
+  depth-end (suc n) k h e = absurd (omega arith)
+
+  pub depth-astray : (n k : ℕ) → 0 < n → (k ≡ none → ⊥) → count ≤ k → depthBy g count xs n k ≡ n + 1
+  unfolding depthBy
+  depth-astray zero k h e f = absurd (omega arith)
+  depth-astray (suc n) k h e f = rw (ne-eqb k none e, le-ltb k count f) (omega arith)
+
+  pub depth-on : (n k : ℕ) → 0 < n → (k ≡ none → ⊥) → k < count → depthBy g count xs n k ≡ depthBy g count xs (n - 1) (nodeAt g k xs .parent) + 1
+  unfolding depthBy
+  depth-on zero k h e f = absurd (omega arith)
+  depth-on (suc n) k h e f =
+      let one : suc n - 1 ≡ n = omega arith in
+      rw (ne-eqb k none e, lt-ltb k count f, one) (omega arith)
+
+-- a node held by its parent
+module _ (g : Shape) (count : ℕ) (xs : List ℕ) (k p a : ℕ) where
+  pub held-out : count ≤ p → false ≡ heldBy g count xs k p a
+  unfolding heldBy
+  held-out h = rw (le-ltb p count h)
+
+  module _ (h : p < count) (len : ℕ) (el : len ≡ nodeAt g p xs .len) where
+    pub held-past : len ≤ a → false ≡ heldBy g count xs k p a
+    unfolding heldBy
+    held-past f = rw (lt-ltb p count h, ← el, le-ltb a len f)
+
+    pub held-over : a < len → g .fan < len → false ≡ heldBy g count xs k p a
+    unfolding heldBy
+    held-over f o = rw (lt-ltb p count h, ← el, lt-ltb a len f, lt-leb len (g .fan) o)
+
+    pub held-last : a < len → len ≤ g .fan → (c : ℕ) → c ≡ child (getD (nodeAt g p xs .slots) a []) → eqb c k ≡ heldBy g count xs k p a
+    unfolding heldBy
+    held-last f o c ec = rw (lt-ltb p count h, ← el, lt-ltb a len f, le-leb len (g .fan) o, ec)
+
+-- where an inner node stands
+module _ (g : Shape) (h : Head) (xs : List ℕ) (k p a : ℕ) (ep : p ≡ nodeAt g k xs .parent) (ea : a ≡ nodeAt g k xs .at) where
+  pub below-other : (k ≡ h .root .0 → ⊥) → (b : Bool) → b ≡ heldBy g (h .inners) xs k p a → b ≡ rootBy g h xs k
+  unfolding rootBy
+  below-other n b e = rw (ne-eqb k (h .root .0) n, ← ep, ← ea) e
+
+  pub below-parent : k ≡ h .root .0 → (p ≡ none → ⊥) → false ≡ rootBy g h xs k
+  unfolding rootBy
+  below-parent e n = rw (eq-eqb k (h .root .0) e, ← ep, ne-eqb p none n)
+
+  pub below-at : k ≡ h .root .0 → p ≡ none → eqb a 0 ≡ rootBy g h xs k
+  unfolding rootBy
+  below-at e q = rw (eq-eqb k (h .root .0) e, ← ep, eq-eqb p none q, ← ea)
+
+-- a child
+module _ (g : Shape) (count : ℕ) (ws xs : List ℕ) (k i c : ℕ) (ec : c ≡ child (getD (nodeAt g k xs .slots) i [])) where
+  pub child-out : count ≤ c → false ≡ childBy g count ws xs k i
+  unfolding childBy
+  child-out h = rw (← ec, le-ltb c count h)
+
+  module _ (h : c < count) (p : ℕ) (ep : p ≡ nodeAt g c ws .parent) where
+    pub child-parent : (p ≡ k → ⊥) → false ≡ childBy g count ws xs k i
+    unfolding childBy
+    child-parent n = rw (← ec, lt-ltb c count h, ← ep, ne-eqb p k n)
+
+    module _ (qp : p ≡ k) (a : ℕ) (ea : a ≡ nodeAt g c ws .at) where
+      pub child-at : (a ≡ i → ⊥) → false ≡ childBy g count ws xs k i
+      unfolding childBy
+      child-at n = rw (← ec, lt-ltb c count h, ← ep, eq-eqb p k qp, ← ea, ne-eqb a i n)
+
+      module _ (qa : a ≡ i) (l t : ℕ) (el : l ≡ lengthIn 0 (getD (nodeAt g k xs .slots) i [])) (et : t ≡ total 0 (used (nodeAt g c ws))) where
+        pub child-prepare : (l ≡ t → ⊥) → false ≡ childBy g count ws xs k i
+        unfolding childBy every
+        child-prepare n = rw (← ec, lt-ltb c count h, ← ep, eq-eqb p k qp, ← ea, eq-eqb a i qa, ← el, ← et, ne-eqb l t n)
+
+        module _ (ql : l ≡ t) (m u : ℕ) (em : m ≡ lengthIn 1 (getD (nodeAt g k xs .slots) i [])) (eu : u ≡ total 1 (used (nodeAt g c ws))) where
+          pub child-effect : (m ≡ u → ⊥) → false ≡ childBy g count ws xs k i
+          unfolding childBy every
+          child-effect n = rw (← ec, lt-ltb c count h, ← ep, eq-eqb p k qp, ← ea, eq-eqb a i qa, ← el, ← et, eq-eqb l t ql, ← em, ← eu, ne-eqb m u n)
+
+          pub child-right : m ≡ u → true ≡ childBy g count ws xs k i
+          unfolding childBy every
+          child-right q = rw (← ec, lt-ltb c count h, ← ep, eq-eqb p k qp, ← ea, eq-eqb a i qa, ← el, ← et, eq-eqb l t ql, ← em, ← eu, eq-eqb m u q)

@@ -1,0 +1,60 @@
+-- `audit_link::entry::is_leaf`: each test is one of the four of the definition, in its order.
+use borrow.Author.Needs.{needs}
+use native.Mathlib.Nat.{lt-of-lt-of-le}
+use denote.Ref.{now}
+use Rattle.audit_link.proofs.LeafLaws.{leaf-unfilled, leaf-few, leaf-unheld, leaf-uneven, leaf-last}
+use Rattle.audit_link.proofs.entry.is_leaf.Statement.{statement}
+use Rattle.audit_link.proofs.entry.is_leaf.Tie as tie
+
+least-leaf-requires : tie.Need-least-leaf-requires
+least-leaf-requires c κs = search needs
+
+is-filled-requires : tie.Need-is-filled-requires
+is-filled-requires c κs = search needs
+
+returns : tie.Need-returns
+returns c = leaf-unfilled (c .before .before .before .before .before .before .args .head) (now (c .before .before .before .before .before .before .args .leaves)) (now (c .before .before .before .before .before .before .args .inners)) (now (c .before .before .before .before .before .before .args .homes)) _ (c .before .before .before .before .before .before .pre .0 .same) _ _ (c .before .before .least-leaf .ensures) _ (c .before .is-filled .ensures) (c .if1 .taken)
+
+parent-of-requires : tie.Need-parent-of-requires
+parent-of-requires c κs = search needs
+
+at-of-requires : tie.Need-at-of-requires
+at-of-requires c κs = search needs
+
+is-held-requires : tie.Need-is-held-requires
+is-held-requires c κs = search needs
+
+returns-2 : tie.Need-returns-2
+returns-2 c = leaf-unheld (c .before .before .before .before .before .before .before .before .before .before .args .head) (now (c .before .before .before .before .before .before .before .before .before .before .args .leaves)) (now (c .before .before .before .before .before .before .before .before .before .before .args .inners)) (now (c .before .before .before .before .before .before .before .before .before .before .args .homes)) _ (c .before .before .before .before .before .before .before .before .before .before .pre .0 .same) _ _ (c .before .before .before .before .before .before .least-leaf .ensures) _ (c .before .before .before .before .before .is-filled .ensures) (c .before .before .before .before .if1 .left) _ _ (c .before .before .before .parent-of .ensures) (c .before .before .at-of .ensures) _ (c .before .is-held .ensures) (c .if2 .taken)
+
+depth-requires : tie.Need-depth-requires
+depth-requires c κs = search needs
+
+returns-3 : tie.Need-returns-3
+returns-3 c = leaf-uneven (c .before .before .before .before .before .before .before .before .before .before .before .before .args .head) (now (c .before .before .before .before .before .before .before .before .before .before .before .before .args .leaves)) (now (c .before .before .before .before .before .before .before .before .before .before .before .before .args .inners)) (now (c .before .before .before .before .before .before .before .before .before .before .before .before .args .homes)) _ (c .before .before .before .before .before .before .before .before .before .before .before .before .pre .0 .same) _ _ (c .before .before .before .before .before .before .before .before .least-leaf .ensures) _ (c .before .before .before .before .before .before .before .is-filled .ensures) (c .before .before .before .before .before .before .if1 .left) _ _ (c .before .before .before .before .before .parent-of .ensures) (c .before .before .before .before .at-of .ensures) _ (c .before .before .before .is-held .ensures) (c .before .before .if2 .left) _ (c .before .depth .ensures) (c .if3 .taken)
+
+len-of-requires : tie.Need-len-of-requires
+len-of-requires c κs = search needs
+
+are-entries-requires : tie.Need-are-entries-requires
+are-entries-requires c κs = (c .before .before .before .before .before .before .before .before .before .before .before .before .before .pre .0 .leaf-area, c .before .before .before .before .before .before .before .before .before .before .before .before .before .pre .1, lt-of-lt-of-le (c .before .before .before .before .before .before .before .before .before .before .before .before .before .pre .2) (c .before .before .before .before .before .before .before .before .before .before .before .before .before .pre .0 .leaves), rw (c .len-of .ensures) (leaf-few (c .before .before .before .before .before .before .before .before .before .before .before .before .before .args .head) (now (c .before .before .before .before .before .before .before .before .before .before .before .before .before .args .leaves)) (now (c .before .before .before .before .before .before .before .before .before .before .before .before .before .args .inners)) (now (c .before .before .before .before .before .before .before .before .before .before .before .before .before .args .homes)) _ (c .before .before .before .before .before .before .before .before .before .before .before .before .before .pre .0 .same) _ _ (c .before .before .before .before .before .before .before .before .before .least-leaf .ensures) _ (c .before .before .before .before .before .before .before .before .is-filled .ensures) (c .before .before .before .before .before .before .before .if1 .left)), leaf-few (c .before .before .before .before .before .before .before .before .before .before .before .before .before .args .head) (now (c .before .before .before .before .before .before .before .before .before .before .before .before .before .args .leaves)) (now (c .before .before .before .before .before .before .before .before .before .before .before .before .before .args .inners)) (now (c .before .before .before .before .before .before .before .before .before .before .before .before .before .args .homes)) _ (c .before .before .before .before .before .before .before .before .before .before .before .before .before .pre .0 .same) _ _ (c .before .before .before .before .before .before .before .before .before .least-leaf .ensures) _ (c .before .before .before .before .before .before .before .before .is-filled .ensures) (c .before .before .before .before .before .before .before .if1 .left))
+
+returns-4 : tie.Need-returns-4
+returns-4 c = leaf-last (c .before .before .before .before .before .before .before .before .before .before .before .before .before .before .args .head) (now (c .before .before .before .before .before .before .before .before .before .before .before .before .before .before .args .leaves)) (now (c .before .before .before .before .before .before .before .before .before .before .before .before .before .before .args .inners)) (now (c .before .before .before .before .before .before .before .before .before .before .before .before .before .before .args .homes)) _ (c .before .before .before .before .before .before .before .before .before .before .before .before .before .before .pre .0 .same) _ _ (c .before .before .before .before .before .before .before .before .before .before .least-leaf .ensures) _ (c .before .before .before .before .before .before .before .before .before .is-filled .ensures) (c .before .before .before .before .before .before .before .before .if1 .left) _ _ (c .before .before .before .before .before .before .before .parent-of .ensures) (c .before .before .before .before .before .before .at-of .ensures) _ (c .before .before .before .before .before .is-held .ensures) (c .before .before .before .before .if2 .left) _ (c .before .before .before .depth .ensures) (c .before .before .if3 .left) _ (c .before .len-of .ensures) _ (c .are-entries .ensures)
+
+pub is-leaf-spec : {M : Type 1} → statement M
+is-leaf-spec =
+    tie.close
+    (tie.spec
+    least-leaf-requires
+    is-filled-requires
+    returns
+    parent-of-requires
+    at-of-requires
+    is-held-requires
+    returns-2
+    depth-requires
+    returns-3
+    len-of-requires
+    are-entries-requires
+    returns-4)

@@ -1,0 +1,67 @@
+-- `audit_link::link::is_inner`: each test is one of the five of the definition, in its order.
+use borrow.Author.Needs.{needs}
+use mathlib.Core.Path.{ap}
+use mathlib.Core.List.{[]}
+use native.Mathlib.Nat.{lt-of-lt-of-le}
+use denote.Ref.{now}
+use Rattle.model.specs.declared.shape.Shape.{Shape}
+use Rattle.audit_link.proofs.InnerLaws.{inner-low, inner-deep, inner-unfilled, inner-few, inner-misplaced, inner-lowest, inner-higher}
+use Rattle.audit_link.proofs.link.is_inner.Statement.{statement}
+use Rattle.audit_link.proofs.link.is_inner.Tie as tie
+
+depth-requires : tie.Need-depth-requires
+depth-requires c κs = search needs
+
+returns : tie.Need-returns
+returns c = inner-low (c .before .before .before .before .args .head) (now (c .before .before .before .before .args .leaves)) (now (c .before .before .before .before .args .inners)) [] _ (c .before .before .before .before .pre .0 .same) _ _ (c .before .depth .ensures) (c .if1 .taken)
+
+returns-2 : tie.Need-returns-2
+returns-2 c = inner-deep (c .before .before .before .before .before .args .head) (now (c .before .before .before .before .before .args .leaves)) (now (c .before .before .before .before .before .args .inners)) [] _ (c .before .before .before .before .before .pre .0 .same) _ _ (c .before .before .depth .ensures) (c .before .if1 .left) (c .if2 .taken)
+
+least-inner-requires : tie.Need-least-inner-requires
+least-inner-requires c κs = search needs
+
+is-filled-requires : tie.Need-is-filled-requires
+is-filled-requires c κs = search needs
+
+returns-3 : tie.Need-returns-3
+returns-3 c = inner-unfilled (c .before .before .before .before .before .before .before .before .args .head) (now (c .before .before .before .before .before .before .before .before .args .leaves)) (now (c .before .before .before .before .before .before .before .before .args .inners)) [] _ (c .before .before .before .before .before .before .before .before .pre .0 .same) _ _ (c .before .before .before .before .before .depth .ensures) (c .before .before .before .before .if1 .left) (c .before .before .before .if2 .left) _ (c .before .before .least-inner .ensures) _ (c .before .is-filled .ensures) (c .if3 .taken)
+
+is-below-requires : tie.Need-is-below-requires
+is-below-requires c κs = search needs
+
+returns-4 : tie.Need-returns-4
+returns-4 c = inner-misplaced (c .before .before .before .before .before .before .before .before .before .before .args .head) (now (c .before .before .before .before .before .before .before .before .before .before .args .leaves)) (now (c .before .before .before .before .before .before .before .before .before .before .args .inners)) [] _ (c .before .before .before .before .before .before .before .before .before .before .pre .0 .same) _ _ (c .before .before .before .before .before .before .before .depth .ensures) (c .before .before .before .before .before .before .if1 .left) (c .before .before .before .before .before .if2 .left) _ (c .before .before .before .before .least-inner .ensures) _ (c .before .before .before .is-filled .ensures) (c .before .before .if3 .left) _ (c .before .is-below .ensures) (c .if4 .taken)
+
+len-of-requires : tie.Need-len-of-requires
+len-of-requires c κs = search needs
+
+are-children-requires : tie.Need-are-children-requires
+are-children-requires c κs = (c .before .before .before .before .before .before .before .before .before .before .before .before .pre .0 .inner-area, c .before .before .before .before .before .before .before .before .before .before .before .before .pre .0 .leaf-area, c .before .before .before .before .before .before .before .before .before .before .before .before .pre .0 .leaves, lt-of-lt-of-le (c .before .before .before .before .before .before .before .before .before .before .before .before .pre .1) (c .before .before .before .before .before .before .before .before .before .before .before .before .pre .0 .inners), rw (c .before .len-of .ensures) (inner-few (c .before .before .before .before .before .before .before .before .before .before .before .before .args .head) (now (c .before .before .before .before .before .before .before .before .before .before .before .before .args .leaves)) (now (c .before .before .before .before .before .before .before .before .before .before .before .before .args .inners)) [] _ (c .before .before .before .before .before .before .before .before .before .before .before .before .pre .0 .same) _ _ (c .before .before .before .before .before .before .before .before .before .depth .ensures) (c .before .before .before .before .before .before .before .before .if1 .left) (c .before .before .before .before .before .before .before .if2 .left) _ (c .before .before .before .before .before .before .least-inner .ensures) _ (c .before .before .before .before .before .is-filled .ensures) (c .before .before .before .before .if3 .left) _ (c .before .before .before .is-below .ensures)), ap (λ (x : Shape). x .stride) (c .before .before .before .before .before .before .before .before .before .before .before .before .pre .0 .same))
+
+returns-5 : tie.Need-returns-5
+returns-5 c = inner-lowest (c .before .before .before .before .before .before .before .before .before .before .before .before .before .args .head) (now (c .before .before .before .before .before .before .before .before .before .before .before .before .before .args .leaves)) (now (c .before .before .before .before .before .before .before .before .before .before .before .before .before .args .inners)) [] _ (c .before .before .before .before .before .before .before .before .before .before .before .before .before .pre .0 .same) _ _ (c .before .before .before .before .before .before .before .before .before .before .depth .ensures) (c .before .before .before .before .before .before .before .before .before .if1 .left) (c .before .before .before .before .before .before .before .before .if2 .left) _ (c .before .before .before .before .before .before .before .least-inner .ensures) _ (c .before .before .before .before .before .before .is-filled .ensures) (c .before .before .before .before .before .if3 .left) _ (c .before .before .before .before .is-below .ensures) (c .before .before .before .if4 .left) _ (c .before .before .len-of .ensures) _ (c .before .if5 .taken) (c .are-children .ensures)
+
+are-children-requires-2 : tie.Need-are-children-requires-2
+are-children-requires-2 c κs = (c .before .before .before .before .before .before .before .before .before .before .before .before .pre .0 .inner-area, c .before .before .before .before .before .before .before .before .before .before .before .before .pre .0 .inner-area, c .before .before .before .before .before .before .before .before .before .before .before .before .pre .0 .inners, lt-of-lt-of-le (c .before .before .before .before .before .before .before .before .before .before .before .before .pre .1) (c .before .before .before .before .before .before .before .before .before .before .before .before .pre .0 .inners), rw (c .before .len-of .ensures) (inner-few (c .before .before .before .before .before .before .before .before .before .before .before .before .args .head) (now (c .before .before .before .before .before .before .before .before .before .before .before .before .args .leaves)) (now (c .before .before .before .before .before .before .before .before .before .before .before .before .args .inners)) [] _ (c .before .before .before .before .before .before .before .before .before .before .before .before .pre .0 .same) _ _ (c .before .before .before .before .before .before .before .before .before .depth .ensures) (c .before .before .before .before .before .before .before .before .if1 .left) (c .before .before .before .before .before .before .before .if2 .left) _ (c .before .before .before .before .before .before .least-inner .ensures) _ (c .before .before .before .before .before .is-filled .ensures) (c .before .before .before .before .if3 .left) _ (c .before .before .before .is-below .ensures)), ap (λ (x : Shape). x .stride) (c .before .before .before .before .before .before .before .before .before .before .before .before .pre .0 .same))
+
+returns-6 : tie.Need-returns-6
+returns-6 c = inner-higher (c .before .before .before .before .before .before .before .before .before .before .before .before .before .args .head) (now (c .before .before .before .before .before .before .before .before .before .before .before .before .before .args .leaves)) (now (c .before .before .before .before .before .before .before .before .before .before .before .before .before .args .inners)) [] _ (c .before .before .before .before .before .before .before .before .before .before .before .before .before .pre .0 .same) _ _ (c .before .before .before .before .before .before .before .before .before .before .depth .ensures) (c .before .before .before .before .before .before .before .before .before .if1 .left) (c .before .before .before .before .before .before .before .before .if2 .left) _ (c .before .before .before .before .before .before .before .least-inner .ensures) _ (c .before .before .before .before .before .before .is-filled .ensures) (c .before .before .before .before .before .if3 .left) _ (c .before .before .before .before .is-below .ensures) (c .before .before .before .if4 .left) _ (c .before .before .len-of .ensures) _ (c .before .if5 .left) (c .are-children2 .ensures)
+
+pub is-inner-spec : {M : Type 1} → statement M
+is-inner-spec =
+    tie.close
+    (tie.spec
+    depth-requires
+    returns
+    returns-2
+    least-inner-requires
+    is-filled-requires
+    returns-3
+    is-below-requires
+    returns-4
+    len-of-requires
+    are-children-requires
+    returns-5
+    are-children-requires-2
+    returns-6)

@@ -1,0 +1,89 @@
+// Leaves and their entries.
+use crate::link::depth;
+use crate::link::is_held;
+use area::word::at_of;
+use area::word::child_of;
+use area::word::len_of;
+use area::word::parent_of;
+use audit_node::nodes::is_filled;
+use calls_read::read::slot_of;
+use model::head::Head;
+use model::shape::Place;
+use model::shape::Shape;
+ghost use mathlib.Core.Path.{_≡_};
+ghost use mathlib.Core.List.{[]};
+ghost use Prim.Native.Nat.{_<_, _≤_};
+ghost use lib.ListN.{length};
+ghost use Rattle.model.specs.State.{state, nodeAt};
+ghost use Rattle.model.specs.Refuse.{stride};
+ghost use Rattle.model.specs.Sound.{leastLeaf};
+ghost use Rattle.model.specs.Audit.{every, isLeaf};
+ghost use Rattle.area.specs.Area.{Area};
+ghost use Rattle.audit_link.specs.Known.{Known};
+ghost use Rattle.audit_link.specs.Links.{entryBy};
+
+// Whether the id in slot i of leaf k is below the count, lives in leaf k, and stands in no earlier slot.
+fn is_entry(leaves: &[u32], homes: &[u32], g: Shape, entries: u32, k: u32, i: u32) -> bool
+    requires { ⌜ Area g (length (now leaves)) × (entries ≤ length (now homes)) × (k < g .nodes) × (i < g .fan) × (nodeAt g k (now leaves) .len ≤ g .fan) ⌝ }
+    ensures { λ r. ⌜ r ≡ entryBy g entries (now (leaves .entry)) (now (homes .entry)) k i ⌝ }
+{
+    let id = child_of(leaves, g, k, i as usize);
+    if id >= entries {
+        return false;
+    }
+    if homes[id as usize] != k {
+        return false;
+    }
+    match slot_of(leaves, g, k, id) {
+        Place::Slot(j) => i as usize == j,
+        Place::Missing => false,
+    }
+}
+
+// The same of each slot in use.
+fn are_entries(leaves: &[u32], homes: &[u32], g: Shape, entries: u32, k: u32, len: u32) -> bool
+    requires { ⌜ Area g (length (now leaves)) × (entries ≤ length (now homes)) × (k < g .nodes) × (len ≤ g .fan) × (nodeAt g k (now leaves) .len ≤ g .fan) ⌝ }
+    ensures { λ r. ⌜ r ≡ every (entryBy g entries (now (leaves .entry)) (now (homes .entry)) k) 0 len ⌝ }
+{
+    let mut i: u32 = 0;
+    while i < len {
+        if !is_entry(leaves, homes, g, entries, k, i) {
+            return false;
+        }
+        i += 1;
+    }
+    true
+}
+
+// How few slots a leaf may use.
+fn least_leaf(head: Head) -> u32
+    ensures { λ r. ⌜ r ≡ leastLeaf stride (state head [] [] []) ⌝ }
+{
+    if head.leaves == 1 {
+        return 1;
+    }
+    head.fan / 2
+}
+
+pub fn is_leaf(head: Head, leaves: &[u32], inners: &[u32], homes: &[u32], g: Shape, k: u32) -> bool
+    requires { ⌜ Known head g (length (now leaves)) (length (now inners)) × (head .entries ≤ length (now homes)) × (k < head .leaves) ⌝ }
+    ensures { λ r. ⌜ r ≡ isLeaf (state head (now (leaves .entry)) (now (inners .entry)) (now (homes .entry))) k ⌝ }
+{
+    let levels = head.levels;
+    let used = head.inners;
+    let entries = head.entries;
+    let least = least_leaf(head);
+    if !is_filled(head, leaves, g, k, least) {
+        return false;
+    }
+    let parent = parent_of(leaves, g, k);
+    let at = at_of(leaves, g, k);
+    if !is_held(inners, g, used, k, parent, at) {
+        return false;
+    }
+    if depth(inners, g, used, levels, parent) != levels {
+        return false;
+    }
+    let len = len_of(leaves, g, k);
+    are_entries(leaves, homes, g, entries, k, len)
+}

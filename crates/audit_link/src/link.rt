@@ -1,0 +1,159 @@
+// Parents, places and children.
+use area::word::at_of;
+use area::word::child_of;
+use area::word::len_of;
+use area::word::length_of;
+use area::word::parent_of;
+use audit_node::nodes::is_filled;
+use audit_node::nodes::total_in;
+use model::head::Head;
+use model::shape::Shape;
+ghost use mathlib.Core.Path.{_≡_};
+ghost use mathlib.Core.List.{[]};
+ghost use Prim.Native.Nat.{_<_, _≤_};
+ghost use lib.ListN.{length};
+ghost use Rattle.model.specs.State.{state, nodeAt};
+ghost use Rattle.model.specs.Refuse.{stride};
+ghost use Rattle.model.specs.Sound.{leastInner};
+ghost use Rattle.model.specs.Audit.{every, isInner};
+ghost use Rattle.area.specs.Area.{Area};
+ghost use Rattle.audit_link.specs.Known.{Known};
+ghost use Rattle.audit_link.specs.Links.{depthBy, heldBy, childBy, rootBy};
+
+// How many inner nodes stand from the root down to node k; more than levels where a climb doesn't end at the root.
+pub fn depth(inners: &[u32], g: Shape, used: u32, levels: u32, k: u32) -> u32
+    requires { ⌜ Area g (length (now inners)) × (used ≤ g .nodes) × (levels ≤ 15) ⌝ }
+    ensures { λ r. ⌜ r ≡ depthBy g used (now (inners .entry)) levels k ⌝ }
+{
+    let mut n = levels;
+    let mut passed: u32 = 0;
+    let mut node = k;
+    while 0 < n {
+        if node == 4294967295 {
+            return passed;
+        }
+        if node >= used {
+            return passed + n + 1;
+        }
+        node = parent_of(inners, g, node);
+        passed += 1;
+        n -= 1;
+    }
+    if node == 4294967295 {
+        return passed;
+    }
+    passed + 1
+}
+
+// Whether inner node parent holds k in its slot at.
+pub fn is_held(inners: &[u32], g: Shape, used: u32, k: u32, parent: u32, at: u32) -> bool
+    requires { ⌜ Area g (length (now inners)) × (used ≤ g .nodes) ⌝ }
+    ensures { λ r. ⌜ r ≡ heldBy g used (now (inners .entry)) k parent at ⌝ }
+{
+    let fan = g.fan;
+    if parent >= used {
+        return false;
+    }
+    let len = len_of(inners, g, parent);
+    if at >= len {
+        return false;
+    }
+    if len as usize > fan {
+        return false;
+    }
+    child_of(inners, g, parent, at as usize) == k
+}
+
+// Whether the child in slot i of inner node k, a node of low, is in use, knows its parent and place, and the slot has its totals.
+fn is_child(inners: &[u32], low: &[u32], g: Shape, used: u32, k: u32, i: u32) -> bool
+    requires { ⌜ Area g (length (now inners)) × Area g (length (now low)) × (used ≤ g .nodes) × (k < g .nodes) × (i < g .fan) × (g .stride ≡ 3) ⌝ }
+    ensures { λ r. ⌜ r ≡ childBy g used (now (low .entry)) (now (inners .entry)) k i ⌝ }
+{
+    let child = child_of(inners, g, k, i as usize);
+    if child >= used {
+        return false;
+    }
+    if parent_of(low, g, child) != k {
+        return false;
+    }
+    if at_of(low, g, child) != i {
+        return false;
+    }
+    if length_of(inners, g, 0, k, i as usize) as u64 != total_in(low, g, 0, child) {
+        return false;
+    }
+    if length_of(inners, g, 1, k, i as usize) as u64 != total_in(low, g, 1, child) {
+        return false;
+    }
+    true
+}
+
+// The same of each slot in use.
+fn are_children(inners: &[u32], low: &[u32], g: Shape, used: u32, k: u32, len: u32) -> bool
+    requires { ⌜ Area g (length (now inners)) × Area g (length (now low)) × (used ≤ g .nodes) × (k < g .nodes) × (len ≤ g .fan) × (g .stride ≡ 3) ⌝ }
+    ensures { λ r. ⌜ r ≡ every (childBy g used (now (low .entry)) (now (inners .entry)) k) 0 len ⌝ }
+{
+    let mut i: u32 = 0;
+    while i < len {
+        if !is_child(inners, low, g, used, k, i) {
+            return false;
+        }
+        i += 1;
+    }
+    true
+}
+
+// How few slots inner node k may use.
+fn least_inner(head: Head, k: u32) -> u32
+    ensures { λ r. ⌜ r ≡ leastInner stride (state head [] [] []) k ⌝ }
+{
+    if k != head.root.0 {
+        return head.fan / 2;
+    }
+    if head.levels == 1 {
+        return 1;
+    }
+    2
+}
+
+// Whether inner node k stands where it must: the root below nothing, any other node in its parent.
+fn is_below(head: Head, inners: &[u32], g: Shape, k: u32) -> bool
+    requires { ⌜ Area g (length (now inners)) × (head .inners ≤ g .nodes) × (k < g .nodes) ⌝ }
+    ensures { λ r. ⌜ r ≡ rootBy g head (now (inners .entry)) k ⌝ }
+{
+    let parent = parent_of(inners, g, k);
+    let at = at_of(inners, g, k);
+    if k != head.root.0 {
+        return is_held(inners, g, head.inners, k, parent, at);
+    }
+    if parent != 4294967295 {
+        return false;
+    }
+    at == 0
+}
+
+pub fn is_inner(head: Head, leaves: &[u32], inners: &[u32], g: Shape, k: u32) -> bool
+    requires { ⌜ Known head g (length (now leaves)) (length (now inners)) × (k < head .inners) ⌝ }
+    ensures { λ r. ⌜ r ≡ isInner (state head (now (leaves .entry)) (now (inners .entry)) []) k ⌝ }
+{
+    let levels = head.levels;
+    let d = depth(inners, g, head.inners, levels, k);
+    if d < 1 {
+        return false;
+    }
+    if d > levels {
+        return false;
+    }
+    let least = least_inner(head, k);
+    if !is_filled(head, inners, g, k, least) {
+        return false;
+    }
+    if !is_below(head, inners, g, k) {
+        return false;
+    }
+    let len = len_of(inners, g, k);
+    if d == levels {
+        return are_children(inners, leaves, g, head.leaves, k, len);
+    }
+    are_children(inners, inners, g, head.inners, k, len)
+}
