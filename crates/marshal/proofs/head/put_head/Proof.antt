@@ -2,12 +2,11 @@
 use borrow.Author.Needs.{needs}
 use mathlib.Core.Path.{_≡_, refl}
 use mathlib.Core.Bool.{true}
-use mathlib.Core.List.{List}
+use mathlib.Core.List.{List, [], _∷_}
 use Prim.Native.Nat.{ℕ, _<_}
 use lib.Dec.{ltb}
-use lib.ListN.{length, take}
+use lib.ListN.{length}
 use lib.Seq.{sets}
-use Rattle.marshal.specs.Flat.{wordsWith}
 use Rattle.marshal.proofs.HeadLaws.{in-head, written}
 use Rattle.marshal.proofs.head.put_head.Statement.{statement}
 use Rattle.marshal.proofs.head.put_head.Tie as tie
@@ -18,57 +17,54 @@ present-of-requires c κs = search needs
 finger-of-requires : tie.Need-finger-of-requires
 finger-of-requires c κs = search needs
 
--- each word is within the fifteen that the ones before it were written to
-abbrev words : tie.After-finger-of → List ℕ
-words c = wordsWith (c .before .before .before .before .args .h) (c .before .present-of .result) (c .finger-of .result)
-
-inside : (c : tie.After-finger-of) (i : ℕ) → ltb i 15 ≡ true → i < length (sets (c .before .before .before .before .args .head .now) 0 (take i (words c)))
-inside c i t = in-head (c .before .before .before .before .args .head .now) (take i (words c)) i t (c .before .before .before .before .pre)
+-- the place after some words is within the fifteen, whatever was written to those
+inside : (c : tie.After-finger-of) (vs : List ℕ) → ltb (length vs) 15 ≡ true → length vs < length (sets (c .before .before .before .before .args .head .now) 0 vs)
+inside c vs t = in-head (c .before .before .before .before .args .head .now) vs (length vs) t (c .before .before .before .before .pre)
 
 slice-write-head : tie.Need-slice-write-head
-slice-write-head c = inside c 0 refl
+slice-write-head c = inside c [] refl
 
 slice-write-head-2 : tie.Need-slice-write-head-2
-slice-write-head-2 c = inside c 1 refl
+slice-write-head-2 c = inside c (_ ∷ []) refl
 
 slice-write-head-3 : tie.Need-slice-write-head-3
-slice-write-head-3 c = inside c 2 refl
+slice-write-head-3 c = inside c (_ ∷ _ ∷ []) refl
 
 slice-write-head-4 : tie.Need-slice-write-head-4
-slice-write-head-4 c = inside c 3 refl
+slice-write-head-4 c = inside c (_ ∷ _ ∷ _ ∷ []) refl
 
 slice-write-head-5 : tie.Need-slice-write-head-5
-slice-write-head-5 c = inside c 4 refl
+slice-write-head-5 c = inside c (_ ∷ _ ∷ _ ∷ _ ∷ []) refl
 
 slice-write-head-6 : tie.Need-slice-write-head-6
-slice-write-head-6 c = inside c 5 refl
+slice-write-head-6 c = inside c (_ ∷ _ ∷ _ ∷ _ ∷ _ ∷ []) refl
 
 slice-write-head-7 : tie.Need-slice-write-head-7
-slice-write-head-7 c = inside c 6 refl
+slice-write-head-7 c = inside c (_ ∷ _ ∷ _ ∷ _ ∷ _ ∷ _ ∷ []) refl
 
 slice-write-head-8 : tie.Need-slice-write-head-8
-slice-write-head-8 c = inside c 7 refl
+slice-write-head-8 c = inside c (_ ∷ _ ∷ _ ∷ _ ∷ _ ∷ _ ∷ _ ∷ []) refl
 
 slice-write-head-9 : tie.Need-slice-write-head-9
-slice-write-head-9 c = inside c 8 refl
+slice-write-head-9 c = inside c (_ ∷ _ ∷ _ ∷ _ ∷ _ ∷ _ ∷ _ ∷ _ ∷ []) refl
 
 slice-write-head-10 : tie.Need-slice-write-head-10
-slice-write-head-10 c = inside c 9 refl
+slice-write-head-10 c = inside c (_ ∷ _ ∷ _ ∷ _ ∷ _ ∷ _ ∷ _ ∷ _ ∷ _ ∷ []) refl
 
 slice-write-head-11 : tie.Need-slice-write-head-11
-slice-write-head-11 c = inside c 10 refl
+slice-write-head-11 c = inside c (_ ∷ _ ∷ _ ∷ _ ∷ _ ∷ _ ∷ _ ∷ _ ∷ _ ∷ _ ∷ []) refl
 
 slice-write-head-12 : tie.Need-slice-write-head-12
-slice-write-head-12 c = inside c 11 refl
+slice-write-head-12 c = inside c (_ ∷ _ ∷ _ ∷ _ ∷ _ ∷ _ ∷ _ ∷ _ ∷ _ ∷ _ ∷ _ ∷ []) refl
 
 slice-write-head-13 : tie.Need-slice-write-head-13
-slice-write-head-13 c = inside c 12 refl
+slice-write-head-13 c = inside c (_ ∷ _ ∷ _ ∷ _ ∷ _ ∷ _ ∷ _ ∷ _ ∷ _ ∷ _ ∷ _ ∷ _ ∷ []) refl
 
 slice-write-head-14 : tie.Need-slice-write-head-14
-slice-write-head-14 c = inside c 13 refl
+slice-write-head-14 c = inside c (_ ∷ _ ∷ _ ∷ _ ∷ _ ∷ _ ∷ _ ∷ _ ∷ _ ∷ _ ∷ _ ∷ _ ∷ _ ∷ []) refl
 
 slice-write-head-15 : tie.Need-slice-write-head-15
-slice-write-head-15 c = inside c 14 refl
+slice-write-head-15 c = inside c (_ ∷ _ ∷ _ ∷ _ ∷ _ ∷ _ ∷ _ ∷ _ ∷ _ ∷ _ ∷ _ ∷ _ ∷ _ ∷ _ ∷ []) refl
 
 same-length : tie.Need-same-length
 same-length c = search needs
