@@ -1,15 +1,16 @@
 -- The lengths of a slot of three words, whether others are more, and which of the two totals passes u32. Assumes nothing.
 use mathlib.Core.Path.{_≡_, refl, sym, ap, _∙_}
-use mathlib.Core.Bool.{Bool, true, false, _||_}
+use mathlib.Core.Bool.{Bool, true, false, cond, _||_}
 use mathlib.Core.List.{List, [], _∷_}
 use Prim.Native.Nat.{ℕ, _+_, _*_, _<_, _≤_}
 use native.Mathlib.Omega.{arith}
-use lib.ListN.{length, getD, drop}
+use lib.ListN.{length, getD, take, drop}
+use lib.Seq.{take-all}
 use lib.Dec.{ltb}
-use borrow.Author.Tests.{lt-ltb, le-ltb}
+use borrow.Author.Tests.{lt-ltb, le-ltb, ltb-true, ltb-false}
 use Rattle.model.specs.Lists.{some, part}
 use Rattle.model.specs.Length.{listOf}
-use Rattle.model.specs.Node.{nodeOf, lengths, lengthIn, total, used}
+use Rattle.model.specs.Node.{slotsFrom, nodeOf, lengths, lengthIn, total, used}
 use Rattle.model.specs.State.{state, nodeAt}
 use Rattle.model.specs.Refuse.{shapeOf, tooMuch, past}
 use Rattle.model.specs.declared.shape.Shape.{Shape}
@@ -17,7 +18,8 @@ use Rattle.model.specs.declared.head.Head.{Head}
 use Rattle.model.specs.declared.length.Lengths.{Lengths}
 use Rattle.laws.specs.Lists.{row-end}
 use Rattle.laws.specs.Words.{length-part}
-use Rattle.laws.specs.Slots.{slots-at}
+use Rattle.laws.specs.Lens.{by-test}
+use Rattle.laws.specs.Slots.{slots-at, slots-length, slots-take}
 use Rattle.laws.specs.Areas.{length-node}
 use Rattle.laws.specs.AreaRead.{node-end}
 use Rattle.area.specs.Area.{Area}
@@ -54,6 +56,17 @@ module _ (given ls : Lengths) where
   pub more-second : given .prepare ≤ ls .prepare → ltb (ls .effect) (given .effect) ≡ tooMuch (listOf given) (listOf ls) .applies
   unfolding some
   more-second h = rw (le-ltb (ls .prepare) (given .prepare) h) (last (ltb (ls .effect) (given .effect)))
+
+-- the slots in use are the first k, which are as many as len or, where that is past the fan, as the fan
+pub in-use : (s fan n k : ℕ) (ws : List ℕ) → n ≡ cond (ltb (getD ws 0 0) fan) (getD ws 0 0) fan → k ≤ n → n ≤ k → slotsFrom s k 3 ws ≡ used (nodeOf s fan ws)
+unfolding nodeOf
+in-use s fan n k ws e a b =
+    let z : k ≡ n = omega arith in
+    let l : length (slotsFrom s fan 3 ws) ≡ fan = slots-length s fan 3 ws in
+    rw (z, e)
+    (by-test (λ (y : ℕ). slotsFrom s y 3 ws ≡ take (getD ws 0 0) (slotsFrom s fan 3 ws)) (ltb (getD ws 0 0) fan) _ _
+    (λ t. sym (slots-take s fan (getD ws 0 0) 3 ws (omega (arith, ltb-true (getD ws 0 0) fan t))))
+    (λ t. sym (take-all (getD ws 0 0) (slotsFrom s fan 3 ws) (omega (arith, l, ltb-false (getD ws 0 0) fan t)))))
 
 module _ (h : Head) (xs : List ℕ) (g : Shape) (old new : Lengths) (b : Bool) (eg : g ≡ shapeOf h)
     (eb : b ≡ ltb (4294967295 + old .prepare) (total 0 (used (nodeAt g (h .root .0) xs)) + new .prepare)) where

@@ -2,17 +2,18 @@
 use area::word::length_of;
 use model::head::Head;
 use model::length::Lengths;
-use model::length::View;
 use model::shape::Shape;
 ghost use mathlib.Core.Path.{_≡_};
+ghost use mathlib.Core.Bool.{cond};
 ghost use mathlib.Core.List.{[]};
 ghost use Prim.Native.Nat.{_+_, _<_, _≤_};
 ghost use lib.Dec.{ltb};
 ghost use lib.ListN.{length, getD};
-ghost use Rattle.model.specs.Length.{viewNumber, lengthsOf, listOf};
-ghost use Rattle.model.specs.Node.{lengths, total, used};
+ghost use Rattle.model.specs.Length.{listOf};
+ghost use Rattle.model.specs.Node.{lengths, total, used, nodeOf};
 ghost use Rattle.model.specs.State.{state, nodeAt};
 ghost use Rattle.model.specs.Refuse.{shapeOf, tooMuch, past};
+ghost use Rattle.node.specs.Shaped.{Shaped};
 ghost use Rattle.area.specs.Area.{Area};
 
 // The lengths in slot i of leaf k.
@@ -38,35 +39,74 @@ pub fn too_much(given: Lengths, own: Lengths) -> bool
     own.effect < given.effect
 }
 
-// The lengths of all slots in use of node k: at most 32 words.
-fn total_in(area: &[u32], g: Shape, view: usize, k: u32) -> u64
-    requires { ⌜ Area g (length (now area)) × (k < g .nodes) × (view + 1 < g .stride) ⌝ }
-    ensures { λ r. ⌜ (r ≡ total view (used (nodeAt g k (now (area .entry))))) × (r ≤ 137438953440) ⌝ }
+// The lengths of all slots in use of a node, in both views.
+struct Totals {
+    prepare: u64,
+    effect: u64,
+}
+
+// How many of a node's slots are in use: all where its len is past the fan.
+fn in_use(len: usize, fan: usize) -> usize
+    ensures { λ r. ⌜ (r ≤ fan) × (r ≡ cond (ltb len fan) len fan) ⌝ }
+{
+    if len < fan {
+        return len;
+    }
+    fan
+}
+
+// The totals of one node, in one pass over its slots: at most 32 words each.
+fn used_totals(node: &[u32], g: Shape) -> Totals
+    requires { ⌜ Shaped g × (length (now node) ≡ g .size) × (g .stride ≡ 3) ⌝ }
+    ensures { λ r. ⌜ (r .prepare ≡ total 0 (used (nodeOf (g .stride) (g .fan) (now (node .entry))))) × (r .effect ≡ total 1 (used (nodeOf (g .stride) (g .fan) (now (node .entry))))) × (r .prepare ≤ 137438953440) × (r .effect ≤ 137438953440) ⌝ }
+{
+    let stride = g.stride;
+    let len = in_use(node[0] as usize, g.fan);
+    let mut prepare: u64 = 0;
+    let mut effect: u64 = 0;
+    let mut p: usize = 4;
+    let mut k: usize = 0;
+    while k < len {
+        prepare += node[p] as u64;
+        effect += node[p + 1] as u64;
+        p += stride;
+        k += 1;
+    }
+    Totals {
+        prepare: prepare,
+        effect: effect,
+    }
+}
+
+// The totals of node k.
+fn totals_in(area: &[u32], g: Shape, k: u32) -> Totals
+    requires { ⌜ Area g (length (now area)) × (g .stride ≡ 3) × (k < g .nodes) ⌝ }
+    ensures { λ r. ⌜ (r .prepare ≡ total 0 (used (nodeAt g k (now (area .entry))))) × (r .effect ≡ total 1 (used (nodeAt g k (now (area .entry))))) × (r .prepare ≤ 137438953440) × (r .effect ≤ 137438953440) ⌝ }
 {
     let size = g.size;
     let a = k as usize * size;
     let e = a + size;
-    node::read::used_total(&area[a..e], g, view)
+    used_totals(&area[a..e], g)
 }
 
-// Whether the root's total in a view would pass u32 with new for old.
-fn past_in(inners: &[u32], g: Shape, view: View, root: u32, old: Lengths, new: Lengths) -> bool
-    requires { ⌜ Area g (length (now inners)) × (g .stride ≡ 3) × (root < g .nodes) ⌝ }
-    ensures { λ r. ⌜ r ≡ ltb (4294967295 + lengthsOf old view) (total (viewNumber view) (used (nodeAt g root (now (inners .entry)))) + lengthsOf new view) ⌝ }
+// Whether a total would pass u32 with new for old.
+fn past_by(sum: u64, old: u32, new: u32) -> bool
+    requires { ⌜ sum ≤ 137438953440 ⌝ }
+    ensures { λ r. ⌜ r ≡ ltb (4294967295 + old) (sum + new) ⌝ }
 {
-    let sum = total_in(inners, g, view.number(), root);
-    let most = 4294967295 + (old.of(view) as u64);
-    most < sum + (new.of(view) as u64)
+    let most = 4294967295 + (old as u64);
+    most < sum + (new as u64)
 }
 
-// Whether either total would.
+// Whether either of the root's totals would.
 pub fn past(head: Head, inners: &[u32], g: Shape, old: Lengths, new: Lengths) -> bool
     requires { ⌜ (g ≡ shapeOf head) × Area g (length (now inners)) × (head .root .0 < g .nodes) ⌝ }
     ensures { λ r. ⌜ r ≡ past (state head [] (now (inners .entry)) []) (listOf old) (listOf new) .applies ⌝ }
 {
     let root = head.root.0;
-    if past_in(inners, g, View::Prepare, root, old, new) {
+    let t = totals_in(inners, g, root);
+    if past_by(t.prepare, old.prepare, new.prepare) {
         return true;
     }
-    past_in(inners, g, View::Effect, root, old, new)
+    past_by(t.effect, old.effect, new.effect)
 }
