@@ -1,10 +1,10 @@
 // A change on its way, and the heads that it leaves.
+use finger_search::finger::changing;
 use links::top::Top;
 use model::head::Head;
 use model::head::Held;
 use model::number::LeafNo;
 use model::number::NodeNo;
-use finger_search::finger::changing;
 ghost use mathlib.Core.Path.{_≡_};
 ghost use Prim.Native.Nat.{_+_, _<_};
 ghost use Rattle.model.specs.Grow.{top};

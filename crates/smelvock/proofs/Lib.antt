@@ -1,2 +1,2 @@
 mod FlatLaws
-mod LookLaws
+mod LessLaws

@@ -1,14 +1,10 @@
 // The exported calls that change lengths or add an entry.
-use calls_insert::insert::add;
-use calls_insert::insert::insert;
-use calls_size::size::set_lengths;
-use calls_size::size::update;
+use calls_insert::insert::enter;
+use calls_size::size::resize;
 use calls_split::split::split_entry;
 use marshal::answered::divided_of;
 use marshal::answered::inserted_of;
 use marshal::answered::number_of;
-use marshal::answered::number_of_named;
-use marshal::answered::outcome_of;
 use marshal::answered::refused_divided;
 use marshal::answered::refused_inserted;
 use marshal::answered::refused_number;
@@ -28,6 +24,38 @@ ghost use mathlib.Core.Path.{_≡_};
 ghost use Rattle.smelvock.specs.Reads.{given};
 ghost use Rattle.smelvock.specs.Changes as flat;
 ghost use Rattle.smelvock.specs.Changes.{left};
+ghost use Rattle.smelvock.specs.Shared as shared;
+
+// Both exports that give an entry other lengths: one function, so that the call is compiled into it once.
+fn resized(
+    head: &mut [u32],
+    leaves: &mut [u32],
+    inners: &mut [u32],
+    homes: &[u32],
+    at: FlatCursor,
+    lengths: FlatLengths,
+    summed: bool,
+) -> FlatNumber
+    ensures { λ r. ⌜ left r (now (head .exit)) (now (leaves .exit)) (now (inners .exit)) (now (homes .exit)) ≡ shared.resize summed (given (now (head .entry)) (now (leaves .entry)) (now (inners .entry)) (now (homes .entry))) at lengths ⌝ }
+{
+    if bad_head(head) {
+        return refused_number(10);
+    }
+    let r = resize(
+        head_from(head),
+        leaves,
+        inners,
+        homes,
+        cursor_from(at),
+        lengths_from(lengths),
+        summed,
+    );
+    let after = r.head;
+    let answer = r.answer;
+    let a = number_of(answer);
+    settle(head, a.number, after);
+    a
+}
 
 #[no_mangle]
 pub extern "C" fn smelvock_set_lengths(
@@ -40,22 +68,8 @@ pub extern "C" fn smelvock_set_lengths(
 ) -> u32
     ensures { λ r. ⌜ left r (now (head .exit)) (now (leaves .exit)) (now (inners .exit)) (now (homes .exit)) ≡ flat.setLengths (given (now (head .entry)) (now (leaves .entry)) (now (inners .entry)) (now (homes .entry))) at lengths ⌝ }
 {
-    if bad_head(head) {
-        return 10;
-    }
-    let r = set_lengths(
-        head_from(head),
-        leaves,
-        inners,
-        homes,
-        cursor_from(at),
-        lengths_from(lengths),
-    );
-    let after = r.head;
-    let answer = r.answer;
-    let a = outcome_of(answer);
-    settle(head, a, after);
-    a
+    let a = resized(head, leaves, inners, homes, at, lengths, false);
+    a.number
 }
 
 #[no_mangle]
@@ -69,20 +83,37 @@ pub extern "C" fn smelvock_update(
 ) -> FlatNumber
     ensures { λ r. ⌜ left r (now (head .exit)) (now (leaves .exit)) (now (inners .exit)) (now (homes .exit)) ≡ flat.update (given (now (head .entry)) (now (leaves .entry)) (now (inners .entry)) (now (homes .entry))) at lengths ⌝ }
 {
-    if bad_head(head) {
-        return refused_number(10);
+    resized(head, leaves, inners, homes, at, lengths, true)
+}
+
+// Both exports that insert an entry.
+fn entered(
+    head: &mut [u32],
+    leaves: &mut [u32],
+    inners: &mut [u32],
+    homes: &mut [u32],
+    end: u32,
+    before: FlatCursor,
+    lengths: FlatLengths,
+    summed: bool,
+) -> FlatInserted
+    ensures { λ r. ⌜ left r (now (head .exit)) (now (leaves .exit)) (now (inners .exit)) (now (homes .exit)) ≡ shared.enter summed (given (now (head .entry)) (now (leaves .entry)) (now (inners .entry)) (now (homes .entry))) end before lengths ⌝ }
+{
+    if bad_flag(head, end) {
+        return refused_inserted(10);
     }
-    let r = update(
+    let r = enter(
         head_from(head),
         leaves,
         inners,
         homes,
-        cursor_from(at),
+        target_from(end, before),
         lengths_from(lengths),
+        summed,
     );
     let after = r.head;
     let answer = r.answer;
-    let a = number_of(answer);
+    let a = inserted_of(answer);
     settle(head, a.number, after);
     a
 }
@@ -99,22 +130,7 @@ pub extern "C" fn smelvock_insert(
 ) -> FlatInserted
     ensures { λ r. ⌜ left r (now (head .exit)) (now (leaves .exit)) (now (inners .exit)) (now (homes .exit)) ≡ flat.insert (given (now (head .entry)) (now (leaves .entry)) (now (inners .entry)) (now (homes .entry))) end before lengths ⌝ }
 {
-    if bad_flag(head, end) {
-        return refused_inserted(10);
-    }
-    let r = insert(
-        head_from(head),
-        leaves,
-        inners,
-        homes,
-        target_from(end, before),
-        lengths_from(lengths),
-    );
-    let after = r.head;
-    let answer = r.answer;
-    let a = inserted_of(answer);
-    settle(head, a.number, after);
-    a
+    entered(head, leaves, inners, homes, end, before, lengths, true)
 }
 
 #[no_mangle]
@@ -129,22 +145,11 @@ pub extern "C" fn smelvock_add(
 ) -> FlatNumber
     ensures { λ r. ⌜ left r (now (head .exit)) (now (leaves .exit)) (now (inners .exit)) (now (homes .exit)) ≡ flat.add (given (now (head .entry)) (now (leaves .entry)) (now (inners .entry)) (now (homes .entry))) end before lengths ⌝ }
 {
-    if bad_flag(head, end) {
-        return refused_number(10);
+    let a = entered(head, leaves, inners, homes, end, before, lengths, false);
+    FlatNumber {
+        number: a.number,
+        value: a.id,
     }
-    let r = add(
-        head_from(head),
-        leaves,
-        inners,
-        homes,
-        target_from(end, before),
-        lengths_from(lengths),
-    );
-    let after = r.head;
-    let answer = r.answer;
-    let a = number_of_named(answer);
-    settle(head, a.number, after);
-    a
 }
 
 #[no_mangle]

@@ -1,6 +1,6 @@
 // The exported calls that read a count or one entry.
-use calls_read::read::cursor;
 use calls_order::order::entry_to_char_index;
+use calls_read::read::cursor;
 use calls_read::read::id;
 use calls_read::read::is_empty;
 use calls_read::read::len;

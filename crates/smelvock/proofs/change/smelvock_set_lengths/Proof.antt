@@ -1,51 +1,15 @@
--- `smelvock::change::smelvock_set_lengths`: 10 where head or flag is bad, else the call's answer in words, and its head where it was done.
+-- `smelvock::change::smelvock_set_lengths`: `resized` without the position.
 use borrow.Author.Needs.{needs}
-use Prim.Native.Nat.{ℕ}
-use mathlib.Core.Path.{refl, sym, _∙_}
-use Rattle.marshal.specs.Flat.{headAfter}
-use Rattle.model.specs.Answer.{outcomeAnswer}
-use Rattle.model.specs.State.{state}
 use Rattle.smelvock.specs.Reads.{given}
-use Rattle.smelvock.specs.Changes as flat
-use Rattle.smelvock.specs.Changes.{numberAlone}
-use Rattle.smelvock.proofs.FlatLaws.{reply-refused, reply-settled, ap₃}
-use Rattle.marshal.proofs.HeadLaws.{good-head}
-use Rattle.model.specs.Calls as calls
-use Rattle.model.specs.declared.head.Head.{Head}
-use Rattle.model.specs.declared.head.Cursor.{Cursor}
-use Rattle.model.specs.declared.length.Lengths.{Lengths}
+use Rattle.smelvock.proofs.LessLaws.{resize-set}
 use Rattle.smelvock.proofs.change.smelvock_set_lengths.Statement.{statement}
 use Rattle.smelvock.proofs.change.smelvock_set_lengths.Tie as tie
 
-bad-head-requires : tie.Need-bad-head-requires
-bad-head-requires c κs = search needs
+resized-requires : tie.Need-resized-requires
+resized-requires c κs = search needs
 
 same-length : tie.Need-same-length
 same-length c = search needs
-
-returns : tie.Need-returns
-unfolding flat.setLengths
-returns c =
-    let a = c .before .before .before .before .before .before .before .args in
-    reply-refused numberAlone outcomeAnswer headAfter _ (given (a .head .now) (a .leaves .now) (a .inners .now) (a .homes .now)) _ _ (sym (c .before .bad-head .ensures) ∙ c .if1 .taken) refl
-
-head-from-requires : tie.Need-head-from-requires
-head-from-requires c κs = good-head _ (sym (c .before .before .bad-head .ensures) ∙ c .before .if1 .left)
-
-cursor-from-requires : tie.Need-cursor-from-requires
-cursor-from-requires c κs = search needs
-
-lengths-from-requires : tie.Need-lengths-from-requires
-lengths-from-requires c κs = search needs
-
-set-lengths-requires : tie.Need-set-lengths-requires
-set-lengths-requires c κs = search needs
-
-outcome-of-requires : tie.Need-outcome-of-requires
-outcome-of-requires c κs = search needs
-
-settle-requires : tie.Need-settle-requires
-settle-requires c κs = good-head _ (sym (c .before .before .before .before .before .before .before .before .before .before .before .before .before .before .before .bad-head .ensures) ∙ c .before .before .before .before .before .before .before .before .before .before .before .before .before .before .if1 .left)
 
 same-length-2 : tie.Need-same-length-2
 same-length-2 c = search needs
@@ -53,29 +17,10 @@ same-length-2 c = search needs
 same-length-3 : tie.Need-same-length-3
 same-length-3 c = search needs
 
-same-length-4 : tie.Need-same-length-4
-same-length-4 c = search needs
-
-returns-2 : tie.Need-returns-2
-unfolding flat.setLengths
-returns-2 c =
-    let a = c .before .before .before .before .before .before .before .before .before .before .before .before .before .before .before .before .before .before .before .before .before .before .before .before .args in
-    reply-settled numberAlone outcomeAnswer (λ (q : ℕ). q) (λ x. refl) _ (given (a .head .now) (a .leaves .now) (a .inners .now) (a .homes .now)) _ _ _ _ _ _ _ _ (sym (c .before .before .before .before .before .before .before .before .before .before .before .before .before .before .before .before .before .before .bad-head .ensures) ∙ c .before .before .before .before .before .before .before .before .before .before .before .before .before .before .before .before .before .if1 .left) (c .before .before .before .before .outcome-of .ensures) (c .before .before .settle .ensures) (c .before .before .before .before .before .before .before .before .before .before .set-lengths .ensures ∙ ap₃ (λ (h : Head) (k : Cursor) (l : Lengths). calls.setLengths (state h (a .leaves .now) (a .inners .now) (a .homes .now)) k l) (c .before .before .before .before .before .before .before .before .before .before .before .before .before .before .before .head-from .ensures) (c .before .before .before .before .before .before .before .before .before .before .before .before .cursor-from .ensures) (c .before .before .before .before .before .before .before .before .before .before .before .lengths-from .ensures))
+returns : tie.Need-returns
+returns c =
+    let a = c .before .before .before .before .before .before .before .before .before .before .before .before .before .before .args in
+    resize-set (given (a .head .now) (a .leaves .now) (a .inners .now) (a .homes .now)) (a .at) (a .lengths) _ _ _ _ _ (c .before .before .before .before .before .before .resized .ensures)
 
 pub smelvock-set-lengths-spec : {M : Type 1} → statement M
-smelvock-set-lengths-spec =
-    tie.close
-    (tie.spec
-    bad-head-requires
-    same-length
-    returns
-    head-from-requires
-    cursor-from-requires
-    lengths-from-requires
-    set-lengths-requires
-    outcome-of-requires
-    settle-requires
-    same-length-2
-    same-length-3
-    same-length-4
-    returns-2)
+smelvock-set-lengths-spec = tie.close (tie.spec resized-requires same-length same-length-2 same-length-3 returns)

@@ -1,53 +1,16 @@
--- `smelvock::change::smelvock_update`: 10 where head or flag is bad, else the call's answer in words, and its head where it was done.
+-- `smelvock::change::smelvock_update`: `resized` with the position asked for.
 use borrow.Author.Needs.{needs}
-use mathlib.Core.Path.{refl, sym, _∙_}
-use Rattle.marshal.specs.Flat.{headAfter, numberOf}
-use Rattle.model.specs.Answer.{numberAnswer}
-use Rattle.model.specs.State.{state}
+use mathlib.Core.Path.{_∙_}
 use Rattle.smelvock.specs.Reads.{given}
-use Rattle.smelvock.specs.Changes as flat
-use Rattle.smelvock.proofs.FlatLaws.{reply-refused, reply-settled, ap₃}
-use Rattle.marshal.proofs.HeadLaws.{good-head}
-use Rattle.model.specs.Calls as calls
-use Rattle.model.specs.declared.head.Head.{Head}
-use Rattle.model.specs.declared.head.Cursor.{Cursor}
-use Rattle.model.specs.declared.length.Lengths.{Lengths}
-use Rattle.marshal.specs.declared.flat.FlatNumber.{FlatNumber}
+use Rattle.smelvock.proofs.LessLaws.{resize-update}
 use Rattle.smelvock.proofs.change.smelvock_update.Statement.{statement}
 use Rattle.smelvock.proofs.change.smelvock_update.Tie as tie
 
-bad-head-requires : tie.Need-bad-head-requires
-bad-head-requires c κs = search needs
-
-refused-number-requires : tie.Need-refused-number-requires
-refused-number-requires c κs = search needs
+resized-requires : tie.Need-resized-requires
+resized-requires c κs = search needs
 
 same-length : tie.Need-same-length
 same-length c = search needs
-
-returns : tie.Need-returns
-unfolding flat.update
-returns c =
-    let a = c .before .before .before .before .before .before .before .before .args in
-    reply-refused numberOf numberAnswer headAfter _ (given (a .head .now) (a .leaves .now) (a .inners .now) (a .homes .now)) _ _ (sym (c .before .before .bad-head .ensures) ∙ c .before .if1 .taken) (c .refused-number .ensures)
-
-head-from-requires : tie.Need-head-from-requires
-head-from-requires c κs = good-head _ (sym (c .before .before .bad-head .ensures) ∙ c .before .if1 .left)
-
-cursor-from-requires : tie.Need-cursor-from-requires
-cursor-from-requires c κs = search needs
-
-lengths-from-requires : tie.Need-lengths-from-requires
-lengths-from-requires c κs = search needs
-
-update-requires : tie.Need-update-requires
-update-requires c κs = search needs
-
-number-of-requires : tie.Need-number-of-requires
-number-of-requires c κs = search needs
-
-settle-requires : tie.Need-settle-requires
-settle-requires c κs = good-head _ (sym (c .before .before .before .before .before .before .before .before .before .before .before .before .before .before .before .bad-head .ensures) ∙ c .before .before .before .before .before .before .before .before .before .before .before .before .before .before .if1 .left)
 
 same-length-2 : tie.Need-same-length-2
 same-length-2 c = search needs
@@ -55,30 +18,10 @@ same-length-2 c = search needs
 same-length-3 : tie.Need-same-length-3
 same-length-3 c = search needs
 
-same-length-4 : tie.Need-same-length-4
-same-length-4 c = search needs
-
-returns-2 : tie.Need-returns-2
-unfolding flat.update
-returns-2 c =
-    let a = c .before .before .before .before .before .before .before .before .before .before .before .before .before .before .before .before .before .before .before .before .before .before .before .before .args in
-    reply-settled numberOf numberAnswer (λ (q : FlatNumber). q .number) (λ x. refl) _ (given (a .head .now) (a .leaves .now) (a .inners .now) (a .homes .now)) _ _ _ _ _ _ _ _ (sym (c .before .before .before .before .before .before .before .before .before .before .before .before .before .before .before .before .before .before .bad-head .ensures) ∙ c .before .before .before .before .before .before .before .before .before .before .before .before .before .before .before .before .before .if1 .left) (c .before .before .before .before .number-of .ensures) (c .before .before .settle .ensures) (c .before .before .before .before .before .before .before .before .before .before .update .ensures ∙ ap₃ (λ (h : Head) (k : Cursor) (l : Lengths). calls.update (state h (a .leaves .now) (a .inners .now) (a .homes .now)) k l) (c .before .before .before .before .before .before .before .before .before .before .before .before .before .before .before .head-from .ensures) (c .before .before .before .before .before .before .before .before .before .before .before .before .cursor-from .ensures) (c .before .before .before .before .before .before .before .before .before .before .before .lengths-from .ensures))
+returns : tie.Need-returns
+returns c =
+    let a = c .before .before .before .before .before .before .before .before .before .before .before .before .before .before .args in
+    c .before .before .before .before .before .before .resized .ensures ∙ resize-update (given (a .head .now) (a .leaves .now) (a .inners .now) (a .homes .now)) (a .at) (a .lengths)
 
 pub smelvock-update-spec : {M : Type 1} → statement M
-smelvock-update-spec =
-    tie.close
-    (tie.spec
-    bad-head-requires
-    refused-number-requires
-    same-length
-    returns
-    head-from-requires
-    cursor-from-requires
-    lengths-from-requires
-    update-requires
-    number-of-requires
-    settle-requires
-    same-length-2
-    same-length-3
-    same-length-4
-    returns-2)
+smelvock-update-spec = tie.close (tie.spec resized-requires same-length same-length-2 same-length-3 returns)

@@ -1,7 +1,7 @@
 -- `smelvock::look::smelvock_char_index_to_entry`: `smelvock_locate`, less the effect position.
 use borrow.Author.Needs.{needs}
 use Rattle.smelvock.specs.Reads.{given}
-use Rattle.smelvock.proofs.LookLaws.{less-left}
+use Rattle.smelvock.proofs.LessLaws.{less-left}
 use Rattle.smelvock.proofs.look.smelvock_char_index_to_entry.Statement.{statement}
 use Rattle.smelvock.proofs.look.smelvock_char_index_to_entry.Tie as tie
 

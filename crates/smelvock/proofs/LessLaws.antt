@@ -1,0 +1,105 @@
+-- An export that is another one with less in its reply. Assumes nothing.
+use mathlib.Core.Path.{_≡_, refl, ap, ap₂, _∙_}
+use mathlib.Core.Bool.{Bool, true, false, _||_}
+use mathlib.Core.List.{List}
+use Prim.Native.Nat.{ℕ}
+use lib.Dec.{ltb}
+use Rattle.model.specs.Row.{Answer, refused}
+use Rattle.model.specs.Answer.{outcomeAnswer, numberAnswer, namedAnswer, selectedAnswer, locatedAnswer, insertedAnswer}
+use Rattle.model.specs.Calls as calls
+use Rattle.model.specs.Calls.{Reply, reply, lessEffect}
+use Rattle.model.specs.declared.answer.Number.{Number}
+use Rattle.model.specs.declared.answer.Number.the-variants as number
+use Rattle.model.specs.declared.answer.Inserted.{Inserted}
+use Rattle.model.specs.declared.answer.Inserted.the-variants as inserted
+use Rattle.model.specs.declared.answer.Located.{Located}
+use Rattle.model.specs.declared.answer.Located.the-variants as located
+use Rattle.marshal.specs.Flat.{badHead, viewFrom, cursorFrom, lengthsFrom, targetFrom, headAfter, numberOf, selectedOf, locatedOf, insertedOf}
+use Rattle.marshal.specs.declared.flat.FlatCursor.{FlatCursor}
+use Rattle.marshal.specs.declared.flat.FlatLengths.{FlatLengths}
+use Rattle.marshal.specs.declared.flat.FlatNumber.{FlatNumber}
+use Rattle.marshal.specs.declared.flat.FlatSelected.{FlatSelected}
+use Rattle.marshal.specs.declared.flat.FlatLocated.{FlatLocated}
+use Rattle.marshal.specs.declared.flat.FlatInserted.{FlatInserted}
+use Rattle.calls_size.specs.Size as size
+use Rattle.calls_size.proofs.SizeLaws.{update-is, set-is}
+use Rattle.calls_insert.specs.Put as put
+use Rattle.calls_insert.proofs.PutLaws.{insert-is, add-is}
+use Rattle.smelvock.specs.Reads.{Given, stateOf}
+use Rattle.smelvock.specs.Changes.{Left, left, leftBy, numberAlone, locate, charIndexToEntry, setLengths, update, insert, add}
+use Rattle.smelvock.specs.Shared as shared
+
+-- k of the reply's words
+abbrev lessLeft : {R Q : Type 0} → (R → Q) → Left R → Left Q
+lessLeft k q = left (k (q .reply)) (q .head) (q .leaves) (q .inners) (q .homes)
+
+-- k of the words of an answer are the words of f of it
+module _ {A B R Q : Type 0} (flat : Answer → R) (answer : A → Answer) (flat′ : Answer → Q) (answer′ : B → Answer) (f : A → B) (k : R → Q)
+    (none : k (flat (refused 10)) ≡ flat′ (refused 10)) (alike : (a : A) → k (flat (answer a)) ≡ flat′ (answer′ (f a))) (numbered : (a : A) → answer a .number ≡ answer′ (f a) .number) where
+  less-by : (bad : Bool) (g : Given) (y : Reply A) → lessLeft k (leftBy flat answer headAfter bad g y) ≡ leftBy flat′ answer′ headAfter bad g (reply (y .after) (f (y .answer)))
+  unfolding leftBy
+  less-by true g y = ap (λ (q : Q). left q (g .head) (g .leaves) (g .inners) (g .homes)) none
+  less-by false g y =
+      ap₂ (λ (q : Q) (n : ℕ). left q (headAfter n (y .after .head) (g .head)) (y .after .leaves) (y .after .inners) (y .after .homes)) (alike (y .answer)) (numbered (y .answer))
+
+-- `locate` without the effect position
+abbrev pub less : FlatLocated → FlatSelected
+less r = record { number = r .number; leaf = r .leaf; slot = r .slot; stamp = r .stamp; offset = r .offset }
+
+less-answer : (a : Located) → less (locatedOf (locatedAnswer a)) ≡ selectedOf (selectedAnswer (lessEffect a))
+less-answer (located.At c offset position) = refl
+less-answer (located.Refused n) = refl
+
+less-number : (a : Located) → locatedAnswer a .number ≡ selectedAnswer (lessEffect a) .number
+less-number (located.At c offset position) = refl
+less-number (located.Refused n) = refl
+
+pub less-left : (g : Given) (v index : ℕ) (r : FlatLocated) (w ls xs hs : List ℕ) → left r w ls xs hs ≡ locate g v index → left (less r) w ls xs hs ≡ charIndexToEntry g v index
+unfolding locate charIndexToEntry calls.charIndexToEntry
+less-left g v index r w ls xs hs e =
+    ap (lessLeft less) e
+    ∙ less-by locatedOf locatedAnswer selectedOf selectedAnswer lessEffect less refl less-answer less-number (badHead (g .head) || ltb 1 v) g (calls.locate (stateOf g) (viewFrom v) index)
+
+-- other lengths: with the position, and without
+pub resize-update : (g : Given) (c : FlatCursor) (l : FlatLengths) → shared.resize true g c l ≡ update g c l
+unfolding shared.resize update
+resize-update g c l = ap (leftBy numberOf numberAnswer headAfter (badHead (g .head)) g) (update-is (stateOf g) (cursorFrom c) (lengthsFrom l))
+
+abbrev alone : FlatNumber → ℕ
+alone r = r .number
+
+alone-answer : (a : Number) → alone (numberOf (numberAnswer a)) ≡ numberAlone (outcomeAnswer (size.unnumbered a))
+alone-answer (number.Is n) = refl
+alone-answer (number.Refused n) = refl
+
+pub resize-set : (g : Given) (c : FlatCursor) (l : FlatLengths) (r : FlatNumber) (w ls xs hs : List ℕ) → left r w ls xs hs ≡ shared.resize false g c l → left (r .number) w ls xs hs ≡ setLengths g c l
+unfolding shared.resize setLengths
+resize-set g c l r w ls xs hs e =
+    let y = size.resize false (stateOf g) (cursorFrom c) (lengthsFrom l) in
+    ap (lessLeft alone) e
+    ∙ less-by numberOf numberAnswer numberAlone outcomeAnswer size.unnumbered alone refl alone-answer alone-answer (badHead (g .head)) g y
+    ∙ ap (leftBy numberAlone outcomeAnswer headAfter (badHead (g .head)) g) (set-is (stateOf g) (cursorFrom c) (lengthsFrom l) y refl)
+
+-- an entry more: with the position, and without
+pub enter-insert : (g : Given) (end : ℕ) (c : FlatCursor) (l : FlatLengths) → shared.enter true g end c l ≡ insert g end c l
+unfolding shared.enter insert
+enter-insert g end c l = ap (leftBy insertedOf insertedAnswer headAfter (badHead (g .head) || ltb 1 end) g) (insert-is (stateOf g) (targetFrom end c) (lengthsFrom l))
+
+abbrev idOf : FlatInserted → FlatNumber
+idOf r = record { number = r .number; value = r .id }
+
+id-answer : (a : Inserted) → idOf (insertedOf (insertedAnswer a)) ≡ numberOf (namedAnswer (put.unplaced a))
+id-answer (inserted.At i p) = refl
+id-answer (inserted.Refused n) = refl
+
+id-number : (a : Inserted) → insertedAnswer a .number ≡ namedAnswer (put.unplaced a) .number
+id-number (inserted.At i p) = refl
+id-number (inserted.Refused n) = refl
+
+pub enter-add : (g : Given) (end : ℕ) (c : FlatCursor) (l : FlatLengths) (r : FlatInserted) (w ls xs hs : List ℕ) → left r w ls xs hs ≡ shared.enter false g end c l → left (idOf r) w ls xs hs ≡ add g end c l
+unfolding shared.enter add
+enter-add g end c l r w ls xs hs e =
+    let y = put.enter false (stateOf g) (targetFrom end c) (lengthsFrom l) in
+    ap (lessLeft idOf) e
+    ∙ less-by insertedOf insertedAnswer numberOf namedAnswer put.unplaced idOf refl id-answer id-number (badHead (g .head) || ltb 1 end) g y
+    ∙ ap (leftBy numberOf namedAnswer headAfter (badHead (g .head) || ltb 1 end) g) (add-is (stateOf g) (targetFrom end c) (lengthsFrom l) y refl)
