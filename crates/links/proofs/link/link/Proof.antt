@@ -1,42 +1,42 @@
 -- `links::link::link`: the slot is summed up from the new node, put in, and every child from it on learns its place.
-use Prim.Native.Nat.{_-_}
+use Prim.Native.Nat.{_-_, zero-le}
+use mathlib.Core.Path.{_∙_}
 use mathlib.Core.List.{[], _∷_}
 use native.Mathlib.Omega.{arith}
 use lib.ListN.{length}
 use Rattle.model.specs.Node.{nodeOf}
 use Rattle.laws.specs.AreaRead.{node-end}
-use Rattle.laws.specs.Fronts.{front-in, front-back, front-again}
+use Rattle.laws.specs.Fronts.{front-length, front-in, front-back, front-again}
 use Rattle.laws.specs.Grow.{link-as}
-use borrow.Author.Needs.{needs}
 use Rattle.links.proofs.link.link.Statement.{statement}
 use Rattle.links.proofs.link.link.Tie as tie
 
 cast-k : tie.Need-cast-k
-cast-k c = search needs
+cast-k c = omega (arith, c .before .before .before .good)
 
 word-requires : tie.Need-word-requires
 word-requires c κs = (omega (arith, c .before .before .before .before .pre .0 .shaped .words), node-end (c .before .before .before .before .args .g) (c .before .before .before .before .args .p .0) (length (c .before .before .before .before .args .inners .now)) (c .before .before .before .before .pre .1) (c .before .before .before .before .pre .0 .inners))
 
 cast-len : tie.Need-cast-len
-cast-len c = search needs
+cast-len c = omega (arith, c .word .ok)
 
 sub-slot-of : tie.Need-sub-slot-of
-sub-slot-of c = search needs
+sub-slot-of c = zero-le
 
 part-x-start : tie.Need-part-x-start
-part-x-start c = search needs
+part-x-start c = zero-le
 
 part-x-end : tie.Need-part-x-end
-part-x-end c = search needs
+part-x-end c = c .before .before .before .before .before .before .before .pre .0 .shaped .narrow
 
 slot-of-requires : tie.Need-slot-of-requires
-slot-of-requires c κs = search needs
+slot-of-requires c κs = (c .before .before .before .before .before .before .before .before .pre .0, c .before .before .before .before .before .before .before .before .pre .2, front-length (c .before .before .before .before .before .before .before .before .args .g .stride) (0 ∷ 0 ∷ 0 ∷ 0 ∷ []) (c .before .before .before .before .before .before .before .before .pre .0 .shaped .narrow))
 
 sub-split-child : tie.Need-sub-split-child
-sub-split-child c = search needs
+sub-split-child c = zero-le
 
 part-split-child-start : tie.Need-part-split-child-start
-part-split-child-start c = search needs
+part-split-child-start c = zero-le
 
 part-split-child-end : tie.Need-part-split-child-end
 part-split-child-end c = front-in (c .before .before .before .before .before .before .before .before .before .before .before .before .args .g .stride) (c .before .before .before .slot-of .last .1 .1 .1 .1 .1 .0) _ (0 ∷ 0 ∷ 0 ∷ 0 ∷ []) (c .before .before .before .slot-of .kept .1 .1 .1 .1 .1 .0) (c .before .before .before .before .before .before .before .before .before .before .before .before .pre .0 .shaped .narrow)
@@ -45,20 +45,20 @@ split-child-requires : tie.Need-split-child-requires
 split-child-requires c κs = (record { shaped = c .before .before .before .before .before .before .before .before .before .before .before .before .before .pre .0 .shaped; room = c .before .before .before .before .before .before .before .before .before .before .before .before .before .pre .0 .inners }, c .before .before .before .before .before .before .before .before .before .before .before .before .before .pre .1, c .before .before .before .before .before .before .before .before .before .before .before .before .before .pre .3 .place, c .before .before .before .before .before .before .before .before .before .before .before .before .before .pre .3 .space, front-again (c .before .before .before .before .before .before .before .before .before .before .before .before .before .args .g .stride) (c .before .before .before .before .slot-of .last .1 .1 .1 .1 .1 .0) _ (0 ∷ 0 ∷ 0 ∷ 0 ∷ []) (c .before .before .before .before .slot-of .kept .1 .1 .1 .1 .1 .0) (c .before .before .before .before .before .before .before .before .before .before .before .before .before .pre .0 .shaped .narrow))
 
 add-adopt-all : tie.Need-add-adopt-all
-add-adopt-all c = search needs
+add-adopt-all c = omega (arith, c .before .before .before .before .before .before .before .before .before .before .before .before .before .before .before .before .before .before .pre .0 .shaped .few, c .before .before .before .before .before .before .before .before .before .before .before .before .before .before .before .before .before .before .pre .3)
 
 add-adopt-all-2 : tie.Need-add-adopt-all-2
-add-adopt-all-2 c = search needs
+add-adopt-all-2 c = omega (arith, c .before .before .before .before .before .before .before .before .before .before .before .before .before .word .ok)
 
 adopt-all-requires : tie.Need-adopt-all-requires
 unfolding nodeOf
 adopt-all-requires c κs = (rw (c .before .before .before .before .split-child .kept .0) (c .before .before .before .before .before .before .before .before .before .before .before .before .before .before .before .before .before .before .pre .0), c .before .before .before .before .before .before .before .before .before .before .before .before .before .before .before .before .before .before .pre .1, omega (arith, c .before .before .before .before .before .before .before .before .before .before .before .before .before .word .ensures, c .before .before .before .before .before .before .before .before .before .before .before .before .before .before .before .before .before .before .pre .3 .space))
 
 same-length : tie.Need-same-length
-same-length c = search needs
+same-length c = c .before .before .before .before .adopt-all .kept .0
 
 same-length-2 : tie.Need-same-length-2
-same-length-2 c = search needs
+same-length-2 c = c .before .before .before .before .adopt-all .kept .1 .0 ∙ c .before .before .before .before .before .before .before .before .before .split-child .kept .0
 
 returns : tie.Need-returns
 returns c = link-as _ _ _ _ _ _ _ _ (c .before .before .before .before .before .before .before .before .before .before .before .before .before .before .slot-of .last .1 .1 .1 .1 .1 .0) _ _ _ (c .before .before .before .before .before .before .before .before .before .before .before .before .before .before .before .before .before .before .word .ensures) (c .before .before .before .before .before .before .before .before .before .before .before .before .before .before .slot-of .ensures) (front-back (c .before .before .before .before .before .before .before .before .before .before .before .before .before .before .before .before .before .before .before .before .before .before .before .args .g .stride) (c .before .before .before .before .before .before .before .before .before .before .before .before .before .before .slot-of .last .1 .1 .1 .1 .1 .0) _ (0 ∷ 0 ∷ 0 ∷ 0 ∷ []) (c .before .before .before .before .before .before .before .before .before .before .before .before .before .before .slot-of .kept .1 .1 .1 .1 .1 .0) (c .before .before .before .before .before .before .before .before .before .before .before .before .before .before .before .before .before .before .before .before .before .before .before .pre .0 .shaped .narrow)) (c .before .before .before .before .before .before .before .before .before .split-child .ensures) (c .before .before .before .before .adopt-all .ensures)

@@ -1,58 +1,58 @@
 -- `links::split::grow_root`: the next unused number is the root's, its slots are summed up from both nodes, and these learn it.
-use Prim.Native.Nat.{_-_}
+use Prim.Native.Nat.{_-_, zero-le}
+use mathlib.Core.Path.{_∙_}
 use mathlib.Core.List.{[], _∷_}
 use native.Mathlib.Omega.{arith}
-use Rattle.laws.specs.Fronts.{front-in, front-back, front-again}
+use Rattle.laws.specs.Fronts.{front-length, front-in, front-back, front-again}
 use Rattle.laws.specs.Grow.{root-none, root-as}
 use Rattle.links.specs.Tops.{topOf}
-use borrow.Author.Needs.{needs}
 use Rattle.links.proofs.split.grow_root.Statement.{statement}
 use Rattle.links.proofs.split.grow_root.Tie as tie
 
 cast-if1 : tie.Need-cast-if1
-cast-if1 c = search needs
+cast-if1 c = omega (arith, c .before .before .before .good)
 
 returns : tie.Need-returns
 returns c = root-none (c .before .before .before .before .args .g) (topOf (c .before .before .before .before .args .t)) (c .before .before .before .before .args .k .0) (c .before .before .before .before .args .m .0) _ _ (c .if1 .taken)
 
 sub-sum-node : tie.Need-sub-sum-node
-sub-sum-node c = search needs
+sub-sum-node c = zero-le
 
 part-x-start : tie.Need-part-x-start
-part-x-start c = search needs
+part-x-start c = zero-le
 
 part-x-end : tie.Need-part-x-end
-part-x-end c = search needs
+part-x-end c = c .before .before .before .before .before .pre .0 .shaped .narrow
 
 sum-node-requires : tie.Need-sum-node-requires
-sum-node-requires c κs = search needs
+sum-node-requires c κs = (c .before .before .before .before .before .before .pre .0 .shaped, c .before .before .before .before .before .before .pre .1, c .before .before .before .before .before .before .pre .0 .inners, front-length (c .before .before .before .before .before .before .args .g .stride) (0 ∷ 0 ∷ 0 ∷ 0 ∷ []) (c .before .before .before .before .before .before .pre .0 .shaped .narrow))
 
 sub-sum-node-2 : tie.Need-sub-sum-node-2
-sub-sum-node-2 c = search needs
+sub-sum-node-2 c = zero-le
 
 part-y-start : tie.Need-part-y-start
-part-y-start c = search needs
+part-y-start c = zero-le
 
 part-y-end : tie.Need-part-y-end
-part-y-end c = search needs
+part-y-end c = c .before .before .before .before .before .before .before .before .before .pre .0 .shaped .narrow
 
 sum-node-requires-2 : tie.Need-sum-node-requires-2
-sum-node-requires-2 c κs = search needs
+sum-node-requires-2 c κs = (c .before .before .before .before .before .before .before .before .before .before .pre .0 .shaped, c .before .before .before .before .before .before .before .before .before .before .pre .2, c .before .before .before .before .before .before .before .before .before .before .pre .0 .inners, front-length (c .before .before .before .before .before .before .before .before .before .before .args .g .stride) (0 ∷ 0 ∷ 0 ∷ 0 ∷ []) (c .before .before .before .before .before .before .before .before .before .before .pre .0 .shaped .narrow))
 
 sub-new-two : tie.Need-sub-new-two
-sub-new-two c = search needs
+sub-new-two c = zero-le
 
 part-new-two-start : tie.Need-part-new-two-start
-part-new-two-start c = search needs
+part-new-two-start c = zero-le
 
 part-new-two-end : tie.Need-part-new-two-end
 part-new-two-end c = front-in (c .before .before .before .before .before .before .before .before .before .before .before .before .before .before .args .g .stride) (c .before .before .before .before .before .before .before .sum-node .last .1 .1 .1 .0) _ (0 ∷ 0 ∷ 0 ∷ 0 ∷ []) (c .before .before .before .before .before .before .before .sum-node .kept .1 .1 .1 .0) (c .before .before .before .before .before .before .before .before .before .before .before .before .before .before .pre .0 .shaped .narrow)
 
 sub-new-two-2 : tie.Need-sub-new-two-2
-sub-new-two-2 c = search needs
+sub-new-two-2 c = zero-le
 
 part-new-two-start-2 : tie.Need-part-new-two-start-2
-part-new-two-start-2 c = search needs
+part-new-two-start-2 c = zero-le
 
 part-new-two-end-2 : tie.Need-part-new-two-end-2
 part-new-two-end-2 c = front-in (c .before .before .before .before .before .before .before .before .before .before .before .before .before .before .before .before .args .g .stride) (c .before .before .before .before .before .sum-node2 .last .1 .1 .1 .0) _ (0 ∷ 0 ∷ 0 ∷ 0 ∷ []) (c .before .before .before .before .before .sum-node2 .kept .1 .1 .1 .0) (c .before .before .before .before .before .before .before .before .before .before .before .before .before .before .before .before .pre .0 .shaped .narrow)
@@ -67,13 +67,13 @@ add-t47 : tie.Need-add-t47
 add-t47 c = omega (arith, c .before .before .before .before .before .before .before .before .before .before .before .before .before .before .before .before .before .before .before .before .before .before .before .if1 .left, c .before .before .before .before .before .before .before .before .before .before .before .before .before .before .before .before .before .before .before .before .before .before .before .before .before .before .before .pre .0 .shaped .areas)
 
 add-t48 : tie.Need-add-t48
-add-t48 c = search needs
+add-t48 c = omega (arith, c .before .before .before .before .before .before .before .before .before .before .before .before .before .before .before .before .before .before .before .before .before .before .before .before .before .before .before .pre .3)
 
 same-length : tie.Need-same-length
-same-length c = search needs
+same-length c = c .before .before .before .before .adopt-all .kept .0
 
 same-length-2 : tie.Need-same-length-2
-same-length-2 c = search needs
+same-length-2 c = c .before .before .before .before .adopt-all .kept .1 .0 ∙ c .before .before .before .before .before .before .before .before .before .new-two .kept .0
 
 returns-2 : tie.Need-returns-2
 returns-2 c = root-as (c .before .before .before .before .before .before .before .before .before .before .before .before .before .before .before .before .before .before .before .before .before .before .before .before .before .before .before .args .g) (topOf (c .before .before .before .before .before .before .before .before .before .before .before .before .before .before .before .before .before .before .before .before .before .before .before .before .before .before .before .args .t)) (c .before .before .before .before .before .before .before .before .before .before .before .before .before .before .before .before .before .before .before .before .before .before .before .before .before .before .before .args .k .0) (c .before .before .before .before .before .before .before .before .before .before .before .before .before .before .before .before .before .before .before .before .before .before .before .before .before .before .before .args .m .0) _ _ (c .before .before .before .before .before .before .before .before .before .before .before .before .before .before .before .before .before .before .before .before .sum-node .last .1 .1 .1 .0) (c .before .before .before .before .before .before .before .before .before .before .before .before .before .before .before .before .sum-node2 .last .1 .1 .1 .0) _ _ _ _ _ (c .before .before .before .before .before .before .before .before .before .before .before .before .before .before .before .before .before .before .before .before .before .before .before .if1 .left) (c .before .before .before .before .before .before .before .before .before .before .before .before .before .before .before .before .before .before .before .before .sum-node .ensures) (c .before .before .before .before .before .before .before .before .before .before .before .before .before .before .before .before .sum-node2 .ensures) (front-back (c .before .before .before .before .before .before .before .before .before .before .before .before .before .before .before .before .before .before .before .before .before .before .before .before .before .before .before .args .g .stride) (c .before .before .before .before .before .before .before .before .before .before .before .before .before .before .before .before .before .before .before .before .sum-node .last .1 .1 .1 .0) _ (0 ∷ 0 ∷ 0 ∷ 0 ∷ []) (c .before .before .before .before .before .before .before .before .before .before .before .before .before .before .before .before .before .before .before .before .sum-node .kept .1 .1 .1 .0) (c .before .before .before .before .before .before .before .before .before .before .before .before .before .before .before .before .before .before .before .before .before .before .before .before .before .before .before .pre .0 .shaped .narrow)) (front-back (c .before .before .before .before .before .before .before .before .before .before .before .before .before .before .before .before .before .before .before .before .before .before .before .before .before .before .before .args .g .stride) (c .before .before .before .before .before .before .before .before .before .before .before .before .before .before .before .before .sum-node2 .last .1 .1 .1 .0) _ (0 ∷ 0 ∷ 0 ∷ 0 ∷ []) (c .before .before .before .before .before .before .before .before .before .before .before .before .before .before .before .before .sum-node2 .kept .1 .1 .1 .0) (c .before .before .before .before .before .before .before .before .before .before .before .before .before .before .before .before .before .before .before .before .before .before .before .before .before .before .before .pre .0 .shaped .narrow)) (c .before .before .before .before .before .before .before .before .before .new-two .ensures) (c .before .before .before .before .adopt-all .ensures)
