@@ -7,7 +7,8 @@ use Rattle.model.specs.Row.{Answer, Moved, moved, done, refused, noEntry}
 use Rattle.model.specs.Answer.{numberAnswer, namedAnswer, measuredAnswer, comparedAnswer}
 use Rattle.model.specs.State.{State, state}
 use Rattle.model.specs.Calls as calls
-use Rattle.model.specs.ById.{withCursor, idAnswer, standingAnswer, nextAnswer, locatedAnswer, treeStep}
+use Rattle.model.specs.Calls.{Reply, reply}
+use Rattle.model.specs.ById.{withCursor, told, idAnswer, standingAnswer, nextAnswer, locatedAnswer, treeStep}
 use Rattle.model.specs.declared.length.View.{View}
 use Rattle.model.specs.declared.head.Cursor.{Cursor}
 use Rattle.model.specs.declared.number.EntryId.{EntryId}
@@ -30,6 +31,10 @@ module _ (s : State) (i : ℕ) (t : Standing) (e : t ≡ calls.cursor s i) (f : 
 
   pub cursor-goes : (c : Cursor) → t ≡ standing.At c → (m : Moved State) → m ≡ f c → m ≡ withCursor s (calls.cursor s i) f
   cursor-goes c d m q = q ∙ ap (λ (x : Standing). withCursor s x f) (sym d ∙ e)
+
+-- a reply in the row's form
+pub told-by : {A : Type 0} (f : A → Answer) (t : State) (a : A) (r : Reply A) → reply t a ≡ r → moved t (f a) ≡ told r f
+told-by f t a r e = ap (λ x. told x f) e
 
 module _ (s : State) where
   pub count-is : (r : Number) → r ≡ calls.len (s .head) → moved s (numberAnswer r) ≡ treeStep s row.count

@@ -1,8 +1,8 @@
--- `by_id::insert::lead`: the id of the end is tested first, else the cursor of the id decides.
+-- `by_id_insert::insert::lead`: the id of the end is tested first, else the cursor of the id decides.
 use borrow.Author.Needs.{needs}
-use Rattle.by_id.proofs.Laws.{lead-end, lead-by}
-use Rattle.by_id.proofs.insert.lead.Statement.{statement}
-use Rattle.by_id.proofs.insert.lead.Tie as tie
+use Rattle.by_id_insert.proofs.Laws.{lead-end, lead-by}
+use Rattle.by_id_insert.proofs.insert.lead.Statement.{statement}
+use Rattle.by_id_insert.proofs.insert.lead.Tie as tie
 
 returns : tie.Need-returns
 returns c = lead-end _ _ (c .if1 .taken)

@@ -8,8 +8,8 @@ use Rattle.model.specs.Calls as calls
 use Rattle.model.specs.declared.answer.Target.the-variants as target
 use Rattle.model.specs.declared.answer.Standing.{Standing}
 use Rattle.model.specs.declared.answer.Standing.the-variants as standing
-use Rattle.by_id.specs.declared.insert.Aim.{Aim}
-use Rattle.by_id.specs.declared.insert.Aim.the-variants as aim
+use Rattle.by_id_insert.specs.declared.insert.Aim.{Aim}
+use Rattle.by_id_insert.specs.declared.insert.Aim.the-variants as aim
 
 abbrev pub before : Standing → Aim
 before (standing.At c) = aim.At (target.Before c)

@@ -1,9 +1,9 @@
--- `by_id::insert::add`: where the id leads, then the call there.
+-- `by_id_insert::insert::add`: where the id leads, then the call there.
 use borrow.Author.Needs.{needs}
 use mathlib.Core.Path.{refl}
-use Rattle.by_id.proofs.Laws.{add-stops, add-goes}
-use Rattle.by_id.proofs.insert.add.Statement.{statement}
-use Rattle.by_id.proofs.insert.add.Tie as tie
+use Rattle.by_id_insert.proofs.Laws.{add-stops, add-goes}
+use Rattle.by_id_insert.proofs.insert.add.Statement.{statement}
+use Rattle.by_id_insert.proofs.insert.add.Tie as tie
 
 lead-requires : tie.Need-lead-requires
 lead-requires c κs = tt

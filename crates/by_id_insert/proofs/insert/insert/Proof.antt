@@ -1,9 +1,9 @@
--- `by_id::insert::insert`: where the id leads, then the call there.
+-- `by_id_insert::insert::insert`: where the id leads, then the call there.
 use borrow.Author.Needs.{needs}
 use mathlib.Core.Path.{refl}
-use Rattle.by_id.proofs.Laws.{insert-stops, insert-goes}
-use Rattle.by_id.proofs.insert.insert.Statement.{statement}
-use Rattle.by_id.proofs.insert.insert.Tie as tie
+use Rattle.by_id_insert.proofs.Laws.{insert-stops, insert-goes}
+use Rattle.by_id_insert.proofs.insert.insert.Statement.{statement}
+use Rattle.by_id_insert.proofs.insert.insert.Tie as tie
 
 lead-requires : tie.Need-lead-requires
 lead-requires c κs = tt

@@ -15,7 +15,7 @@ ghost use Rattle.model.specs.Row.{moved};
 ghost use Rattle.model.specs.Answer.{insertedAnswer, namedAnswer};
 ghost use Rattle.model.specs.State.{state};
 ghost use Rattle.model.specs.ById.{treeStep};
-ghost use Rattle.by_id.specs.Lead.{leadOf};
+ghost use Rattle.by_id_insert.specs.Lead.{leadOf};
 
 // Where an id leads.
 enum Aim {
