@@ -5,25 +5,25 @@ use Rattle.records.proofs.fields.read.Statement.{statement}
 use Rattle.records.proofs.fields.read.Tie as tie
 
 shared-slice-read-wide : tie.Need-shared-slice-read-wide
-shared-slice-read-wide c = reach _ 1 (c .before .before .pre) tt
+shared-slice-read-wide c = reach _ _ (c .before .before .pre) tt
 
 wide-requires : tie.Need-wide-requires
 wide-requires c κs = tt
 
 shared-slice-read-wide-2 : tie.Need-shared-slice-read-wide-2
-shared-slice-read-wide-2 c = reach _ 2 (c .before .before .before .before .pre) tt
+shared-slice-read-wide-2 c = reach _ _ (c .before .before .before .before .pre) tt
 
 wide-requires-2 : tie.Need-wide-requires-2
 wide-requires-2 c κs = tt
 
 shared-slice-read-wide-3 : tie.Need-shared-slice-read-wide-3
-shared-slice-read-wide-3 c = reach _ 3 (c .before .before .before .before .before .before .pre) tt
+shared-slice-read-wide-3 c = reach _ _ (c .before .before .before .before .before .before .pre) tt
 
 wide-requires-3 : tie.Need-wide-requires-3
 wide-requires-3 c κs = tt
 
 shared-slice-read-wide-4 : tie.Need-shared-slice-read-wide-4
-shared-slice-read-wide-4 c = reach _ 4 (c .before .before .before .before .before .before .before .before .pre) tt
+shared-slice-read-wide-4 c = reach _ _ (c .before .before .before .before .before .before .before .before .pre) tt
 
 wide-requires-4 : tie.Need-wide-requires-4
 wide-requires-4 c κs = tt
@@ -32,13 +32,13 @@ add-t14 : tie.Need-add-t14
 add-t14 c = sum-fits _ _ (c .before .before .wide3 .ensures .1) (c .wide4 .ensures .1)
 
 word-at-requires : tie.Need-word-at-requires
-word-at-requires c κs = reach _ 8 (c .before .before .before .before .before .before .before .before .before .pre) tt
+word-at-requires c κs = reach _ _ (c .before .before .before .before .before .before .before .before .before .pre) tt
 
 word-at-requires-2 : tie.Need-word-at-requires-2
-word-at-requires-2 c κs = reach _ 12 (c .before .before .before .before .before .before .before .before .before .before .pre) tt
+word-at-requires-2 c κs = reach _ _ (c .before .before .before .before .before .before .before .before .before .before .pre) tt
 
 word-at-requires-3 : tie.Need-word-at-requires-3
-word-at-requires-3 c κs = reach _ 16 (c .before .before .before .before .before .before .before .before .before .before .before .pre) tt
+word-at-requires-3 c κs = reach _ _ (c .before .before .before .before .before .before .before .before .before .before .before .pre) tt
 
 returns : tie.Need-returns
 unfolding fieldsOf
