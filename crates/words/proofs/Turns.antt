@@ -1,17 +1,17 @@
 -- One turn of each loop that writes words. Assumes nothing.
 use mathlib.Core.Path.{_≡_, refl, sym, ap, _∙_}
-use mathlib.Core.List.{List, _++_, zipWith}
-use Prim.Native.Nat.{ℕ, _+_, _-_, _*_, _%_, _^_, _<_, _≤_}
+use mathlib.Core.List.{List, _∷_, _++_, zipWith}
+use Prim.Native.Nat.{ℕ, zero, suc, _+_, _-_, _*_, _%_, _^_, _<_, _≤_}
 use native.Mathlib.Omega.{arith}
-use native.Mathlib.Numerals.{add-one}
+use native.Mathlib.Numerals.{add-one, unary-clauses}
 use lib.ListN.{length, getD, take, drop, set, replicate, length-drop, length-replicate, replicate-append-replicate}
 use lib.Seq.{length-take-le, take-all, take-suc, getD-drop}
 use Rattle.model.specs.Lists.{part, putAt}
 use Rattle.model.specs.Node.{none, wrap, emptySlot, emptySlots}
-use Rattle.laws.specs.Lists.{length-zip, zip-more}
+use Rattle.laws.specs.Lists.{length-zip, zip-more, row-end}
 use Rattle.laws.specs.Slots.{flat, flat-append, flat-one, length-flat}
 use Rattle.laws.specs.Formed.{length-empty, empty-wide}
-use Rattle.laws.specs.Words.{length-part, part-front, put-none, put-next, put-on, put-back, getD-before, getD-after}
+use Rattle.laws.specs.Words.{length-part, part-front, part-part, part-same, part-after, put-none, put-next, put-on, put-back, put-same, put-put, getD-before, getD-after}
 
 -- one word more of src written
 pub copy-turn : (p i : ℕ) (src ws : List ℕ) → i < length src → p + length src ≤ length ws
@@ -69,6 +69,27 @@ empty-end p s w now ws e h g en =
     let l : length (replicate {A = ℕ} (s - 1) 0) ≡ s - 1 = length-replicate {A = ℕ} (s - 1) 0 in
     rw (en, f) (put-back (p + 1) p none (replicate (s - 1) 0) ws refl (omega arith))
 
+-- a part of zeros
+take-zeros : (k m : ℕ) → k ≤ m → take k (replicate m 0) ≡ replicate {A = ℕ} k 0
+take-zeros zero m h = refl
+take-zeros (suc k) zero h = absurd (omega arith)
+take-zeros (suc k) (suc m) h = ap (λ (l : List ℕ). 0 ∷ l) (take-zeros k m (omega arith))
+
+drop-zeros : (c m : ℕ) → drop c (replicate m 0) ≡ replicate {A = ℕ} (m - c) 0
+drop-zeros zero m = simp unary-clauses refl
+drop-zeros (suc c) zero =
+    let e : 0 - suc c ≡ 0 = omega arith in
+    rw e
+drop-zeros (suc c) (suc m) = simp unary-clauses (drop-zeros c m)
+
+-- words that were filled with zeros, from word p on
+zeros-in : (p m c k : ℕ) (z ws : List ℕ) → z ≡ putAt p (replicate m 0) ws → p + m ≤ length ws → c + k ≤ m → part (p + c) k z ≡ replicate k 0
+unfolding part
+zeros-in p m c k z ws ez g h =
+    let l : length (replicate {A = ℕ} m 0) ≡ m = length-replicate {A = ℕ} m 0 in
+    let whole : part p m z ≡ replicate m 0 = rw ez (ap (λ (y : ℕ). part p y (putAt p (replicate m 0) ws)) (sym l) ∙ part-same p (replicate m 0) ws (omega arith)) in
+    sym (part-part p m c k z h) ∙ ap (part c k) whole ∙ rw (drop-zeros c m) (take-zeros k (m - c) (omega arith))
+
 -- one empty slot more
 pub clear-turn : (s p i w : ℕ) (now last ws : List ℕ) → 0 < s → w ≡ p + i * s → w + s ≤ length ws → now ≡ putAt p (flat (emptySlots s i)) ws → last ≡ putAt w (emptySlot s) now
     → last ≡ putAt p (flat (emptySlots s (i + 1))) ws
@@ -77,3 +98,27 @@ clear-turn s p i w now last ws h hw g en el =
     let e : flat (emptySlots s (i + 1)) ≡ flat (emptySlots s i) ++ emptySlot s = rw (← replicate-append-replicate i 1 (emptySlot s), flat-append, flat-one) in
     let d = length-empty s h in
     rw (el, en, e) (put-next p w (flat (emptySlots s i)) (emptySlot s) ws (omega arith) (omega arith))
+
+-- the same where zeros stood: the child is written, and the lengths are 0 already; and all of them
+module _ (s p n : ℕ) (z ws : List ℕ) (h : 0 < s) (ez : z ≡ putAt p (replicate (p + n * s - p) 0) ws) (g : p + n * s ≤ length ws) (lz : length z ≡ length ws) where
+  zeroed : z ≡ putAt p (replicate (n * s) 0) ws
+  zeroed =
+      let e : p + n * s - p ≡ n * s = omega arith in
+      rw e at ez
+
+  pub child-turn : (i w : ℕ) (now : List ℕ) → i < n → w ≡ p + i * s → length now ≡ length z → now ≡ putAt p (flat (emptySlots s i)) z → set now w none ≡ putAt p (flat (emptySlots s (i + 1))) z
+  child-turn i w now hi hw ln en =
+      let r : i * s + s ≤ n * s = row-end i n s hi in
+      let l : length (flat (emptySlots s i)) ≡ i * s = length-flat s (emptySlots s i) (empty-wide s i h) ∙ ap (λ (k : ℕ). k * s) (length-replicate i (emptySlot s)) in
+      let q : w + 1 ≡ p + (i * s + 1) = omega arith in
+      let zs : part (w + 1) (s - 1) now ≡ replicate (s - 1) 0 =
+      rw (en, part-after (w + 1) (s - 1) p (flat (emptySlots s i)) z (omega arith) (omega arith), q) (zeros-in p (n * s) (i * s + 1) (s - 1) z ws zeroed g (omega arith)) in
+      let f : w + s - (w + 1) ≡ s - 1 = omega arith in
+      let same : now ≡ putAt (w + 1) (replicate (w + s - (w + 1)) 0) now = rw (f, ← zs) (sym (put-same (w + 1) (s - 1) now (omega arith))) in
+      clear-turn s p i w now _ z h hw (omega arith) en (empty-end w s (w + s) now now refl h (omega arith) same)
+
+  pub clear-all : putAt p (flat (emptySlots s n)) z ≡ putAt p (flat (emptySlots s n)) ws
+  clear-all =
+      let l : length (flat (emptySlots s n)) ≡ n * s = length-flat s (emptySlots s n) (empty-wide s n h) ∙ ap (λ (k : ℕ). k * s) (length-replicate n (emptySlot s)) in
+      let m : length (replicate {A = ℕ} (n * s) 0) ≡ n * s = length-replicate {A = ℕ} (n * s) 0 in
+      rw zeroed (put-put p (replicate (n * s) 0) (flat (emptySlots s n)) ws (omega arith) (omega arith))

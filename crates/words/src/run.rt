@@ -3,9 +3,9 @@ use model::length::Slot;
 ghost use mathlib.Core.Path.{_≡_};
 ghost use mathlib.Core.List.{zipWith};
 ghost use Prim.Native.Nat.{_+_, _-_, _*_, _<_, _≤_};
-ghost use lib.ListN.{length};
+ghost use lib.ListN.{length, replicate};
 ghost use Rattle.model.specs.Lists.{part, putAt};
-ghost use Rattle.model.specs.Node.{emptySlot, emptySlots};
+ghost use Rattle.model.specs.Node.{emptySlots};
 ghost use Rattle.laws.specs.Slots.{flat};
 ghost use Rattle.words.specs.Changed.{changed};
 
@@ -58,30 +58,31 @@ pub fn change_each(ws: &mut [u32], p: usize, xs: &[u32], less: bool)
     }
 }
 
-// An empty slot from word p on: Slot::EMPTY's child, and every length 0.
-fn clear_slot(ws: &mut [u32], stride: usize, p: usize)
-    requires { ⌜ (0 < stride) × (p + stride ≤ length (now ws)) ⌝ }
-    ensures { λ _. ⌜ now (ws .exit) ≡ putAt p (emptySlot stride) (now (ws .entry)) ⌝ }
+// Zeros from word p up to word q.
+fn zero(ws: &mut [u32], p: usize, q: usize)
+    requires { ⌜ (p ≤ q) × (q ≤ length (now ws)) ⌝ }
+    ensures { λ _. ⌜ now (ws .exit) ≡ putAt p (replicate (q - p) 0) (now (ws .entry)) ⌝ }
 {
-    let end = p + stride;
-    let mut w = p + 1;
-    while w < end {
+    let mut w = p;
+    while w < q {
         ws[w] = 0;
         w += 1;
     }
-    let empty = Slot::EMPTY;
-    ws[p] = empty.child;
 }
 
-// n empty slots from word p on.
+// n empty slots from word p on: every word 0, then Slot::EMPTY's child in each. One long run of zeros is written faster than
+// one for each slot.
 pub fn clear(ws: &mut [u32], stride: usize, p: usize, n: usize)
     requires { ⌜ (0 < stride) × (p + n * stride ≤ length (now ws)) ⌝ }
     ensures { λ _. ⌜ now (ws .exit) ≡ putAt p (flat (emptySlots stride n)) (now (ws .entry)) ⌝ }
 {
+    let empty = Slot::EMPTY;
+    let child = empty.child;
+    zero(ws, p, p + n * stride);
     let mut w = p;
     let mut i: usize = 0;
     while i < n {
-        clear_slot(ws, stride, w);
+        ws[w] = child;
         w += stride;
         i += 1;
     }

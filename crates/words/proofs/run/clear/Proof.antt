@@ -1,36 +1,48 @@
--- `words::run::clear`: after i turns i empty slots are written.
+-- `words::run::clear`: where zeros stand, after i turns i empty slots do.
 use Prim.Native.Nat.{_+_, _-_, _*_, _≤_}
 use mathlib.Core.Path.{_≡_, refl, _∙_}
 use native.Mathlib.Omega.{arith}
 use native.Mathlib.Nat.{zero-mul}
-use lib.ListN.{length}
+use lib.ListN.{length, length-set}
 use Rattle.model.specs.Lists.{putAt}
 use Rattle.model.specs.Node.{emptySlots}
 use Rattle.laws.specs.Lists.{one-more, row-end}
 use Rattle.laws.specs.Slots.{flat, flat-none}
 use Rattle.laws.specs.Words.{put-none}
-use Rattle.words.proofs.Turns.{clear-turn}
+use Rattle.words.proofs.Turns.{child-turn, clear-all}
 use Rattle.words.proofs.run.clear.Statement.{statement}
 use Rattle.words.proofs.run.clear.Tie as tie
 
 abbrev Inv-loop : tie.InvT-loop
-Inv-loop ws₀ stride p n w₀ i₀ ws w i = (i ≤ n) × (w ≡ p + i * stride) × (length ws ≡ length ws₀) × (ws ≡ putAt p (flat (emptySlots stride i)) ws₀)
+Inv-loop ws₀ stride p n child w₀ i₀ ws w i = (i ≤ n) × (w ≡ p + i * stride) × (length ws ≡ length ws₀) × (ws ≡ putAt p (flat (emptySlots stride i)) ws₀)
 
 abbrev μ-loop : tie.MeasureT-loop
-μ-loop ws₀ stride p n w₀ i₀ ws w i = n - i
+μ-loop ws₀ stride p n child w₀ i₀ ws w i = n - i
 
 -- the slot of a turn lies in the words
-turn : (c : tie.In-loop Inv-loop μ-loop) → c .before .loop .w + c .before .before .before .args .stride ≤ length (c .before .before .before .args .ws .now)
-turn c = omega (arith, row-end (c .before .loop .i) (c .before .before .before .args .n) (c .before .before .before .args .stride) (c .loop-test .taken))
+turn : (c : tie.In-loop Inv-loop μ-loop) → c .before .loop .w + c .before .before .before .before .before .before .before .args .stride ≤ length (c .before .before .before .before .before .before .before .args .ws .now)
+turn c = omega (arith, row-end (c .before .loop .i) (c .before .before .before .before .before .before .before .args .n) (c .before .before .before .before .before .before .before .args .stride) (c .loop-test .taken))
+
+mul-zero : tie.Need-mul-zero Inv-loop μ-loop
+mul-zero c = omega (arith, c .before .before .fits)
+
+add-zero : tie.Need-add-zero Inv-loop μ-loop
+add-zero c = omega (arith, c .before .before .fits)
+
+zero-requires : tie.Need-zero-requires Inv-loop μ-loop
+zero-requires c κs = (omega arith, c .before .before .pre .1)
 
 loop-holds : tie.Need-loop-holds Inv-loop μ-loop
-loop-holds c = (omega arith, omega (arith, zero-mul (c .before .args .stride)), refl, rw (flat-none, put-none))
+loop-holds c = (omega arith, omega (arith, zero-mul (c .before .before .before .before .before .args .stride)), refl, rw (flat-none, put-none))
 
-clear-slot-requires : tie.Need-clear-slot-requires Inv-loop μ-loop
-clear-slot-requires c κs = (c .before .before .before .before .pre .0, omega (arith, turn (c .before)))
+mul-ws : tie.Need-mul-ws Inv-loop μ-loop
+mul-ws c = omega (arith, turn c)
+
+slice-write-ws : tie.Need-slice-write-ws Inv-loop μ-loop
+slice-write-ws c = omega (arith, turn c)
 
 add-w : tie.Need-add-w Inv-loop μ-loop
-add-w c = omega (arith, turn (c .before .before .before .before))
+add-w c = omega (arith, turn c)
 
 add-i : tie.Need-add-i Inv-loop μ-loop
 add-i c = omega arith
@@ -41,16 +53,17 @@ loop-less c = omega arith
 loop-again : tie.Need-loop-again Inv-loop μ-loop
 loop-again c =
     let s = c .before .before .before .before .before .before .before in
-    let l = c .before .before .before .before .before .loop in
-    (omega arith, omega (arith, one-more (l .i) (s .args .stride)), c .before .before .clear-slot .kept .0 ∙ l .inv .2, clear-turn _ _ _ _ _ _ _ (s .pre .0) (l .inv .1) (turn (c .before .before .before .before)) (l .inv .3) (c .before .before .clear-slot .ensures))
+    let l = c .before .loop in
+    (omega arith, omega (arith, one-more (l .i) (s .args .stride)), simp length-set (l .inv .2), child-turn (s .args .stride) (s .args .p) (s .args .n) _ (s .args .ws .now) (s .pre .0) (c .before .before .before .before .zero .ensures) (s .pre .1) (c .before .before .before .before .zero .kept .0) (l .i) (l .w) _ (c .loop-test .taken) (l .inv .1) (l .inv .2) (l .inv .3))
 
 same-length : tie.Need-same-length Inv-loop μ-loop
-same-length c = omega arith
+same-length c = c .before .loop .inv .2 ∙ c .before .before .before .before .zero .kept .0
 
 returns : tie.Need-returns Inv-loop μ-loop
 returns c =
-    let e : c .before .loop .i ≡ c .before .before .before .args .n = omega arith in
-    rw e at (c .before .loop .inv .3)
+    let s = c .before .before .before .before .before .before .before in
+    let e : c .before .loop .i ≡ s .args .n = omega arith in
+    rw e at (c .before .loop .inv .3) ∙ clear-all (s .args .stride) (s .args .p) (s .args .n) _ (s .args .ws .now) (s .pre .0) (c .before .before .before .before .zero .ensures) (s .pre .1) (c .before .before .before .before .zero .kept .0)
 
 pub clear-spec : {M : Type 1} → statement M
 clear-spec =
@@ -58,8 +71,12 @@ clear-spec =
     (tie.spec
     Inv-loop
     μ-loop
+    mul-zero
+    add-zero
+    zero-requires
     loop-holds
-    clear-slot-requires
+    mul-ws
+    slice-write-ws
     add-w
     add-i
     loop-less
