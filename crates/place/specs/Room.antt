@@ -15,11 +15,11 @@ use Rattle.place.specs.declared.change.Room.{Room}
 -- a room at slot i of leaf k, with so many leaves, and the inner nodes, levels and root of t
 abbrev pub roomAt : ℕ → ℕ → Top → ℕ → ℕ → Room
 roomAt number leaves t k i =
-    record { number = number; leaves = leaves; leaf = record { 0 = k }; inners = t .inners; slot = i; levels = t .levels; root = record { 0 = t .root } }
+    record { leaves = leaves; number = number; inners = t .inners; leaf = record { 0 = k }; root = record { 0 = t .root }; slot = i; levels = t .levels }
 
 -- the same room with number 9
 abbrev pub lost : Room → Room
-lost r = record { number = 9; leaves = r .leaves; leaf = r .leaf; inners = r .inners; slot = r .slot; levels = r .levels; root = r .root }
+lost r = record { leaves = r .leaves; number = 9; inners = r .inners; leaf = r .leaf; root = r .root; slot = r .slot; levels = r .levels }
 
 -- a head with counts given one by one or by a room, and h's fan, limit and finger
 abbrev pub counted : ℕ → Top → ℕ → Head → Head

@@ -21,16 +21,16 @@ pub struct Change {
 }
 
 // What changes beside the areas and the finger when room is made for an entry: 0 or 9, the slot at which the entry comes, and
-// the leaves, inner nodes, levels and root that are in use then. No two fields stand side by side in Change too: the compiler
-// would copy both at once, and that copy waits for both to be written.
+// the leaves, inner nodes, root and levels that are in use then. No two fields that stand side by side in a head do so here:
+// the compiler would read both at once, and such a read waits for both to be written.
 pub struct Room {
-    pub number: u32,
     pub leaves: u32,
-    pub leaf: LeafNo,
+    pub number: u32,
     pub inners: u32,
+    pub leaf: LeafNo,
+    pub root: NodeNo,
     pub slot: u32,
     pub levels: u32,
-    pub root: NodeNo,
 }
 
 // The head with another finger.
@@ -74,13 +74,13 @@ pub fn room_at(number: u32, leaves: u32, t: Top, k: u32, i: u32) -> Room
 {
     let root = t.root;
     Room {
-        number: number,
         leaves: leaves,
-        leaf: LeafNo(k),
+        number: number,
         inners: t.inners,
+        leaf: LeafNo(k),
+        root: root,
         slot: i,
         levels: t.levels,
-        root: root,
     }
 }
 
@@ -104,13 +104,13 @@ pub fn astray(r: Room) -> Room
     let root = r.root;
     let leaf = r.leaf;
     Room {
-        number: 9,
         leaves: r.leaves,
-        leaf: leaf,
+        number: 9,
         inners: r.inners,
+        leaf: leaf,
+        root: root,
         slot: r.slot,
         levels: r.levels,
-        root: root,
     }
 }
 
