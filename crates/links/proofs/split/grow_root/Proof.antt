@@ -6,6 +6,7 @@ use native.Mathlib.Omega.{arith}
 use Rattle.laws.specs.Fronts.{front-length, front-in, front-back, front-again}
 use Rattle.laws.specs.Grow.{root-none, root-as}
 use Rattle.links.specs.Tops.{topOf}
+use borrow.Author.Needs.{needs}
 use Rattle.links.proofs.split.grow_root.Statement.{statement}
 use Rattle.links.proofs.split.grow_root.Tie as tie
 
@@ -37,7 +38,7 @@ part-y-end : tie.Need-part-y-end
 part-y-end c = c .before .before .before .before .before .before .before .before .before .pre .0 .shaped .narrow
 
 sum-node-requires-2 : tie.Need-sum-node-requires-2
-sum-node-requires-2 c κs = (c .before .before .before .before .before .before .before .before .before .before .pre .0 .shaped, c .before .before .before .before .before .before .before .before .before .before .pre .2, c .before .before .before .before .before .before .before .before .before .before .pre .0 .inners, front-length (c .before .before .before .before .before .before .before .before .before .before .args .g .stride) (0 ∷ 0 ∷ 0 ∷ 0 ∷ []) (c .before .before .before .before .before .before .before .before .before .before .pre .0 .shaped .narrow))
+sum-node-requires-2 c κs = search needs
 
 sub-new-two : tie.Need-sub-new-two
 sub-new-two c = zero-le
