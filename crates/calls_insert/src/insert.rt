@@ -68,13 +68,11 @@ fn enter_open(
         };
     }
     let after = r.head;
-    let delta: [u32; 2] = [lengths.prepare, lengths.effect];
     match way_up(
         leaves,
         inners,
         g,
-        1,
-        &delta,
+        lengths,
         after.levels,
         r.leaf.0,
         r.slot,

@@ -25,7 +25,7 @@ use Rattle.place.specs.Asked.{asked, askedWay}
 use Rattle.place.proofs.SizeLaws.{asked-whole, asked-lost, asked-wrap}
 use Rattle.open.proofs.Causes.{opened-first, opened-next, opened-none, opened-stop, opened-more, good-shape, good-front, call-refused, call-good, answering, answering-call}
 use Rattle.open.proofs.CursorLaws.{at-numbered, stands, slot-in, own-lengths}
-use Rattle.open.proofs.ReadyLaws.{inner-area, view-in}
+use Rattle.open.proofs.ReadyLaws.{inner-area}
 use Rattle.open.specs.Open.{openedBy}
 use Rattle.open.specs.Ready.{Stands}
 use Rattle.open.specs.declared.open.Opened.{Opened}
@@ -72,8 +72,8 @@ module _ (s : State) (c : Cursor) (g : Shape) (h : Stands s c g) (n : ℕ) (en :
   three : g .stride ≡ 3
   three = ap (λ (x : Shape). x .stride) (h .ready .same)
 
-  pub climb-in : Area g n × Area g (length (s .inners)) × (1 + 1 < g .stride) × (2 + 1 ≡ g .stride) × (s .head .levels ≤ 16) × (c .leaf .0 < g .nodes) × (c .slot < g .fan)
-  climb-in = (kept, inner-area s g (h .ready), view-in s g 1 (h .ready) (omega arith), sym three, (let m = h .ready .levels-most in omega arith), slot-in s c g h .1, slot-in s c g h .2)
+  pub climb-in : Area g n × Area g (length (s .inners)) × (g .stride ≡ 3) × (s .head .levels ≤ 16) × (c .leaf .0 < g .nodes) × (c .slot < g .fan)
+  climb-in = (kept, inner-area s g (h .ready), three, (let m = h .ready .levels-most in omega arith), slot-in s c g h .1, slot-in s c g h .2)
 
 -- a leaf with other lengths, and the difference
 pub replaced-is : (g : Shape) (h h1 : Head) (c : Cursor) (l old : Lengths) (ls ls1 xs hs delta : List ℕ)

@@ -104,10 +104,10 @@ pub fn resize(
         Opened::Good(g) => {
             let r = replace(head, leaves, g, at, lengths);
             let after = r.head;
-            let delta: [u32; 2] = [r.delta.prepare, r.delta.effect];
+            let delta = r.delta;
             let k = at.leaf.0;
             let i = at.slot;
-            match way_up(leaves, inners, g, 1, &delta, head.levels, k, i, summed) {
+            match way_up(leaves, inners, g, delta, head.levels, k, i, summed) {
                 Sum::Is(n) => NumberReply {
                     head: after,
                     answer: Number::Is((n % 4294967296) as u32),

@@ -6,6 +6,7 @@ use area::word::start_in;
 use area::write::set_lengths;
 use finger_search::finger::changing;
 use model::head::Head;
+use model::length::Lengths;
 use model::shape::Shape;
 use model::way::Sum;
 use walk::climb::add_up;
@@ -14,6 +15,7 @@ ghost use mathlib.Core.Path.{_≡_};
 ghost use mathlib.Core.List.{List};
 ghost use Prim.Native.Nat.{ℕ, _+_, _<_, _≤_};
 ghost use lib.ListN.{length};
+ghost use Rattle.model.specs.Length.{listOf};
 ghost use Rattle.model.specs.Node.{start};
 ghost use Rattle.model.specs.State.{state, nodeAt};
 ghost use Rattle.model.specs.Climb.{climbUp};
@@ -71,25 +73,25 @@ fn add_to_ancestors(
 }
 
 // delta goes into every slot above leaf k; the effect lengths before slot i of it are summed up on the way where that is
-// asked for.
+// asked for. The lengths come as two words, not as a slice, so that the compiler knows how many there are.
 pub fn way_up(
     leaves: &[u32],
     inners: &mut [u32],
     g: Shape,
-    effect: usize,
-    delta: &[u32],
+    delta: Lengths,
     levels: u32,
     k: u32,
     i: u32,
     summed: bool,
 ) -> Sum
-    requires { ⌜ Area g (length (now leaves)) × Area g (length (now inners)) × (effect + 1 < g .stride) × (length (now delta) + 1 ≡ g .stride) × (levels ≤ 16) × (k < g .nodes) × (i < g .fan) ⌝ }
-    ensures { λ r. ⌜ (r, now (inners .exit)) ≡ askedWay summed (climbUp g effect (now (delta .entry)) levels (nodeAt g k (now (leaves .entry)) .parent) (nodeAt g k (now (leaves .entry)) .at) (start effect i (nodeAt g k (now (leaves .entry)))) (now (inners .entry))) ⌝ }
+    requires { ⌜ Area g (length (now leaves)) × Area g (length (now inners)) × (g .stride ≡ 3) × (levels ≤ 16) × (k < g .nodes) × (i < g .fan) ⌝ }
+    ensures { λ r. ⌜ (r, now (inners .exit)) ≡ askedWay summed (climbUp g 1 (listOf delta) levels (nodeAt g k (now (leaves .entry)) .parent) (nodeAt g k (now (leaves .entry)) .at) (start 1 i (nodeAt g k (now (leaves .entry)))) (now (inners .entry))) ⌝ }
 {
+    let ls: [u32; 2] = [delta.prepare, delta.effect];
     if summed {
-        return climb(leaves, inners, g, effect, delta, levels, k, i);
+        return climb(leaves, inners, g, 1, &ls, levels, k, i);
     }
-    if !add_to_ancestors(leaves, inners, g, delta, levels, k) {
+    if !add_to_ancestors(leaves, inners, g, &ls, levels, k) {
         return Sum::Broken;
     }
     Sum::Is(0)

@@ -30,24 +30,21 @@ returns c =
     let s = entry a in
     done-lost (a .args .g) s (a .args .before) (a .args .lengths) _ (c .before .before .before .before .before .before .before .put .ensures) (a .args .summed) (c .if1 .taken)
 
-slice-aggregate-way-up : tie.Need-slice-aggregate-way-up
-slice-aggregate-way-up c = search needs
-
 way-up-requires : tie.Need-way-up-requires
 way-up-requires c κs =
-    let a = c .before .before .before .before .before .before .before .before .before .before .before .before .before .before .before .before .before .before in
-    let p = c .before .before .before .before .before .before .before .before .before .before .before .put in
+    let a = c .before .before .before .before .before .before .before .before .before .before .before .before .before .before .before .before .before in
+    let p = c .before .before .before .before .before .before .before .before .before .before .put in
     let s = entry a in
     let h = a .pre .0 in
     let e : a .args .g .stride ≡ 3 = ap (λ (x : Shape). x .stride) (h .same) in
-    let i = put-in (a .args .g) s (a .args .before) (a .args .lengths) _ (p .ensures) (c .before .before .before .before .if1 .left) in
-    (still (a .args .g) _ _ (h .shaped) (h .leaf-area) (p .kept .1 .0), still (a .args .g) _ _ (h .shaped) (h .inner-area) (p .kept .1 .1 .0), omega arith, omega arith, omega (arith, put-levels (a .args .g) s (a .args .before) (a .args .lengths) _ (p .ensures), h .levels-most), i .0, i .1)
+    let i = put-in (a .args .g) s (a .args .before) (a .args .lengths) _ (p .ensures) (c .before .before .before .if1 .left) in
+    (still (a .args .g) _ _ (h .shaped) (h .leaf-area) (p .kept .1 .0), still (a .args .g) _ _ (h .shaped) (h .inner-area) (p .kept .1 .1 .0), e, omega (arith, put-levels (a .args .g) s (a .args .before) (a .args .lengths) _ (p .ensures), h .levels-most), i .0, i .1)
 
 enum-known-n : tie.Need-enum-known-n
 enum-known-n c = search needs
 
-cast-t32 : tie.Need-cast-t32
-cast-t32 c = search needs
+cast-t29 : tie.Need-cast-t29
+cast-t29 c = search needs
 
 enum-told : tie.Need-enum-told
 enum-told c = search needs
@@ -63,9 +60,9 @@ same-length-6 c = search needs
 
 returns-2 : tie.Need-returns-2
 returns-2 c =
-    let a = c .before .before .before .before .before .before .before .before .before .before .before .before .before .before .before .before .before .before .before .before .before .before .before .before in
+    let a = c .before .before .before .before .before .before .before .before .before .before .before .before .before .before .before .before .before .before .before .before .before .before .before in
     let s = entry a in
-    done-whole (a .args .g) s (a .args .before) (a .args .lengths) _ (c .before .before .before .before .before .before .before .before .before .before .before .before .before .before .before .before .before .put .ensures) (a .args .summed) _ (c .before .before .before .before .before .before .before .before .before .before .if1 .left) _ (c .before .before .before .before .before .way-up .ensures) _ (c .before .n .given .1)
+    done-whole (a .args .g) s (a .args .before) (a .args .lengths) _ (c .before .before .before .before .before .before .before .before .before .before .before .before .before .before .before .before .put .ensures) (a .args .summed) _ (c .before .before .before .before .before .before .before .before .before .if1 .left) _ (c .before .before .before .before .before .way-up .ensures) _ (c .before .n .given .1)
 
 same-length-7 : tie.Need-same-length-7
 same-length-7 c = search needs
@@ -78,9 +75,9 @@ same-length-9 c = search needs
 
 returns-3 : tie.Need-returns-3
 returns-3 c =
-    let a = c .before .before .before .before .before .before .before .before .before .before .before .before .before .before .before .before .before .before .before .before .before .before .before in
+    let a = c .before .before .before .before .before .before .before .before .before .before .before .before .before .before .before .before .before .before .before .before .before .before in
     let s = entry a in
-    done-broken (a .args .g) s (a .args .before) (a .args .lengths) _ (c .before .before .before .before .before .before .before .before .before .before .before .before .before .before .before .before .put .ensures) (a .args .summed) _ (c .before .before .before .before .before .before .before .before .before .if1 .left) _ (c .before .before .before .before .way-up .ensures) (c .enum-told .given .1)
+    done-broken (a .args .g) s (a .args .before) (a .args .lengths) _ (c .before .before .before .before .before .before .before .before .before .before .before .before .before .before .before .put .ensures) (a .args .summed) _ (c .before .before .before .before .before .before .before .before .if1 .left) _ (c .before .before .before .before .way-up .ensures) (c .enum-told .given .1)
 
 pub enter-open-spec : {M : Type 1} → statement M
 enter-open-spec =
@@ -91,10 +88,9 @@ enter-open-spec =
     same-length-2
     same-length-3
     returns
-    slice-aggregate-way-up
     way-up-requires
     enum-known-n
-    cast-t32
+    cast-t29
     enum-told
     same-length-4
     same-length-5

@@ -17,17 +17,14 @@ enum-known-g c = search needs
 replace-requires : tie.Need-replace-requires
 replace-requires c κs = both-in _ (c .before .before .before .before .before .before .before .before .before .before .args .at) _ (resize-stands _ (c .before .before .before .before .before .before .before .before .before .before .args .at) (c .before .before .before .before .before .before .before .before .before .before .args .lengths) _ _ (c .before .before .before .before .open-resize .ensures) (c .before .before .g .given .1))
 
-slice-aggregate-way-up : tie.Need-slice-aggregate-way-up
-slice-aggregate-way-up c = search needs
-
 way-up-requires : tie.Need-way-up-requires
 way-up-requires c κs = climb-in _ (c .before .before .before .before .before .before .before .before .before .before .before .before .before .before .before .before .before .args .at) _ (resize-stands _ (c .before .before .before .before .before .before .before .before .before .before .before .before .before .before .before .before .before .args .at) (c .before .before .before .before .before .before .before .before .before .before .before .before .before .before .before .before .before .args .lengths) _ _ (c .before .before .before .before .before .before .before .before .before .before .before .open-resize .ensures) (c .before .before .before .before .before .before .before .before .before .g .given .1)) _ (c .before .before .before .before .before .before .replace .kept .1 .0)
 
 enum-known-n-2 : tie.Need-enum-known-n-2
 enum-known-n-2 c = search needs
 
-cast-t34 : tie.Need-cast-t34
-cast-t34 c = search needs
+cast-t32 : tie.Need-cast-t32
+cast-t32 c = search needs
 
 enum-told : tie.Need-enum-told
 enum-told c = search needs
@@ -67,10 +64,9 @@ resize-spec =
     enum-known-n
     enum-known-g
     replace-requires
-    slice-aggregate-way-up
     way-up-requires
     enum-known-n-2
-    cast-t34
+    cast-t32
     enum-told
     same-length
     same-length-2
