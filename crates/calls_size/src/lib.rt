@@ -1,4 +1,4 @@
 // The calls that give an entry other lengths: set_lengths and update.
 // Each is equated with its definition in model's specs/Calls.antt, refusals first; none has a requires.
-// Stands on model, laws, node, words, area, walk, finger_search, links, grow, place and open.
+// Stands on model, words, area, place and open.
 pub mod size;

@@ -1,4 +1,4 @@
 // The call that divides an entry: split_entry.
 // It is equated with its definition in model's specs/Calls.antt, refusals first; it has no requires.
-// Stands on model, laws, node, area, walk, finger_search, links, grow, place and open.
+// Stands on model, links, place and open.
 pub mod split;
