@@ -6,16 +6,22 @@ use Prim.Native.Nat.{ℕ, _<_, _≤_}
 use lib.ListN.{getD}
 use lib.Dec.{ltb, eqb}
 use borrow.Author.Tests.{lt-ltb, le-ltb, eq-eqb, ne-eqb, not-true, not-false}
-use Rattle.model.specs.Node.{child, used, indexFrom}
+use Rattle.model.specs.Node.{Node, child}
 use Rattle.model.specs.State.{state, nodeAt}
 use Rattle.model.specs.Refuse.{stride, shapeOf}
 use Rattle.model.specs.Sound.{leastLeaf}
-use Rattle.model.specs.Audit.{every, isSlot, depth, isFilled, isHeld, isEntry, isLeaf}
+use Rattle.model.specs.Audit.{every, isOther, depth, isFilled, isHeld, isEntry, isLeaf}
 use Rattle.model.specs.declared.shape.Shape.{Shape}
-use Rattle.model.specs.declared.shape.Place.{Place}
 use Rattle.model.specs.declared.head.Head.{Head}
 use Rattle.audit_link.specs.Links.{depthBy, heldBy, entryBy}
 use Rattle.audit_link.proofs.InnerLaws.{filled-few, depth-same}
+
+-- a slot that holds the child, or another
+pub other-met : (n : Node) (c j x : ℕ) → x ≡ child (getD (n .slots) j []) → x ≡ c → isOther n c j ≡ false
+other-met n c j x e q = rw (← e, eq-eqb x c q)
+
+pub other-passed : (n : Node) (c j x : ℕ) → x ≡ child (getD (n .slots) j []) → (x ≡ c → ⊥) → isOther n c j ≡ true
+other-passed n c j x e q = rw (← e, ne-eqb x c q)
 
 -- an entry
 module _ (g : Shape) (count : ℕ) (ls hs : List ℕ) (k i id : ℕ) (e : id ≡ child (getD (nodeAt g k ls .slots) i [])) where
@@ -28,9 +34,9 @@ module _ (g : Shape) (count : ℕ) (ls hs : List ℕ) (k i id : ℕ) (e : id ≡
     unfolding entryBy
     entry-away n = rw (← e, lt-ltb id count h, ne-eqb (getD hs id 0) k n)
 
-    pub entry-last : getD hs id 0 ≡ k → (p q : Place) → p ≡ indexFrom id 0 (used (nodeAt g k ls)) → p ≡ q → isSlot i q ≡ entryBy g count ls hs k i
+    pub entry-last : getD hs id 0 ≡ k → (b : Bool) → b ≡ every (isOther (nodeAt g k ls) id) 0 i → b ≡ entryBy g count ls hs k i
     unfolding entryBy
-    entry-last q p r ep er = rw (← e, lt-ltb id count h, eq-eqb (getD hs id 0) k q) (ap (isSlot i) (sym er ∙ ep))
+    entry-last q b eb = rw (← e, lt-ltb id count h, eq-eqb (getD hs id 0) k q) eb
 
 -- a leaf
 module _ (h : Head) (ls xs hs : List ℕ) where

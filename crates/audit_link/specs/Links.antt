@@ -4,9 +4,9 @@ use mathlib.Core.List.{List, []}
 use Prim.Native.Nat.{ℕ, zero, suc}
 use lib.ListN.{getD}
 use lib.Dec.{ltb, leb, eqb}
-use Rattle.model.specs.Node.{none, child, lengthIn, total, used, indexFrom}
+use Rattle.model.specs.Node.{none, child, lengthIn, total, used}
 use Rattle.model.specs.State.{nodeAt}
-use Rattle.model.specs.Audit.{inViews, isSlot}
+use Rattle.model.specs.Audit.{every, inViews, isOther}
 use Rattle.model.specs.declared.shape.Shape.{Shape}
 use Rattle.model.specs.declared.head.Head.{Head}
 
@@ -39,4 +39,4 @@ unfoldable pub entryBy : Shape → ℕ → List ℕ → List ℕ → ℕ → ℕ
 entryBy g count ls hs k i =
     let n = nodeAt g k ls in
     let id = child (getD (n .slots) i []) in
-    ltb id count && eqb (getD hs id 0) k && isSlot i (indexFrom id 0 (used n))
+    ltb id count && eqb (getD hs id 0) k && every (isOther n id) 0 i

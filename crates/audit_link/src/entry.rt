@@ -6,9 +6,7 @@ use area::word::child_of;
 use area::word::len_of;
 use area::word::parent_of;
 use audit_node::nodes::is_filled;
-use calls_read::read::slot_of;
 use model::head::Head;
-use model::shape::Place;
 use model::shape::Shape;
 ghost use mathlib.Core.Path.{_≡_};
 ghost use mathlib.Core.List.{[]};
@@ -17,14 +15,29 @@ ghost use lib.ListN.{length};
 ghost use Rattle.model.specs.State.{state, nodeAt};
 ghost use Rattle.model.specs.Refuse.{stride};
 ghost use Rattle.model.specs.Sound.{leastLeaf};
-ghost use Rattle.model.specs.Audit.{every, isLeaf};
+ghost use Rattle.model.specs.Audit.{every, isOther, isLeaf};
 ghost use Rattle.area.specs.Area.{Area};
 ghost use Rattle.audit_link.specs.Known.{Known};
 ghost use Rattle.audit_link.specs.Links.{entryBy};
 
+// Whether no slot of leaf k before slot i holds the id.
+fn is_new(leaves: &[u32], g: Shape, k: u32, i: u32, id: u32) -> bool
+    requires { ⌜ Area g (length (now leaves)) × (k < g .nodes) × (i < g .fan) ⌝ }
+    ensures { λ r. ⌜ r ≡ every (isOther (nodeAt g k (now (leaves .entry))) id) 0 i ⌝ }
+{
+    let mut j: u32 = 0;
+    while j < i {
+        if child_of(leaves, g, k, j as usize) == id {
+            return false;
+        }
+        j += 1;
+    }
+    true
+}
+
 // Whether the id in slot i of leaf k is below the count, lives in leaf k, and stands in no earlier slot.
 fn is_entry(leaves: &[u32], homes: &[u32], g: Shape, entries: u32, k: u32, i: u32) -> bool
-    requires { ⌜ Area g (length (now leaves)) × (entries ≤ length (now homes)) × (k < g .nodes) × (i < g .fan) × (nodeAt g k (now leaves) .len ≤ g .fan) ⌝ }
+    requires { ⌜ Area g (length (now leaves)) × (entries ≤ length (now homes)) × (k < g .nodes) × (i < g .fan) ⌝ }
     ensures { λ r. ⌜ r ≡ entryBy g entries (now (leaves .entry)) (now (homes .entry)) k i ⌝ }
 {
     let id = child_of(leaves, g, k, i as usize);
@@ -34,15 +47,12 @@ fn is_entry(leaves: &[u32], homes: &[u32], g: Shape, entries: u32, k: u32, i: u3
     if homes[id as usize] != k {
         return false;
     }
-    match slot_of(leaves, g, k, id) {
-        Place::Slot(j) => i as usize == j,
-        Place::Missing => false,
-    }
+    is_new(leaves, g, k, i, id)
 }
 
 // The same of each slot in use.
 fn are_entries(leaves: &[u32], homes: &[u32], g: Shape, entries: u32, k: u32, len: u32) -> bool
-    requires { ⌜ Area g (length (now leaves)) × (entries ≤ length (now homes)) × (k < g .nodes) × (len ≤ g .fan) × (nodeAt g k (now leaves) .len ≤ g .fan) ⌝ }
+    requires { ⌜ Area g (length (now leaves)) × (entries ≤ length (now homes)) × (k < g .nodes) × (len ≤ g .fan) ⌝ }
     ensures { λ r. ⌜ r ≡ every (entryBy g entries (now (leaves .entry)) (now (homes .entry)) k) 0 len ⌝ }
 {
     let mut i: u32 = 0;

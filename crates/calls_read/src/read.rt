@@ -79,7 +79,7 @@ pub fn lengths(head: Head, leaves: &[u32], inners: &[u32], homes: &[u32], at: Cu
 }
 
 // The slot of leaf k that holds the entry id.
-pub fn slot_of(leaves: &[u32], g: Shape, k: u32, id: u32) -> Place
+fn slot_of(leaves: &[u32], g: Shape, k: u32, id: u32) -> Place
     requires { ⌜ Area g (length (now leaves)) × (k < g .nodes) × (nodeAt g k (now leaves) .len ≤ g .fan) ⌝ }
     ensures { λ r. ⌜ r ≡ indexFrom id 0 (used (nodeAt g k (now (leaves .entry)))) ⌝ }
 {

@@ -1,19 +1,17 @@
 -- `audit` (document 01, "Audit"): soundness tested by numbers, node by node, each node's depth by climbing at most `levels` links.
 -- That it says yes exactly on sound trees is a theorem, not part of this definition. Assumes nothing.
-use mathlib.Core.Bool.{Bool, true, false, cond, _&&_}
+use mathlib.Core.Bool.{Bool, true, false, not, cond, _&&_}
 use mathlib.Core.List.{List, []}
 use Prim.Native.Nat.{ℕ, zero, suc, _-_}
 use lib.ListN.{getD}
 use lib.Dec.{ltb, leb, eqb}
 use Rattle.model.specs.Lists.{sumBy, range}
-use Rattle.model.specs.Node.{Node, none, child, lengthIn, total, used, start, indexFrom}
+use Rattle.model.specs.Node.{Node, none, child, lengthIn, total, used, start}
 use Rattle.model.specs.State.{State}
 use Rattle.model.specs.Climb.{rankUp}
 use Rattle.model.specs.Sound.{leafIn, innerIn, leastLeaf, leastInner}
 use Rattle.model.specs.Refuse.{stride, effect, shapeOf, totalOf}
 use Rattle.model.specs.Calls.{unless, makeCauses}
-use Rattle.model.specs.declared.shape.Place.{Place}
-use Rattle.model.specs.declared.shape.Place.the-variants as slot
 use Rattle.model.specs.declared.head.Finger.{Finger}
 use Rattle.model.specs.declared.head.Held.{Held}
 use Rattle.model.specs.declared.head.Held.the-variants as held
@@ -34,13 +32,13 @@ inViews q = every q 0 2
 abbrev pub isEmptySlot : List ℕ → Bool
 isEmptySlot x = eqb (child x) none && inViews (λ v. eqb (lengthIn v x) 0)
 
-abbrev pub isSlot : ℕ → Place → Bool
-isSlot i (slot.Slot j) = eqb i j
-isSlot i slot.Missing = false
-
 abbrev pub isSum : ℕ → Sum → Bool
 isSum n (sum.Is m) = eqb n m
 isSum n sum.Broken = false
+
+-- whether slot j holds another child than c
+abbrev pub isOther : Node → ℕ → ℕ → Bool
+isOther n c j = not (eqb (child (getD (n .slots) j [])) c)
 
 module _ (t : State) where
   -- how many inner nodes stand from the root down to node k; more than n where a climb of n links doesn't end at the root's missing parent
@@ -78,11 +76,11 @@ module _ (t : State) where
       && cond (eqb k (t .head .root .0)) (eqb (n .parent) none && eqb (n .at) 0) (isHeld k n)
       && every (λ i. isChild (cond lowest (leafIn stride t) (innerIn stride t)) (cond lowest (t .head .leaves) (t .head .inners)) k i (getD (n .slots) i [])) 0 (n .len)
 
-  -- slot x at place i of leaf k: its id is below the count, lives here, and stands in no earlier slot
+  -- slot i of leaf k: its id is below the count, lives here, and stands in no earlier slot
   unfoldable pub isEntry : ℕ → Node → ℕ → Bool
   isEntry k n i =
       let id = child (getD (n .slots) i []) in
-      ltb id (t .head .entries) && eqb (getD (t .homes) id 0) k && isSlot i (indexFrom id 0 (used n))
+      ltb id (t .head .entries) && eqb (getD (t .homes) id 0) k && every (isOther n id) 0 i
 
   unfoldable pub isLeaf : ℕ → Bool
   isLeaf k =

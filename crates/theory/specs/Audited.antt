@@ -10,13 +10,12 @@ use lib.Dec.{eqb}
 use lib.ListN.{length, getD, length-map}
 use borrow.Author.Tests.{eq-eqb, ne-eqb}
 use Rattle.model.specs.Lists.{range, refusal}
-use Rattle.model.specs.Node.{Node, child, used, indexFrom}
+use Rattle.model.specs.Node.{Node, child, used}
 use Rattle.model.specs.State.{State}
 use Rattle.model.specs.Climb.{rankUp}
 use Rattle.model.specs.Sound.{shapeIn, leafIn, innerIn, Sound, FingerRight}
 use Rattle.model.specs.Calls.{makeCauses}
 use Rattle.model.specs.Audit.{depth, depthOf, isSound, audit}
-use Rattle.model.specs.declared.shape.Place.the-variants as slot
 use Rattle.model.specs.declared.head.Held.{Held}
 use Rattle.model.specs.declared.head.Held.the-variants as held
 use Rattle.model.specs.declared.way.Sum.the-variants as sum
@@ -40,10 +39,10 @@ use Rattle.theory.specs.Marked.{areaFrom, Marked, of-marks, getD-slot}
 use Rattle.theory.specs.Neat.{Neat, size-is, neat-of}
 use Rattle.theory.specs.Down.{body-of, finger-of, kid-at}
 use Rattle.theory.specs.Up.{slots-all}
-use Rattle.theory.specs.Open.{passed, stopped, index-lift, good-areas}
+use Rattle.theory.specs.Open.{passed, stopped, good-areas}
 use Rattle.theory.specs.Make.{Sizes, sizes-of}
 use Rattle.theory.specs.Facts.{HeldBy, ChildBy, areaBy, countBy, InnerBy, LeafBy, HandBy, SoundBy, sound-by, sound-test}
-use Rattle.theory.specs.Depth.{dep-depth, range-below}
+use Rattle.theory.specs.Depth.{dep-depth, index-before, range-below}
 use Rattle.theory.specs.Verdict.{start-at, climb-of, facts-sound}
 
 module _ (t : State) (w : Sound t) where
@@ -120,8 +119,7 @@ module _ (t : State) (w : Sound t) where
             record {
               below = subst (λ (x : List ℕ). child x < t .head .entries) (sym e) (slots-all (λ x. x .child < t .head .entries) (used n) (b .below k lk) i lu);
               home = subst (λ (x : List ℕ). getD (t .homes) (child x) 0 ≡ k) (sym e) (slots-all (λ x. getD (t .homes) (x .child) 0 ≡ k) (used n) (b .homed k lk) i lu);
-              index = subst (λ (x : List ℕ). indexFrom (child x) 0 (used n) ≡ slot.Slot i) (sym e)
-                  (index-lift (child (getD (used n) i [])) 0 (used n) (let z = length-map (used n) slotOf in omega arith) ∙ ap slot.Slot (zero-add (indexOf (child (getD (used n) i [])) (slotsOf n)) ∙ ix));
+              alone = λ j lj q. index-before (child (getD (used n) i [])) j (used n) (omega (arith, ix)) (ap child (sym (slot-used 3 (t .head .fan) n td j [] (omega arith))) ∙ q ∙ ap child e);
             });
       }
 

@@ -8,11 +8,10 @@ use native.Mathlib.Omega.{arith}
 use lib.ListN.{length, getD}
 use borrow.Author.Tests.{eq-eqb, ne-eqb, lt-ltb, le-ltb}
 use Rattle.model.specs.Lists.{All, range}
-use Rattle.model.specs.Node.{none, child, indexFrom}
+use Rattle.model.specs.Node.{none, child}
 use Rattle.model.specs.State.{State}
 use Rattle.model.specs.Sound.{innerIn}
 use Rattle.model.specs.Audit.{depth}
-use Rattle.model.specs.declared.shape.Place.the-variants as slot
 use Rattle.abstract_tree.specs.Levels.{Slot, Area}
 use Rattle.abstract_tree.specs.Apart.{dep, dep-none, dep-step}
 use Rattle.abstract_tree.specs.Cursor.{indexOf}
@@ -69,21 +68,19 @@ module _ (t : State) where
         ])
         ∙ sym st
 
--- the first slot with a child, back from its place
-pub index-back : (c k j : ℕ) (xs : List (List ℕ)) → indexFrom c k xs ≡ slot.Slot j → k + indexOf c (map slotOf xs) ≡ j
-unfolding indexFrom
-index-back c k j [] e = absurd (let z : _≡_ {A = ℕ} 0 1 = cc in omega arith)
-index-back c k j (x ∷ xs) e = elim (ℕ-discrete (child x) c) [
-  | yes q ↦ (let z : indexOf c (map slotOf (x ∷ xs)) ≡ 0 = rw (eq-eqb (child x) c q, indexOf) in
-      let y : slot.Slot k ≡ slot.Slot j = rw (eq-eqb (child x) c q) at e in
-      let u : k ≡ j = slot-inj k j y in omega arith)
-  | no ne ↦ (let z : indexOf c (map slotOf (x ∷ xs)) ≡ suc (indexOf c (map slotOf xs)) = rw (ne-eqb (child x) c ne, indexOf) in
-      let y : indexFrom c (k + 1) xs ≡ slot.Slot j = rw (ne-eqb (child x) c ne) at e in
-      let u = index-back c (k + 1) j xs y in omega arith)
+-- the first slot with a child: it holds the child, and no earlier one does
+pub index-first : (c j : ℕ) (xs : List (List ℕ)) → j < length xs → child (getD xs j []) ≡ c → ((i : ℕ) → i < j → child (getD xs i []) ≢ c) → indexOf c (map slotOf xs) ≡ j
+index-first c j [] lt e h = absurd (omega arith)
+index-first c zero (x ∷ xs) lt e h = rw (eq-eqb (child x) c e, indexOf)
+index-first c (suc j) (x ∷ xs) lt e h = rw (ne-eqb (child x) c (h 0 (omega arith)), indexOf) (ap suc (index-first c j xs (omega arith) e (λ i li. h (suc i) (omega arith))))
+
+pub index-before : (c j : ℕ) (xs : List (List ℕ)) → j < indexOf c (map slotOf xs) → child (getD xs j []) ≢ c
+index-before c j [] lt = absurd (omega arith)
+index-before c zero (x ∷ xs) lt = λ q. absurd (let z : indexOf c (map slotOf (x ∷ xs)) ≡ 0 = rw (eq-eqb (child x) c q, indexOf) in omega arith)
+index-before c (suc j) (x ∷ xs) lt = elim (ℕ-discrete (child x) c) [
+  | yes q ↦ absurd (let z : indexOf c (map slotOf (x ∷ xs)) ≡ 0 = rw (eq-eqb (child x) c q, indexOf) in omega arith)
+  | no ne ↦ index-before c j xs (let z : indexOf c (map slotOf (x ∷ xs)) ≡ suc (indexOf c (map slotOf xs)) = rw (ne-eqb (child x) c ne, indexOf) in omega arith)
 ]
-  where
-    slot-inj : (a b : ℕ) → slot.Slot a ≡ slot.Slot b → a ≡ b
-    slot-inj a b q = cc
 
 -- numbers of a range
 pub range-below : (i n m : ℕ) → i + n ≤ m → All (λ k. k < m) (range i n)

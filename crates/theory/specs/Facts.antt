@@ -1,7 +1,7 @@
 -- What each test of audit says, and that the tests say exactly that, on any state whose areas are long enough.
 use mathlib.Core.Path.{_≡_, refl, sym, ap}
 use mathlib.Core.Logic.{_≢_}
-use mathlib.Core.Bool.{Bool, true, cond, _&&_}
+use mathlib.Core.Bool.{Bool, true, false, not, cond, _&&_}
 use mathlib.Core.List.{List, []}
 use Prim.Native.Nat.{ℕ, _≤_, _<_}
 use native.Mathlib.Decide.{ℕ-discrete}
@@ -10,14 +10,12 @@ use lib.Dec.{ltb, leb, eqb}
 use lib.ListN.{getD}
 use borrow.Author.Tests.{eqb-true, eq-eqb, ne-eqb, le-leb, leb-true, lt-ltb, ltb-true}
 use Rattle.model.specs.Lists.{sumBy, range}
-use Rattle.model.specs.Node.{Node, none, child, lengthIn, total, used, indexFrom}
+use Rattle.model.specs.Node.{Node, none, child, lengthIn, total, used}
 use Rattle.model.specs.Node as node
 use Rattle.model.specs.State.{State}
 use Rattle.model.specs.Sound.{shapeIn, leafIn, innerIn, leastLeaf, leastInner}
 use Rattle.model.specs.Refuse.{totalOf}
-use Rattle.model.specs.Audit.{every, isSlot, isSum, depthOf, isFilled, isHeld, isChild, isInner, isEntry, isLeaf, leafStart, isFinger, isHeldFinger, isSound}
-use Rattle.model.specs.declared.shape.Place.{Place}
-use Rattle.model.specs.declared.shape.Place.the-variants as slot
+use Rattle.model.specs.Audit.{every, isOther, isSum, depthOf, isFilled, isHeld, isChild, isInner, isEntry, isLeaf, leafStart, isFinger, isHeldFinger, isSound}
 use Rattle.model.specs.declared.head.Finger.{Finger}
 use Rattle.model.specs.declared.head.Held.{Held}
 use Rattle.model.specs.declared.head.Held.the-variants as held
@@ -33,9 +31,15 @@ views-at q e v lv = every-at q 0 2 e v (omega arith) (omega arith)
 views-of : (q : ℕ → Bool) → ((v : ℕ) → v < 2 → q v ≡ true) → every q 0 2 ≡ true
 views-of q h = every-of q 0 2 (λ v lo hi. h v (omega arith))
 
-is-slot : (i : ℕ) (p : Place) → isSlot i p ≡ true → p ≡ slot.Slot i
-is-slot i (slot.Slot j) e = ap slot.Slot (sym (eqb-true i j e))
-is-slot i slot.Missing e = absurd (let z : _≡_ {A = ℕ} 0 1 = cc in omega arith)
+-- a child that no earlier slot holds
+new-at : (n : Node) (i c : ℕ) → every (isOther n c) 0 i ≡ true → (j : ℕ) → j < i → child (getD (n .slots) j []) ≢ c
+new-at n i c e j lt q =
+    let z : isOther n c j ≡ true = every-at (isOther n c) 0 i e j (omega arith) (omega arith) in
+    let y : _≡_ {A = Bool} false true = rw (eq-eqb (child (getD (n .slots) j [])) c q) at z in
+    absurd (let x : _≡_ {A = ℕ} 0 1 = cc in omega arith)
+
+new-of : (n : Node) (i c : ℕ) → ((j : ℕ) → j < i → child (getD (n .slots) j []) ≢ c) → every (isOther n c) 0 i ≡ true
+new-of n i c h = every-of (isOther n c) 0 i (λ j lo hi. rw (ne-eqb (child (getD (n .slots) j [])) c (h j (omega arith))))
 
 is-sum : (n : ℕ) (s : Sum) → isSum n s ≡ true → s ≡ sum.Is n
 is-sum n (sum.Is m) e = ap sum.Is (sym (eqb-true n m e))
@@ -71,7 +75,7 @@ module _ (t : State) where
   pub record EntryBy (k : ℕ) (n : Node) (i : ℕ) : Type 0 where
     pub below : child (getD (n .slots) i []) < t .head .entries
     pub home : getD (t .homes) (child (getD (n .slots) i [])) 0 ≡ k
-    pub index : indexFrom (child (getD (n .slots) i [])) 0 (used n) ≡ slot.Slot i
+    pub alone : (j : ℕ) → j < i → child (getD (n .slots) j []) ≢ child (getD (n .slots) i [])
 
   pub record LeafBy (k : ℕ) : Type 0 where
     pub filled : FilledBy t (leastLeaf 3 t) (leafIn 3 t k)
@@ -181,15 +185,15 @@ module _ (t : State) where
   unfolding isEntry
   entry-by k n i e =
       let id : ℕ = child (getD (n .slots) i []) in
-      let r = both (ltb id (t .head .entries) && eqb (getD (t .homes) id 0) k) (isSlot i (indexFrom id 0 (used n))) e in
+      let r = both (ltb id (t .head .entries) && eqb (getD (t .homes) id 0) k) (every (isOther n id) 0 i) e in
       let s = both (ltb id (t .head .entries)) (eqb (getD (t .homes) id 0) k) (r .0) in
-      record { below = ltb-true id (t .head .entries) (s .0); home = eqb-true (getD (t .homes) id 0) k (s .1); index = is-slot i (indexFrom id 0 (used n)) (r .1) }
+      record { below = ltb-true id (t .head .entries) (s .0); home = eqb-true (getD (t .homes) id 0) k (s .1); alone = new-at n i id (r .1) }
 
   entry-test : (k : ℕ) (n : Node) (i : ℕ) → EntryBy k n i → isEntry t k n i ≡ true
   unfolding isEntry
   entry-test k n i h =
       let id : ℕ = child (getD (n .slots) i []) in
-      rw (lt-ltb id (t .head .entries) (h .below), eq-eqb (getD (t .homes) id 0) k (h .home), h .index) (eq-eqb i i refl)
+      rw (lt-ltb id (t .head .entries) (h .below), eq-eqb (getD (t .homes) id 0) k (h .home)) (new-of n i id (h .alone))
 
   leaf-by : (k : ℕ) → Formed 3 (t .head .fan) (leafIn 3 t k) → isLeaf t k ≡ true → LeafBy k
   unfolding isLeaf

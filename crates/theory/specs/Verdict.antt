@@ -11,12 +11,11 @@ use lib.ListN.{length, getD, take, length-map}
 use borrow.Author.Tests.{eq-eqb, ne-eqb}
 use Rattle.model.specs.Lists.{sumBy, range}
 use Rattle.model.specs.Node as node
-use Rattle.model.specs.Node.{Node, none, child, used, half, indexFrom}
+use Rattle.model.specs.Node.{Node, none, child, used, half}
 use Rattle.model.specs.State.{State}
 use Rattle.model.specs.Sound.{shapeIn, leafIn, innerIn, leastInner, Sound}
 use Rattle.model.specs.Climb.{rankUp}
 use Rattle.model.specs.Audit.{depth, depthOf}
-use Rattle.model.specs.declared.shape.Place.the-variants as slot
 use Rattle.model.specs.declared.head.Held.{Held}
 use Rattle.model.specs.declared.head.Held.the-variants as held
 use Rattle.model.specs.declared.way.Sum.the-variants as sum
@@ -45,7 +44,7 @@ use Rattle.theory.specs.Up.{sound-up}
 use Rattle.theory.specs.Way.{Way, way, rank-up}
 use Rattle.theory.specs.Make.{Sizes}
 use Rattle.theory.specs.Facts.{HeldBy, ChildBy, areaBy, countBy, EntryBy, HandBy, SoundBy}
-use Rattle.theory.specs.Depth.{depth-dep, index-back, range-below, all-kids}
+use Rattle.theory.specs.Depth.{depth-dep, index-first, range-below, all-kids}
 
 pub start-at : (s fan v i : ℕ) (n : Node) → Tidy s fan n → i ≤ length (slotsOf n) → node.start v i n ≡ sumBy (len v) (take i (slotsOf n))
 start-at s fan v i n td h =
@@ -212,8 +211,8 @@ module _ (t : State) (z : Sizes (t .head .fan) (t .head .limit) (t .leaves) (t .
     firsts = λ k lt j lj.
         (let lu : j < length (used (leafIn 3 t k)) = (let y : length (slotsOf (leafIn 3 t k)) ≡ length (used (leafIn 3 t k)) = length-map (used (leafIn 3 t k)) slotOf in omega arith) in
         let c : ℕ = child (getD (used (leafIn 3 t k)) j []) in
-        let i : indexFrom c 0 (used (leafIn 3 t k)) ≡ slot.Slot j = subst (λ (c : ℕ). indexFrom c 0 (used (leafIn 3 t k)) ≡ slot.Slot j) (entry-slot k lt j lu) (entry-at k lt j lu .index) in
-        ap (λ (y : Slot). indexOf (y .child) (slotsOf (leafIn 3 t k))) (getD-slot (used (leafIn 3 t k)) j lu) ∙ sym (zero-add (indexOf c (slotsOf (leafIn 3 t k)))) ∙ index-back c 0 j (used (leafIn 3 t k)) i);
+        ap (λ (y : Slot). indexOf (y .child) (slotsOf (leafIn 3 t k))) (getD-slot (used (leafIn 3 t k)) j lu)
+        ∙ index-first c j (used (leafIn 3 t k)) lu refl (λ i li e. entry-at k lt j lu .alone i li (entry-slot k lt i (omega arith) ∙ e ∙ sym (entry-slot k lt j lu))));
     count = sumBy-cong (λ k. length (slotsOf (leafIn 3 t k))) (λ k. leafIn 3 t k .len) (range 0 (t .head .leaves))
         (All-map (λ k. k < t .head .leaves) (λ k. length (slotsOf (leafIn 3 t k)) ≡ leafIn 3 t k .len) leaf-size (range 0 (t .head .leaves)) (range-below 0 (t .head .leaves) (t .head .leaves) (omega arith))) ∙ f .count;
     totals = λ v. total-small v (decLt v 2);

@@ -21,7 +21,7 @@ loop-holds : tie.Need-loop-holds Inv-loop μ-loop
 loop-holds c = every-all (entryBy (c .before .before .args .g) (c .before .before .args .entries) (now (c .before .before .args .leaves)) (now (c .before .before .args .homes)) (c .before .before .args .k)) _
 
 is-entry-requires : tie.Need-is-entry-requires Inv-loop μ-loop
-is-entry-requires c κs = (c .before .before .before .before .pre .0, c .before .before .before .before .pre .1, c .before .before .before .before .pre .2, lt-of-lt-of-le (c .loop-test .taken) (c .before .before .before .before .pre .3), c .before .before .before .before .pre .4)
+is-entry-requires c κs = (c .before .before .before .before .pre .0, c .before .before .before .before .pre .1, c .before .before .before .before .pre .2, lt-of-lt-of-le (c .loop-test .taken) (c .before .before .before .before .pre .3))
 
 returns : tie.Need-returns Inv-loop μ-loop
 returns c = sym (every-stop (entryBy (c .before .before .before .before .before .before .args .g) (c .before .before .before .before .before .before .args .entries) (now (c .before .before .before .before .before .before .args .leaves)) (now (c .before .before .before .before .before .before .args .homes)) (c .before .before .before .before .before .before .args .k)) _ _ (c .before .before .loop-test .taken) (sym (c .before .is-entry .ensures) ∙ not-true _ (c .if1 .taken))) ∙ c .before .before .before .loop .inv

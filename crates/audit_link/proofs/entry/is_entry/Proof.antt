@@ -23,20 +23,11 @@ shared-slice-read-if2 c = search needs
 returns-2 : tie.Need-returns-2
 returns-2 c = entry-away (c .before .before .before .before .before .before .args .g) _ (now (c .before .before .before .before .before .before .args .leaves)) (now (c .before .before .before .before .before .before .args .homes)) _ _ _ (c .before .before .before .child-of .ensures) (c .before .before .if1 .left) (c .if2 .taken)
 
-slot-of-requires : tie.Need-slot-of-requires
-slot-of-requires c κs = search needs
-
-enum-known-j : tie.Need-enum-known-j
-enum-known-j c = search needs
-
-enum-told : tie.Need-enum-told
-enum-told c = search needs
+is-new-requires : tie.Need-is-new-requires
+is-new-requires c κs = (c .before .before .before .before .before .before .pre .0, c .before .before .before .before .before .before .pre .2, c .before .before .before .before .before .before .pre .3)
 
 returns-3 : tie.Need-returns-3
-returns-3 c = entry-last (c .before .before .before .before .before .before .before .before .before .before .args .g) _ (now (c .before .before .before .before .before .before .before .before .before .before .args .leaves)) (now (c .before .before .before .before .before .before .before .before .before .before .args .homes)) _ _ _ (c .before .before .before .before .before .before .before .child-of .ensures) (c .before .before .before .before .before .before .if1 .left) (c .before .before .before .before .if2 .left) _ _ (c .before .before .before .slot-of .ensures) (c .before .j .given .1)
-
-returns-4 : tie.Need-returns-4
-returns-4 c = entry-last (c .before .before .before .before .before .before .before .before .before .args .g) _ (now (c .before .before .before .before .before .before .before .before .before .args .leaves)) (now (c .before .before .before .before .before .before .before .before .before .args .homes)) _ _ _ (c .before .before .before .before .before .before .child-of .ensures) (c .before .before .before .before .before .if1 .left) (c .before .before .before .if2 .left) _ _ (c .before .before .slot-of .ensures) (c .enum-told .given .1)
+returns-3 c = entry-last (c .before .before .before .before .before .before .before .args .g) _ (now (c .before .before .before .before .before .before .before .args .leaves)) (now (c .before .before .before .before .before .before .before .args .homes)) _ _ _ (c .before .before .before .before .child-of .ensures) (c .before .before .before .if1 .left) (c .before .if2 .left) _ (c .is-new .ensures)
 
 pub is-entry-spec : {M : Type 1} → statement M
 is-entry-spec =
@@ -48,8 +39,5 @@ is-entry-spec =
     mul-if2
     shared-slice-read-if2
     returns-2
-    slot-of-requires
-    enum-known-j
-    enum-told
-    returns-3
-    returns-4)
+    is-new-requires
+    returns-3)

@@ -37,7 +37,7 @@ len-of-requires : tie.Need-len-of-requires
 len-of-requires c κs = search needs
 
 are-entries-requires : tie.Need-are-entries-requires
-are-entries-requires c κs = (c .before .before .before .before .before .before .before .before .before .before .before .before .before .pre .0 .leaf-area, c .before .before .before .before .before .before .before .before .before .before .before .before .before .pre .1, lt-of-lt-of-le (c .before .before .before .before .before .before .before .before .before .before .before .before .before .pre .2) (c .before .before .before .before .before .before .before .before .before .before .before .before .before .pre .0 .leaves), rw (c .len-of .ensures) (leaf-few (c .before .before .before .before .before .before .before .before .before .before .before .before .before .args .head) (now (c .before .before .before .before .before .before .before .before .before .before .before .before .before .args .leaves)) (now (c .before .before .before .before .before .before .before .before .before .before .before .before .before .args .inners)) (now (c .before .before .before .before .before .before .before .before .before .before .before .before .before .args .homes)) _ (c .before .before .before .before .before .before .before .before .before .before .before .before .before .pre .0 .same) _ _ (c .before .before .before .before .before .before .before .before .before .least-leaf .ensures) _ (c .before .before .before .before .before .before .before .before .is-filled .ensures) (c .before .before .before .before .before .before .before .if1 .left)), leaf-few (c .before .before .before .before .before .before .before .before .before .before .before .before .before .args .head) (now (c .before .before .before .before .before .before .before .before .before .before .before .before .before .args .leaves)) (now (c .before .before .before .before .before .before .before .before .before .before .before .before .before .args .inners)) (now (c .before .before .before .before .before .before .before .before .before .before .before .before .before .args .homes)) _ (c .before .before .before .before .before .before .before .before .before .before .before .before .before .pre .0 .same) _ _ (c .before .before .before .before .before .before .before .before .before .least-leaf .ensures) _ (c .before .before .before .before .before .before .before .before .is-filled .ensures) (c .before .before .before .before .before .before .before .if1 .left))
+are-entries-requires c κs = (c .before .before .before .before .before .before .before .before .before .before .before .before .before .pre .0 .leaf-area, c .before .before .before .before .before .before .before .before .before .before .before .before .before .pre .1, lt-of-lt-of-le (c .before .before .before .before .before .before .before .before .before .before .before .before .before .pre .2) (c .before .before .before .before .before .before .before .before .before .before .before .before .before .pre .0 .leaves), rw (c .len-of .ensures) (leaf-few (c .before .before .before .before .before .before .before .before .before .before .before .before .before .args .head) (now (c .before .before .before .before .before .before .before .before .before .before .before .before .before .args .leaves)) (now (c .before .before .before .before .before .before .before .before .before .before .before .before .before .args .inners)) (now (c .before .before .before .before .before .before .before .before .before .before .before .before .before .args .homes)) _ (c .before .before .before .before .before .before .before .before .before .before .before .before .before .pre .0 .same) _ _ (c .before .before .before .before .before .before .before .before .before .least-leaf .ensures) _ (c .before .before .before .before .before .before .before .before .is-filled .ensures) (c .before .before .before .before .before .before .before .if1 .left)))
 
 returns-4 : tie.Need-returns-4
 returns-4 c = leaf-last (c .before .before .before .before .before .before .before .before .before .before .before .before .before .before .args .head) (now (c .before .before .before .before .before .before .before .before .before .before .before .before .before .before .args .leaves)) (now (c .before .before .before .before .before .before .before .before .before .before .before .before .before .before .args .inners)) (now (c .before .before .before .before .before .before .before .before .before .before .before .before .before .before .args .homes)) _ (c .before .before .before .before .before .before .before .before .before .before .before .before .before .before .pre .0 .same) _ _ (c .before .before .before .before .before .before .before .before .before .before .least-leaf .ensures) _ (c .before .before .before .before .before .before .before .before .before .is-filled .ensures) (c .before .before .before .before .before .before .before .before .if1 .left) _ _ (c .before .before .before .before .before .before .before .parent-of .ensures) (c .before .before .before .before .before .before .at-of .ensures) _ (c .before .before .before .before .before .is-held .ensures) (c .before .before .before .before .if2 .left) _ (c .before .before .before .depth .ensures) (c .before .before .if3 .left) _ (c .before .len-of .ensures) _ (c .are-entries .ensures)

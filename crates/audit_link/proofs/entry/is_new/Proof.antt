@@ -1,0 +1,58 @@
+-- `audit_link::entry::is_new`: the test of the slots from here on is the test of all.
+use Prim.Native.Nat.{_-_}
+use mathlib.Core.Path.{_≡_, sym, _∙_}
+use native.Mathlib.Omega.{arith}
+use native.Mathlib.Nat.{lt-trans}
+use denote.Ref.{now}
+use borrow.Author.Needs.{needs}
+use Rattle.model.specs.State.{nodeAt}
+use Rattle.model.specs.Audit.{every, isOther}
+use Rattle.audit_node.proofs.Every.{every-all, every-stop, every-on, every-end}
+use Rattle.audit_link.proofs.LeafLaws.{other-met, other-passed}
+use Rattle.audit_link.proofs.entry.is_new.Statement.{statement}
+use Rattle.audit_link.proofs.entry.is_new.Tie as tie
+
+abbrev Inv-loop : tie.InvT-loop
+Inv-loop leaves g k i id j₀ j = every (isOther (nodeAt g k leaves) id) j (i - j) ≡ every (isOther (nodeAt g k leaves) id) 0 i
+
+abbrev μ-loop : tie.MeasureT-loop
+μ-loop leaves g k i id j₀ j = i - j
+
+loop-holds : tie.Need-loop-holds Inv-loop μ-loop
+loop-holds c = every-all (isOther (nodeAt (c .before .args .g) (c .before .args .k) (now (c .before .args .leaves))) (c .before .args .id)) _
+
+cast-child-of : tie.Need-cast-child-of Inv-loop μ-loop
+cast-child-of c = search needs
+
+child-of-requires : tie.Need-child-of-requires Inv-loop μ-loop
+child-of-requires c κs = (c .before .before .before .pre .0, c .before .before .before .pre .1, lt-trans (c .loop-test .taken) (c .before .before .before .pre .2))
+
+returns : tie.Need-returns Inv-loop μ-loop
+returns c = sym (every-stop (isOther (nodeAt (c .before .before .before .before .before .args .g) (c .before .before .before .before .before .args .k) (now (c .before .before .before .before .before .args .leaves))) (c .before .before .before .before .before .args .id)) _ _ (c .before .before .loop-test .taken) (other-met (nodeAt (c .before .before .before .before .before .args .g) (c .before .before .before .before .before .args .k) (now (c .before .before .before .before .before .args .leaves))) (c .before .before .before .before .before .args .id) (c .before .before .before .loop .j) _ (c .before .child-of .ensures) (c .if1 .taken))) ∙ c .before .before .before .loop .inv
+
+add-j : tie.Need-add-j Inv-loop μ-loop
+add-j c = omega arith
+
+loop-less : tie.Need-loop-less Inv-loop μ-loop
+loop-less c = omega arith
+
+loop-again : tie.Need-loop-again Inv-loop μ-loop
+loop-again c = sym (every-on (isOther (nodeAt (c .before .before .before .before .before .args .g) (c .before .before .before .before .before .args .k) (now (c .before .before .before .before .before .args .leaves))) (c .before .before .before .before .before .args .id)) _ _ (c .before .before .loop-test .taken) (other-passed (nodeAt (c .before .before .before .before .before .args .g) (c .before .before .before .before .before .args .k) (now (c .before .before .before .before .before .args .leaves))) (c .before .before .before .before .before .args .id) (c .before .before .before .loop .j) _ (c .before .child-of .ensures) (c .if1 .left))) ∙ c .before .before .before .loop .inv
+
+returns-2 : tie.Need-returns-2 Inv-loop μ-loop
+returns-2 c = sym (every-end (isOther (nodeAt (c .before .before .before .args .g) (c .before .before .before .args .k) (now (c .before .before .before .args .leaves))) (c .before .before .before .args .id)) _ _ (c .loop-test .left)) ∙ c .before .loop .inv
+
+pub is-new-spec : {M : Type 1} → statement M
+is-new-spec =
+    tie.close
+    (tie.spec
+    Inv-loop
+    μ-loop
+    loop-holds
+    cast-child-of
+    child-of-requires
+    returns
+    add-j
+    loop-less
+    loop-again
+    returns-2)
