@@ -3,7 +3,7 @@
 use mathlib.Core.Path.{_≡_, refl}
 use mathlib.Core.Bool.{true}
 use mathlib.Core.List.{List, [], _∷_}
-use Prim.Native.Nat.{ℕ}
+use Prim.Native.Nat.{ℕ, _*_, _≤_}
 use native.Mathlib.Omega.{arith}
 use lib.ListN.{replicate}
 use Rattle.model.specs.Lists.{All, refusal}
@@ -22,6 +22,7 @@ use Rattle.theory.specs.Make.{Words}
 use Rattle.theory.specs.Step.{InWords}
 use Rattle.theory.specs.Whole.{answers, finally, others, otherAnswers, whole, alike}
 use Rattle.theory.specs.Audited.{audit-exactly}
+use Rattle.theory.specs.Steps.{steps, audit-steps}
 use Rattle.theory.specs.Cursors.{StandsAt, cursor-at}
 
 abbrev pair : ℕ → ℕ → Lengths
@@ -76,6 +77,11 @@ sound-start = whole 4 5 (pair 3 3) areaWords areaWords (replicate 5 7) first-wor
 
 pub audited-start : audit start ≡ verdict.Yes
 audited-start = audit-exactly start .1 sound-start
+
+-- one leaf, one inner node, fan 4 and one level
+pub steps-start : steps start ≤ 22 * (2 * 4 * 1)
+unfolding make begun refusal
+steps-start = audit-steps start (omega arith) (omega arith)
 
 -- and its entry has a cursor, at which next and split_entry can start
 pub cursor-start : StandsAt start (cursor start 0) 0

@@ -43,6 +43,8 @@ pub mod Facts
 pub mod Depth
 pub mod Verdict
 pub mod Audited
+pub mod StepsLaws
+pub mod Steps
 pub mod Current
 pub mod Cursors
 pub mod Example

@@ -1,0 +1,123 @@
+-- The most steps that audit takes, a step being a slot read or a link followed, and their bound: a small multiple of nodes, fan and levels.
+-- Every node's tests count to the end, though audit stops at the first that says no.
+use mathlib.Core.Path.{_≡_, refl}
+use mathlib.Core.Bool.{Bool, true, false, cond, _&&_}
+use mathlib.Core.List.{[]}
+use Prim.Native.Nat.{ℕ, _+_, _*_, _-_, _≤_}
+use native.Mathlib.Omega.{arith}
+use lib.Dec.{ltb, leb, eqb}
+use lib.ListN.{getD}
+use borrow.Author.Tests.{leb-true, ltb-true}
+use Rattle.model.specs.Lists.{sumBy, range}
+use Rattle.model.specs.Node.{Node, child}
+use Rattle.model.specs.State.{State}
+use Rattle.model.specs.Sound.{leafIn, innerIn}
+use Rattle.model.specs.Refuse.{stride, shapeOf}
+use Rattle.model.specs.Audit.{depthOf}
+use Rattle.theory.specs.Tests.{both}
+use Rattle.theory.specs.StepsLaws.{sum-le, sum-plus, sum-same, parents, places, half-square, all-most}
+
+module _ (t : State) where
+  -- slot i of inner node k: the slot, its link, and the child's lengths in both views if the child knows this place
+  unfoldable pub stepsChild : (ℕ → Node) → ℕ → ℕ → ℕ → ℕ
+  stepsChild area count k i =
+      let c = child (getD (innerIn stride t k .slots) i []) in
+      2 + cond (ltb c count && eqb (area c .parent) k && eqb (area c .at) i) (2 * t .head .fan) 0
+
+  -- depth by climbing, unused slots, the link to the parent and the slot there, then the slots in use
+  unfoldable pub stepsInner : ℕ → ℕ
+  stepsInner k =
+      let h = t .head in
+      let n = innerIn stride t k in
+      let lowest = eqb (depthOf t k) (h .levels) in
+      h .levels + 1 + (h .fan - n .len) + 2
+      + cond (leb (n .len) (h .fan)) (sumBy (stepsChild (cond lowest (leafIn stride t) (innerIn stride t)) (cond lowest (h .leaves) (h .inners)) k) (range 0 (n .len))) 0
+
+  -- unused slots, the link to the parent and the slot there, depth by climbing, then each slot in use, its home and the ids before it
+  unfoldable pub stepsLeaf : ℕ → ℕ
+  stepsLeaf k =
+      let h = t .head in
+      let n = leafIn stride t k in
+      h .fan - n .len + 2 + (h .levels + 1) + cond (leb (n .len) (h .fan)) (sumBy (λ i. 2 + i) (range 0 (n .len))) 0
+
+  -- the tests of the head that isSound begins with
+  abbrev pub areCounts : Bool
+  areCounts =
+      let h = t .head in
+      let g = shapeOf h in
+      leb (h .entries) (h .limit) && leb (h .leaves) (g .nodes) && leb (h .inners) (g .nodes) && leb 1 (h .levels) && leb (h .levels) 15 && ltb (h .root .0) (h .inners)
+
+  -- nothing if the head's counts are wrong; else every node in use, the slots in use counted, the root's totals, the finger's sums by two climbs and two sums in its leaf
+  unfoldable pub steps : ℕ
+  steps =
+      let h = t .head in
+      cond areCounts (sumBy stepsInner (range 0 (h .inners)) + sumBy stepsLeaf (range 0 (h .leaves)) + h .leaves + 2 * h .fan + 2 * (h .fan + 1) * (h .levels + 1)) 0
+
+  -- a child that knows its place, charged to the node that it names as its parent
+  abbrev charged : (ℕ → Node) → ℕ → ℕ → ℕ
+  charged area count k = sumBy (λ c. cond (eqb (area c .parent) k) (2 * t .head .fan) 0) (range 0 count)
+
+  children-most : (area : ℕ → Node) (count k n : ℕ) → sumBy (stepsChild area count k) (range 0 n) ≤ 2 * n + charged area count k
+  unfolding stepsChild
+  children-most area count k n =
+      let kid : ℕ → ℕ = λ i. child (getD (innerIn 3 t k .slots) i []) in
+      let p = places (λ c. area c .parent) (λ c. area c .at) kid (2 * t .head .fan) k n count in
+      let s = sum-plus (λ i. 2) (λ i. cond (ltb (kid i) count && eqb (area (kid i) .parent) k && eqb (area (kid i) .at) i) (2 * t .head .fan) 0) (range 0 n) in
+      omega (arith, sum-same 2 0 n)
+
+  inner-most : (k : ℕ) → stepsInner k ≤ t .head .levels + 2 * t .head .fan + 3 + (charged (leafIn 3 t) (t .head .leaves) k + charged (innerIn 3 t) (t .head .inners) k)
+  unfolding stepsInner
+  inner-most k = go (leb (innerIn 3 t k .len) (t .head .fan)) refl (eqb (depthOf t k) (t .head .levels))
+    where
+      go : (b : Bool) → leb (innerIn 3 t k .len) (t .head .fan) ≡ b → (lowest : Bool)
+          → t .head .levels + 1 + (t .head .fan - innerIn 3 t k .len) + 2
+          + cond b (sumBy (stepsChild (cond lowest (leafIn 3 t) (innerIn 3 t)) (cond lowest (t .head .leaves) (t .head .inners)) k) (range 0 (innerIn 3 t k .len))) 0
+          ≤ t .head .levels + 2 * t .head .fan + 3 + (charged (leafIn 3 t) (t .head .leaves) k + charged (innerIn 3 t) (t .head .inners) k)
+      go true e true = omega (arith, leb-true (innerIn 3 t k .len) (t .head .fan) e, children-most (leafIn 3 t) (t .head .leaves) k (innerIn 3 t k .len))
+      go true e false = omega (arith, leb-true (innerIn 3 t k .len) (t .head .fan) e, children-most (innerIn 3 t) (t .head .inners) k (innerIn 3 t k .len))
+      go false e lowest = omega arith
+
+  leaf-most : t .head .fan ≤ 32 → (k : ℕ) → stepsLeaf k ≤ t .head .levels + 18 * t .head .fan + 3
+  unfolding stepsLeaf
+  leaf-most f k = go (leb (leafIn 3 t k .len) (t .head .fan)) refl
+    where
+      go : (b : Bool) → leb (leafIn 3 t k .len) (t .head .fan) ≡ b
+          → t .head .fan - leafIn 3 t k .len + 2 + (t .head .levels + 1) + cond b (sumBy (λ i. 2 + i) (range 0 (leafIn 3 t k .len))) 0 ≤ t .head .levels + 18 * t .head .fan + 3
+      go true e = (let l : leafIn 3 t k .len ≤ t .head .fan = leb-true (leafIn 3 t k .len) (t .head .fan) e in omega (arith, half-square (leafIn 3 t k .len) (omega arith)))
+      go false e = omega arith
+
+  inners-most : sumBy stepsInner (range 0 (t .head .inners)) ≤ t .head .inners * (t .head .levels + 2 * t .head .fan + 3) + (t .head .leaves + t .head .inners) * (2 * t .head .fan)
+  inners-most =
+      let F : ℕ = 2 * t .head .fan in
+      let I : ℕ = t .head .inners in
+      let r = range 0 I in
+      let c : ℕ = t .head .levels + 2 * t .head .fan + 3 in
+      let x = charged (leafIn 3 t) (t .head .leaves) in
+      let y = charged (innerIn 3 t) I in
+      let a = sum-le stepsInner (λ k. c + (x k + y k)) inner-most r in
+      let b = sum-plus (λ k. c) (λ k. x k + y k) r in
+      let d = sum-plus x y r in
+      omega (arith, sum-same c 0 I, parents (λ c. leafIn 3 t c .parent) F I (t .head .leaves), parents (λ c. innerIn 3 t c .parent) F I I)
+
+  leaves-most : t .head .fan ≤ 32 → sumBy stepsLeaf (range 0 (t .head .leaves)) ≤ t .head .leaves * (t .head .levels + 18 * t .head .fan + 3)
+  leaves-most f =
+      let c : ℕ = t .head .levels + 18 * t .head .fan + 3 in
+      let a = sum-le stepsLeaf (λ k. c) (leaf-most f) (range 0 (t .head .leaves)) in
+      omega (arith, sum-same c 0 (t .head .leaves))
+
+  -- on any state with a good fan
+  pub audit-steps : 4 ≤ t .head .fan → t .head .fan ≤ 32 → steps ≤ 22 * ((t .head .leaves + t .head .inners) * t .head .fan * t .head .levels)
+  unfolding steps
+  audit-steps lo hi = go areCounts refl
+    where
+      go : (b : Bool) → areCounts ≡ b
+          → cond b (sumBy stepsInner (range 0 (t .head .inners)) + sumBy stepsLeaf (range 0 (t .head .leaves)) + t .head .leaves + 2 * t .head .fan + 2 * (t .head .fan + 1) * (t .head .levels + 1)) 0
+          ≤ 22 * ((t .head .leaves + t .head .inners) * t .head .fan * t .head .levels)
+      go true e =
+          let h = t .head in
+          let a : Bool = leb (h .entries) (h .limit) && leb (h .leaves) (shapeOf h .nodes) && leb (h .inners) (shapeOf h .nodes) in
+          let r = both (a && leb 1 (h .levels) && leb (h .levels) 15) (ltb (h .root .0) (h .inners)) e in
+          let l = both a (leb 1 (h .levels)) (both (a && leb 1 (h .levels)) (leb (h .levels) 15) (r .0) .0) in
+          all-most (h .fan) (h .levels) (h .inners) (h .leaves) (sumBy stepsInner (range 0 (h .inners))) (sumBy stepsLeaf (range 0 (h .leaves))) lo (leb-true 1 (h .levels) (l .1)) (let z = ltb-true (h .root .0) (h .inners) (r .1) in omega arith)
+          inners-most (leaves-most hi)
+      go false e = omega arith
