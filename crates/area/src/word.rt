@@ -71,7 +71,7 @@ pub fn length_of(area: &[u32], g: Shape, view: usize, k: u32, i: usize) -> u32
 
 // The lengths before slot i of node k: at most 32 words.
 pub fn start_in(area: &[u32], g: Shape, view: usize, k: u32, i: u32) -> u64
-    requires { ⌜ Area g (length (now area)) × (k < g .nodes) × (view + 1 < g .stride) × (i < g .fan) ⌝ }
+    requires { ⌜ Area g (length (now area)) × (k < g .nodes) × (view + 1 < g .stride) × (i ≤ g .fan) ⌝ }
     ensures { λ r. ⌜ (r ≡ start view i (nodeAt g k (now (area .entry)))) × (r ≤ 137438953440) ⌝ }
 {
     let size = g.size;

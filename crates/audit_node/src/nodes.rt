@@ -26,17 +26,6 @@ pub fn total_in(area: &[u32], g: Shape, view: usize, k: u32) -> u64
     node::read::used_total(&area[a..e], g, view)
 }
 
-// The lengths of all slots of node k.
-fn whole_in(area: &[u32], g: Shape, view: usize, k: u32) -> u64
-    requires { ⌜ Area g (length (now area)) × (k < g .nodes) × (view + 1 < g .stride) ⌝ }
-    ensures { λ r. ⌜ r ≡ start view (g .fan) (nodeAt g k (now (area .entry))) ⌝ }
-{
-    let size = g.size;
-    let a = k as usize * size;
-    let e = a + size;
-    node::read::start(&area[a..e], g, view, g.fan)
-}
-
 // The lengths before slot i of node k, however large i is.
 pub fn start_any(area: &[u32], g: Shape, view: usize, k: u32, i: u32) -> u64
     requires { ⌜ Area g (length (now area)) × (k < g .nodes) × (view + 1 < g .stride) ⌝ }
@@ -46,7 +35,7 @@ pub fn start_any(area: &[u32], g: Shape, view: usize, k: u32, i: u32) -> u64
     if (i as usize) < fan {
         return start_in(area, g, view, k, i);
     }
-    whole_in(area, g, view, k)
+    start_in(area, g, view, k, fan as u32)
 }
 
 fn is_empty_slot(area: &[u32], g: Shape, k: u32, i: usize) -> bool

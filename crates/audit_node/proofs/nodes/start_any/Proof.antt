@@ -1,21 +1,25 @@
 -- `audit_node::nodes::start_any`: past the last slot all lengths are summed.
-use borrow.Author.Needs.{needs}
 use mathlib.Core.Path.{_∙_}
+use native.Mathlib.Omega.{arith}
+use borrow.Author.Needs.{needs}
 use Rattle.audit_node.proofs.AreaLaws.{start-over}
 use Rattle.audit_node.proofs.nodes.start_any.Statement.{statement}
 use Rattle.audit_node.proofs.nodes.start_any.Tie as tie
 
 start-in-requires : tie.Need-start-in-requires
-start-in-requires c κs = search needs
+start-in-requires c κs = (c .before .before .pre .0, c .before .before .pre .1, c .before .before .pre .2, omega (arith, c .if1 .taken))
 
 returns : tie.Need-returns
-returns c = search needs
+returns c = c .start-in .ensures .0
 
-whole-in-requires : tie.Need-whole-in-requires
-whole-in-requires c κs = search needs
+cast-start-in : tie.Need-cast-start-in
+cast-start-in c = omega (arith, c .before .before .pre .0 .shaped .few)
+
+start-in-requires-2 : tie.Need-start-in-requires-2
+start-in-requires-2 c κs = (c .before .before .pre .0, c .before .before .pre .1, c .before .before .pre .2, omega arith)
 
 returns-2 : tie.Need-returns-2
-returns-2 c = c .whole-in .ensures ∙ start-over (c .before .before .before .args .g) _ _ _ _ (c .before .if1 .left)
+returns-2 c = c .start-in2 .ensures .0 ∙ start-over (c .before .before .before .args .g) _ _ _ _ (c .before .if1 .left)
 
 pub start-any-spec : {M : Type 1} → statement M
-start-any-spec = tie.close (tie.spec start-in-requires returns whole-in-requires returns-2)
+start-any-spec = tie.close (tie.spec start-in-requires returns cast-start-in start-in-requires-2 returns-2)

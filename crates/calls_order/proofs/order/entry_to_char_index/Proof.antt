@@ -20,7 +20,7 @@ number-requires : tie.Need-number-requires
 number-requires c κs = search needs
 
 start-in-requires : tie.Need-start-in-requires
-start-in-requires c κs = let h = stands _ (c .before .before .before .before .before .before .before .before .args .at) _ _ (c .before .before .before .before .open-at .ensures) (c .before .before .g .given .1) in let i = slot-in _ (c .before .before .before .before .before .before .before .before .args .at) _ h in (i .0, i .1, view-in _ _ _ (h .ready) (rw (c .number .ensures) (view-few (c .before .before .before .before .before .before .before .before .args .view))), i .2)
+start-in-requires c κs = let h = stands _ (c .before .before .before .before .before .before .before .before .args .at) _ _ (c .before .before .before .before .open-at .ensures) (c .before .before .g .given .1) in let i = slot-in _ (c .before .before .before .before .before .before .before .before .args .at) _ h in (i .0, i .1, view-in _ _ _ (h .ready) (rw (c .number .ensures) (view-few (c .before .before .before .before .before .before .before .before .args .view))), omega (arith, i .2))
 
 parent-of-requires : tie.Need-parent-of-requires
 parent-of-requires c κs = let i = slot-in _ (c .before .before .before .before .before .before .before .before .before .args .at) _ (stands _ (c .before .before .before .before .before .before .before .before .before .args .at) _ _ (c .before .before .before .before .before .open-at .ensures) (c .before .before .before .g .given .1)) in (i .0, i .1)

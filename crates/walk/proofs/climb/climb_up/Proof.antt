@@ -42,7 +42,7 @@ start-in-requires : tie.Need-start-in-requires Inv-loop μ-loop
 start-in-requires c κs =
     let s = c .before .before .before .before .before .before .before in
     let t = in-both (s .args .g) _ _ (turn (c .before)) in
-    (room (c .before), t .0, s .pre .1, t .1)
+    (room (c .before), t .0, s .pre .1, omega (arith, t .1))
 
 add-index : tie.Need-add-index Inv-loop μ-loop
 add-index c = omega (arith, c .before .before .before .before .before .loop .inv, c .before .before .before .before .before .before .before .before .pre)

@@ -33,7 +33,7 @@ start-in-requires : tie.Need-start-in-requires Inv-loop μ-loop
 start-in-requires c κs =
     let s = c .before .before .before .before .before in
     let t = in-both (s .args .g) _ _ (turn c) in
-    (s .pre .0, t .0, s .pre .1, t .1)
+    (s .pre .0, t .0, s .pre .1, omega (arith, t .1))
 
 add-total : tie.Need-add-total Inv-loop μ-loop
 add-total c = omega arith
