@@ -41,8 +41,7 @@ fn put(
     if r.number != 0 {
         return r;
     }
-    let x: [u32; 3] = [head.entries, lengths.prepare, lengths.effect];
-    place(head, leaves, inners, homes, g, r.leaf.0, r.slot, &x)
+    place(head, leaves, inners, homes, g, r.leaf.0, r.slot, lengths)
 }
 
 // The entry in its leaf and its lengths above it; its effect position is summed up on the way where that is asked for.

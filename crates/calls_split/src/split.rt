@@ -85,10 +85,9 @@ pub fn split_entry(
         },
         Opened::Good(g) => {
             let id = head.entries;
-            let x: [u32; 3] = [id, lengths.prepare, lengths.effect];
             let k = at.leaf.0;
             let i = at.slot;
-            let r = divide(head, leaves, inners, homes, g, before, k, i, &x);
+            let r = divide(head, leaves, inners, homes, g, before, k, i, lengths);
             if r.number != 0 {
                 return DividedReply {
                     head: head,

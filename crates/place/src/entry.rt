@@ -5,16 +5,20 @@ use crate::change::astray;
 use crate::change::entered;
 use crate::change::top_of;
 use crate::room::make_room;
+use crate::size::fixed;
 use area::word::len_of;
 use area::write::insert;
 use area::write::split_child;
 use links::top::Top;
 use model::head::Head;
+use model::length::Lengths;
 use model::shape::Shape;
 ghost use mathlib.Core.Path.{_≡_};
 ghost use mathlib.Core.Bool.{cond};
+ghost use mathlib.Core.List.{_∷_};
 ghost use Prim.Native.Nat.{_<_, _≤_};
 ghost use lib.ListN.{length};
+ghost use Rattle.model.specs.Length.{listOf};
 ghost use Rattle.model.specs.Node.{inserted, childSplit};
 ghost use Rattle.model.specs.State.{state, nodeAt, putNode};
 ghost use Rattle.model.specs.Place.{change, entering, makeRoom};
@@ -69,7 +73,7 @@ fn put_slot(
 }
 
 // The slot x comes to slot i of leaf k, which is split first if it is full, as the next entry.
-pub fn enter(
+fn enter_slot(
     leaves: &mut [u32],
     inners: &mut [u32],
     homes: &mut [u32],
@@ -98,7 +102,44 @@ pub fn enter(
     r
 }
 
-// The slot x comes before slot i of leaf k, which is split first if it is full, as the next entry (place).
+// An entry with these lengths comes to slot i of leaf k, as the next one. The lengths come as two words and the stride as a constant,
+// so that the compiler knows how long a slot is.
+fn enter(
+    leaves: &mut [u32],
+    inners: &mut [u32],
+    homes: &mut [u32],
+    g: Shape,
+    used: u32,
+    t: Top,
+    entries: u32,
+    split: bool,
+    before: bool,
+    k: u32,
+    i: u32,
+    lengths: Lengths,
+) -> Room
+    requires { ⌜ Fits g (length (now leaves)) (length (now inners)) × (used ≤ g .nodes) × (t .inners ≤ g .nodes) × (1 ≤ t .levels) × (t .levels ≤ 15) × (entries < length (now homes)) × (g .stride ≡ 3) ⌝ }
+    ensures { λ r. ⌜ ((h : Head) → change (r .number) (state (headEntered r entries h) (now (leaves .exit)) (now (inners .exit)) (now (homes .exit))) (r .leaf .0) (r .slot) ≡ entering g (λ j. putBy split before j (entries ∷ listOf lengths)) (least split) (makeRoom g (state (counted used (topOf t) entries h) (now (leaves .entry)) (now (inners .entry)) (now (homes .entry))) k i)) ⌝ }
+{
+    let x: [u32; 3] = [entries, lengths.prepare, lengths.effect];
+    let s = fixed(g);
+    enter_slot(
+        leaves,
+        inners,
+        homes,
+        s,
+        used,
+        t,
+        entries,
+        split,
+        before,
+        k,
+        i,
+        &x,
+    )
+}
+
+// An entry with these lengths comes before slot i of leaf k, which is split first if it is full (place).
 pub fn place(
     head: Head,
     leaves: &mut [u32],
@@ -107,10 +148,10 @@ pub fn place(
     g: Shape,
     k: u32,
     i: u32,
-    x: &[u32],
+    lengths: Lengths,
 ) -> Change
-    requires { ⌜ Fits g (length (now leaves)) (length (now inners)) × (head .leaves ≤ g .nodes) × (head .inners ≤ g .nodes) × (1 ≤ head .levels) × (head .levels ≤ 15) × (head .entries < length (now homes)) × (head .entries < 4294967295) × (length (now x) ≡ g .stride) ⌝ }
-    ensures { λ r. ⌜ change (r .number) (state (r .head) (now (leaves .exit)) (now (inners .exit)) (now (homes .exit))) (r .leaf .0) (r .slot) ≡ entering g (λ j. inserted j (now (x .entry))) 0 (makeRoom g (state head (now (leaves .entry)) (now (inners .entry)) (now (homes .entry))) k i) ⌝ }
+    requires { ⌜ Fits g (length (now leaves)) (length (now inners)) × (head .leaves ≤ g .nodes) × (head .inners ≤ g .nodes) × (1 ≤ head .levels) × (head .levels ≤ 15) × (head .entries < length (now homes)) × (head .entries < 4294967295) × (g .stride ≡ 3) ⌝ }
+    ensures { λ r. ⌜ change (r .number) (state (r .head) (now (leaves .exit)) (now (inners .exit)) (now (homes .exit))) (r .leaf .0) (r .slot) ≡ entering g (λ j. inserted j (head .entries ∷ listOf lengths)) 0 (makeRoom g (state head (now (leaves .entry)) (now (inners .entry)) (now (homes .entry))) k i) ⌝ }
 {
     let t = top_of(head);
     let r = enter(
@@ -125,13 +166,13 @@ pub fn place(
         false,
         k,
         i,
-        x,
+        lengths,
     );
     entered(r, head)
 }
 
-// The lengths of the slot x leave slot i of leaf k, which is split first if it is full, and x comes just before it or just
-// after, as the next entry (split_entry).
+// These lengths leave the entry in slot i of leaf k, which is split first if it is full, for a new one just before it or just after
+// (split_entry).
 pub fn divide(
     head: Head,
     leaves: &mut [u32],
@@ -141,10 +182,10 @@ pub fn divide(
     before: bool,
     k: u32,
     i: u32,
-    x: &[u32],
+    lengths: Lengths,
 ) -> Change
-    requires { ⌜ Fits g (length (now leaves)) (length (now inners)) × (head .leaves ≤ g .nodes) × (head .inners ≤ g .nodes) × (1 ≤ head .levels) × (head .levels ≤ 15) × (head .entries < length (now homes)) × (head .entries < 4294967295) × (length (now x) ≡ g .stride) ⌝ }
-    ensures { λ r. ⌜ change (r .number) (state (r .head) (now (leaves .exit)) (now (inners .exit)) (now (homes .exit))) (r .leaf .0) (r .slot) ≡ entering g (λ j. childSplit before j (now (x .entry))) 1 (makeRoom g (state head (now (leaves .entry)) (now (inners .entry)) (now (homes .entry))) k i) ⌝ }
+    requires { ⌜ Fits g (length (now leaves)) (length (now inners)) × (head .leaves ≤ g .nodes) × (head .inners ≤ g .nodes) × (1 ≤ head .levels) × (head .levels ≤ 15) × (head .entries < length (now homes)) × (head .entries < 4294967295) × (g .stride ≡ 3) ⌝ }
+    ensures { λ r. ⌜ change (r .number) (state (r .head) (now (leaves .exit)) (now (inners .exit)) (now (homes .exit))) (r .leaf .0) (r .slot) ≡ entering g (λ j. childSplit before j (head .entries ∷ listOf lengths)) 1 (makeRoom g (state head (now (leaves .entry)) (now (inners .entry)) (now (homes .entry))) k i) ⌝ }
 {
     let t = top_of(head);
     let r = enter(
@@ -159,7 +200,7 @@ pub fn divide(
         before,
         k,
         i,
-        x,
+        lengths,
     );
     entered(r, head)
 }

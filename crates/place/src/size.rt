@@ -72,6 +72,19 @@ fn add_to_ancestors(
     add_up(inners, g, delta, levels, parent, at)
 }
 
+// The same sizes with the stride as a constant, so that the compiler knows it.
+pub fn fixed(g: Shape) -> Shape
+    requires { ⌜ g .stride ≡ 3 ⌝ }
+    ensures { λ r. ⌜ r ≡ g ⌝ }
+{
+    Shape {
+        stride: 3,
+        fan: g.fan,
+        size: g.size,
+        nodes: g.nodes,
+    }
+}
+
 // delta goes into every slot above leaf k; the effect lengths before slot i of it are summed up on the way where that is
 // asked for. The lengths come as two words, not as a slice, so that the compiler knows how many there are.
 pub fn way_up(
@@ -88,10 +101,11 @@ pub fn way_up(
     ensures { λ r. ⌜ (r, now (inners .exit)) ≡ askedWay summed (climbUp g 1 (listOf delta) levels (nodeAt g k (now (leaves .entry)) .parent) (nodeAt g k (now (leaves .entry)) .at) (start 1 i (nodeAt g k (now (leaves .entry)))) (now (inners .entry))) ⌝ }
 {
     let ls: [u32; 2] = [delta.prepare, delta.effect];
+    let s = fixed(g);
     if summed {
-        return climb(leaves, inners, g, 1, &ls, levels, k, i);
+        return climb(leaves, inners, s, 1, &ls, levels, k, i);
     }
-    if !add_to_ancestors(leaves, inners, g, &ls, levels, k) {
+    if !add_to_ancestors(leaves, inners, s, &ls, levels, k) {
         return Sum::Broken;
     }
     Sum::Is(0)

@@ -13,11 +13,8 @@ enum-known-n c = search needs
 enum-known-g : tie.Need-enum-known-g
 enum-known-g c = search needs
 
-slice-aggregate-divide : tie.Need-slice-aggregate-divide
-slice-aggregate-divide c = search needs
-
 divide-requires : tie.Need-divide-requires
-divide-requires c κs = divide-in _ (c .before .before .before .before .before .before .before .before .before .before .before .before .before .before .args .at) (c .before .before .before .before .before .before .before .before .before .before .before .before .before .before .args .lengths) _ _ (c .before .before .before .before .before .before .before .open-split .ensures) (c .before .before .before .before .before .g .given .1)
+divide-requires c κs = divide-in _ (c .before .before .before .before .before .before .before .before .before .before .before .before .before .args .at) (c .before .before .before .before .before .before .before .before .before .before .before .before .before .args .lengths) _ _ (c .before .before .before .before .before .before .open-split .ensures) (c .before .before .before .before .g .given .1)
 
 same-length : tie.Need-same-length
 same-length c = search needs
@@ -29,10 +26,10 @@ same-length-3 : tie.Need-same-length-3
 same-length-3 c = search needs
 
 returns : tie.Need-returns
-returns c = entry-broken _ (c .before .before .before .before .before .before .before .before .before .before .before .before .before .before .before .before .before .before .before .before .before .before .before .args .at) (c .before .before .before .before .before .before .before .before .before .before .before .before .before .before .before .before .before .before .before .before .before .before .before .args .lengths) (c .before .before .before .before .before .before .before .before .before .before .before .before .before .before .before .before .before .before .before .before .before .before .before .args .before) _ (c .before .before .before .before .before .before .before .before .before .before .before .before .before .before .before .before .open-split .ensures) _ (c .before .before .before .before .before .before .before .before .before .before .before .before .before .before .g .given .1) _ (c .before .before .before .before .before .before .before .before .divide .ensures) (c .if1 .taken)
+returns c = entry-broken _ (c .before .before .before .before .before .before .before .before .before .before .before .before .before .before .before .before .before .before .before .before .before .before .args .at) (c .before .before .before .before .before .before .before .before .before .before .before .before .before .before .before .before .before .before .before .before .before .before .args .lengths) (c .before .before .before .before .before .before .before .before .before .before .before .before .before .before .before .before .before .before .before .before .before .before .args .before) _ (c .before .before .before .before .before .before .before .before .before .before .before .before .before .before .before .open-split .ensures) _ (c .before .before .before .before .before .before .before .before .before .before .before .before .before .g .given .1) _ (c .before .before .before .before .before .before .before .before .divide .ensures) (c .if1 .taken)
 
 divided-at-requires : tie.Need-divided-at-requires
-divided-at-requires c κs = answer-in _ (c .before .before .before .before .before .before .before .before .before .before .before .before .before .before .before .before .before .before .before .before .before .before .before .before .before .args .at) (c .before .before .before .before .before .before .before .before .before .before .before .before .before .before .before .before .before .before .before .before .before .before .before .before .before .args .lengths) (c .before .before .before .before .before .before .before .before .before .before .before .before .before .before .before .before .before .before .before .before .before .before .before .before .before .args .before) _ (c .before .before .before .before .before .before .before .before .before .before .before .before .before .before .before .before .before .before .open-split .ensures) _ (c .before .before .before .before .before .before .before .before .before .before .before .before .before .before .before .before .g .given .1) _ (c .before .before .before .before .before .before .before .before .before .before .divide .ensures) (c .before .before .if1 .left)
+divided-at-requires c κs = answer-in _ (c .before .before .before .before .before .before .before .before .before .before .before .before .before .before .before .before .before .before .before .before .before .before .before .before .args .at) (c .before .before .before .before .before .before .before .before .before .before .before .before .before .before .before .before .before .before .before .before .before .before .before .before .args .lengths) (c .before .before .before .before .before .before .before .before .before .before .before .before .before .before .before .before .before .before .before .before .before .before .before .before .args .before) _ (c .before .before .before .before .before .before .before .before .before .before .before .before .before .before .before .before .before .open-split .ensures) _ (c .before .before .before .before .before .before .before .before .before .before .before .before .before .before .before .g .given .1) _ (c .before .before .before .before .before .before .before .before .before .before .divide .ensures) (c .before .before .if1 .left)
 
 same-length-4 : tie.Need-same-length-4
 same-length-4 c = search needs
@@ -56,7 +53,7 @@ same-length-9 : tie.Need-same-length-9
 same-length-9 c = search needs
 
 returns-3 : tie.Need-returns-3
-returns-3 c = entry-whole _ (c .before .before .before .before .before .before .before .before .before .before .before .before .before .before .before .before .before .before .before .before .before .before .before .before .before .before .args .at) (c .before .before .before .before .before .before .before .before .before .before .before .before .before .before .before .before .before .before .before .before .before .before .before .before .before .before .args .lengths) (c .before .before .before .before .before .before .before .before .before .before .before .before .before .before .before .before .before .before .before .before .before .before .before .before .before .before .args .before) _ (c .before .before .before .before .before .before .before .before .before .before .before .before .before .before .before .before .before .before .before .open-split .ensures) _ (c .before .before .before .before .before .before .before .before .before .before .before .before .before .before .before .before .before .g .given .1) _ (c .before .before .before .before .before .before .before .before .before .before .before .divide .ensures) (c .before .before .before .if1 .left) _ (c .divided-at .ensures)
+returns-3 c = entry-whole _ (c .before .before .before .before .before .before .before .before .before .before .before .before .before .before .before .before .before .before .before .before .before .before .before .before .before .args .at) (c .before .before .before .before .before .before .before .before .before .before .before .before .before .before .before .before .before .before .before .before .before .before .before .before .before .args .lengths) (c .before .before .before .before .before .before .before .before .before .before .before .before .before .before .before .before .before .before .before .before .before .before .before .before .before .args .before) _ (c .before .before .before .before .before .before .before .before .before .before .before .before .before .before .before .before .before .before .open-split .ensures) _ (c .before .before .before .before .before .before .before .before .before .before .before .before .before .before .before .before .g .given .1) _ (c .before .before .before .before .before .before .before .before .before .before .before .divide .ensures) (c .before .before .before .if1 .left) _ (c .divided-at .ensures)
 
 pub split-entry-spec : {M : Type 1} → statement M
 split-entry-spec =
@@ -65,7 +62,6 @@ split-entry-spec =
     open-split-requires
     enum-known-n
     enum-known-g
-    slice-aggregate-divide
     divide-requires
     same-length
     same-length-2

@@ -1,14 +1,31 @@
--- `place::entry::enter`: room is made and the slot put there, and the home follows; a 9 on the way is passed on.
-use native.Mathlib.Omega.{arith}
-use borrow.Author.Tests.{not-true, not-false}
-use Rattle.place.specs.Room.{putBy, least}
-use Rattle.place.proofs.EntryLaws.{entered-not, entered-none, entered-done}
+-- `place::entry::enter`: the slot that comes holds the id and the lengths, and the sizes are the same.
+use mathlib.Core.Path.{_≡_, sym, ap, _∙_}
+use mathlib.Core.List.{_∷_}
+use Rattle.model.specs.Length.{listOf}
+use Rattle.model.specs.State.{state}
+use Rattle.model.specs.Place.{Change, makeRoom, entering}
+use Rattle.model.specs.declared.shape.Shape.{Shape}
+use Rattle.model.specs.declared.head.Head.{Head}
+use Rattle.links.specs.Tops.{topOf}
+use Rattle.place.specs.Room.{counted, putBy, least}
 use borrow.Author.Needs.{needs}
 use Rattle.place.proofs.entry.enter.Statement.{statement}
 use Rattle.place.proofs.entry.enter.Tie as tie
 
-make-room-requires : tie.Need-make-room-requires
-make-room-requires c κs = search needs
+-- what the entry leaves by such sizes
+abbrev entered : tie.Start → Head → Shape → Change
+entered a h g =
+    entering g (λ j. putBy (a .args .split) (a .args .before) j (a .args .entries ∷ listOf (a .args .lengths))) (least (a .args .split))
+    (makeRoom g (state (counted (a .args .used) (topOf (a .args .t)) (a .args .entries) h) (a .args .leaves .now) (a .args .inners .now) (a .args .homes .now)) (a .args .k) (a .args .i))
+
+fixed-requires : tie.Need-fixed-requires
+fixed-requires c κs = c .before .before .before .pre .6
+
+slice-aggregate-enter-slot : tie.Need-slice-aggregate-enter-slot
+slice-aggregate-enter-slot c = search needs
+
+enter-slot-requires : tie.Need-enter-slot-requires
+enter-slot-requires c κs = rw (c .before .before .before .before .fixed .ensures) (c .before .before .before .before .before .before .before .before .pre .0, c .before .before .before .before .before .before .before .before .pre .1, c .before .before .before .before .before .before .before .before .pre .2, c .before .before .before .before .before .before .before .before .pre .3, c .before .before .before .before .before .before .before .before .pre .4, c .before .before .before .before .before .before .before .before .pre .5, sym (c .before .before .before .before .before .before .before .before .pre .6))
 
 same-length : tie.Need-same-length
 same-length c = search needs
@@ -20,62 +37,16 @@ same-length-3 : tie.Need-same-length-3
 same-length-3 c = search needs
 
 returns : tie.Need-returns
-returns c = λ h. entered-not (c .before .before .before .before .before .before .before .before .before .before .before .before .before .before .before .before .args .g) (λ j. putBy (c .before .before .before .before .before .before .before .before .before .before .before .before .before .before .before .before .args .split) (c .before .before .before .before .before .before .before .before .before .before .before .before .before .before .before .before .args .before) j (c .before .before .before .before .before .before .before .before .before .before .before .before .before .before .before .before .args .x .now)) (least (c .before .before .before .before .before .before .before .before .before .before .before .before .before .before .before .before .args .split)) _ _ h _ _ _ _ (c .before .before .before .before .before .before .before .before .make-room .ensures h) (c .if1 .taken)
-
-put-slot-requires : tie.Need-put-slot-requires
-put-slot-requires c κs = (record { shaped = c .before .before .before .before .before .before .before .before .before .before .before .before .before .before .before .before .before .before .pre .0 .shaped; room = omega (arith, c .before .before .before .before .before .before .before .before .before .before .before .before .before .before .before .before .before .before .pre .0 .leaves, c .before .before .before .before .before .before .before .before .before .before .make-room .kept .0) }, c .before .before .before .before .before .before .before .before .before .before .before .before .before .before .before .before .before .before .pre .6)
-
-astray-requires : tie.Need-astray-requires
-astray-requires c κs = search needs
-
-same-length-4 : tie.Need-same-length-4
-same-length-4 c = search needs
-
-same-length-5 : tie.Need-same-length-5
-same-length-5 c = search needs
-
-same-length-6 : tie.Need-same-length-6
-same-length-6 c = search needs
-
-returns-2 : tie.Need-returns-2
-returns-2 c = λ h. entered-none (c .before .before .before .before .before .before .before .before .before .before .before .before .before .before .before .before .before .before .before .before .before .before .before .args .g) (λ j. putBy (c .before .before .before .before .before .before .before .before .before .before .before .before .before .before .before .before .before .before .before .before .before .before .before .args .split) (c .before .before .before .before .before .before .before .before .before .before .before .before .before .before .before .before .before .before .before .before .before .before .before .args .before) j (c .before .before .before .before .before .before .before .before .before .before .before .before .before .before .before .before .before .before .before .before .before .before .before .args .x .now)) (least (c .before .before .before .before .before .before .before .before .before .before .before .before .before .before .before .before .before .before .before .before .before .before .before .args .split)) _ _ h _ _ _ _ (c .before .before .before .before .before .before .before .before .before .before .before .before .before .before .before .make-room .ensures h) (c .before .before .before .before .before .before .before .if1 .left) _ _ (c .before .before .before .before .put-slot .ensures) (not-true _ (c .before .if2 .taken)) _ (c .astray .ensures)
-
-mul-homes : tie.Need-mul-homes
-mul-homes c = omega (arith, c .before .before .before .before .before .before .before .before .before .before .before .before .before .before .before .before .before .before .before .before .before .before .good)
-
-slice-write-homes : tie.Need-slice-write-homes
-slice-write-homes c = search needs
-
-same-length-7 : tie.Need-same-length-7
-same-length-7 c = search needs
-
-same-length-8 : tie.Need-same-length-8
-same-length-8 c = search needs
-
-same-length-9 : tie.Need-same-length-9
-same-length-9 c = search needs
-
-returns-3 : tie.Need-returns-3
-returns-3 c = λ h. entered-done (c .before .before .before .before .before .before .before .before .before .before .before .before .before .before .before .before .before .before .before .before .before .before .args .g) (λ j. putBy (c .before .before .before .before .before .before .before .before .before .before .before .before .before .before .before .before .before .before .before .before .before .before .args .split) (c .before .before .before .before .before .before .before .before .before .before .before .before .before .before .before .before .before .before .before .before .before .before .args .before) j (c .before .before .before .before .before .before .before .before .before .before .before .before .before .before .before .before .before .before .before .before .before .before .args .x .now)) (least (c .before .before .before .before .before .before .before .before .before .before .before .before .before .before .before .before .before .before .before .before .before .before .args .split)) _ _ h _ _ _ _ (c .before .before .before .before .before .before .before .before .before .before .before .before .before .before .make-room .ensures h) (c .before .before .before .before .before .before .if1 .left) _ _ (c .before .before .before .put-slot .ensures) (not-false _ (c .if2 .left))
+returns c = λ h. c .before .before .before .before .before .before .enter-slot .ensures h ∙ ap (entered (c .before .before .before .before .before .before .before .before .before .before .before .before .before .before .before) h) (c .before .before .before .before .before .before .before .before .before .before .before .fixed .ensures)
 
 pub enter-spec : {M : Type 1} → statement M
 enter-spec =
     tie.close
     (tie.spec
-    make-room-requires
+    fixed-requires
+    slice-aggregate-enter-slot
+    enter-slot-requires
     same-length
     same-length-2
     same-length-3
-    returns
-    put-slot-requires
-    astray-requires
-    same-length-4
-    same-length-5
-    same-length-6
-    returns-2
-    mul-homes
-    slice-write-homes
-    same-length-7
-    same-length-8
-    same-length-9
-    returns-3)
+    returns)

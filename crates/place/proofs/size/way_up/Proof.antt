@@ -1,45 +1,71 @@
 -- `place::size::way_up`: summed it is the climb, and without the sum the walk leaves what the climb leaves.
+use mathlib.Core.Path.{_≡_, ap, _∙_}
+use mathlib.Core.Bool.{Bool}
+use mathlib.Core.List.{List}
+use Prim.Native.Nat.{ℕ}
+use native.Mathlib.Omega.{arith}
 use borrow.Author.Needs.{needs}
 use borrow.Author.Tests.{not-true, not-false}
 use Rattle.model.specs.Length.{listOf}
+use Rattle.model.specs.Node.{start}
+use Rattle.model.specs.State.{nodeAt}
+use Rattle.model.specs.Climb.{climbUp}
+use Rattle.model.specs.declared.shape.Shape.{Shape}
+use Rattle.model.specs.declared.way.Sum.{Sum}
+use Rattle.walk.specs.Raise.{raiseUp}
 use Rattle.place.proofs.SizeLaws.{summed-way, lost-way, whole-way}
 use Rattle.place.proofs.size.way_up.Statement.{statement}
 use Rattle.place.proofs.size.way_up.Tie as tie
+
+-- the two ways up by such sizes
+abbrev climbed : tie.Start → Shape → Sum × List ℕ
+climbed a g =
+    let m = nodeAt g (a .args .k) (a .args .leaves .now) in
+    climbUp g 1 (listOf (a .args .delta)) (a .args .levels) (m .parent) (m .at) (start 1 (a .args .i) m) (a .args .inners .now)
+
+abbrev raised : tie.Start → Shape → Bool × List ℕ
+raised a g =
+    let m = nodeAt g (a .args .k) (a .args .leaves .now) in
+    raiseUp g (listOf (a .args .delta)) (a .args .levels) (m .parent) (m .at) (a .args .inners .now)
+
+fixed-requires : tie.Need-fixed-requires
+fixed-requires c κs = c .before .before .pre .2
 
 slice-aggregate-climb : tie.Need-slice-aggregate-climb
 slice-aggregate-climb c = search needs
 
 climb-requires : tie.Need-climb-requires
-climb-requires c κs = search needs
+climb-requires c κs = rw (c .before .before .before .fixed .ensures) (c .before .before .before .before .before .before .pre .0, c .before .before .before .before .before .before .pre .1, omega (arith, c .before .before .before .before .before .before .pre .2), omega (arith, c .before .before .before .before .before .before .pre .2), c .before .before .before .before .before .before .pre .3, c .before .before .before .before .before .before .pre .4, c .before .before .before .before .before .before .pre .5)
 
 same-length : tie.Need-same-length
 same-length c = search needs
 
 returns : tie.Need-returns
-returns c = summed-way _ _ _ (c .before .before .before .before .before .if1 .taken) (c .before .before .climb .ensures)
+returns c = summed-way _ _ _ (c .before .before .before .before .before .if1 .taken) (c .before .before .climb .ensures ∙ ap (climbed (c .before .before .before .before .before .before .before .before .before)) (c .before .before .before .before .before .before .fixed .ensures))
 
 slice-aggregate-add-to-ancestors : tie.Need-slice-aggregate-add-to-ancestors
 slice-aggregate-add-to-ancestors c = search needs
 
 add-to-ancestors-requires : tie.Need-add-to-ancestors-requires
-add-to-ancestors-requires c κs = search needs
+add-to-ancestors-requires c κs = rw (c .before .before .before .fixed .ensures) (c .before .before .before .before .before .before .pre .0, c .before .before .before .before .before .before .pre .1, omega (arith, c .before .before .before .before .before .before .pre .2), c .before .before .before .before .before .before .pre .4)
 
 same-length-2 : tie.Need-same-length-2
 same-length-2 c = search needs
 
 returns-2 : tie.Need-returns-2
-returns-2 c = lost-way _ _ (c .before .before .before .before .before .before .if1 .left) _ (c .before .before .before .before .before .before .before .before .before .args .g) 1 (listOf (c .before .before .before .before .before .before .before .before .before .args .delta)) _ _ _ _ _ (c .before .before .before .add-to-ancestors .ensures) (not-true _ (c .if2 .taken))
+returns-2 c = lost-way _ _ (c .before .before .before .before .before .before .if1 .left) _ (c .before .before .before .before .before .before .before .before .before .before .args .g) 1 (listOf (c .before .before .before .before .before .before .before .before .before .before .args .delta)) _ _ _ _ _ (c .before .before .before .add-to-ancestors .ensures ∙ ap (raised (c .before .before .before .before .before .before .before .before .before .before)) (c .before .before .before .before .before .before .before .fixed .ensures)) (not-true _ (c .if2 .taken))
 
 same-length-3 : tie.Need-same-length-3
 same-length-3 c = search needs
 
 returns-3 : tie.Need-returns-3
-returns-3 c = whole-way _ _ (c .before .before .before .before .before .before .if1 .left) _ (c .before .before .before .before .before .before .before .before .before .args .g) 1 (listOf (c .before .before .before .before .before .before .before .before .before .args .delta)) _ _ _ _ _ (c .before .before .before .add-to-ancestors .ensures) (not-false _ (c .if2 .left))
+returns-3 c = whole-way _ _ (c .before .before .before .before .before .before .if1 .left) _ (c .before .before .before .before .before .before .before .before .before .before .args .g) 1 (listOf (c .before .before .before .before .before .before .before .before .before .before .args .delta)) _ _ _ _ _ (c .before .before .before .add-to-ancestors .ensures ∙ ap (raised (c .before .before .before .before .before .before .before .before .before .before)) (c .before .before .before .before .before .before .before .fixed .ensures)) (not-false _ (c .if2 .left))
 
 pub way-up-spec : {M : Type 1} → statement M
 way-up-spec =
     tie.close
     (tie.spec
+    fixed-requires
     slice-aggregate-climb
     climb-requires
     same-length
