@@ -3,9 +3,8 @@
 
 use beside::lists::{make, play_at_each_fan, runs};
 use oracle::coverage::Coverage;
-use oracle::patterns::{all_kinds, around_a_split, every_short_list, fill, movers};
+use oracle::patterns::{all_kinds, around_a_split, deep, every_short_list, fill, movers};
 use oracle::record::Record;
-use oracle::state::NONE;
 
 /// A debug build plays fewer.
 const SCALE: u64 = if cfg!(debug_assertions) { 1 } else { 10 };
@@ -68,21 +67,7 @@ fn every_small_limit_is_filled_and_passed_by_nothing() {
     println!("limits 1 to {}: {calls} calls", 10 * SCALE);
 }
 
-/// Entries at the end only, so that every node but the last of its level is left half full: fourteen levels at the full limit.
 #[test]
 fn a_deep_tree() {
-    let limit = if SCALE == 1 { 2_048 } else { 8_192 };
-    let mut driver = make::<4>(0)(limit, [1, 1]);
-    while driver.row.count() < limit {
-        let last = driver.row.count() - 1;
-        driver.play(Record::new(3, 0, NONE, last % 3, 1)).unwrap();
-        if last.is_multiple_of(16) {
-            driver.play(Record::new(10, 0, last / 2, last, 0)).unwrap();
-        }
-    }
-    driver.play(Record::new(3, 0, NONE, 0, 0)).unwrap();
-    driver.check().unwrap();
-    let met = &driver.coverage;
-    println!("fan 4, limit {limit}: {} calls, {} levels", met.calls(), met.most_levels);
-    assert_eq!(met.refused[8], 1);
+    deep(if SCALE == 1 { 2_048 } else { 8_192 }, make::<4>(0));
 }

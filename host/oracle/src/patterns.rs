@@ -159,3 +159,22 @@ pub fn fill<S: Subject>(limit: u32, way: u8, make: impl Fn(u32, [u32; 2]) -> Dri
     assert_eq!(met.refused[8], 1);
     met
 }
+
+/// Fills a tree at the end only, so that every node but the last of its level is left half full, with a comparison now and then;
+/// one more is 8.
+pub fn deep<S: Subject>(limit: u32, make: impl Fn(u32, [u32; 2]) -> Driver<S>) -> Coverage {
+    let mut driver = make(limit, [1, 1]);
+    while driver.row.count() < limit {
+        let last = driver.row.count() - 1;
+        driver.play(record(3, 0, NONE, last % 3, 1)).unwrap();
+        if last.is_multiple_of(16) {
+            driver.play(record(10, 0, last / 2, last, 0)).unwrap();
+        }
+    }
+    driver.play(record(3, 0, NONE, 0, 0)).unwrap();
+    driver.check().unwrap();
+    let met = driver.coverage;
+    println!("limit {limit}, filled at the end: {} calls, {} levels", met.calls(), met.most_levels);
+    assert_eq!(met.refused[8], 1);
+    met
+}

@@ -1,10 +1,8 @@
 //! Two patterns that random lists meet too seldom: a leaf split under the finger, and a deep tree.
 
 use oracle::driver::Driver;
-use oracle::patterns::{around_a_split, fill};
-use oracle::record::Record;
+use oracle::patterns::{around_a_split, deep, fill};
 use oracle::rust::Rust;
-use oracle::state::NONE;
 
 fn make<const N: usize>(check_every: u64) -> impl Fn(u32, [u32; 2]) -> Driver<Rust<N>> {
     move |limit, first| Driver::<Rust<N>>::make(limit, first, check_every)
@@ -18,22 +16,10 @@ fn lookup_then_split_of_that_leaf_then_lookup_close_by() {
     around_a_split(32, make::<32>(4));
 }
 
-/// Entries at the end only, so that every node but the last of its level is left half full.
 #[test]
 fn a_deep_tree_within_a_limit() {
-    let mut driver = Driver::<Rust<4>>::make(65_536, [1, 1], 0);
-    while driver.row.count() < 65_536 {
-        let last = driver.row.count() - 1;
-        driver.play(Record::new(3, 0, NONE, last % 3, 1)).unwrap();
-        if last.is_multiple_of(16) {
-            driver.play(Record::new(10, 0, last / 2, last, 0)).unwrap();
-        }
-    }
-    driver.play(Record::new(3, 0, NONE, 0, 0)).unwrap();
-    driver.check().unwrap();
-    let met = &driver.coverage;
-    println!("fan 4, limit 65,536: {} calls, {} levels, number 8 once", met.calls(), met.most_levels);
-    assert_eq!((met.calls(), met.most_levels, met.refused[8]), (69_632, 14, 1));
+    let met = deep(65_536, make::<4>(0));
+    assert_eq!((met.calls(), met.most_levels), (69_632, 14));
 }
 
 /// The audit after every call shows that the nodes in use stay within what the limit needs.
