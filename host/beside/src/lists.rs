@@ -60,16 +60,11 @@ pub fn play<const N: usize>(run: Run, seed: u64) -> Coverage {
     met
 }
 
-/// Plays a run at each fan. It must meet all of the finger's ways and splits of leaves and inner nodes.
-pub fn play_at_each_fan(run: Run, seed: u64) -> Coverage {
-    let mut met = Coverage::default();
-    let at_fans =
-        [(4, play::<4>(run, seed)), (5, play::<5>(run, seed)), (8, play::<8>(run, seed)), (32, play::<32>(run, seed))];
-    for (fan, at_fan) in at_fans {
-        println!("{}, fan {fan}: {} calls, {at_fan:?}", run.name, at_fan.calls());
-        assert!(at_fan.finger_whole() && at_fan.leaf_splits > 0 && at_fan.leaf_split_under_finger > 0);
-        met += &at_fan;
+/// Plays a run at fans 4, 5, 8 and 32.
+pub fn play_at_each_fan(run: Run, seed: u64) -> [Coverage; 4] {
+    let at_fans = [play::<4>(run, seed), play::<5>(run, seed), play::<8>(run, seed), play::<32>(run, seed)];
+    for (fan, met) in [4, 5, 8, 32].into_iter().zip(&at_fans) {
+        println!("{}, fan {fan}: {} calls, {met:?}", run.name, met.calls());
     }
-    assert!(met.root_growths > 0 && met.inner_splits > met.root_growths);
-    met
+    at_fans
 }

@@ -12,11 +12,22 @@ const SCALE: u64 = if cfg!(debug_assertions) { 1 } else { 10 };
 /// Lists of each run at each fan: six are enough for every run to meet all of the finger's ways.
 const LISTS: u64 = if cfg!(debug_assertions) { 6 } else { 20 };
 
+/// Every run meets all of the finger's ways at every fan, and splits of leaves and inner nodes.
 #[test]
 fn random_lists() {
     let mut met = Coverage::default();
     for run in runs(LISTS) {
-        met += &play_at_each_fan(run, 0);
+        let mut of_run = Coverage::default();
+        for at_fan in &play_at_each_fan(run, 0) {
+            assert!(
+                at_fan.finger_whole() && at_fan.leaf_splits > 0 && at_fan.leaf_split_under_finger > 0,
+                "{}",
+                run.name
+            );
+            of_run += at_fan;
+        }
+        assert!(of_run.root_growths > 0 && of_run.inner_splits > of_run.root_growths, "{}", run.name);
+        met += &of_run;
     }
     println!("random lists: {} calls, {met:?}", met.calls());
     assert_eq!(met.calls(), 5 * 4 * LISTS * 5_000);
