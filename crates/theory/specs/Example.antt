@@ -81,7 +81,7 @@ audited-start = audit-exactly start .1 sound-start
 -- one leaf, one inner node, fan 4 and one level
 pub steps-start : steps start ≤ 22 * (2 * 4 * 1)
 unfolding make begun refusal
-steps-start = audit-steps start (omega arith) (omega arith)
+steps-start = audit-steps start (omega arith) (omega arith) (omega arith) (omega arith)
 
 -- and its entry has a cursor, at which next and split_entry can start
 pub cursor-start : StandsAt start (cursor start 0) 0

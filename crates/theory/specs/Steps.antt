@@ -7,14 +7,13 @@ use Prim.Native.Nat.{ℕ, _+_, _*_, _-_, _≤_}
 use native.Mathlib.Omega.{arith}
 use lib.Dec.{ltb, leb, eqb}
 use lib.ListN.{getD}
-use borrow.Author.Tests.{leb-true, ltb-true}
+use borrow.Author.Tests.{leb-true}
 use Rattle.model.specs.Lists.{sumBy, range}
 use Rattle.model.specs.Node.{Node, child}
 use Rattle.model.specs.State.{State}
 use Rattle.model.specs.Sound.{leafIn, innerIn}
-use Rattle.model.specs.Refuse.{stride, shapeOf}
+use Rattle.model.specs.Refuse.{stride}
 use Rattle.model.specs.Audit.{depthOf}
-use Rattle.theory.specs.Tests.{both}
 use Rattle.theory.specs.StepsLaws.{sum-le, sum-plus, sum-same, parents, places, half-square, all-most}
 
 module _ (t : State) where
@@ -40,18 +39,11 @@ module _ (t : State) where
       let n = leafIn stride t k in
       h .fan - n .len + 2 + (h .levels + 1) + cond (leb (n .len) (h .fan)) (sumBy (λ i. 2 + i) (range 0 (n .len))) 0
 
-  -- the tests of the head that isSound begins with
-  abbrev pub areCounts : Bool
-  areCounts =
-      let h = t .head in
-      let g = shapeOf h in
-      leb (h .entries) (h .limit) && leb (h .leaves) (g .nodes) && leb (h .inners) (g .nodes) && leb 1 (h .levels) && leb (h .levels) 15 && ltb (h .root .0) (h .inners)
-
-  -- nothing if the head's counts are wrong; else every node in use, the slots in use counted, the root's totals, the finger's sums by two climbs and two sums in its leaf
+  -- every node in use, the slots in use counted, the root's totals, the finger's sums by two climbs and two sums in its leaf
   unfoldable pub steps : ℕ
   steps =
       let h = t .head in
-      cond areCounts (sumBy stepsInner (range 0 (h .inners)) + sumBy stepsLeaf (range 0 (h .leaves)) + h .leaves + 2 * h .fan + 2 * (h .fan + 1) * (h .levels + 1)) 0
+      sumBy stepsInner (range 0 (h .inners)) + sumBy stepsLeaf (range 0 (h .leaves)) + h .leaves + 2 * h .fan + 2 * (h .fan + 1) * (h .levels + 1)
 
   -- a child that knows its place, charged to the node that it names as its parent
   abbrev charged : (ℕ → Node) → ℕ → ℕ → ℕ
@@ -105,19 +97,9 @@ module _ (t : State) where
       let a = sum-le stepsLeaf (λ k. c) (leaf-most f) (range 0 (t .head .leaves)) in
       omega (arith, sum-same c 0 (t .head .leaves))
 
-  -- on any state with a good fan
-  pub audit-steps : 4 ≤ t .head .fan → t .head .fan ≤ 32 → steps ≤ 22 * ((t .head .leaves + t .head .inners) * t .head .fan * t .head .levels)
+  -- on any state with a good fan; without a level or an inner node audit says no before it reads one
+  pub audit-steps : 4 ≤ t .head .fan → t .head .fan ≤ 32 → 1 ≤ t .head .levels → 1 ≤ t .head .inners → steps ≤ 22 * ((t .head .leaves + t .head .inners) * t .head .fan * t .head .levels)
   unfolding steps
-  audit-steps lo hi = go areCounts refl
-    where
-      go : (b : Bool) → areCounts ≡ b
-          → cond b (sumBy stepsInner (range 0 (t .head .inners)) + sumBy stepsLeaf (range 0 (t .head .leaves)) + t .head .leaves + 2 * t .head .fan + 2 * (t .head .fan + 1) * (t .head .levels + 1)) 0
-          ≤ 22 * ((t .head .leaves + t .head .inners) * t .head .fan * t .head .levels)
-      go true e =
-          let h = t .head in
-          let a : Bool = leb (h .entries) (h .limit) && leb (h .leaves) (shapeOf h .nodes) && leb (h .inners) (shapeOf h .nodes) in
-          let r = both (a && leb 1 (h .levels) && leb (h .levels) 15) (ltb (h .root .0) (h .inners)) e in
-          let l = both a (leb 1 (h .levels)) (both (a && leb 1 (h .levels)) (leb (h .levels) 15) (r .0) .0) in
-          all-most (h .fan) (h .levels) (h .inners) (h .leaves) (sumBy stepsInner (range 0 (h .inners))) (sumBy stepsLeaf (range 0 (h .leaves))) lo (leb-true 1 (h .levels) (l .1)) (let z = ltb-true (h .root .0) (h .inners) (r .1) in omega arith)
-          inners-most (leaves-most hi)
-      go false e = omega arith
+  audit-steps lo hi deep some =
+      let h = t .head in
+      all-most (h .fan) (h .levels) (h .inners) (h .leaves) (sumBy stepsInner (range 0 (h .inners))) (sumBy stepsLeaf (range 0 (h .leaves))) lo deep some inners-most (leaves-most hi)
