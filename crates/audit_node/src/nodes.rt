@@ -7,7 +7,7 @@ use model::head::Head;
 use model::shape::Shape;
 ghost use mathlib.Core.Path.{_≡_};
 ghost use mathlib.Core.List.{[]};
-ghost use Prim.Native.Nat.{_+_, _-_, _<_, _≤_};
+ghost use Prim.Native.Nat.{_+_, _-_, _<_};
 ghost use lib.ListN.{length, getD};
 ghost use Rattle.model.specs.Node.{total, used, start};
 ghost use Rattle.model.specs.State.{state, nodeAt};

@@ -1,7 +1,6 @@
 -- `audit_node::nodes::start_any`: past the last slot all lengths are summed.
 use mathlib.Core.Path.{_∙_}
 use native.Mathlib.Omega.{arith}
-use borrow.Author.Needs.{needs}
 use Rattle.audit_node.proofs.AreaLaws.{start-over}
 use Rattle.audit_node.proofs.nodes.start_any.Statement.{statement}
 use Rattle.audit_node.proofs.nodes.start_any.Tie as tie

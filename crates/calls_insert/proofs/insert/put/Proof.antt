@@ -1,5 +1,5 @@
 -- `calls_insert::insert::put`: the slot aimed at, and the entry placed there; a 9 on the way is passed on.
-use mathlib.Core.Path.{_≡_, ap}
+use mathlib.Core.Path.{ap}
 use native.Mathlib.Omega.{arith}
 use Rattle.model.specs.State.{State, state}
 use Rattle.model.specs.declared.shape.Shape.{Shape}

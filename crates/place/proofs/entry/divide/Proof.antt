@@ -1,5 +1,5 @@
 -- `place::entry::divide`: the entry comes with the head's own counts, and the head follows.
-use mathlib.Core.Path.{_≡_, ap, _∙_}
+use mathlib.Core.Path.{ap, _∙_}
 use mathlib.Core.List.{_∷_}
 use native.Mathlib.Omega.{arith}
 use Rattle.model.specs.Length.{listOf}

@@ -1,5 +1,5 @@
 -- `place::entry::enter`: the slot that comes holds the id and the lengths, and the sizes are the same.
-use mathlib.Core.Path.{_≡_, sym, ap, _∙_}
+use mathlib.Core.Path.{sym, ap, _∙_}
 use mathlib.Core.List.{_∷_}
 use Rattle.model.specs.Length.{listOf}
 use Rattle.model.specs.State.{state}

@@ -1,5 +1,5 @@
 -- `place::size::way_up`: summed it is the climb, and without the sum the walk leaves what the climb leaves.
-use mathlib.Core.Path.{_≡_, ap, _∙_}
+use mathlib.Core.Path.{ap, _∙_}
 use mathlib.Core.Bool.{Bool}
 use mathlib.Core.List.{List}
 use Prim.Native.Nat.{ℕ}
