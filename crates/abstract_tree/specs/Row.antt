@@ -6,7 +6,8 @@ use Prim.Native.Nat.{ℕ, _+_, _-_, _≤_, _<_}
 use native.Mathlib.Omega.{arith}
 use borrow.Author.Tests.{eq-eqb, ne-eqb, lt-ltb, le-ltb, le-leb}
 use Rattle.model.specs.Lists.{sumBy, All}
-use Rattle.model.specs.Row.{Entry, before, from, found, lengthIn, total, effect, done, refused}
+use Rattle.model.specs.declared.shape.Kind.{Kind}
+use Rattle.model.specs.Row.{Entry, before, from, found, lengthIn, total, done, refused}
 
 abbrev pub Without : ℕ → List Entry → Type 0
 Without i l = All (λ x. x .id ≢ i) l
@@ -33,21 +34,21 @@ module _ (i : ℕ) where
   from-end [] w = refl
   from-end (x ∷ l) w = rw (ne-eqb (x .id) i (w .0)) (from-end l (w .1))
 
-module _ (v index : ℕ) where
+module _ (K : Kind) (v index : ℕ) where
   -- the entry that holds the index
   pub found-at : (s f : ℕ) (l : List Entry) (e : Entry) (m : List Entry) (offset : ℕ) → s + total v l + offset ≡ index → offset < lengthIn v e
-      → found v index s f (l ++ e ∷ m) ≡ done (e .id ∷ offset ∷ (f + total effect l) ∷ [])
+      → found K v index s f (l ++ e ∷ m) ≡ done (e .id ∷ offset ∷ (f + total (K .effect) l) ∷ [])
   unfolding found sumBy
   found-at s f [] e m offset q lt =
       let a : index - s ≡ offset = omega arith in
       let b : f ≡ f + 0 = omega arith in
       rw (le-leb s index (omega arith), lt-ltb index (s + lengthIn v e) (omega arith), a, ← b)
   found-at s f (x ∷ l) e m offset q lt =
-      let a : f + lengthIn effect x + sumBy (lengthIn effect) l ≡ f + (lengthIn effect x + sumBy (lengthIn effect) l) = omega arith in
-      rw (le-leb s index (omega arith), le-ltb index (s + lengthIn v x) (omega arith), ← a) (found-at (s + lengthIn v x) (f + lengthIn effect x) l e m offset (omega arith) lt)
+      let a : f + lengthIn (K .effect) x + sumBy (lengthIn (K .effect)) l ≡ f + (lengthIn (K .effect) x + sumBy (lengthIn (K .effect)) l) = omega arith in
+      rw (le-leb s index (omega arith), le-ltb index (s + lengthIn v x) (omega arith), ← a) (found-at (s + lengthIn v x) (f + lengthIn (K .effect) x) l e m offset (omega arith) lt)
 
   -- no entry holds it
-  pub found-past : (s f : ℕ) (l : List Entry) → s + total v l ≤ index → found v index s f l ≡ refused 5
+  pub found-past : (s f : ℕ) (l : List Entry) → s + total v l ≤ index → found K v index s f l ≡ refused 5
   unfolding found sumBy
   found-past s f [] h = refl
-  found-past s f (x ∷ l) h = rw (le-leb s index (omega arith), le-ltb index (s + lengthIn v x) (omega arith)) (found-past (s + lengthIn v x) (f + lengthIn effect x) l (omega arith))
+  found-past s f (x ∷ l) h = rw (le-leb s index (omega arith), le-ltb index (s + lengthIn v x) (omega arith)) (found-past (s + lengthIn v x) (f + lengthIn (K .effect) x) l (omega arith))

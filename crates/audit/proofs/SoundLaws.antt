@@ -7,10 +7,11 @@ use native.Mathlib.Nat.{lt-of-lt-of-le, le-trans}
 use lib.ListN.{length}
 use lib.Dec.{ltb, leb, eqb}
 use borrow.Author.Tests.{eq-eqb, ne-eqb, leb-true, ltb-true, not-true, not-false}
+use Rattle.model.specs.Kind.{base}
 use Rattle.model.specs.Lists.{sumBy, range}
 use Rattle.model.specs.Node.{total, used}
 use Rattle.model.specs.State.{State, state, nodeAt, shape}
-use Rattle.model.specs.Refuse.{stride, shapeOf}
+use Rattle.model.specs.Refuse.{shapeOf}
 use Rattle.model.specs.Calls.{makeCauses}
 use Rattle.model.specs.Audit.{every, inViews, isInner, isLeaf, isFinger, isHeldFinger, isSound, audit}
 use Rattle.model.specs.declared.shape.Shape.{Shape}
@@ -58,7 +59,7 @@ module _ (h : Head) (g : Shape) (e : countsBy h g ≡ true) where
   to-second : second ≡ true
   to-second = and-true second (leb (h .inners) (g .nodes)) to-third .0
 
-  pub known : (n m : ℕ) → g ≡ shapeOf h → Area g n → Area g m → Known h g n m
+  pub known : (n m : ℕ) → g ≡ shapeOf base h → Area g n → Area g m → Known h g n m
   known n m same ls xs =
       record {
         same = same;
@@ -77,12 +78,12 @@ module _ (h : Head) (g : Shape) (e : countsBy h g ≡ true) where
 
 -- homes play no part in the tests of inner nodes and finger
 module _ (h : Head) (ls xs hs : List ℕ) where
-  inner-homes : (k : ℕ) → isInner (state h ls xs []) k ≡ isInner (state h ls xs hs) k
-  inner-homes k = sym (inner-by h ls xs [] (shapeOf h) refl k _ refl) ∙ inner-by h ls xs hs (shapeOf h) refl k _ refl
+  inner-homes : (k : ℕ) → isInner base (state h ls xs []) k ≡ isInner base (state h ls xs hs) k
+  inner-homes k = sym (inner-by h ls xs [] (shapeOf base h) refl k _ refl) ∙ inner-by h ls xs hs (shapeOf base h) refl k _ refl
 
-  finger-homes : (f : Held) → isHeldFinger (state h ls xs []) f ≡ isHeldFinger (state h ls xs hs) f
+  finger-homes : (f : Held) → isHeldFinger base (state h ls xs []) f ≡ isHeldFinger base (state h ls xs hs) f
   finger-homes held.Absent = refl
-  finger-homes (held.At f) = finger-by h ls xs [] f (shapeOf h) refl ∙ sym (finger-by h ls xs hs f (shapeOf h) refl)
+  finger-homes (held.At f) = finger-by h ls xs [] f (shapeOf base h) refl ∙ sym (finger-by h ls xs hs f (shapeOf base h) refl)
 
   abbrev t : State
   t = state h ls xs hs
@@ -91,61 +92,61 @@ module _ (h : Head) (ls xs hs : List ℕ) where
   lensPart g = sumBy (λ k. nodeAt g k ls .len) (range 0 (h .leaves))
 
   abbrev totalsPart : Shape → Bool
-  totalsPart g = inViews (λ v. leb (total v (used (nodeAt g (h .root .0) xs))) 4294967295)
+  totalsPart g = inViews base (λ v. leb (total v (used (nodeAt g (h .root .0) xs))) 4294967295)
 
   abbrev soundBy : Shape → Bool
   soundBy g =
-      countsBy h g && every (isInner t) 0 (h .inners) && every (isLeaf t) 0 (h .leaves) && eqb (lensPart g) (h .entries) && totalsPart g && isHeldFinger t (h .finger)
+      countsBy h g && every (isInner base t) 0 (h .inners) && every (isLeaf base t) 0 (h .leaves) && eqb (lensPart g) (h .entries) && totalsPart g && isHeldFinger base t (h .finger)
 
-  whole : soundBy (shapeOf h) ≡ isSound t
+  whole : soundBy (shapeOf base h) ≡ isSound base t
   unfolding isSound
   whole = refl
 
-  module _ (g : Shape) (e : g ≡ shapeOf h) (a : Bool) (ea : a ≡ countsBy h g) where
-    sound-by : isSound t ≡ soundBy g
+  module _ (g : Shape) (e : g ≡ shapeOf base h) (a : Bool) (ea : a ≡ countsBy h g) where
+    sound-by : isSound base t ≡ soundBy g
     sound-by = sym (ap soundBy e ∙ whole)
 
-    pub sound-counts : not a ≡ true → false ≡ isSound t
+    pub sound-counts : not a ≡ true → false ≡ isSound base t
     sound-counts n = sym (rw (sym ea ∙ not-true a n) at sound-by)
 
     module _ (na : not a ≡ false) where
       pub good-counts : countsBy h g ≡ true
       good-counts = sym ea ∙ not-false a na
 
-      module _ (b : Bool) (eb : b ≡ every (isInner (state h ls xs [])) 0 (h .inners)) where
-        inner : b ≡ every (isInner t) 0 (h .inners)
-        inner = eb ∙ every-same (isInner (state h ls xs [])) (isInner t) inner-homes 0 (h .inners)
+      module _ (b : Bool) (eb : b ≡ every (isInner base (state h ls xs [])) 0 (h .inners)) where
+        inner : b ≡ every (isInner base t) 0 (h .inners)
+        inner = eb ∙ every-same (isInner base (state h ls xs [])) (isInner base t) inner-homes 0 (h .inners)
 
-        pub sound-inners : not b ≡ true → false ≡ isSound t
+        pub sound-inners : not b ≡ true → false ≡ isSound base t
         sound-inners n = sym (rw (good-counts, sym inner ∙ not-true b n) at sound-by)
 
-        module _ (nb : not b ≡ false) (c : Bool) (ec : c ≡ every (isLeaf t) 0 (h .leaves)) where
-          pub sound-leaves : not c ≡ true → false ≡ isSound t
+        module _ (nb : not b ≡ false) (c : Bool) (ec : c ≡ every (isLeaf base t) 0 (h .leaves)) where
+          pub sound-leaves : not c ≡ true → false ≡ isSound base t
           sound-leaves n = sym (rw (good-counts, sym inner ∙ not-false b nb, sym ec ∙ not-true c n) at sound-by)
 
           module _ (nc : not c ≡ false) (l : ℕ) (el : l ≡ lensPart g) where
-            pub sound-lens : (l ≡ h .entries → ⊥) → false ≡ isSound t
+            pub sound-lens : (l ≡ h .entries → ⊥) → false ≡ isSound base t
             sound-lens n = sym (rw (good-counts, sym inner ∙ not-false b nb, sym ec ∙ not-false c nc, ← el, ne-eqb l (h .entries) n) at sound-by)
 
             module _ (ql : l ≡ h .entries) (d : Bool) (ed : d ≡ totalsPart g) where
-              pub sound-totals : not d ≡ true → false ≡ isSound t
+              pub sound-totals : not d ≡ true → false ≡ isSound base t
               sound-totals n =
                   sym (rw (good-counts, sym inner ∙ not-false b nb, sym ec ∙ not-false c nc, ← el, eq-eqb l (h .entries) ql, sym ed ∙ not-true d n) at sound-by)
 
-              pub sound-finger : not d ≡ false → (r : Bool) → r ≡ isHeldFinger (state h ls xs []) (h .finger) → r ≡ isSound t
+              pub sound-finger : not d ≡ false → (r : Bool) → r ≡ isHeldFinger base (state h ls xs []) (h .finger) → r ≡ isSound base t
               sound-finger nd r er =
                   er ∙ finger-homes (h .finger)
                   ∙ sym (rw (good-counts, sym inner ∙ not-false b nb, sym ec ∙ not-false c nc, ← el, eq-eqb l (h .entries) ql, sym ed ∙ not-false d nd) at sound-by)
 
 -- what audit answers
-module _ (s : State) (o : Opened) (e : o ≡ openedBy (areasOf s) (shapeOf (s .head))) where
+module _ (s : State) (o : Opened) (e : o ≡ openedBy (areasOf s) (shapeOf base (s .head))) where
   abbrev answer : Bool → Verdict
   answer b = cond b verdict.Yes verdict.No
 
-  pub audit-refused : (n : ℕ) → o ≡ Refused n → verdict.Refused n ≡ audit s
+  pub audit-refused : (n : ℕ) → o ≡ Refused n → verdict.Refused n ≡ audit base s
   unfolding audit
-  audit-refused n d = call-refused verdict.Refused (λ (g : Shape). answer (isSound s)) _ _ o e n d
+  audit-refused n d = call-refused verdict.Refused (λ (g : Shape). answer (isSound base s)) _ _ o e n d
 
-  pub audit-good : (g : Shape) → o ≡ Good g → (b : Bool) → b ≡ isSound s → (q : Bool) → b ≡ q → answer q ≡ audit s
+  pub audit-good : (g : Shape) → o ≡ Good g → (b : Bool) → b ≡ isSound base s → (q : Bool) → b ≡ q → answer q ≡ audit base s
   unfolding audit
-  audit-good g d b eb q eq = call-good verdict.Refused (λ (x : Shape). answer (isSound s)) _ _ o e g d _ (ap answer (sym eq ∙ eb))
+  audit-good g d b eb q eq = call-good verdict.Refused (λ (x : Shape). answer (isSound base s)) _ _ o e g d _ (ap answer (sym eq ∙ eb))

@@ -20,6 +20,7 @@ ghost use mathlib.Core.List.{[]};
 ghost use Prim.Native.Nat.{_<_, _≤_};
 ghost use lib.ListN.{length};
 ghost use lib.Dec.{leb};
+ghost use Rattle.model.specs.Kind.{base};
 ghost use Rattle.model.specs.Lists.{sumBy, range};
 ghost use Rattle.model.specs.Node.{total, used};
 ghost use Rattle.model.specs.State.{state, nodeAt};
@@ -40,7 +41,7 @@ fn is_sum(n: u32, s: Sum) -> bool
 
 fn is_finger(head: Head, leaves: &[u32], inners: &[u32], g: Shape, f: Finger) -> bool
     requires { ⌜ Known head g (length (now leaves)) (length (now inners)) ⌝ }
-    ensures { λ r. ⌜ r ≡ isFinger (state head (now (leaves .entry)) (now (inners .entry)) []) f ⌝ }
+    ensures { λ r. ⌜ r ≡ isFinger base (state head (now (leaves .entry)) (now (inners .entry)) []) f ⌝ }
 {
     let view = f.view;
     let leaf = f.leaf;
@@ -73,7 +74,7 @@ fn is_finger(head: Head, leaves: &[u32], inners: &[u32], g: Shape, f: Finger) ->
 
 fn is_held_finger(head: Head, leaves: &[u32], inners: &[u32], g: Shape, held: Held) -> bool
     requires { ⌜ Known head g (length (now leaves)) (length (now inners)) ⌝ }
-    ensures { λ r. ⌜ r ≡ isHeldFinger (state head (now (leaves .entry)) (now (inners .entry)) []) held ⌝ }
+    ensures { λ r. ⌜ r ≡ isHeldFinger base (state head (now (leaves .entry)) (now (inners .entry)) []) held ⌝ }
 {
     match held {
         Held::Absent => true,
@@ -106,7 +107,7 @@ fn counts(head: Head, g: Shape) -> bool
 
 fn every_inner(head: Head, leaves: &[u32], inners: &[u32], g: Shape, count: u32) -> bool
     requires { ⌜ Known head g (length (now leaves)) (length (now inners)) × (count ≤ head .inners) ⌝ }
-    ensures { λ r. ⌜ r ≡ every (isInner (state head (now (leaves .entry)) (now (inners .entry)) [])) 0 count ⌝ }
+    ensures { λ r. ⌜ r ≡ every (isInner base (state head (now (leaves .entry)) (now (inners .entry)) [])) 0 count ⌝ }
 {
     let mut k: u32 = 0;
     while k < count {
@@ -127,7 +128,7 @@ fn every_leaf(
     count: u32,
 ) -> bool
     requires { ⌜ Known head g (length (now leaves)) (length (now inners)) × (head .entries ≤ length (now homes)) × (count ≤ head .leaves) ⌝ }
-    ensures { λ r. ⌜ r ≡ every (isLeaf (state head (now (leaves .entry)) (now (inners .entry)) (now (homes .entry)))) 0 count ⌝ }
+    ensures { λ r. ⌜ r ≡ every (isLeaf base (state head (now (leaves .entry)) (now (inners .entry)) (now (homes .entry)))) 0 count ⌝ }
 {
     let mut k: u32 = 0;
     while k < count {
@@ -156,7 +157,7 @@ fn slots_used(leaves: &[u32], g: Shape, count: u32) -> u64
 // The totals of the root within u32.
 fn totals(inners: &[u32], g: Shape, root: u32) -> bool
     requires { ⌜ Area g (length (now inners)) × (root < g .nodes) × (g .stride ≡ 3) ⌝ }
-    ensures { λ r. ⌜ r ≡ inViews (λ v. leb (total v (used (nodeAt g root (now (inners .entry))))) 4294967295) ⌝ }
+    ensures { λ r. ⌜ r ≡ inViews base (λ v. leb (total v (used (nodeAt g root (now (inners .entry))))) 4294967295) ⌝ }
 {
     if total_in(inners, g, 0, root) > 4294967295 {
         return false;
@@ -168,8 +169,8 @@ fn totals(inners: &[u32], g: Shape, root: u32) -> bool
 }
 
 fn is_sound(head: Head, leaves: &[u32], inners: &[u32], homes: &[u32], g: Shape) -> bool
-    requires { ⌜ (g ≡ shapeOf head) × Area g (length (now leaves)) × Area g (length (now inners)) × (head .limit ≤ length (now homes)) ⌝ }
-    ensures { λ r. ⌜ r ≡ isSound (state head (now (leaves .entry)) (now (inners .entry)) (now (homes .entry))) ⌝ }
+    requires { ⌜ (g ≡ shapeOf base head) × Area g (length (now leaves)) × Area g (length (now inners)) × (head .limit ≤ length (now homes)) ⌝ }
+    ensures { λ r. ⌜ r ≡ isSound base (state head (now (leaves .entry)) (now (inners .entry)) (now (homes .entry))) ⌝ }
 {
     let root = head.root.0;
     let finger = head.finger;
@@ -193,7 +194,7 @@ fn is_sound(head: Head, leaves: &[u32], inners: &[u32], homes: &[u32], g: Shape)
 
 // Whether the tree is sound.
 pub fn audit(head: Head, leaves: &[u32], inners: &[u32], homes: &[u32]) -> Verdict
-    ensures { λ r. ⌜ r ≡ audit (state head (now (leaves .entry)) (now (inners .entry)) (now (homes .entry))) ⌝ }
+    ensures { λ r. ⌜ r ≡ audit base (state head (now (leaves .entry)) (now (inners .entry)) (now (homes .entry))) ⌝ }
 {
     let fan = head.fan;
     let limit = head.limit;

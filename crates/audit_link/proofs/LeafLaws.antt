@@ -6,9 +6,10 @@ use Prim.Native.Nat.{ℕ, _<_, _≤_}
 use lib.ListN.{getD}
 use lib.Dec.{ltb, eqb}
 use borrow.Author.Tests.{lt-ltb, le-ltb, eq-eqb, ne-eqb, not-true, not-false}
+use Rattle.model.specs.Kind.{base, stride}
 use Rattle.model.specs.Node.{Node, child}
 use Rattle.model.specs.State.{state, nodeAt}
-use Rattle.model.specs.Refuse.{stride, shapeOf}
+use Rattle.model.specs.Refuse.{shapeOf}
 use Rattle.model.specs.Sound.{leastLeaf}
 use Rattle.model.specs.Audit.{every, isOther, depth, isFilled, isHeld, isEntry, isLeaf}
 use Rattle.model.specs.declared.shape.Shape.{Shape}
@@ -41,7 +42,7 @@ module _ (g : Shape) (count : ℕ) (ls hs : List ℕ) (k i id : ℕ) (e : id ≡
 -- a leaf
 module _ (h : Head) (ls xs hs : List ℕ) where
   abbrev filledPart : Shape → ℕ → Bool
-  filledPart g k = isFilled (state h [] [] []) (leastLeaf stride (state h [] [] [])) (nodeAt g k ls)
+  filledPart g k = isFilled base (state h [] [] []) (leastLeaf (stride base) (state h [] [] [])) (nodeAt g k ls)
 
   abbrev heldPart : Shape → ℕ → Bool
   heldPart g k = heldBy g (h .inners) xs k (nodeAt g k ls .parent) (nodeAt g k ls .at)
@@ -49,20 +50,20 @@ module _ (h : Head) (ls xs hs : List ℕ) where
   abbrev leafBy : Shape → ℕ → ℕ → Bool
   leafBy g d k = filledPart g k && heldPart g k && eqb d (h .levels) && every (entryBy g (h .entries) ls hs k) 0 (nodeAt g k ls .len)
 
-  whole : (k d : ℕ) → d ≡ depth (state h ls xs hs) (h .levels) (nodeAt (shapeOf h) k ls .parent) → leafBy (shapeOf h) d k ≡ isLeaf (state h ls xs hs) k
+  whole : (k d : ℕ) → d ≡ depth base (state h ls xs hs) (h .levels) (nodeAt (shapeOf base h) k ls .parent) → leafBy (shapeOf base h) d k ≡ isLeaf base (state h ls xs hs) k
   unfolding isLeaf isFilled heldBy isHeld entryBy isEntry
   whole k d e = rw (← e)
 
-  module _ (g : Shape) (e : g ≡ shapeOf h) (k : ℕ) (least : ℕ) (el : least ≡ leastLeaf stride (state h [] [] [])) (f : Bool) (ef : f ≡ isFilled (state h [] [] []) least (nodeAt g k ls)) where
+  module _ (g : Shape) (e : g ≡ shapeOf base h) (k : ℕ) (least : ℕ) (el : least ≡ leastLeaf (stride base) (state h [] [] [])) (f : Bool) (ef : f ≡ isFilled base (state h [] [] []) least (nodeAt g k ls)) where
     filled : f ≡ filledPart g k
-    filled = ef ∙ ap (λ (m : ℕ). isFilled (state h [] [] []) m (nodeAt g k ls)) el
+    filled = ef ∙ ap (λ (m : ℕ). isFilled base (state h [] [] []) m (nodeAt g k ls)) el
 
-    leaf-by : (p d : ℕ) → p ≡ nodeAt g k ls .parent → d ≡ depthBy g (h .inners) xs (h .levels) p → leafBy g d k ≡ isLeaf (state h ls xs hs) k
+    leaf-by : (p d : ℕ) → p ≡ nodeAt g k ls .parent → d ≡ depthBy g (h .inners) xs (h .levels) p → leafBy g d k ≡ isLeaf base (state h ls xs hs) k
     leaf-by p d ep ed =
         ap (λ (x : Shape). leafBy x d k) e
         ∙ whole k d (ed ∙ ap (depthBy g (h .inners) xs (h .levels)) ep ∙ ap (λ (x : Shape). depthBy x (h .inners) xs (h .levels) (nodeAt x k ls .parent)) e ∙ depth-same h ls xs hs (h .levels) _)
 
-    pub leaf-unfilled : not f ≡ true → false ≡ isLeaf (state h ls xs hs) k
+    pub leaf-unfilled : not f ≡ true → false ≡ isLeaf base (state h ls xs hs) k
     leaf-unfilled n = sym (rw (sym filled ∙ not-true f n) at (sym (leaf-by _ _ refl refl)))
 
     module _ (nf : not f ≡ false) where
@@ -73,14 +74,14 @@ module _ (h : Head) (ls xs hs : List ℕ) where
         held : b ≡ heldPart g k
         held = eb ∙ rw (ep, ea)
 
-        pub leaf-unheld : not b ≡ true → false ≡ isLeaf (state h ls xs hs) k
+        pub leaf-unheld : not b ≡ true → false ≡ isLeaf base (state h ls xs hs) k
         leaf-unheld n = sym (rw (sym filled ∙ not-false f nf, sym held ∙ not-true b n) at (sym (leaf-by _ _ refl refl)))
 
         module _ (nb : not b ≡ false) (d : ℕ) (ed : d ≡ depthBy g (h .inners) xs (h .levels) p) where
-          pub leaf-uneven : (d ≡ h .levels → ⊥) → false ≡ isLeaf (state h ls xs hs) k
+          pub leaf-uneven : (d ≡ h .levels → ⊥) → false ≡ isLeaf base (state h ls xs hs) k
           leaf-uneven n = sym (rw (sym filled ∙ not-false f nf, sym held ∙ not-false b nb, ne-eqb d (h .levels) n) at (sym (leaf-by p d ep ed)))
 
-          pub leaf-last : d ≡ h .levels → (len : ℕ) → len ≡ nodeAt g k ls .len → (r : Bool) → r ≡ every (entryBy g (h .entries) ls hs k) 0 len → r ≡ isLeaf (state h ls xs hs) k
+          pub leaf-last : d ≡ h .levels → (len : ℕ) → len ≡ nodeAt g k ls .len → (r : Bool) → r ≡ every (entryBy g (h .entries) ls hs k) 0 len → r ≡ isLeaf base (state h ls xs hs) k
           leaf-last q len en r er =
               er ∙ ap (every (entryBy g (h .entries) ls hs k) 0) en
               ∙ sym (rw (sym filled ∙ not-false f nf, sym held ∙ not-false b nb, eq-eqb d (h .levels) q) at (sym (leaf-by p d ep ed)))

@@ -4,6 +4,7 @@ use mathlib.Core.List.{List, []}
 use Prim.Native.Nat.{ℕ, zero, suc}
 use lib.ListN.{getD}
 use lib.Dec.{ltb, leb, eqb}
+use Rattle.model.specs.Kind.{base}
 use Rattle.model.specs.Node.{none, child, lengthIn, total, used}
 use Rattle.model.specs.State.{nodeAt}
 use Rattle.model.specs.Audit.{every, inViews, isOther}
@@ -26,7 +27,7 @@ unfoldable pub childBy : Shape → ℕ → List ℕ → List ℕ → ℕ → ℕ
 childBy g count ws xs k i =
     let x = getD (nodeAt g k xs .slots) i [] in
     let n = nodeAt g (child x) ws in
-    ltb (child x) count && eqb (n .parent) k && eqb (n .at) i && inViews (λ v. eqb (lengthIn v x) (total v (used n)))
+    ltb (child x) count && eqb (n .parent) k && eqb (n .at) i && inViews base (λ v. eqb (lengthIn v x) (total v (used n)))
 
 -- inner node k stands where it must
 unfoldable pub rootBy : Shape → Head → List ℕ → ℕ → Bool

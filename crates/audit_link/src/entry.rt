@@ -12,8 +12,8 @@ ghost use mathlib.Core.Path.{_≡_};
 ghost use mathlib.Core.List.{[]};
 ghost use Prim.Native.Nat.{_<_, _≤_};
 ghost use lib.ListN.{length};
+ghost use Rattle.model.specs.Kind.{base, stride};
 ghost use Rattle.model.specs.State.{state, nodeAt};
-ghost use Rattle.model.specs.Refuse.{stride};
 ghost use Rattle.model.specs.Sound.{leastLeaf};
 ghost use Rattle.model.specs.Audit.{every, isOther, isLeaf};
 ghost use Rattle.area.specs.Area.{Area};
@@ -67,7 +67,7 @@ fn are_entries(leaves: &[u32], homes: &[u32], g: Shape, entries: u32, k: u32, le
 
 // How few slots a leaf may use.
 fn least_leaf(head: Head) -> u32
-    ensures { λ r. ⌜ r ≡ leastLeaf stride (state head [] [] []) ⌝ }
+    ensures { λ r. ⌜ r ≡ leastLeaf (stride base) (state head [] [] []) ⌝ }
 {
     if head.leaves == 1 {
         return 1;
@@ -77,7 +77,7 @@ fn least_leaf(head: Head) -> u32
 
 pub fn is_leaf(head: Head, leaves: &[u32], inners: &[u32], homes: &[u32], g: Shape, k: u32) -> bool
     requires { ⌜ Known head g (length (now leaves)) (length (now inners)) × (head .entries ≤ length (now homes)) × (k < head .leaves) ⌝ }
-    ensures { λ r. ⌜ r ≡ isLeaf (state head (now (leaves .entry)) (now (inners .entry)) (now (homes .entry))) k ⌝ }
+    ensures { λ r. ⌜ r ≡ isLeaf base (state head (now (leaves .entry)) (now (inners .entry)) (now (homes .entry))) k ⌝ }
 {
     let levels = head.levels;
     let used = head.inners;

@@ -12,8 +12,8 @@ ghost use mathlib.Core.Path.{_≡_};
 ghost use mathlib.Core.List.{[]};
 ghost use Prim.Native.Nat.{_<_, _≤_};
 ghost use lib.ListN.{length};
+ghost use Rattle.model.specs.Kind.{base, stride};
 ghost use Rattle.model.specs.State.{state, nodeAt};
-ghost use Rattle.model.specs.Refuse.{stride};
 ghost use Rattle.model.specs.Sound.{leastInner};
 ghost use Rattle.model.specs.Audit.{every, isInner};
 ghost use Rattle.area.specs.Area.{Area};
@@ -105,7 +105,7 @@ fn are_children(inners: &[u32], low: &[u32], g: Shape, used: u32, k: u32, len: u
 
 // How few slots inner node k may use.
 fn least_inner(head: Head, k: u32) -> u32
-    ensures { λ r. ⌜ r ≡ leastInner stride (state head [] [] []) k ⌝ }
+    ensures { λ r. ⌜ r ≡ leastInner (stride base) (state head [] [] []) k ⌝ }
 {
     if k != head.root.0 {
         return head.fan / 2;
@@ -134,7 +134,7 @@ fn is_below(head: Head, inners: &[u32], g: Shape, k: u32) -> bool
 
 pub fn is_inner(head: Head, leaves: &[u32], inners: &[u32], g: Shape, k: u32) -> bool
     requires { ⌜ Known head g (length (now leaves)) (length (now inners)) × (k < head .inners) ⌝ }
-    ensures { λ r. ⌜ r ≡ isInner (state head (now (leaves .entry)) (now (inners .entry)) []) k ⌝ }
+    ensures { λ r. ⌜ r ≡ isInner base (state head (now (leaves .entry)) (now (inners .entry)) []) k ⌝ }
 {
     let levels = head.levels;
     let d = depth(inners, g, head.inners, levels, k);

@@ -7,6 +7,7 @@ use native.Mathlib.Omega.{arith}
 use lib.ListN.{length, getD, take}
 use lib.Seq.{take-all}
 use borrow.Author.Tests.{le-leb, lt-leb}
+use Rattle.model.specs.Kind.{base}
 use Rattle.model.specs.Lists.{part}
 use Rattle.model.specs.Node.{Node, nodeOf, start, total}
 use Rattle.model.specs.State.{state, nodeAt}
@@ -24,18 +25,18 @@ start-over g v k i ws h =
     let ws′ = part (k * g .size) (g .size) ws in
     start-all (g .stride) (g .fan) v ws′ ∙ ap (total v) (sym (take-all i (nodeOf (g .stride) (g .fan) ws′ .slots) (rw (slots-length (g .stride) (g .fan) 3 ws′) h)))
 
-module _ (h : Head) (g : Shape) (e : g ≡ shapeOf h) (least len : ℕ) (n : Node) (el : len ≡ n .len) where
+module _ (h : Head) (g : Shape) (e : g ≡ shapeOf base h) (least len : ℕ) (n : Node) (el : len ≡ n .len) where
   fan : h .fan ≡ g .fan
   fan = ap (λ (x : Shape). x .fan) (sym e)
 
-  pub filled-low : len < least → false ≡ isFilled (state h [] [] []) least n
+  pub filled-low : len < least → false ≡ isFilled base (state h [] [] []) least n
   unfolding isFilled
   filled-low f = rw (← el, lt-leb least len f)
 
-  pub filled-high : least ≤ len → g .fan < len → false ≡ isFilled (state h [] [] []) least n
+  pub filled-high : least ≤ len → g .fan < len → false ≡ isFilled base (state h [] [] []) least n
   unfolding isFilled
   filled-high f o = rw (← el, fan, le-leb least len f, lt-leb len (g .fan) o)
 
-  pub filled-rest : least ≤ len → len ≤ g .fan → (b : Bool) → b ≡ every (λ i. isEmptySlot (getD (n .slots) i [])) len (g .fan - len) → b ≡ isFilled (state h [] [] []) least n
+  pub filled-rest : least ≤ len → len ≤ g .fan → (b : Bool) → b ≡ every (λ i. isEmptySlot base (getD (n .slots) i [])) len (g .fan - len) → b ≡ isFilled base (state h [] [] []) least n
   unfolding isFilled
   filled-rest f o b q = rw (← el, fan, le-leb least len f, le-leb len (g .fan) o) q

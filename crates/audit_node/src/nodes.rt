@@ -9,6 +9,7 @@ ghost use mathlib.Core.Path.{_≡_};
 ghost use mathlib.Core.List.{[]};
 ghost use Prim.Native.Nat.{_+_, _-_, _<_};
 ghost use lib.ListN.{length, getD};
+ghost use Rattle.model.specs.Kind.{base};
 ghost use Rattle.model.specs.Node.{total, used, start};
 ghost use Rattle.model.specs.State.{state, nodeAt};
 ghost use Rattle.model.specs.Refuse.{shapeOf};
@@ -40,7 +41,7 @@ pub fn start_any(area: &[u32], g: Shape, view: usize, k: u32, i: u32) -> u64
 
 fn is_empty_slot(area: &[u32], g: Shape, k: u32, i: usize) -> bool
     requires { ⌜ Area g (length (now area)) × (k < g .nodes) × (i < g .fan) × (g .stride ≡ 3) ⌝ }
-    ensures { λ r. ⌜ r ≡ isEmptySlot (getD (nodeAt g k (now (area .entry)) .slots) i []) ⌝ }
+    ensures { λ r. ⌜ r ≡ isEmptySlot base (getD (nodeAt g k (now (area .entry)) .slots) i []) ⌝ }
 {
     if child_of(area, g, k, i) != 4294967295 {
         return false;
@@ -57,7 +58,7 @@ fn is_empty_slot(area: &[u32], g: Shape, k: u32, i: usize) -> bool
 // Whether the slots of node k are empty from slot len on.
 fn is_empty_from(area: &[u32], g: Shape, k: u32, len: usize) -> bool
     requires { ⌜ Area g (length (now area)) × (k < g .nodes) × (g .stride ≡ 3) ⌝ }
-    ensures { λ r. ⌜ r ≡ every (λ i. isEmptySlot (getD (nodeAt g k (now (area .entry)) .slots) i [])) len (g .fan - len) ⌝ }
+    ensures { λ r. ⌜ r ≡ every (λ i. isEmptySlot base (getD (nodeAt g k (now (area .entry)) .slots) i [])) len (g .fan - len) ⌝ }
 {
     let fan = g.fan;
     let mut i = len;
@@ -72,8 +73,8 @@ fn is_empty_from(area: &[u32], g: Shape, k: u32, len: usize) -> bool
 
 // Whether the len of node k is within its bounds and its unused slots are empty.
 pub fn is_filled(head: Head, area: &[u32], g: Shape, k: u32, least: u32) -> bool
-    requires { ⌜ Area g (length (now area)) × (k < g .nodes) × (g ≡ shapeOf head) ⌝ }
-    ensures { λ r. ⌜ r ≡ isFilled (state head [] [] []) least (nodeAt g k (now (area .entry))) ⌝ }
+    requires { ⌜ Area g (length (now area)) × (k < g .nodes) × (g ≡ shapeOf base head) ⌝ }
+    ensures { λ r. ⌜ r ≡ isFilled base (state head [] [] []) least (nodeAt g k (now (area .entry))) ⌝ }
 {
     let fan = g.fan;
     let len = len_of(area, g, k);

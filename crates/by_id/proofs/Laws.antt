@@ -2,6 +2,8 @@
 use mathlib.Core.Bool.{Bool}
 use mathlib.Core.Path.{_≡_}
 use Prim.Native.Nat.{ℕ}
+use Rattle.model.specs.Length.{listOf}
+use Rattle.model.specs.Kind.{base}
 use Rattle.model.specs.Row as row
 use Rattle.model.specs.Row.{Moved, moved, refused}
 use Rattle.model.specs.Answer.{outcomeAnswer, numberAnswer}
@@ -18,41 +20,41 @@ use Rattle.model.specs.declared.answer.Standing.{Standing}
 use Rattle.model.specs.declared.answer.Standing.the-variants as standing
 use Rattle.by_id_read.proofs.Laws.{cursor-stops, cursor-goes, told-by}
 
-pub reset-is : (s t : State) (l : Lengths) (a : Outcome) → reply t a ≡ calls.reset s l → moved t (outcomeAnswer a) ≡ treeStep s (row.reset l)
+pub reset-is : (s t : State) (l : Lengths) (a : Outcome) → reply t a ≡ calls.reset base s (listOf l) → moved t (outcomeAnswer a) ≡ treeStep base s (row.reset (listOf l))
 unfolding treeStep
-reset-is s t l a e = told-by outcomeAnswer t a (calls.reset s l) e
+reset-is s t l a e = told-by outcomeAnswer t a (calls.reset base s (listOf l)) e
 
-module _ (s : State) (l : Lengths) (i : ℕ) (t : Standing) (e : t ≡ calls.cursor s i) where
+module _ (s : State) (l : Lengths) (i : ℕ) (t : Standing) (e : t ≡ calls.cursor base s i) where
   abbrev splitting : Bool → Cursor → Moved State
-  splitting flag c = told (calls.splitEntry s c l flag) dividedAnswer
+  splitting flag c = told (calls.splitEntry base s c (listOf l) flag) dividedAnswer
 
-  pub split-stops : (flag : Bool) (n : ℕ) → t ≡ standing.Refused n → moved s (refused n) ≡ treeStep s (row.split flag i l)
+  pub split-stops : (flag : Bool) (n : ℕ) → t ≡ standing.Refused n → moved s (refused n) ≡ treeStep base s (row.split flag i (listOf l))
   unfolding treeStep
   split-stops flag n d = cursor-stops s i t e (splitting flag) n d
 
-  pub split-goes : (flag : Bool) (c : Cursor) → t ≡ standing.At c → (u : State) (a : Divided) → reply u a ≡ calls.splitEntry s c l flag
-      → moved u (dividedAnswer a) ≡ treeStep s (row.split flag i l)
+  pub split-goes : (flag : Bool) (c : Cursor) → t ≡ standing.At c → (u : State) (a : Divided) → reply u a ≡ calls.splitEntry base s c (listOf l) flag
+      → moved u (dividedAnswer a) ≡ treeStep base s (row.split flag i (listOf l))
   unfolding treeStep
-  split-goes flag c d u a q = cursor-goes s i t e (splitting flag) c d _ (told-by dividedAnswer u a (calls.splitEntry s c l flag) q)
+  split-goes flag c d u a q = cursor-goes s i t e (splitting flag) c d _ (told-by dividedAnswer u a (calls.splitEntry base s c (listOf l) flag) q)
 
   abbrev setting : Cursor → Moved State
-  setting c = told (calls.setLengths s c l) outcomeAnswer
+  setting c = told (calls.setLengths base s c (listOf l)) outcomeAnswer
 
-  pub set-stops : (n : ℕ) → t ≡ standing.Refused n → moved s (refused n) ≡ treeStep s (row.setLengths i l)
+  pub set-stops : (n : ℕ) → t ≡ standing.Refused n → moved s (refused n) ≡ treeStep base s (row.setLengths i (listOf l))
   unfolding treeStep
   set-stops n d = cursor-stops s i t e setting n d
 
-  pub set-goes : (c : Cursor) → t ≡ standing.At c → (u : State) (a : Outcome) → reply u a ≡ calls.setLengths s c l → moved u (outcomeAnswer a) ≡ treeStep s (row.setLengths i l)
+  pub set-goes : (c : Cursor) → t ≡ standing.At c → (u : State) (a : Outcome) → reply u a ≡ calls.setLengths base s c (listOf l) → moved u (outcomeAnswer a) ≡ treeStep base s (row.setLengths i (listOf l))
   unfolding treeStep
-  set-goes c d u a q = cursor-goes s i t e setting c d _ (told-by outcomeAnswer u a (calls.setLengths s c l) q)
+  set-goes c d u a q = cursor-goes s i t e setting c d _ (told-by outcomeAnswer u a (calls.setLengths base s c (listOf l)) q)
 
   abbrev updating : Cursor → Moved State
-  updating c = told (calls.update s c l) numberAnswer
+  updating c = told (calls.update base s c (listOf l)) numberAnswer
 
-  pub update-stops : (n : ℕ) → t ≡ standing.Refused n → moved s (refused n) ≡ treeStep s (row.update i l)
+  pub update-stops : (n : ℕ) → t ≡ standing.Refused n → moved s (refused n) ≡ treeStep base s (row.update i (listOf l))
   unfolding treeStep
   update-stops n d = cursor-stops s i t e updating n d
 
-  pub update-goes : (c : Cursor) → t ≡ standing.At c → (u : State) (a : Number) → reply u a ≡ calls.update s c l → moved u (numberAnswer a) ≡ treeStep s (row.update i l)
+  pub update-goes : (c : Cursor) → t ≡ standing.At c → (u : State) (a : Number) → reply u a ≡ calls.update base s c (listOf l) → moved u (numberAnswer a) ≡ treeStep base s (row.update i (listOf l))
   unfolding treeStep
-  update-goes c d u a q = cursor-goes s i t e updating c d _ (told-by numberAnswer u a (calls.update s c l) q)
+  update-goes c d u a q = cursor-goes s i t e updating c d _ (told-by numberAnswer u a (calls.update base s c (listOf l)) q)

@@ -11,6 +11,8 @@ use model::head::Head;
 use model::length::Lengths;
 use model::number::EntryId;
 ghost use mathlib.Core.Path.{_≡_};
+ghost use Rattle.model.specs.Length.{listOf};
+ghost use Rattle.model.specs.Kind.{base};
 ghost use Rattle.model.specs.Row as row;
 ghost use Rattle.model.specs.Row.{moved};
 ghost use Rattle.model.specs.Answer.{outcomeAnswer, numberAnswer};
@@ -25,7 +27,7 @@ pub fn reset(
     homes: &mut [u32],
     lengths: Lengths,
 ) -> OutcomeReply
-    ensures { λ r. ⌜ moved (state (r .head) (now (leaves .exit)) (now (inners .exit)) (now (homes .exit))) (outcomeAnswer (r .answer)) ≡ treeStep (state head (now (leaves .entry)) (now (inners .entry)) (now (homes .entry))) (row.reset lengths) ⌝ }
+    ensures { λ r. ⌜ moved (state (r .head) (now (leaves .exit)) (now (inners .exit)) (now (homes .exit))) (outcomeAnswer (r .answer)) ≡ treeStep base (state head (now (leaves .entry)) (now (inners .entry)) (now (homes .entry))) (row.reset (listOf lengths)) ⌝ }
 {
     calls_make::begin::reset(head, lengths, leaves, inners, homes)
 }
@@ -40,7 +42,7 @@ pub fn split_entry(
     lengths: Lengths,
     before: bool,
 ) -> DividedReply
-    ensures { λ r. ⌜ moved (state (r .head) (now (leaves .exit)) (now (inners .exit)) (now (homes .exit))) (dividedAnswer (r .answer)) ≡ treeStep (state head (now (leaves .entry)) (now (inners .entry)) (now (homes .entry))) (row.split before (id .0) lengths) ⌝ }
+    ensures { λ r. ⌜ moved (state (r .head) (now (leaves .exit)) (now (inners .exit)) (now (homes .exit))) (dividedAnswer (r .answer)) ≡ treeStep base (state head (now (leaves .entry)) (now (inners .entry)) (now (homes .entry))) (row.split before (id .0) (listOf lengths)) ⌝ }
 {
     match cursor(head, leaves, inners, homes, id) {
         Standing::Refused(n) => DividedReply {
@@ -68,7 +70,7 @@ pub fn set_lengths(
     id: EntryId,
     lengths: Lengths,
 ) -> OutcomeReply
-    ensures { λ r. ⌜ moved (state (r .head) (now (leaves .exit)) (now (inners .exit)) (now (homes .exit))) (outcomeAnswer (r .answer)) ≡ treeStep (state head (now (leaves .entry)) (now (inners .entry)) (now (homes .entry))) (row.setLengths (id .0) lengths) ⌝ }
+    ensures { λ r. ⌜ moved (state (r .head) (now (leaves .exit)) (now (inners .exit)) (now (homes .exit))) (outcomeAnswer (r .answer)) ≡ treeStep base (state head (now (leaves .entry)) (now (inners .entry)) (now (homes .entry))) (row.setLengths (id .0) (listOf lengths)) ⌝ }
 {
     match cursor(head, leaves, inners, homes, id) {
         Standing::Refused(n) => OutcomeReply {
@@ -88,7 +90,7 @@ pub fn update(
     id: EntryId,
     lengths: Lengths,
 ) -> NumberReply
-    ensures { λ r. ⌜ moved (state (r .head) (now (leaves .exit)) (now (inners .exit)) (now (homes .exit))) (numberAnswer (r .answer)) ≡ treeStep (state head (now (leaves .entry)) (now (inners .entry)) (now (homes .entry))) (row.update (id .0) lengths) ⌝ }
+    ensures { λ r. ⌜ moved (state (r .head) (now (leaves .exit)) (now (inners .exit)) (now (homes .exit))) (numberAnswer (r .answer)) ≡ treeStep base (state head (now (leaves .entry)) (now (inners .entry)) (now (homes .entry))) (row.update (id .0) (listOf lengths)) ⌝ }
 {
     match cursor(head, leaves, inners, homes, id) {
         Standing::Refused(n) => NumberReply {

@@ -4,6 +4,8 @@ use mathlib.Core.Path.{_≡_, refl, sym, ap, _∙_}
 use Prim.Native.Nat.{ℕ}
 use lib.Dec.{eqb}
 use borrow.Author.Tests.{eq-eqb, ne-eqb}
+use Rattle.model.specs.Length.{listOf}
+use Rattle.model.specs.Kind.{base}
 use Rattle.model.specs.Row as row
 use Rattle.model.specs.Row.{Moved, moved, refused, noEntry}
 use Rattle.model.specs.Answer.{namedAnswer, insertedAnswer}
@@ -28,7 +30,7 @@ module _ (s : State) (i : ℕ) where
   pub lead-end : i ≡ noEntry → aim.At target.End ≡ leadOf s i
   lead-end e = rw (eq-eqb i noEntry e)
 
-  pub lead-by : (i ≡ noEntry → ⊥) → (t x : Standing) → t ≡ calls.cursor s i → t ≡ x → before x ≡ leadOf s i
+  pub lead-by : (i ≡ noEntry → ⊥) → (t x : Standing) → t ≡ calls.cursor base s i → t ≡ x → before x ≡ leadOf s i
   lead-by h t x e d = rw (ne-eqb i noEntry h) (ap before (sym d ∙ e))
 
   -- goes on where the id leads
@@ -40,36 +42,36 @@ module _ (s : State) (i : ℕ) where
   before-same (standing.At c) f = refl
   before-same (standing.Refused n) f = refl
 
-  lead-same : (b : Bool) (f : Target → Moved State) → onward (cond b (aim.At target.End) (before (calls.cursor s i))) f ≡ cond b (f target.End) (withCursor s (calls.cursor s i) (λ c. f (target.Before c)))
+  lead-same : (b : Bool) (f : Target → Moved State) → onward (cond b (aim.At target.End) (before (calls.cursor base s i))) f ≡ cond b (f target.End) (withCursor s (calls.cursor base s i) (λ c. f (target.Before c)))
   lead-same true f = refl
-  lead-same false f = before-same (calls.cursor s i) f
+  lead-same false f = before-same (calls.cursor base s i) f
 
   module _ (t : Aim) (e : t ≡ leadOf s i) (f : Target → Moved State) where
-    lead-stops : (n : ℕ) → t ≡ aim.Refused n → moved s (refused n) ≡ withTarget s i f
+    lead-stops : (n : ℕ) → t ≡ aim.Refused n → moved s (refused n) ≡ withTarget base s i f
     lead-stops n d = ap (λ (x : Aim). onward x f) (sym d ∙ e) ∙ lead-same (eqb i noEntry) f
 
-    lead-goes : (x : Target) → t ≡ aim.At x → (m : Moved State) → m ≡ f x → m ≡ withTarget s i f
+    lead-goes : (x : Target) → t ≡ aim.At x → (m : Moved State) → m ≡ f x → m ≡ withTarget base s i f
     lead-goes x d m q = q ∙ ap (λ (y : Aim). onward y f) (sym d ∙ e) ∙ lead-same (eqb i noEntry) f
 
   module _ (l : Lengths) (t : Aim) (e : t ≡ leadOf s i) where
     abbrev inserting : Target → Moved State
-    inserting x = told (calls.insert s x l) insertedAnswer
+    inserting x = told (calls.insert base s x (listOf l)) insertedAnswer
 
-    pub insert-stops : (n : ℕ) → t ≡ aim.Refused n → moved s (refused n) ≡ treeStep s (row.insert i l)
+    pub insert-stops : (n : ℕ) → t ≡ aim.Refused n → moved s (refused n) ≡ treeStep base s (row.insert i (listOf l))
     unfolding treeStep
     insert-stops n d = lead-stops t e inserting n d
 
-    pub insert-goes : (x : Target) → t ≡ aim.At x → (u : State) (a : Inserted) → reply u a ≡ calls.insert s x l → moved u (insertedAnswer a) ≡ treeStep s (row.insert i l)
+    pub insert-goes : (x : Target) → t ≡ aim.At x → (u : State) (a : Inserted) → reply u a ≡ calls.insert base s x (listOf l) → moved u (insertedAnswer a) ≡ treeStep base s (row.insert i (listOf l))
     unfolding treeStep
-    insert-goes x d u a q = lead-goes t e inserting x d _ (told-by insertedAnswer u a (calls.insert s x l) q)
+    insert-goes x d u a q = lead-goes t e inserting x d _ (told-by insertedAnswer u a (calls.insert base s x (listOf l)) q)
 
     abbrev adding : Target → Moved State
-    adding x = told (calls.add s x l) namedAnswer
+    adding x = told (calls.add base s x (listOf l)) namedAnswer
 
-    pub add-stops : (n : ℕ) → t ≡ aim.Refused n → moved s (refused n) ≡ treeStep s (row.add i l)
+    pub add-stops : (n : ℕ) → t ≡ aim.Refused n → moved s (refused n) ≡ treeStep base s (row.add i (listOf l))
     unfolding treeStep
     add-stops n d = lead-stops t e adding n d
 
-    pub add-goes : (x : Target) → t ≡ aim.At x → (u : State) (a : Named) → reply u a ≡ calls.add s x l → moved u (namedAnswer a) ≡ treeStep s (row.add i l)
+    pub add-goes : (x : Target) → t ≡ aim.At x → (u : State) (a : Named) → reply u a ≡ calls.add base s x (listOf l) → moved u (namedAnswer a) ≡ treeStep base s (row.add i (listOf l))
     unfolding treeStep
-    add-goes x d u a q = lead-goes t e adding x d _ (told-by namedAnswer u a (calls.add s x l) q)
+    add-goes x d u a q = lead-goes t e adding x d _ (told-by namedAnswer u a (calls.add base s x (listOf l)) q)

@@ -2,6 +2,7 @@
 use mathlib.Core.Bool.{cond}
 use Prim.Native.Nat.{ℕ}
 use lib.Dec.{eqb}
+use Rattle.model.specs.Kind.{base}
 use Rattle.model.specs.Row.{noEntry}
 use Rattle.model.specs.State.{State}
 use Rattle.model.specs.Calls as calls
@@ -16,4 +17,4 @@ before (standing.At c) = aim.At (target.Before c)
 before (standing.Refused n) = aim.Refused n
 
 abbrev pub leadOf : State → ℕ → Aim
-leadOf s i = cond (eqb i noEntry) (aim.At target.End) (before (calls.cursor s i))
+leadOf s i = cond (eqb i noEntry) (aim.At target.End) (before (calls.cursor base s i))

@@ -10,6 +10,8 @@ use model::head::Head;
 use model::length::Lengths;
 use model::number::EntryId;
 ghost use mathlib.Core.Path.{_≡_};
+ghost use Rattle.model.specs.Length.{listOf};
+ghost use Rattle.model.specs.Kind.{base};
 ghost use Rattle.model.specs.Row as row;
 ghost use Rattle.model.specs.Row.{moved};
 ghost use Rattle.model.specs.Answer.{insertedAnswer, namedAnswer};
@@ -46,7 +48,7 @@ pub fn insert(
     before: EntryId,
     lengths: Lengths,
 ) -> InsertedReply
-    ensures { λ r. ⌜ moved (state (r .head) (now (leaves .exit)) (now (inners .exit)) (now (homes .exit))) (insertedAnswer (r .answer)) ≡ treeStep (state head (now (leaves .entry)) (now (inners .entry)) (now (homes .entry))) (row.insert (before .0) lengths) ⌝ }
+    ensures { λ r. ⌜ moved (state (r .head) (now (leaves .exit)) (now (inners .exit)) (now (homes .exit))) (insertedAnswer (r .answer)) ≡ treeStep base (state head (now (leaves .entry)) (now (inners .entry)) (now (homes .entry))) (row.insert (before .0) (listOf lengths)) ⌝ }
 {
     match lead(head, leaves, inners, homes, before) {
         Aim::Refused(n) => InsertedReply {
@@ -66,7 +68,7 @@ pub fn add(
     before: EntryId,
     lengths: Lengths,
 ) -> NamedReply
-    ensures { λ r. ⌜ moved (state (r .head) (now (leaves .exit)) (now (inners .exit)) (now (homes .exit))) (namedAnswer (r .answer)) ≡ treeStep (state head (now (leaves .entry)) (now (inners .entry)) (now (homes .entry))) (row.add (before .0) lengths) ⌝ }
+    ensures { λ r. ⌜ moved (state (r .head) (now (leaves .exit)) (now (inners .exit)) (now (homes .exit))) (namedAnswer (r .answer)) ≡ treeStep base (state head (now (leaves .entry)) (now (inners .entry)) (now (homes .entry))) (row.add (before .0) (listOf lengths)) ⌝ }
 {
     match lead(head, leaves, inners, homes, before) {
         Aim::Refused(n) => NamedReply {

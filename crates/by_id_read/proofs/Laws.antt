@@ -2,9 +2,11 @@
 use mathlib.Core.Path.{_≡_, refl, sym, ap, _∙_}
 use mathlib.Core.List.{List, [], _∷_}
 use Prim.Native.Nat.{ℕ}
+use Rattle.model.specs.Length.{viewNumber}
+use Rattle.model.specs.Kind.{base}
 use Rattle.model.specs.Row as row
 use Rattle.model.specs.Row.{Answer, Moved, moved, done, refused, noEntry}
-use Rattle.model.specs.Answer.{numberAnswer, namedAnswer, measuredAnswer, comparedAnswer}
+use Rattle.model.specs.Answer.{numberAnswer, namedAnswer, comparedAnswer}
 use Rattle.model.specs.State.{State, state}
 use Rattle.model.specs.Calls as calls
 use Rattle.model.specs.Calls.{Reply, reply}
@@ -15,7 +17,6 @@ use Rattle.model.specs.declared.number.EntryId.{EntryId}
 use Rattle.model.specs.declared.answer.Number.{Number}
 use Rattle.model.specs.declared.answer.Named.{Named}
 use Rattle.model.specs.declared.answer.Named.the-variants as named
-use Rattle.model.specs.declared.answer.Measured.{Measured}
 use Rattle.model.specs.declared.answer.Compared.{Compared}
 use Rattle.model.specs.declared.answer.Standing.{Standing}
 use Rattle.model.specs.declared.answer.Standing.the-variants as standing
@@ -25,11 +26,11 @@ use Rattle.model.specs.declared.answer.Located.{Located}
 use Rattle.model.specs.declared.answer.Located.the-variants as located
 
 -- what `cursor` gave decides how a call goes on
-module _ (s : State) (i : ℕ) (t : Standing) (e : t ≡ calls.cursor s i) (f : Cursor → Moved State) where
-  pub cursor-stops : (n : ℕ) → t ≡ standing.Refused n → moved s (refused n) ≡ withCursor s (calls.cursor s i) f
+module _ (s : State) (i : ℕ) (t : Standing) (e : t ≡ calls.cursor base s i) (f : Cursor → Moved State) where
+  pub cursor-stops : (n : ℕ) → t ≡ standing.Refused n → moved s (refused n) ≡ withCursor s (calls.cursor base s i) f
   cursor-stops n d = ap (λ (x : Standing). withCursor s x f) (sym d ∙ e)
 
-  pub cursor-goes : (c : Cursor) → t ≡ standing.At c → (m : Moved State) → m ≡ f c → m ≡ withCursor s (calls.cursor s i) f
+  pub cursor-goes : (c : Cursor) → t ≡ standing.At c → (m : Moved State) → m ≡ f c → m ≡ withCursor s (calls.cursor base s i) f
   cursor-goes c d m q = q ∙ ap (λ (x : Standing). withCursor s x f) (sym d ∙ e)
 
 -- a reply in the row's form
@@ -37,91 +38,91 @@ pub told-by : {A : Type 0} (f : A → Answer) (t : State) (a : A) (r : Reply A) 
 told-by f t a r e = ap (λ x. told x f) e
 
 module _ (s : State) where
-  pub count-is : (r : Number) → r ≡ calls.len (s .head) → moved s (numberAnswer r) ≡ treeStep s row.count
+  pub count-is : (r : Number) → r ≡ calls.len (s .head) → moved s (numberAnswer r) ≡ treeStep base s row.count
   unfolding treeStep
   count-is r e = ap (λ (x : Number). moved s (numberAnswer x)) e
 
-  module _ (i : ℕ) (t : Standing) (e : t ≡ calls.cursor s i) where
-    pub lengths-stops : (n : ℕ) → t ≡ standing.Refused n → moved s (refused n) ≡ treeStep s (row.lengths i)
+  module _ (i : ℕ) (t : Standing) (e : t ≡ calls.cursor base s i) where
+    pub lengths-stops : (n : ℕ) → t ≡ standing.Refused n → moved s (refused n) ≡ treeStep base s (row.lengths i)
     unfolding treeStep
-    lengths-stops n d = cursor-stops s i t e (λ c. moved s (measuredAnswer (calls.lengthsOf s c))) n d
+    lengths-stops n d = cursor-stops s i t e (λ c. moved s (calls.lengthsOf base s c)) n d
 
-    pub lengths-goes : (c : Cursor) → t ≡ standing.At c → (r : Measured) → r ≡ calls.lengthsOf s c → moved s (measuredAnswer r) ≡ treeStep s (row.lengths i)
+    pub lengths-goes : (c : Cursor) → t ≡ standing.At c → (a : Answer) → a ≡ calls.lengthsOf base s c → moved s a ≡ treeStep base s (row.lengths i)
     unfolding treeStep
-    lengths-goes c d r q =
-        cursor-goes s i t e (λ c. moved s (measuredAnswer (calls.lengthsOf s c))) c d _ (ap (λ (x : Measured). moved s (measuredAnswer x)) q)
+    lengths-goes c d a q =
+        cursor-goes s i t e (λ c. moved s (calls.lengthsOf base s c)) c d _ (ap (moved s) q)
 
-    pub rank-stops : (v : View) (n : ℕ) → t ≡ standing.Refused n → moved s (refused n) ≡ treeStep s (row.rank v i)
+    pub rank-stops : (v : View) (n : ℕ) → t ≡ standing.Refused n → moved s (refused n) ≡ treeStep base s (row.rank (viewNumber v) i)
     unfolding treeStep
-    rank-stops v n d = cursor-stops s i t e (λ c. moved s (numberAnswer (calls.entryToCharIndex s v c))) n d
+    rank-stops v n d = cursor-stops s i t e (λ c. moved s (numberAnswer (calls.entryToCharIndex base s (viewNumber v) c))) n d
 
-    pub rank-goes : (v : View) (c : Cursor) → t ≡ standing.At c → (r : Number) → r ≡ calls.entryToCharIndex s v c → moved s (numberAnswer r) ≡ treeStep s (row.rank v i)
+    pub rank-goes : (v : View) (c : Cursor) → t ≡ standing.At c → (r : Number) → r ≡ calls.entryToCharIndex base s (viewNumber v) c → moved s (numberAnswer r) ≡ treeStep base s (row.rank (viewNumber v) i)
     unfolding treeStep
     rank-goes v c d r q =
-        cursor-goes s i t e (λ c. moved s (numberAnswer (calls.entryToCharIndex s v c))) c d _ (ap (λ (x : Number). moved s (numberAnswer x)) q)
+        cursor-goes s i t e (λ c. moved s (numberAnswer (calls.entryToCharIndex base s (viewNumber v) c))) c d _ (ap (λ (x : Number). moved s (numberAnswer x)) q)
 
   -- the id at a cursor
   id-same : (r : Named) (vs : List ℕ) → vs ≡ [] → namedAnswer r ≡ idAnswer r vs
   id-same (named.Entry i) vs e = rw e
   id-same (named.Refused n) vs e = refl
 
-  module _ (t : Standing) (e : t ≡ calls.first s) where
-    pub first-stops : (n : ℕ) → t ≡ standing.Refused n → moved s (refused n) ≡ treeStep s row.first
+  module _ (t : Standing) (e : t ≡ calls.first base s) where
+    pub first-stops : (n : ℕ) → t ≡ standing.Refused n → moved s (refused n) ≡ treeStep base s row.first
     unfolding treeStep
-    first-stops n d = ap (λ (x : Standing). moved s (standingAnswer s x)) (sym d ∙ e)
+    first-stops n d = ap (λ (x : Standing). moved s (standingAnswer base s x)) (sym d ∙ e)
 
-    pub first-goes : (c : Cursor) → t ≡ standing.At c → (r : Named) → r ≡ calls.id s c → moved s (namedAnswer r) ≡ treeStep s row.first
+    pub first-goes : (c : Cursor) → t ≡ standing.At c → (r : Named) → r ≡ calls.id base s c → moved s (namedAnswer r) ≡ treeStep base s row.first
     unfolding treeStep
-    first-goes c d r q = ap (moved s) (id-same r [] refl ∙ ap (λ (x : Named). idAnswer x []) q) ∙ ap (λ (x : Standing). moved s (standingAnswer s x)) (sym d ∙ e)
+    first-goes c d r q = ap (moved s) (id-same r [] refl ∙ ap (λ (x : Named). idAnswer x []) q) ∙ ap (λ (x : Standing). moved s (standingAnswer base s x)) (sym d ∙ e)
 
-  module _ (i : ℕ) (t : Standing) (e : t ≡ calls.cursor s i) where
-    pub next-stops : (n : ℕ) → t ≡ standing.Refused n → moved s (refused n) ≡ treeStep s (row.next i)
+  module _ (i : ℕ) (t : Standing) (e : t ≡ calls.cursor base s i) where
+    pub next-stops : (n : ℕ) → t ≡ standing.Refused n → moved s (refused n) ≡ treeStep base s (row.next i)
     unfolding treeStep
-    next-stops n d = cursor-stops s i t e (λ c. moved s (nextAnswer s (calls.nextAfter s c))) n d
+    next-stops n d = cursor-stops s i t e (λ c. moved s (nextAnswer base s (calls.nextAfter base s c))) n d
 
-    module _ (c : Cursor) (d : t ≡ standing.At c) (u : Next) (eu : u ≡ calls.nextAfter s c) where
+    module _ (c : Cursor) (d : t ≡ standing.At c) (u : Next) (eu : u ≡ calls.nextAfter base s c) where
       -- by the cursor after it
-      next-by : (x : Next) → u ≡ x → (a : Answer) → a ≡ nextAnswer s x → moved s a ≡ treeStep s (row.next i)
+      next-by : (x : Next) → u ≡ x → (a : Answer) → a ≡ nextAnswer base s x → moved s a ≡ treeStep base s (row.next i)
       unfolding treeStep
-      next-by x du a q = cursor-goes s i t e (λ c. moved s (nextAnswer s (calls.nextAfter s c))) c d _ (ap (moved s) (q ∙ ap (nextAnswer s) (sym du ∙ eu)))
+      next-by x du a q = cursor-goes s i t e (λ c. moved s (nextAnswer base s (calls.nextAfter base s c))) c d _ (ap (moved s) (q ∙ ap (nextAnswer base s) (sym du ∙ eu)))
 
-      pub next-refused : (n : ℕ) → u ≡ next.Refused n → moved s (refused n) ≡ treeStep s (row.next i)
+      pub next-refused : (n : ℕ) → u ≡ next.Refused n → moved s (refused n) ≡ treeStep base s (row.next i)
       next-refused n du = next-by (next.Refused n) du (refused n) refl
 
-      pub next-none : u ≡ next.Nothing → moved s (done (noEntry ∷ [])) ≡ treeStep s (row.next i)
+      pub next-none : u ≡ next.Nothing → moved s (done (noEntry ∷ [])) ≡ treeStep base s (row.next i)
       next-none du = next-by next.Nothing du (done (noEntry ∷ [])) refl
 
-      pub next-at : (b : Cursor) → u ≡ next.At b → (r x : Named) → r ≡ calls.id s b → r ≡ x → moved s (idAnswer x []) ≡ treeStep s (row.next i)
+      pub next-at : (b : Cursor) → u ≡ next.At b → (r x : Named) → r ≡ calls.id base s b → r ≡ x → moved s (idAnswer x []) ≡ treeStep base s (row.next i)
       next-at b du r x q dr = next-by (next.At b) du (idAnswer x []) (ap (λ (y : Named). idAnswer y []) (sym dr ∙ q))
 
-  module _ (i j : ℕ) (t : Standing) (e : t ≡ calls.cursor s i) where
+  module _ (i j : ℕ) (t : Standing) (e : t ≡ calls.cursor base s i) where
     abbrev against : Cursor → Moved State
-    against a = withCursor s (calls.cursor s j) (λ b. moved s (comparedAnswer (calls.cmp s a b)))
+    against a = withCursor s (calls.cursor base s j) (λ b. moved s (comparedAnswer (calls.cmp base s a b)))
 
-    pub cmp-stops : (n : ℕ) → t ≡ standing.Refused n → moved s (refused n) ≡ treeStep s (row.compare i j)
+    pub cmp-stops : (n : ℕ) → t ≡ standing.Refused n → moved s (refused n) ≡ treeStep base s (row.compare i j)
     unfolding treeStep
     cmp-stops n d = cursor-stops s i t e against n d
 
-    module _ (a : Cursor) (d : t ≡ standing.At a) (u : Standing) (eu : u ≡ calls.cursor s j) where
-      pub cmp-second : (n : ℕ) → u ≡ standing.Refused n → moved s (refused n) ≡ treeStep s (row.compare i j)
+    module _ (a : Cursor) (d : t ≡ standing.At a) (u : Standing) (eu : u ≡ calls.cursor base s j) where
+      pub cmp-second : (n : ℕ) → u ≡ standing.Refused n → moved s (refused n) ≡ treeStep base s (row.compare i j)
       unfolding treeStep
-      cmp-second n du = cursor-goes s i t e against a d _ (cursor-stops s j u eu (λ b. moved s (comparedAnswer (calls.cmp s a b))) n du)
+      cmp-second n du = cursor-goes s i t e against a d _ (cursor-stops s j u eu (λ b. moved s (comparedAnswer (calls.cmp base s a b))) n du)
 
-      pub cmp-both : (b : Cursor) → u ≡ standing.At b → (r : Compared) → r ≡ calls.cmp s a b → moved s (comparedAnswer r) ≡ treeStep s (row.compare i j)
+      pub cmp-both : (b : Cursor) → u ≡ standing.At b → (r : Compared) → r ≡ calls.cmp base s a b → moved s (comparedAnswer r) ≡ treeStep base s (row.compare i j)
       unfolding treeStep
       cmp-both b du r q =
-          cursor-goes s i t e against a d _ (cursor-goes s j u eu (λ b. moved s (comparedAnswer (calls.cmp s a b))) b du _ (ap (λ (x : Compared). moved s (comparedAnswer x)) q))
+          cursor-goes s i t e against a d _ (cursor-goes s j u eu (λ b. moved s (comparedAnswer (calls.cmp base s a b))) b du _ (ap (λ (x : Compared). moved s (comparedAnswer x)) q))
 
 -- a lookup, by the state it leaves and what it gave
-module _ (s t : State) (v : View) (index : ℕ) (a : Located) (e : calls.reply t a ≡ calls.locate s v index) where
-  lookup-by : (x : Located) → a ≡ x → (r : Answer) → r ≡ locatedAnswer t x → moved t r ≡ treeStep s (row.lookup v index)
+module _ (s t : State) (v : View) (index : ℕ) (a : Located) (e : calls.reply t a ≡ calls.locate base s (viewNumber v) index) where
+  lookup-by : (x : Located) → a ≡ x → (r : Answer) → r ≡ locatedAnswer base t x → moved t r ≡ treeStep base s (row.lookup (viewNumber v) index)
   unfolding treeStep
-  lookup-by x d r q = ap (moved t) (q ∙ ap (locatedAnswer t) (sym d)) ∙ ap (λ (y : calls.Reply Located). moved (y .after) (locatedAnswer (y .after) (y .answer))) e
+  lookup-by x d r q = ap (moved t) (q ∙ ap (locatedAnswer base t) (sym d)) ∙ ap (λ (y : calls.Reply Located). moved (y .after) (locatedAnswer base (y .after) (y .answer))) e
 
-  pub lookup-refused : (n : ℕ) → a ≡ located.Refused n → moved t (refused n) ≡ treeStep s (row.lookup v index)
+  pub lookup-refused : (n : ℕ) → a ≡ located.Refused n → moved t (refused n) ≡ treeStep base s (row.lookup (viewNumber v) index)
   lookup-refused n d = lookup-by (located.Refused n) d (refused n) refl
 
-  pub lookup-at : (c : Cursor) (offset position : ℕ) → a ≡ located.At c offset position → (r x : Named) → r ≡ calls.id t c → r ≡ x
-      → moved t (idAnswer x (offset ∷ position ∷ [])) ≡ treeStep s (row.lookup v index)
+  pub lookup-at : (c : Cursor) (offset position : ℕ) → a ≡ located.At c offset position → (r x : Named) → r ≡ calls.id base t c → r ≡ x
+      → moved t (idAnswer x (offset ∷ position ∷ [])) ≡ treeStep base s (row.lookup (viewNumber v) index)
   lookup-at c offset position d r x q dr =
       lookup-by (located.At c offset position) d (idAnswer x (offset ∷ position ∷ [])) (ap (λ (y : Named). idAnswer y (offset ∷ position ∷ [])) (sym dr ∙ q))

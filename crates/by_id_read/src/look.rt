@@ -7,6 +7,8 @@ use model::answer::Named;
 use model::head::Head;
 use model::length::View;
 ghost use mathlib.Core.Path.{_≡_};
+ghost use Rattle.model.specs.Length.{viewNumber};
+ghost use Rattle.model.specs.Kind.{base};
 ghost use Rattle.model.specs.Row as row;
 ghost use Rattle.model.specs.Row.{moved};
 ghost use Rattle.model.specs.State.{state};
@@ -22,7 +24,7 @@ pub fn locate(
     view: View,
     index: u32,
 ) -> LookedReply
-    ensures { λ r. ⌜ moved (state (r .head) (now (leaves .exit)) (now (inners .exit)) (now (homes .exit))) (lookedAnswer (r .answer)) ≡ treeStep (state head (now (leaves .entry)) (now (inners .entry)) (now (homes .entry))) (row.lookup view index) ⌝ }
+    ensures { λ r. ⌜ moved (state (r .head) (now (leaves .exit)) (now (inners .exit)) (now (homes .exit))) (lookedAnswer (r .answer)) ≡ treeStep base (state head (now (leaves .entry)) (now (inners .entry)) (now (homes .entry))) (row.lookup (viewNumber view) index) ⌝ }
 {
     let r = calls_look::lookup::locate(head, leaves, inners, homes, view, index);
     let kept = r.head;

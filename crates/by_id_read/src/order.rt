@@ -9,6 +9,7 @@ use model::answer::Standing;
 use model::head::Head;
 use model::number::EntryId;
 ghost use mathlib.Core.Path.{_≡_};
+ghost use Rattle.model.specs.Kind.{base};
 ghost use Rattle.model.specs.Row as row;
 ghost use Rattle.model.specs.Row.{moved};
 ghost use Rattle.model.specs.Answer.{namedAnswer, comparedAnswer};
@@ -18,7 +19,7 @@ ghost use Rattle.by_id_read.specs.Answer.{followingAnswer};
 
 // The first entry.
 pub fn first(head: Head, leaves: &[u32], inners: &[u32], homes: &[u32]) -> Named
-    ensures { λ r. ⌜ moved (state head (now (leaves .entry)) (now (inners .entry)) (now (homes .entry))) (namedAnswer r) ≡ treeStep (state head (now (leaves .entry)) (now (inners .entry)) (now (homes .entry))) row.first ⌝ }
+    ensures { λ r. ⌜ moved (state head (now (leaves .entry)) (now (inners .entry)) (now (homes .entry))) (namedAnswer r) ≡ treeStep base (state head (now (leaves .entry)) (now (inners .entry)) (now (homes .entry))) row.first ⌝ }
 {
     match calls_order::order::first(head, leaves, inners, homes) {
         Standing::Refused(n) => Named::Refused(n),
@@ -28,7 +29,7 @@ pub fn first(head: Head, leaves: &[u32], inners: &[u32], homes: &[u32]) -> Named
 
 // The entry after an entry, or nothing after the last.
 pub fn next(head: Head, leaves: &[u32], inners: &[u32], homes: &[u32], at: EntryId) -> Following
-    ensures { λ r. ⌜ moved (state head (now (leaves .entry)) (now (inners .entry)) (now (homes .entry))) (followingAnswer r) ≡ treeStep (state head (now (leaves .entry)) (now (inners .entry)) (now (homes .entry))) (row.next (at .0)) ⌝ }
+    ensures { λ r. ⌜ moved (state head (now (leaves .entry)) (now (inners .entry)) (now (homes .entry))) (followingAnswer r) ≡ treeStep base (state head (now (leaves .entry)) (now (inners .entry)) (now (homes .entry))) (row.next (at .0)) ⌝ }
 {
     match cursor(head, leaves, inners, homes, at) {
         Standing::Refused(n) => Following::Refused(n),
@@ -52,7 +53,7 @@ pub fn cmp(
     a: EntryId,
     b: EntryId,
 ) -> Compared
-    ensures { λ r. ⌜ moved (state head (now (leaves .entry)) (now (inners .entry)) (now (homes .entry))) (comparedAnswer r) ≡ treeStep (state head (now (leaves .entry)) (now (inners .entry)) (now (homes .entry))) (row.compare (a .0) (b .0)) ⌝ }
+    ensures { λ r. ⌜ moved (state head (now (leaves .entry)) (now (inners .entry)) (now (homes .entry))) (comparedAnswer r) ≡ treeStep base (state head (now (leaves .entry)) (now (inners .entry)) (now (homes .entry))) (row.compare (a .0) (b .0)) ⌝ }
 {
     match cursor(head, leaves, inners, homes, a) {
         Standing::Refused(n) => Compared::Refused(n),

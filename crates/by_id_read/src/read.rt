@@ -7,6 +7,8 @@ use model::head::Head;
 use model::length::View;
 use model::number::EntryId;
 ghost use mathlib.Core.Path.{_≡_};
+ghost use Rattle.model.specs.Length.{viewNumber};
+ghost use Rattle.model.specs.Kind.{base};
 ghost use Rattle.model.specs.Row as row;
 ghost use Rattle.model.specs.Row.{moved};
 ghost use Rattle.model.specs.Answer.{numberAnswer, measuredAnswer};
@@ -15,14 +17,14 @@ ghost use Rattle.model.specs.ById.{treeStep};
 
 // How many entries the tree has.
 pub fn len(head: Head, leaves: &[u32], inners: &[u32], homes: &[u32]) -> Number
-    ensures { λ r. ⌜ moved (state head (now (leaves .entry)) (now (inners .entry)) (now (homes .entry))) (numberAnswer r) ≡ treeStep (state head (now (leaves .entry)) (now (inners .entry)) (now (homes .entry))) row.count ⌝ }
+    ensures { λ r. ⌜ moved (state head (now (leaves .entry)) (now (inners .entry)) (now (homes .entry))) (numberAnswer r) ≡ treeStep base (state head (now (leaves .entry)) (now (inners .entry)) (now (homes .entry))) row.count ⌝ }
 {
     calls_read::read::len(head)
 }
 
 // An entry's lengths.
 pub fn lengths(head: Head, leaves: &[u32], inners: &[u32], homes: &[u32], id: EntryId) -> Measured
-    ensures { λ r. ⌜ moved (state head (now (leaves .entry)) (now (inners .entry)) (now (homes .entry))) (measuredAnswer r) ≡ treeStep (state head (now (leaves .entry)) (now (inners .entry)) (now (homes .entry))) (row.lengths (id .0)) ⌝ }
+    ensures { λ r. ⌜ moved (state head (now (leaves .entry)) (now (inners .entry)) (now (homes .entry))) (measuredAnswer r) ≡ treeStep base (state head (now (leaves .entry)) (now (inners .entry)) (now (homes .entry))) (row.lengths (id .0)) ⌝ }
 {
     match cursor(head, leaves, inners, homes, id) {
         Standing::Refused(n) => Measured::Refused(n),
@@ -39,7 +41,7 @@ pub fn entry_to_char_index(
     view: View,
     id: EntryId,
 ) -> Number
-    ensures { λ r. ⌜ moved (state head (now (leaves .entry)) (now (inners .entry)) (now (homes .entry))) (numberAnswer r) ≡ treeStep (state head (now (leaves .entry)) (now (inners .entry)) (now (homes .entry))) (row.rank view (id .0)) ⌝ }
+    ensures { λ r. ⌜ moved (state head (now (leaves .entry)) (now (inners .entry)) (now (homes .entry))) (numberAnswer r) ≡ treeStep base (state head (now (leaves .entry)) (now (inners .entry)) (now (homes .entry))) (row.rank (viewNumber view) (id .0)) ⌝ }
 {
     match cursor(head, leaves, inners, homes, id) {
         Standing::Refused(n) => Number::Refused(n),

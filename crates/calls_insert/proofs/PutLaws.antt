@@ -7,13 +7,14 @@ use native.Mathlib.Omega.{arith}
 use lib.ListN.{length}
 use lib.Dec.{eqb}
 use borrow.Author.Tests.{eq-eqb, ne-eqb, eqb-false}
+use Rattle.model.specs.Kind.{base}
 use Rattle.model.specs.Length.{listOf}
 use Rattle.model.specs.Node.{start, wrap}
 use Rattle.model.specs.Node as node
 use Rattle.model.specs.State.{State, state, nodeAt}
 use Rattle.model.specs.Climb.{climbUp, lastDown}
 use Rattle.model.specs.Place.{Change, makeRoom, entering, place, climb}
-use Rattle.model.specs.Refuse.{effect, shapeOf}
+use Rattle.model.specs.Refuse.{shapeOf}
 use Rattle.model.specs.Calls.{Reply, reply, entryId, aim, endOf, placed, insertCauses, insert, add}
 use Rattle.model.specs.declared.shape.Shape.{Shape}
 use Rattle.model.specs.declared.length.Lengths.{Lengths}
@@ -47,7 +48,7 @@ pub still : (g : Shape) (n m : ℕ) → Shaped g → g .nodes * g .size ≤ n �
 still g n m h r e = record { shaped = h; room = omega arith }
 
 -- what `put` answers, from what `aim` and `place` answered
-module _ (g : Shape) (s : State) (t : Target) (l : Lengths) (a : Change) (e : a ≡ aim s t) where
+module _ (g : Shape) (s : State) (t : Target) (l : Lengths) (a : Change) (e : a ≡ aim base s t) where
   pub put-lost : (a .number ≡ 0 → ⊥) → a ≡ put g s t l
   put-lost d = rw (← e, ne-eqb _ _ d)
 
@@ -56,14 +57,14 @@ module _ (g : Shape) (s : State) (t : Target) (l : Lengths) (a : Change) (e : a 
   put-done d c ec = rw (← e, eq-eqb _ _ d) ec
 
 -- aiming changes nothing
-end-same : (s : State) (k : Leaf) → endOf s k .state ≡ s
+end-same : (s : State) (k : Leaf) → endOf base s k .state ≡ s
 end-same s (leaf.At k) = refl
 end-same s leaf.Nothing = refl
 end-same s leaf.Broken = refl
 
-aim-same : (s : State) (t : Target) → aim s t .state ≡ s
+aim-same : (s : State) (t : Target) → aim base s t .state ≡ s
 aim-same s (target.Before c) = refl
-aim-same s target.End = end-same s (lastDown (shapeOf (s .head)) (s .head .levels) (s .head .root .0) (s .inners))
+aim-same s target.End = end-same s (lastDown (shapeOf base (s .head)) (s .head .levels) (s .head .root .0) (s .inners))
 
 module _ (g : Shape) (s : State) (t : Target) (l : Lengths) (c : Change) (e : c ≡ put g s t l) where
   -- one level more at most, and where nothing led outside the entry stands in a slot
@@ -71,16 +72,16 @@ module _ (g : Shape) (s : State) (t : Target) (l : Lengths) (c : Change) (e : c 
   unfolding place
   put-levels =
       rw e
-      (by-test (λ (r : Change). r .state .head .levels ≤ s .head .levels + 1) (eqb (aim s t .number) 0) _ _
-      (λ _. entered-levels g (λ j. node.inserted j (s .head .entries ∷ listOf l)) 0 s (aim s t .leaf) (aim s t .slot) _ refl)
+      (by-test (λ (r : Change). r .state .head .levels ≤ s .head .levels + 1) (eqb (aim base s t .number) 0) _ _
+      (λ _. entered-levels g (λ j. node.inserted j (s .head .entries ∷ listOf l)) 0 s (aim base s t .leaf) (aim base s t .slot) _ refl)
       (λ _. omega (arith, ap (λ (x : State). x .head .levels) (aim-same s t))))
 
   pub put-in : c .number ≡ 0 → (c .leaf < g .nodes) × (c .slot < g .fan)
   unfolding place
   put-in =
       rw e
-      (by-test (λ (r : Change). r .number ≡ 0 → (r .leaf < g .nodes) × (r .slot < g .fan)) (eqb (aim s t .number) 0) _ _
-      (λ _ d. entered-in g (λ j. node.inserted j (s .head .entries ∷ listOf l)) 0 s (aim s t .leaf) (aim s t .slot) _ refl d)
+      (by-test (λ (r : Change). r .number ≡ 0 → (r .leaf < g .nodes) × (r .slot < g .fan)) (eqb (aim base s t .number) 0) _ _
+      (λ _ d. entered-in g (λ j. node.inserted j (s .head .entries ∷ listOf l)) 0 s (aim base s t .leaf) (aim base s t .slot) _ refl d)
       (λ h d. absurd (eqb-false _ _ h d)))
 
   -- the answer, from what `put` left and from the way up, whose sum is asked for or not
@@ -91,7 +92,7 @@ module _ (g : Shape) (s : State) (t : Target) (l : Lengths) (c : Change) (e : c 
 
     module _ (xs : List ℕ) (d : c .number ≡ 0) where
       abbrev way : Sum × List ℕ
-      way = let m = nodeAt g (c .leaf) (c .state .leaves) in climbUp g effect (listOf l) (c .state .head .levels) (m .parent) (m .at) (start effect (c .slot) m) (c .state .inners)
+      way = let m = nodeAt g (c .leaf) (c .state .leaves) in climbUp g (base .effect) (listOf l) (c .state .head .levels) (m .parent) (m .at) (start (base .effect) (c .slot) m) (c .state .inners)
 
       way-whole : (n : ℕ) → (sum.Is n, xs) ≡ way → reply (state (c .state .head) (c .state .leaves) xs (c .state .homes)) (insertedAs b s (wrap n)) ≡ insertedBy b g s t l
       unfolding climb
@@ -112,17 +113,17 @@ module _ (g : Shape) (s : State) (t : Target) (l : Lengths) (c : Change) (e : c 
         done-broken q = way-broken (asked-lost b xs way (ap (λ (x : Sum). (x, xs)) (sym q) ∙ ec))
 
 -- the call, from what its tests answered
-module _ (s : State) (t : Target) (l : Lengths) (b : Bool) (o : Opened) (e : o ≡ openedBy (insertCauses s t l) (shapeOf (s .head))) where
+module _ (s : State) (t : Target) (l : Lengths) (b : Bool) (o : Opened) (e : o ≡ openedBy (insertCauses base s t (listOf l)) (shapeOf base (s .head))) where
   pub enter-refused : (n : ℕ) → o ≡ Refused n → reply s (inserted.Refused n) ≡ enter b s t l
-  enter-refused n d = call-refused (λ m. reply s (inserted.Refused m)) (λ g. insertedBy b g s t l) (insertCauses s t l) (shapeOf (s .head)) o e n d
+  enter-refused n d = call-refused (λ m. reply s (inserted.Refused m)) (λ g. insertedBy b g s t l) (insertCauses base s t (listOf l)) (shapeOf base (s .head)) o e n d
 
   pub enter-done : (g : Shape) → o ≡ Good g → (r : Reply Inserted) → r ≡ insertedBy b g s t l → r ≡ enter b s t l
-  enter-done g d r q = call-good (λ m. reply s (inserted.Refused m)) (λ g. insertedBy b g s t l) (insertCauses s t l) (shapeOf (s .head)) o e g d r q
+  enter-done g d r q = call-good (λ m. reply s (inserted.Refused m)) (λ g. insertedBy b g s t l) (insertCauses base s t (listOf l)) (shapeOf base (s .head)) o e g d r q
 
-pub insert-is : (s : State) (t : Target) (l : Lengths) → enter true s t l ≡ insert s t l
+pub insert-is : (s : State) (t : Target) (l : Lengths) → enter true s t l ≡ insert base s t (listOf l)
 unfolding insert
 insert-is s t l = refl
 
-pub add-is : (s : State) (t : Target) (l : Lengths) (x : Reply Inserted) → x ≡ enter false s t l → reply (x .after) (unplaced (x .answer)) ≡ add s t l
+pub add-is : (s : State) (t : Target) (l : Lengths) (x : Reply Inserted) → x ≡ enter false s t l → reply (x .after) (unplaced (x .answer)) ≡ add base s t (listOf l)
 unfolding add
-add-is s t l x e = ap (answering unplaced) e ∙ answering-call unplaced (insertCauses s t l) s (placed s t l .0) inserted.Refused (insertedAs false s 0)
+add-is s t l x e = ap (answering unplaced) e ∙ answering-call unplaced (insertCauses base s t (listOf l)) s (placed base s t (listOf l) .0) inserted.Refused (insertedAs false s 0)

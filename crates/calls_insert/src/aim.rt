@@ -17,6 +17,8 @@ ghost use mathlib.Core.Path.{_≡_};
 ghost use mathlib.Core.List.{List, _++_};
 ghost use Prim.Native.Nat.{ℕ};
 ghost use lib.ListN.{length};
+ghost use Rattle.model.specs.Length.{listOf};
+ghost use Rattle.model.specs.Kind.{base};
 ghost use Rattle.model.specs.State.{state};
 ghost use Rattle.model.specs.Place.{change};
 ghost use Rattle.model.specs.Refuse.{shapeOf, opening};
@@ -26,7 +28,7 @@ ghost use Rattle.open.specs.Open.{openedBy};
 
 // What is tested of the tree and of a cursor.
 fn open_for(head: Head, leaves: &[u32], inners: &[u32], homes: &[u32], before: Target) -> Opened
-    ensures { λ r. ⌜ r ≡ openedBy (opening (state head (now (leaves .entry)) (now (inners .entry)) (now (homes .entry))) ++ targetCauses (state head (now (leaves .entry)) (now (inners .entry)) (now (homes .entry))) before) (shapeOf head) ⌝ }
+    ensures { λ r. ⌜ r ≡ openedBy (opening base (state head (now (leaves .entry)) (now (inners .entry)) (now (homes .entry))) ++ targetCauses base (state head (now (leaves .entry)) (now (inners .entry)) (now (homes .entry))) before) (shapeOf base head) ⌝ }
 {
     match before {
         Target::Before(at) => open_at(head, leaves, inners, homes, at),
@@ -43,7 +45,7 @@ pub fn open_insert(
     before: Target,
     lengths: Lengths,
 ) -> Opened
-    ensures { λ r. ⌜ r ≡ openedBy (insertCauses (state head (now (leaves .entry)) (now (inners .entry)) (now (homes .entry))) before lengths) (shapeOf head) ⌝ }
+    ensures { λ r. ⌜ r ≡ openedBy (insertCauses base (state head (now (leaves .entry)) (now (inners .entry)) (now (homes .entry))) before (listOf lengths)) (shapeOf base head) ⌝ }
 {
     match open_for(head, leaves, inners, homes, before) {
         Opened::Refused(n) => Opened::Refused(n),
@@ -65,8 +67,8 @@ pub fn open_insert(
 
 // The slot before which the entry comes: the cursor's, or the one behind the last in use (last_leaf).
 pub fn aim(head: Head, leaves: &[u32], inners: &[u32], g: Shape, before: Target) -> Change
-    requires { ⌜ (g ≡ shapeOf head) × Area g (length (now leaves)) × Area g (length (now inners)) ⌝ }
-    ensures { λ r. ⌜ ((hs : List ℕ) → change (r .number) (state (r .head) (now (leaves .entry)) (now (inners .entry)) hs) (r .leaf .0) (r .slot) ≡ aim (state head (now (leaves .entry)) (now (inners .entry)) hs) before) ⌝ }
+    requires { ⌜ (g ≡ shapeOf base head) × Area g (length (now leaves)) × Area g (length (now inners)) ⌝ }
+    ensures { λ r. ⌜ ((hs : List ℕ) → change (r .number) (state (r .head) (now (leaves .entry)) (now (inners .entry)) hs) (r .leaf .0) (r .slot) ≡ aim base (state head (now (leaves .entry)) (now (inners .entry)) hs) before) ⌝ }
 {
     match before {
         Target::Before(at) => {

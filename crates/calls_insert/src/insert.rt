@@ -17,6 +17,8 @@ use place::entry::place;
 use place::size::way_up;
 ghost use mathlib.Core.Path.{_≡_};
 ghost use Prim.Native.Nat.{_<_};
+ghost use Rattle.model.specs.Length.{listOf};
+ghost use Rattle.model.specs.Kind.{base};
 ghost use Rattle.model.specs.State.{state};
 ghost use Rattle.model.specs.Place.{change};
 ghost use Rattle.model.specs.Calls as calls;
@@ -119,7 +121,7 @@ pub fn insert(
     before: Target,
     lengths: Lengths,
 ) -> InsertedReply
-    ensures { λ r. ⌜ reply (state (r .head) (now (leaves .exit)) (now (inners .exit)) (now (homes .exit))) (r .answer) ≡ calls.insert (state head (now (leaves .entry)) (now (inners .entry)) (now (homes .entry))) before lengths ⌝ }
+    ensures { λ r. ⌜ reply (state (r .head) (now (leaves .exit)) (now (inners .exit)) (now (homes .exit))) (r .answer) ≡ calls.insert base (state head (now (leaves .entry)) (now (inners .entry)) (now (homes .entry))) before (listOf lengths) ⌝ }
 {
     enter(head, leaves, inners, homes, before, lengths, true)
 }
@@ -143,7 +145,7 @@ pub fn add(
     before: Target,
     lengths: Lengths,
 ) -> NamedReply
-    ensures { λ r. ⌜ reply (state (r .head) (now (leaves .exit)) (now (inners .exit)) (now (homes .exit))) (r .answer) ≡ calls.add (state head (now (leaves .entry)) (now (inners .entry)) (now (homes .entry))) before lengths ⌝ }
+    ensures { λ r. ⌜ reply (state (r .head) (now (leaves .exit)) (now (inners .exit)) (now (homes .exit))) (r .answer) ≡ calls.add base (state head (now (leaves .entry)) (now (inners .entry)) (now (homes .entry))) before (listOf lengths) ⌝ }
 {
     let r = enter(head, leaves, inners, homes, before, lengths, false);
     let after = r.head;

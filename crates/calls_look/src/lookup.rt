@@ -15,6 +15,8 @@ use model::way::Search;
 use open::open::Opened;
 use open::open::open;
 ghost use mathlib.Core.Path.{_≡_};
+ghost use Rattle.model.specs.Length.{viewNumber};
+ghost use Rattle.model.specs.Kind.{base};
 ghost use Rattle.model.specs.State.{state};
 ghost use Rattle.model.specs.Calls as calls;
 ghost use Rattle.model.specs.Calls.{reply};
@@ -73,7 +75,7 @@ pub fn locate(
     view: View,
     index: u32,
 ) -> LocatedReply
-    ensures { λ r. ⌜ reply (state (r .head) (now (leaves .exit)) (now (inners .exit)) (now (homes .exit))) (r .answer) ≡ calls.locate (state head (now (leaves .entry)) (now (inners .entry)) (now (homes .entry))) view index ⌝ }
+    ensures { λ r. ⌜ reply (state (r .head) (now (leaves .exit)) (now (inners .exit)) (now (homes .exit))) (r .answer) ≡ calls.locate base (state head (now (leaves .entry)) (now (inners .entry)) (now (homes .entry))) (viewNumber view) index ⌝ }
 {
     match open(head, leaves, inners, homes) {
         Opened::Refused(n) => LocatedReply {
@@ -107,7 +109,7 @@ pub fn char_index_to_entry(
     view: View,
     index: u32,
 ) -> SelectedReply
-    ensures { λ r. ⌜ reply (state (r .head) (now (leaves .exit)) (now (inners .exit)) (now (homes .exit))) (r .answer) ≡ calls.charIndexToEntry (state head (now (leaves .entry)) (now (inners .entry)) (now (homes .entry))) view index ⌝ }
+    ensures { λ r. ⌜ reply (state (r .head) (now (leaves .exit)) (now (inners .exit)) (now (homes .exit))) (r .answer) ≡ calls.charIndexToEntry base (state head (now (leaves .entry)) (now (inners .entry)) (now (homes .entry))) (viewNumber view) index ⌝ }
 {
     let r = locate(head, leaves, inners, homes, view, index);
     let kept = r.head;

@@ -14,9 +14,10 @@ ghost use mathlib.Core.Path.{_≡_};
 ghost use mathlib.Core.List.{[], _∷_};
 ghost use Prim.Native.Nat.{_*_, _<_, _≤_};
 ghost use lib.ListN.{length};
+ghost use Rattle.model.specs.Length.{listOf};
+ghost use Rattle.model.specs.Kind.{base, stride};
 ghost use Rattle.model.specs.Node.{newNode};
 ghost use Rattle.model.specs.State.{state, shape, putNode};
-ghost use Rattle.model.specs.Refuse.{stride};
 ghost use Rattle.model.specs.Calls as calls;
 ghost use Rattle.model.specs.Calls.{begun, reply};
 ghost use Rattle.node.specs.Shaped.{Shaped};
@@ -41,8 +42,8 @@ fn begin(
     inners: &mut [u32],
     homes: &mut [u32],
 ) -> Head
-    requires { ⌜ (g ≡ shape stride fan limit) × Shaped g × (g .size ≤ length (now leaves)) × (g .size ≤ length (now inners)) × (0 < length (now homes)) ⌝ }
-    ensures { λ r. ⌜ state r (now (leaves .exit)) (now (inners .exit)) (now (homes .exit)) ≡ begun fan limit lengths (now (leaves .entry)) (now (inners .entry)) (now (homes .entry)) ⌝ }
+    requires { ⌜ (g ≡ shape (stride base) fan limit) × Shaped g × (g .size ≤ length (now leaves)) × (g .size ≤ length (now inners)) × (0 < length (now homes)) ⌝ }
+    ensures { λ r. ⌜ state r (now (leaves .exit)) (now (inners .exit)) (now (homes .exit)) ≡ begun base fan limit (listOf lengths) (now (leaves .entry)) (now (inners .entry)) (now (homes .entry)) ⌝ }
 {
     let slot = Slot::new(0, lengths);
     let x: [u32; 3] = [slot.child, slot.prepare_len, slot.effect_len];
@@ -70,7 +71,7 @@ pub fn new(
     inners: &mut [u32],
     homes: &mut [u32],
 ) -> OutcomeReply
-    ensures { λ r. ⌜ reply (state (r .head) (now (leaves .exit)) (now (inners .exit)) (now (homes .exit))) (r .answer) ≡ calls.make fan limit lengths (now (leaves .entry)) (now (inners .entry)) (now (homes .entry)) ⌝ }
+    ensures { λ r. ⌜ reply (state (r .head) (now (leaves .exit)) (now (inners .exit)) (now (homes .exit))) (r .answer) ≡ calls.make base fan limit (listOf lengths) (now (leaves .entry)) (now (inners .entry)) (now (homes .entry)) ⌝ }
 {
     match open_areas(fan, limit, leaves, inners, homes) {
         Opened::Refused(n) => {
@@ -107,7 +108,7 @@ pub fn reset(
     inners: &mut [u32],
     homes: &mut [u32],
 ) -> OutcomeReply
-    ensures { λ r. ⌜ reply (state (r .head) (now (leaves .exit)) (now (inners .exit)) (now (homes .exit))) (r .answer) ≡ calls.reset (state head (now (leaves .entry)) (now (inners .entry)) (now (homes .entry))) lengths ⌝ }
+    ensures { λ r. ⌜ reply (state (r .head) (now (leaves .exit)) (now (inners .exit)) (now (homes .exit))) (r .answer) ≡ calls.reset base (state head (now (leaves .entry)) (now (inners .entry)) (now (homes .entry))) (listOf lengths) ⌝ }
 {
     let fan = head.fan;
     let limit = head.limit;

@@ -9,6 +9,7 @@ use lib.ListN.{length, take}
 use lib.Seq.{length-take-le}
 use lib.Dec.{ltb, eqb}
 use borrow.Author.Tests.{lt-ltb, le-ltb, eq-eqb, ne-eqb, not-false}
+use Rattle.model.specs.Kind.{base}
 use Rattle.model.specs.Lists.{Cause}
 use Rattle.model.specs.Node.{start}
 use Rattle.model.specs.Length.{viewNumber}
@@ -47,34 +48,34 @@ module _ (s : State) (c : Cursor) where
       let m = nodeAt g (c .leaf .0) (s .leaves) in
       rankUp g (viewNumber v) (s .head .levels) (m .parent) (m .at) (start (viewNumber v) (c .slot) m) (s .inners)
 
-  module _ (o : Opened) (e : o ≡ openedBy (opening s ++ atCursor s c) (shapeOf (s .head))) where
-    pub rank-refused : (v : View) (n : ℕ) → o ≡ Refused n → number.Refused n ≡ entryToCharIndex s v c
+  module _ (o : Opened) (e : o ≡ openedBy (opening base s ++ atCursor base s c) (shapeOf base (s .head))) where
+    pub rank-refused : (v : View) (n : ℕ) → o ≡ Refused n → number.Refused n ≡ entryToCharIndex base s (viewNumber v) c
     unfolding entryToCharIndex
-    rank-refused v n d = call-refused number.Refused (λ (x : Shape). rankOf (climbBy v x)) _ (shapeOf (s .head)) o e n d
+    rank-refused v n d = call-refused number.Refused (λ (x : Shape). rankOf (climbBy v x)) _ (shapeOf base (s .head)) o e n d
 
     -- the climb starts with the leaf's own place and what stands before the slot in it
     pub rank-good : (g : Shape) → o ≡ Good g → (v : View) (w p a b : ℕ) (r q : Sum) → w ≡ viewNumber v → b ≡ start w (c .slot) (nodeAt g (c .leaf .0) (s .leaves))
         → p ≡ nodeAt g (c .leaf .0) (s .leaves) .parent → a ≡ nodeAt g (c .leaf .0) (s .leaves) .at → r ≡ rankUp g w (s .head .levels) p a b (s .inners) → r ≡ q
-        → rankOf q ≡ entryToCharIndex s v c
+        → rankOf q ≡ entryToCharIndex base s (viewNumber v) c
     unfolding entryToCharIndex
     rank-good g d v w p a b r q ew eb ep ea er eq =
         let whole : rankUp g w (s .head .levels) p a b (s .inners) ≡ climbBy v g = rw (ep, ea, eb, ew) in
-        call-good number.Refused (λ (x : Shape). rankOf (climbBy v x)) _ (shapeOf (s .head)) o e g d _ (ap rankOf (sym eq ∙ er ∙ whole))
+        call-good number.Refused (λ (x : Shape). rankOf (climbBy v x)) _ (shapeOf base (s .head)) o e g d _ (ap rankOf (sym eq ∙ er ∙ whole))
 
 -- first -----------------------------------------------------------------------------------------------------------------------------------
 
-module _ (s : State) (o : Opened) (e : o ≡ openedBy (opening s) (shapeOf (s .head))) where
+module _ (s : State) (o : Opened) (e : o ≡ openedBy (opening base s) (shapeOf base (s .head))) where
   abbrev firstBy : Shape → Standing
   firstBy g = firstOf (s .head .entries) (firstDown g (s .head .levels) (s .head .root .0) (s .inners))
 
-  pub first-refused : (n : ℕ) → o ≡ Refused n → standing.Refused n ≡ first s
+  pub first-refused : (n : ℕ) → o ≡ Refused n → standing.Refused n ≡ first base s
   unfolding first
-  first-refused n d = call-refused standing.Refused firstBy (opening s) (shapeOf (s .head)) o e n d
+  first-refused n d = call-refused standing.Refused firstBy (opening base s) (shapeOf base (s .head)) o e n d
 
   pub first-good : (g : Shape) → o ≡ Good g → (r q : Leaf) → r ≡ firstDown g (s .head .levels) (s .head .root .0) (s .inners) → r ≡ q
-      → firstOf (s .head .entries) q ≡ first s
+      → firstOf (s .head .entries) q ≡ first base s
   unfolding first
-  first-good g d r q er eq = call-good standing.Refused firstBy (opening s) (shapeOf (s .head)) o e g d _ (ap (firstOf (s .head .entries)) (sym eq ∙ er))
+  first-good g d r q er eq = call-good standing.Refused firstBy (opening base s) (shapeOf base (s .head)) o e g d _ (ap (firstOf (s .head .entries)) (sym eq ∙ er))
 
 -- next ------------------------------------------------------------------------------------------------------------------------------------
 
@@ -87,21 +88,21 @@ module _ (s : State) (c : Cursor) where
       let m = nodeAt g (c .leaf .0) (s .leaves) in
       cond (ltb (c .slot + 1) (m .len)) (next.At (cursorAt (s .head .entries) (c .leaf .0) (c .slot + 1))) (nextOf (s .head .entries) (leafBy g (m .parent) (m .at)))
 
-  module _ (o : Opened) (e : o ≡ openedBy (opening s ++ atCursor s c) (shapeOf (s .head))) where
-    pub next-refused : (n : ℕ) → o ≡ Refused n → next.Refused n ≡ nextAfter s c
+  module _ (o : Opened) (e : o ≡ openedBy (opening base s ++ atCursor base s c) (shapeOf base (s .head))) where
+    pub next-refused : (n : ℕ) → o ≡ Refused n → next.Refused n ≡ nextAfter base s c
     unfolding nextAfter
-    next-refused n d = call-refused next.Refused nextBy _ (shapeOf (s .head)) o e n d
+    next-refused n d = call-refused next.Refused nextBy _ (shapeOf base (s .head)) o e n d
 
     module _ (g : Shape) (d : o ≡ Good g) (len : ℕ) (el : len ≡ nodeAt g (c .leaf .0) (s .leaves) .len) where
-      pub next-here : c .slot + 1 < len → next.At (cursorAt (s .head .entries) (c .leaf .0) (c .slot + 1)) ≡ nextAfter s c
+      pub next-here : c .slot + 1 < len → next.At (cursorAt (s .head .entries) (c .leaf .0) (c .slot + 1)) ≡ nextAfter base s c
       unfolding nextAfter
-      next-here h = call-good next.Refused nextBy _ (shapeOf (s .head)) o e g d _ (rw (← el, lt-ltb (c .slot + 1) len h))
+      next-here h = call-good next.Refused nextBy _ (shapeOf base (s .head)) o e g d _ (rw (← el, lt-ltb (c .slot + 1) len h))
 
       pub next-on : len ≤ c .slot + 1 → (p a : ℕ) (r q : Leaf) → p ≡ nodeAt g (c .leaf .0) (s .leaves) .parent → a ≡ nodeAt g (c .leaf .0) (s .leaves) .at
-          → r ≡ leafBy g p a → r ≡ q → nextOf (s .head .entries) q ≡ nextAfter s c
+          → r ≡ leafBy g p a → r ≡ q → nextOf (s .head .entries) q ≡ nextAfter base s c
       unfolding nextAfter
       next-on h p a r q ep ea er eq =
-          call-good next.Refused nextBy _ (shapeOf (s .head)) o e g d _ (rw (← el, le-ltb (c .slot + 1) len h, ← ep, ← ea) (ap (nextOf (s .head .entries)) (sym eq ∙ er)))
+          call-good next.Refused nextBy _ (shapeOf base (s .head)) o e g d _ (rw (← el, le-ltb (c .slot + 1) len h, ← ep, ← ea) (ap (nextOf (s .head .entries)) (sym eq ∙ er)))
 
 -- cmp -------------------------------------------------------------------------------------------------------------------------------------
 
@@ -135,7 +136,7 @@ module _ (s : State) where
   pathBy c g = let m = nodeAt g (c .leaf .0) (s .leaves) in stepsUp g (s .head .levels) (m .parent) (m .at) [] (s .inners)
 
   -- where the path of a current cursor begins
-  pub path-in : (g : Shape) (o : Opened) → o ≡ openedBy (opening s) (shapeOf (s .head)) → o ≡ Good g → (c : Cursor) (t : Bool) → t ≡ current s c → not t ≡ false
+  pub path-in : (g : Shape) (o : Opened) → o ≡ openedBy (opening base s) (shapeOf base (s .head)) → o ≡ Good g → (c : Cursor) (t : Bool) → t ≡ current base s c → not t ≡ false
       → Area g (length (s .leaves)) × Area g (length (s .inners)) × (c .leaf .0 < g .nodes) × (s .head .levels ≤ 15)
   path-in g o e d c t et h =
       let r = ready s g o e d in
@@ -143,42 +144,42 @@ module _ (s : State) where
 
   module _ (a b : Cursor) where
     abbrev both : List Cause
-    both = stale s a ∷ stale s b ∷ []
+    both = stale base s a ∷ stale base s b ∷ []
 
     abbrev cmpBy : Shape → Compared
     cmpBy g = cond (eqb (a .leaf .0) (b .leaf .0)) (inOrder (a .slot ∷ []) (b .slot ∷ [])) (byPath (pathBy a g) (pathBy b g))
 
-    module _ (o : Opened) (e : o ≡ openedBy (opening s) (shapeOf (s .head))) where
-      refused : (n : ℕ) → openedBy (opening s ++ both) (shapeOf (s .head)) ≡ Refused n → compared.Refused n ≡ cmp s a b
+    module _ (o : Opened) (e : o ≡ openedBy (opening base s) (shapeOf base (s .head))) where
+      refused : (n : ℕ) → openedBy (opening base s ++ both) (shapeOf base (s .head)) ≡ Refused n → compared.Refused n ≡ cmp base s a b
       unfolding cmp path
-      refused n d = call-refused compared.Refused cmpBy (opening s ++ both) (shapeOf (s .head)) _ refl n d
+      refused n d = call-refused compared.Refused cmpBy (opening base s ++ both) (shapeOf base (s .head)) _ refl n d
 
-      pub cmp-refused : (n : ℕ) → o ≡ Refused n → compared.Refused n ≡ cmp s a b
-      cmp-refused n d = refused n (opened-stop (opening s) both _ n (sym e ∙ d))
+      pub cmp-refused : (n : ℕ) → o ≡ Refused n → compared.Refused n ≡ cmp base s a b
+      cmp-refused n d = refused n (opened-stop (opening base s) both _ n (sym e ∙ d))
 
-      module _ (g : Shape) (d : o ≡ Good g) (t : Bool) (et : t ≡ current s a) where
-        rest : openedBy (opening s ++ both) (shapeOf (s .head)) ≡ openedBy both (shapeOf (s .head))
-        rest = opened-more (opening s) both _ g (opening-numbered s) (sym e ∙ d)
+      module _ (g : Shape) (d : o ≡ Good g) (t : Bool) (et : t ≡ current base s a) where
+        rest : openedBy (opening base s ++ both) (shapeOf base (s .head)) ≡ openedBy both (shapeOf base (s .head))
+        rest = opened-more (opening base s) both _ g (opening-numbered s) (sym e ∙ d)
 
-        pub cmp-first : not t ≡ true → compared.Refused 3 ≡ cmp s a b
+        pub cmp-first : not t ≡ true → compared.Refused 3 ≡ cmp base s a b
         cmp-first h = refused 3 (rest ∙ opened-first 2 _ _ _ (ap not (sym et) ∙ h))
 
-        module _ (ht : not t ≡ false) (u : Bool) (eu : u ≡ current s b) where
-          last : openedBy (opening s ++ both) (shapeOf (s .head)) ≡ openedBy (stale s b ∷ []) (shapeOf (s .head))
+        module _ (ht : not t ≡ false) (u : Bool) (eu : u ≡ current base s b) where
+          last : openedBy (opening base s ++ both) (shapeOf base (s .head)) ≡ openedBy (stale base s b ∷ []) (shapeOf base (s .head))
           last = rest ∙ opened-next 3 _ _ _ (ap not (sym et) ∙ ht)
 
-          pub cmp-second : not u ≡ true → compared.Refused 3 ≡ cmp s a b
+          pub cmp-second : not u ≡ true → compared.Refused 3 ≡ cmp base s a b
           cmp-second h = refused 3 (last ∙ opened-first 2 _ _ _ (ap not (sym eu) ∙ h))
 
           module _ (hu : not u ≡ false) (r : Compared) where
-            good : r ≡ cmpBy g → r ≡ cmp s a b
+            good : r ≡ cmpBy g → r ≡ cmp base s a b
             unfolding cmp path
             good q =
-                call-good compared.Refused cmpBy (opening s ++ both) (shapeOf (s .head)) _ refl g
-                (last ∙ opened-next 3 _ _ _ (ap not (sym eu) ∙ hu) ∙ opened-none _ ∙ ap Good (good-shape (opening s) _ g (sym e ∙ d))) r q
+                call-good compared.Refused cmpBy (opening base s ++ both) (shapeOf base (s .head)) _ refl g
+                (last ∙ opened-next 3 _ _ _ (ap not (sym eu) ∙ hu) ∙ opened-none _ ∙ ap Good (good-shape (opening base s) _ g (sym e ∙ d))) r q
 
-            pub cmp-slot : a .leaf .0 ≡ b .leaf .0 → r ≡ inOrder (a .slot ∷ []) (b .slot ∷ []) → r ≡ cmp s a b
+            pub cmp-slot : a .leaf .0 ≡ b .leaf .0 → r ≡ inOrder (a .slot ∷ []) (b .slot ∷ []) → r ≡ cmp base s a b
             cmp-slot h q = good (rw (eq-eqb (a .leaf .0) (b .leaf .0) h) q)
 
-            pub cmp-path : (a .leaf .0 ≡ b .leaf .0 → ⊥) → (x y : List ℕ) → x ≡ pathBy a g → y ≡ pathBy b g → r ≡ byPath x y → r ≡ cmp s a b
+            pub cmp-path : (a .leaf .0 ≡ b .leaf .0 → ⊥) → (x y : List ℕ) → x ≡ pathBy a g → y ≡ pathBy b g → r ≡ byPath x y → r ≡ cmp base s a b
             cmp-path h x y ex ey q = good (rw (ne-eqb (a .leaf .0) (b .leaf .0) h, ← ex, ← ey) q)

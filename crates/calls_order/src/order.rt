@@ -28,6 +28,8 @@ ghost use mathlib.Core.Path.{_≡_};
 ghost use mathlib.Core.List.{[], _∷_};
 ghost use Prim.Native.Nat.{_<_, _≤_};
 ghost use lib.ListN.{length};
+ghost use Rattle.model.specs.Length.{viewNumber};
+ghost use Rattle.model.specs.Kind.{base};
 ghost use Rattle.model.specs.Climb.{stepsUp};
 ghost use Rattle.model.specs.State.{state, nodeAt};
 ghost use Rattle.model.specs.Calls as calls;
@@ -43,7 +45,7 @@ pub fn entry_to_char_index(
     view: View,
     at: Cursor,
 ) -> Number
-    ensures { λ r. ⌜ r ≡ calls.entryToCharIndex (state head (now (leaves .entry)) (now (inners .entry)) (now (homes .entry))) view at ⌝ }
+    ensures { λ r. ⌜ r ≡ calls.entryToCharIndex base (state head (now (leaves .entry)) (now (inners .entry)) (now (homes .entry))) (viewNumber view) at ⌝ }
 {
     match open_at(head, leaves, inners, homes, at) {
         Opened::Refused(n) => Number::Refused(n),
@@ -63,7 +65,7 @@ pub fn entry_to_char_index(
 
 // The cursor of the first entry.
 pub fn first(head: Head, leaves: &[u32], inners: &[u32], homes: &[u32]) -> Standing
-    ensures { λ r. ⌜ r ≡ calls.first (state head (now (leaves .entry)) (now (inners .entry)) (now (homes .entry))) ⌝ }
+    ensures { λ r. ⌜ r ≡ calls.first base (state head (now (leaves .entry)) (now (inners .entry)) (now (homes .entry))) ⌝ }
 {
     match open(head, leaves, inners, homes) {
         Opened::Refused(n) => Standing::Refused(n),
@@ -84,7 +86,7 @@ pub fn first(head: Head, leaves: &[u32], inners: &[u32], homes: &[u32]) -> Stand
 
 // The cursor of the entry after the one at a cursor, or nothing after the last.
 pub fn next(head: Head, leaves: &[u32], inners: &[u32], homes: &[u32], at: Cursor) -> Next
-    ensures { λ r. ⌜ r ≡ calls.nextAfter (state head (now (leaves .entry)) (now (inners .entry)) (now (homes .entry))) at ⌝ }
+    ensures { λ r. ⌜ r ≡ calls.nextAfter base (state head (now (leaves .entry)) (now (inners .entry)) (now (homes .entry))) at ⌝ }
 {
     match open_at(head, leaves, inners, homes, at) {
         Opened::Refused(n) => Next::Refused(n),
@@ -160,7 +162,7 @@ pub fn cmp(
     a: Cursor,
     b: Cursor,
 ) -> Compared
-    ensures { λ r. ⌜ r ≡ calls.cmp (state head (now (leaves .entry)) (now (inners .entry)) (now (homes .entry))) a b ⌝ }
+    ensures { λ r. ⌜ r ≡ calls.cmp base (state head (now (leaves .entry)) (now (inners .entry)) (now (homes .entry))) a b ⌝ }
 {
     match open(head, leaves, inners, homes) {
         Opened::Refused(n) => Compared::Refused(n),

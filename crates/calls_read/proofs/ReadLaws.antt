@@ -7,11 +7,13 @@ use native.Mathlib.Omega.{arith}
 use lib.ListN.{length, getD}
 use lib.Dec.{ltb, leb, eqb}
 use borrow.Author.Tests.{lt-ltb, le-ltb, lt-leb, le-leb}
+use Rattle.model.specs.Kind.{base}
+use Rattle.model.specs.Row.{Answer, done, refused}
 use Rattle.model.specs.Node.{child, lengths, used, indexFrom}
 use Rattle.model.specs.State.{State, nodeAt}
 use Rattle.model.specs.Refuse.{shapeOf, opening, atCursor, noSuchId}
 use Rattle.model.specs.Length.{listOf}
-use Rattle.model.specs.Calls.{entryId, id, lengthsFrom, lengthsOf, standingIn, cursor}
+use Rattle.model.specs.Calls.{entryId, id, lengthsOf, standingIn, cursor}
 use Rattle.model.specs.declared.shape.Shape.{Shape}
 use Rattle.model.specs.declared.head.Cursor.{Cursor}
 use Rattle.model.specs.declared.length.Lengths.{Lengths}
@@ -41,26 +43,26 @@ module _ (s : State) (c : Cursor) where
   abbrev idBy : Shape → Named
   idBy g = named.Entry (entryId (child (slotBy g)))
 
-  abbrev lengthsBy : Shape → Measured
-  lengthsBy g = measured.Are (lengthsFrom (lengths (slotBy g)))
+  abbrev lengthsBy : Shape → Answer
+  lengthsBy g = done (lengths (slotBy g))
 
-module _ (s : State) (c : Cursor) (o : Opened) (e : o ≡ openedBy (opening s ++ atCursor s c) (shapeOf (s .head))) where
-  pub id-refused : (n : ℕ) → o ≡ Refused n → named.Refused n ≡ id s c
+module _ (s : State) (c : Cursor) (o : Opened) (e : o ≡ openedBy (opening base s ++ atCursor base s c) (shapeOf base (s .head))) where
+  pub id-refused : (n : ℕ) → o ≡ Refused n → named.Refused n ≡ id base s c
   unfolding id
-  id-refused n d = call-refused named.Refused (idBy s c) _ (shapeOf (s .head)) o e n d
+  id-refused n d = call-refused named.Refused (idBy s c) _ (shapeOf base (s .head)) o e n d
 
-  pub lengths-refused : (n : ℕ) → o ≡ Refused n → measured.Refused n ≡ lengthsOf s c
+  pub lengths-refused : (n : ℕ) → o ≡ Refused n → refused n ≡ lengthsOf base s c
   unfolding lengthsOf
-  lengths-refused n d = call-refused measured.Refused (lengthsBy s c) _ (shapeOf (s .head)) o e n d
+  lengths-refused n d = call-refused refused (lengthsBy s c) _ (shapeOf base (s .head)) o e n d
 
   module _ (g : Shape) (d : o ≡ Good g) where
-    pub id-good : (x : ℕ) → x ≡ child (slotBy s c g) → named.Entry (entryId x) ≡ id s c
+    pub id-good : (x : ℕ) → x ≡ child (slotBy s c g) → named.Entry (entryId x) ≡ id base s c
     unfolding id
-    id-good x q = call-good named.Refused (idBy s c) _ (shapeOf (s .head)) o e g d _ (ap (λ (y : ℕ). named.Entry (entryId y)) q)
+    id-good x q = call-good named.Refused (idBy s c) _ (shapeOf base (s .head)) o e g d _ (ap (λ (y : ℕ). named.Entry (entryId y)) q)
 
-    pub lengths-good : (l : Lengths) → lengths (slotBy s c g) ≡ listOf l → measured.Are l ≡ lengthsOf s c
+    pub lengths-good : (l : Lengths) → lengths (slotBy s c g) ≡ listOf l → done (listOf l) ≡ lengthsOf base s c
     unfolding lengthsOf
-    lengths-good l p = call-good measured.Refused (lengthsBy s c) _ (shapeOf (s .head)) o e g d _ (rw p)
+    lengths-good l p = call-good refused (lengthsBy s c) _ (shapeOf base (s .head)) o e g d _ (sym (ap done p))
 
 -- the slot that holds a child is one of those that were searched
 index-step : (b : Bool) (k n j : ℕ) (p : Place) → (p ≡ slot.Slot j → j < k + 1 + n) → cond b (slot.Slot k) p ≡ slot.Slot j → j < k + suc n
@@ -93,31 +95,31 @@ module _ (s : State) (i : ℕ) where
       let m = nodeAt g k (s .leaves) in
       cond (ltb k (h .leaves) && leb (m .len) (h .fan)) (standingIn (h .entries) k (indexFrom i 0 (used m))) (standing.Refused 9)
 
-  module _ (o : Opened) (e : o ≡ openedBy (opening s) (shapeOf (s .head))) where
-    pub cursor-refused : (n : ℕ) → o ≡ Refused n → standing.Refused n ≡ cursor s i
+  module _ (o : Opened) (e : o ≡ openedBy (opening base s) (shapeOf base (s .head))) where
+    pub cursor-refused : (n : ℕ) → o ≡ Refused n → standing.Refused n ≡ cursor base s i
     unfolding cursor
     cursor-refused n d =
-        call-refused standing.Refused (cursorBy) (opening s ++ noSuchId s i ∷ []) (shapeOf (s .head)) _ refl n (opened-stop (opening s) _ _ n (sym e ∙ d))
+        call-refused standing.Refused (cursorBy) (opening base s ++ noSuchId s i ∷ []) (shapeOf base (s .head)) _ refl n (opened-stop (opening base s) _ _ n (sym e ∙ d))
 
     module _ (g : Shape) (d : o ≡ Good g) where
-      last : openedBy (opening s ++ noSuchId s i ∷ []) (shapeOf (s .head)) ≡ openedBy (noSuchId s i ∷ []) (shapeOf (s .head))
-      last = opened-more (opening s) (noSuchId s i ∷ []) _ g (opening-numbered s) (sym e ∙ d)
+      last : openedBy (opening base s ++ noSuchId s i ∷ []) (shapeOf base (s .head)) ≡ openedBy (noSuchId s i ∷ []) (shapeOf base (s .head))
+      last = opened-more (opening base s) (noSuchId s i ∷ []) _ g (opening-numbered s) (sym e ∙ d)
 
-      pub cursor-past : s .head .entries ≤ i → standing.Refused 4 ≡ cursor s i
+      pub cursor-past : s .head .entries ≤ i → standing.Refused 4 ≡ cursor base s i
       unfolding cursor
       cursor-past h =
-          call-refused standing.Refused (cursorBy) (opening s ++ noSuchId s i ∷ []) (shapeOf (s .head)) _ refl 4 (last ∙ opened-first 3 _ _ _ (le-leb (s .head .entries) i h))
+          call-refused standing.Refused (cursorBy) (opening base s ++ noSuchId s i ∷ []) (shapeOf base (s .head)) _ refl 4 (last ∙ opened-first 3 _ _ _ (le-leb (s .head .entries) i h))
 
       module _ (h : i < s .head .entries) (k : ℕ) (ek : k ≡ getD (s .homes) i 0) where
-        here : (a : Standing) → a ≡ cursorBy g → a ≡ cursor s i
+        here : (a : Standing) → a ≡ cursorBy g → a ≡ cursor base s i
         unfolding cursor
         here a q =
-            call-good standing.Refused (cursorBy) (opening s ++ noSuchId s i ∷ []) (shapeOf (s .head)) _ refl g
-            (last ∙ opened-next 4 _ _ _ (lt-leb (s .head .entries) i h) ∙ opened-none _ ∙ ap Good (good-shape (opening s) _ g (sym e ∙ d))) a q
+            call-good standing.Refused (cursorBy) (opening base s ++ noSuchId s i ∷ []) (shapeOf base (s .head)) _ refl g
+            (last ∙ opened-next 4 _ _ _ (lt-leb (s .head .entries) i h) ∙ opened-none _ ∙ ap Good (good-shape (opening base s) _ g (sym e ∙ d))) a q
 
-        pub cursor-astray : s .head .leaves ≤ k → standing.Refused 9 ≡ cursor s i
+        pub cursor-astray : s .head .leaves ≤ k → standing.Refused 9 ≡ cursor base s i
         cursor-astray f = here (standing.Refused 9) (rw (← ek, le-ltb k (s .head .leaves) f))
 
-        pub cursor-good : k < s .head .leaves → (a : Standing) → a ≡ cursorIn g (s .leaves) k i (s .head .entries) → a ≡ cursor s i
+        pub cursor-good : k < s .head .leaves → (a : Standing) → a ≡ cursorIn g (s .leaves) k i (s .head .entries) → a ≡ cursor base s i
         unfolding cursorIn
         cursor-good f a q = here a (q ∙ rw (← ek, lt-ltb k (s .head .leaves) f, ap (λ (x : Shape). x .fan) (ready s g o e d .same)))

@@ -20,8 +20,10 @@ use open::open::open_at;
 ghost use mathlib.Core.Path.{_≡_};
 ghost use Prim.Native.Nat.{_<_, _≤_};
 ghost use lib.ListN.{length};
+ghost use Rattle.model.specs.Kind.{base};
 ghost use Rattle.model.specs.Node.{used, indexFrom};
 ghost use Rattle.model.specs.State.{state, nodeAt};
+ghost use Rattle.model.specs.Answer.{measuredAnswer};
 ghost use Rattle.model.specs.Calls as calls;
 ghost use Rattle.area.specs.Area.{Area};
 ghost use Rattle.calls_read.specs.Read.{cursorIn};
@@ -52,7 +54,7 @@ pub fn is_empty(head: Head) -> Verdict
 
 // The id of the entry at a cursor.
 pub fn id(head: Head, leaves: &[u32], inners: &[u32], homes: &[u32], at: Cursor) -> Named
-    ensures { λ r. ⌜ r ≡ calls.id (state head (now (leaves .entry)) (now (inners .entry)) (now (homes .entry))) at ⌝ }
+    ensures { λ r. ⌜ r ≡ calls.id base (state head (now (leaves .entry)) (now (inners .entry)) (now (homes .entry))) at ⌝ }
 {
     match open_at(head, leaves, inners, homes, at) {
         Opened::Refused(n) => Named::Refused(n),
@@ -67,7 +69,7 @@ pub fn id(head: Head, leaves: &[u32], inners: &[u32], homes: &[u32], at: Cursor)
 
 // The lengths of the entry at a cursor.
 pub fn lengths(head: Head, leaves: &[u32], inners: &[u32], homes: &[u32], at: Cursor) -> Measured
-    ensures { λ r. ⌜ r ≡ calls.lengthsOf (state head (now (leaves .entry)) (now (inners .entry)) (now (homes .entry))) at ⌝ }
+    ensures { λ r. ⌜ measuredAnswer r ≡ calls.lengthsOf base (state head (now (leaves .entry)) (now (inners .entry)) (now (homes .entry))) at ⌝ }
 {
     match open_at(head, leaves, inners, homes, at) {
         Opened::Refused(n) => Measured::Refused(n),
@@ -110,7 +112,7 @@ fn cursor_in(leaves: &[u32], g: Shape, k: u32, id: u32, stamp: u32) -> Standing
 
 // The cursor of an entry.
 pub fn cursor(head: Head, leaves: &[u32], inners: &[u32], homes: &[u32], id: EntryId) -> Standing
-    ensures { λ r. ⌜ r ≡ calls.cursor (state head (now (leaves .entry)) (now (inners .entry)) (now (homes .entry))) (id .0) ⌝ }
+    ensures { λ r. ⌜ r ≡ calls.cursor base (state head (now (leaves .entry)) (now (inners .entry)) (now (homes .entry))) (id .0) ⌝ }
 {
     match open(head, leaves, inners, homes) {
         Opened::Refused(n) => Standing::Refused(n),

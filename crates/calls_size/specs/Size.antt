@@ -3,6 +3,7 @@ use mathlib.Core.Bool.{Bool}
 use mathlib.Core.List.{List, []}
 use Prim.Native.Nat.{ℕ}
 use lib.ListN.{getD}
+use Rattle.model.specs.Kind.{base}
 use Rattle.model.specs.Length.{listOf}
 use Rattle.model.specs.Node.{lengths, minus}
 use Rattle.model.specs.State.{State, nodeAt}
@@ -24,8 +25,8 @@ replaced g s c l = (replace g s (c .leaf .0) (c .slot) (listOf l), minus (listOf
 -- `update`; without its position, which is then 0, `set_lengths`
 abbrev pub resize : Bool → State → Cursor → Lengths → Reply Number
 resize summed s c l =
-    let r = resized s c l in
-    unless (resizeCauses s c l) (λ n. reply s (number.Refused n)) (settled s (r .0) number.Refused (number.Is (asked summed (r .1))))
+    let r = resized base s c (listOf l) in
+    unless (resizeCauses base s c (listOf l)) (λ n. reply s (number.Refused n)) (settled s (r .0) number.Refused (number.Is (asked summed (r .1))))
 
 abbrev pub unnumbered : Number → Outcome
 unnumbered (number.Is n) = outcome.Done

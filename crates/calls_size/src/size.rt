@@ -17,6 +17,7 @@ ghost use mathlib.Core.Path.{_≡_};
 ghost use mathlib.Core.List.{List};
 ghost use Prim.Native.Nat.{ℕ, _<_};
 ghost use lib.ListN.{length};
+ghost use Rattle.model.specs.Kind.{base};
 ghost use Rattle.model.specs.Length.{listOf};
 ghost use Rattle.model.specs.Node.{minus};
 ghost use Rattle.model.specs.State.{state};
@@ -43,7 +44,7 @@ fn open_resize(
     at: Cursor,
     lengths: Lengths,
 ) -> Opened
-    ensures { λ r. ⌜ r ≡ openedBy (resizeCauses (state head (now (leaves .entry)) (now (inners .entry)) (now (homes .entry))) at lengths) (shapeOf head) ⌝ }
+    ensures { λ r. ⌜ r ≡ openedBy (resizeCauses base (state head (now (leaves .entry)) (now (inners .entry)) (now (homes .entry))) at (listOf lengths)) (shapeOf base head) ⌝ }
 {
     match open_at(head, leaves, inners, homes, at) {
         Opened::Refused(n) => Opened::Refused(n),
@@ -130,7 +131,7 @@ pub fn update(
     at: Cursor,
     lengths: Lengths,
 ) -> NumberReply
-    ensures { λ r. ⌜ reply (state (r .head) (now (leaves .exit)) (now (inners .exit)) (now (homes .exit))) (r .answer) ≡ calls.update (state head (now (leaves .entry)) (now (inners .entry)) (now (homes .entry))) at lengths ⌝ }
+    ensures { λ r. ⌜ reply (state (r .head) (now (leaves .exit)) (now (inners .exit)) (now (homes .exit))) (r .answer) ≡ calls.update base (state head (now (leaves .entry)) (now (inners .entry)) (now (homes .entry))) at (listOf lengths) ⌝ }
 {
     resize(head, leaves, inners, homes, at, lengths, true)
 }
@@ -154,7 +155,7 @@ pub fn set_lengths(
     at: Cursor,
     lengths: Lengths,
 ) -> OutcomeReply
-    ensures { λ r. ⌜ reply (state (r .head) (now (leaves .exit)) (now (inners .exit)) (now (homes .exit))) (r .answer) ≡ calls.setLengths (state head (now (leaves .entry)) (now (inners .entry)) (now (homes .entry))) at lengths ⌝ }
+    ensures { λ r. ⌜ reply (state (r .head) (now (leaves .exit)) (now (inners .exit)) (now (homes .exit))) (r .answer) ≡ calls.setLengths base (state head (now (leaves .entry)) (now (inners .entry)) (now (homes .entry))) at (listOf lengths) ⌝ }
 {
     let r = resize(head, leaves, inners, homes, at, lengths, false);
     let after = r.head;

@@ -7,6 +7,7 @@ use native.Mathlib.Omega.{arith}
 use lib.ListN.{length, getD}
 use lib.Dec.{eqb}
 use borrow.Author.Tests.{eq-eqb, ne-eqb, leb-false}
+use Rattle.model.specs.Kind.{base}
 use Rattle.model.specs.Lists.{All}
 use Rattle.model.specs.Length.{listOf}
 use Rattle.model.specs.Node.{Node, lengths, childSplit}
@@ -31,44 +32,44 @@ use Rattle.open.specs.declared.open.Opened.the-variants.{Good, Refused}
 use Rattle.calls_split.specs.Split.{splitCauses, dividedAt}
 
 -- what `open_split` answers, from what `open_at` answered
-module _ (s : State) (c : Cursor) (l : Lengths) (o : Opened) (e : o ≡ openedBy (opening s ++ atCursor s c) (shapeOf (s .head))) where
-  pub split-refused : (n : ℕ) → o ≡ Refused n → Refused n ≡ openedBy (splitCauses s c l) (shapeOf (s .head))
-  split-refused n d = sym (opened-stop (opening s ++ atCursor s c) _ _ n (sym e ∙ d))
+module _ (s : State) (c : Cursor) (l : Lengths) (o : Opened) (e : o ≡ openedBy (opening base s ++ atCursor base s c) (shapeOf base (s .head))) where
+  pub split-refused : (n : ℕ) → o ≡ Refused n → Refused n ≡ openedBy (splitCauses s c l) (shapeOf base (s .head))
+  split-refused n d = sym (opened-stop (opening base s ++ atCursor base s c) _ _ n (sym e ∙ d))
 
   module _ (g : Shape) (d : o ≡ Good g) (own : Lengths) (eo : lengths (getD (nodeAt g (c .leaf .0) (s .leaves) .slots) (c .slot) []) ≡ listOf own)
-      (t : Bool) (et : t ≡ tooMuch (listOf l) (listOf own) .applies) where
-    same : shapeOf (s .head) ≡ g
-    same = good-shape (opening s ++ atCursor s c) _ g (sym e ∙ d)
+      (t : Bool) (et : t ≡ tooMuch base (listOf l) (listOf own) .applies) where
+    same : shapeOf base (s .head) ≡ g
+    same = good-shape (opening base s ++ atCursor base s c) _ g (sym e ∙ d)
 
-    here : t ≡ tooMuch (listOf l) (lengths (slotAt s c)) .applies
-    here = et ∙ ap (λ (ls : List ℕ). tooMuch (listOf l) ls .applies) (own-lengths s c g (listOf own) same eo)
+    here : t ≡ tooMuch base (listOf l) (lengths (slotAt base s c)) .applies
+    here = et ∙ ap (λ (ls : List ℕ). tooMuch base (listOf l) ls .applies) (own-lengths s c g (listOf own) same eo)
 
-    rest : openedBy (splitCauses s c l) (shapeOf (s .head)) ≡ openedBy (tooMuch (listOf l) (lengths (slotAt s c)) ∷ full s ∷ []) (shapeOf (s .head))
-    rest = opened-more (opening s ++ atCursor s c) _ _ g (at-numbered s c) (sym e ∙ d)
+    rest : openedBy (splitCauses s c l) (shapeOf base (s .head)) ≡ openedBy (tooMuch base (listOf l) (lengths (slotAt base s c)) ∷ full s ∷ []) (shapeOf base (s .head))
+    rest = opened-more (opening base s ++ atCursor base s c) _ _ g (at-numbered s c) (sym e ∙ d)
 
-    pub split-much : t ≡ true → Refused 6 ≡ openedBy (splitCauses s c l) (shapeOf (s .head))
+    pub split-much : t ≡ true → Refused 6 ≡ openedBy (splitCauses s c l) (shapeOf base (s .head))
     split-much h = sym (rest ∙ opened-first 5 _ _ _ (sym here ∙ h))
 
     module _ (h : t ≡ false) (u : Bool) (eu : u ≡ full s .applies) where
-      last : openedBy (splitCauses s c l) (shapeOf (s .head)) ≡ openedBy (full s ∷ []) (shapeOf (s .head))
+      last : openedBy (splitCauses s c l) (shapeOf base (s .head)) ≡ openedBy (full s ∷ []) (shapeOf base (s .head))
       last = rest ∙ opened-next 6 _ _ _ (sym here ∙ h)
 
-      pub split-full : u ≡ true → Refused 8 ≡ openedBy (splitCauses s c l) (shapeOf (s .head))
+      pub split-full : u ≡ true → Refused 8 ≡ openedBy (splitCauses s c l) (shapeOf base (s .head))
       split-full q = sym (last ∙ opened-first 7 _ [] _ (sym eu ∙ q))
 
-      pub split-good : u ≡ false → Good g ≡ openedBy (splitCauses s c l) (shapeOf (s .head))
+      pub split-good : u ≡ false → Good g ≡ openedBy (splitCauses s c l) (shapeOf base (s .head))
       split-good q = sym (last ∙ opened-next 8 _ [] _ (sym eu ∙ q) ∙ opened-none _ ∙ ap Good same)
 
 -- what is known where `open_split` gives no number
-module _ (s : State) (c : Cursor) (l : Lengths) (g : Shape) (o : Opened) (e : o ≡ openedBy (splitCauses s c l) (shapeOf (s .head))) (d : o ≡ Good g) where
+module _ (s : State) (c : Cursor) (l : Lengths) (g : Shape) (o : Opened) (e : o ≡ openedBy (splitCauses s c l) (shapeOf base (s .head))) (d : o ≡ Good g) where
   pub split-stands : Stands s c g
-  split-stands = stands s c g _ refl (good-front (opening s ++ atCursor s c) _ (shapeOf (s .head)) g (sym e ∙ d))
+  split-stands = stands s c g _ refl (good-front (opening base s ++ atCursor base s c) _ (shapeOf base (s .head)) g (sym e ∙ d))
 
   below-limit : s .head .entries < s .head .limit
   unfolding All
   below-limit =
       leb-false _ _
-      (good-rest (opening s ++ atCursor s c) (tooMuch (listOf l) (lengths (slotAt s c)) ∷ full s ∷ []) (shapeOf (s .head)) g (sym e ∙ d) (at-numbered s c) (omega arith, (omega arith, tt)) .1 .0)
+      (good-rest (opening base s ++ atCursor base s c) (tooMuch base (listOf l) (lengths (slotAt base s c)) ∷ full s ∷ []) (shapeOf base (s .head)) g (sym e ∙ d) (at-numbered s c) (omega arith, (omega arith, tt)) .1 .0)
 
   few-entries : s .head .entries < 65536
   few-entries = omega (arith, below-limit, split-stands .ready .limit-most)
@@ -96,27 +97,27 @@ entering-few g f r e = go (eqb (r .number) 0) refl e
     go false q z = absurd (true≢false (sym (eq-eqb (r .number) 0 z) ∙ q))
 
 -- the call
-module _ (s : State) (c : Cursor) (l : Lengths) (flag : Bool) (o : Opened) (e : o ≡ openedBy (splitCauses s c l) (shapeOf (s .head))) where
+module _ (s : State) (c : Cursor) (l : Lengths) (flag : Bool) (o : Opened) (e : o ≡ openedBy (splitCauses s c l) (shapeOf base (s .head))) where
   abbrev dividedReply : Change → Reply Divided
   dividedReply r = settled s r divided.Refused (dividedAt (s .head .entries) (r .leaf) (r .slot))
 
   abbrev dividedBy : Shape → Reply Divided
   dividedBy g = dividedReply (divide g flag s (c .leaf .0) (c .slot) (listOf l))
 
-  pub entry-refused : (n : ℕ) → o ≡ Refused n → reply s (divided.Refused n) ≡ splitEntry s c l flag
+  pub entry-refused : (n : ℕ) → o ≡ Refused n → reply s (divided.Refused n) ≡ splitEntry base s c (listOf l) flag
   unfolding splitEntry
-  entry-refused n d = call-refused (λ (m : ℕ). reply s (divided.Refused m)) dividedBy (splitCauses s c l) (shapeOf (s .head)) o e n d
+  entry-refused n d = call-refused (λ (m : ℕ). reply s (divided.Refused m)) dividedBy (splitCauses s c l) (shapeOf base (s .head)) o e n d
 
   module _ (g : Shape) (d : o ≡ Good g) (r : Change)
       (er : r ≡ entering g (λ j. childSplit flag j (s .head .entries ∷ listOf l)) 1 (makeRoom g s (c .leaf .0) (c .slot))) where
-    good : (x : Reply Divided) → x ≡ dividedReply r → x ≡ splitEntry s c l flag
+    good : (x : Reply Divided) → x ≡ dividedReply r → x ≡ splitEntry base s c (listOf l) flag
     unfolding splitEntry divide
-    good x q = call-good (λ (m : ℕ). reply s (divided.Refused m)) dividedBy (splitCauses s c l) (shapeOf (s .head)) o e g d x (q ∙ ap dividedReply er)
+    good x q = call-good (λ (m : ℕ). reply s (divided.Refused m)) dividedBy (splitCauses s c l) (shapeOf base (s .head)) o e g d x (q ∙ ap dividedReply er)
 
-    pub entry-broken : (r .number ≡ 0 → ⊥) → reply (state (s .head) (r .state .leaves) (r .state .inners) (r .state .homes)) (divided.Refused (r .number)) ≡ splitEntry s c l flag
+    pub entry-broken : (r .number ≡ 0 → ⊥) → reply (state (s .head) (r .state .leaves) (r .state .inners) (r .state .homes)) (divided.Refused (r .number)) ≡ splitEntry base s c (listOf l) flag
     entry-broken h = good _ (rw (ne-eqb (r .number) 0 h))
 
-    pub entry-whole : r .number ≡ 0 → (a : Divided) → a ≡ dividedAt (s .head .entries) (r .leaf) (r .slot) → reply (r .state) a ≡ splitEntry s c l flag
+    pub entry-whole : r .number ≡ 0 → (a : Divided) → a ≡ dividedAt (s .head .entries) (r .leaf) (r .slot) → reply (r .state) a ≡ splitEntry base s c (listOf l) flag
     entry-whole h a q = good _ (rw (eq-eqb (r .number) 0 h) (ap (reply (r .state)) q))
 
     pub answer-in : r .number ≡ 0 → (s .head .entries < 4294967295) × (r .slot < 4294967295)

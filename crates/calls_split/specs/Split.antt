@@ -1,6 +1,7 @@
 -- What split_entry tests, in its order, and what it answers. Assumes nothing.
 use mathlib.Core.List.{List, [], _∷_, _++_}
 use Prim.Native.Nat.{ℕ, _+_}
+use Rattle.model.specs.Kind.{base}
 use Rattle.model.specs.Lists.{Cause}
 use Rattle.model.specs.Length.{listOf}
 use Rattle.model.specs.Node.{lengths}
@@ -13,7 +14,7 @@ use Rattle.model.specs.declared.answer.Divided.{Divided}
 use Rattle.model.specs.declared.answer.Divided.the-variants as divided
 
 abbrev pub splitCauses : State → Cursor → Lengths → List Cause
-splitCauses s c l = opening s ++ atCursor s c ++ tooMuch (listOf l) (lengths (slotAt s c)) ∷ full s ∷ []
+splitCauses s c l = opening base s ++ atCursor base s c ++ tooMuch base (listOf l) (lengths (slotAt base s c)) ∷ full s ∷ []
 
 -- n is the count before, so the new id; slot i of leaf k holds the first of the two entries
 abbrev pub dividedAt : ℕ → ℕ → ℕ → Divided

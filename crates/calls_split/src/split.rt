@@ -14,6 +14,8 @@ use open::open::open_at;
 use place::entry::divide;
 ghost use mathlib.Core.Path.{_≡_};
 ghost use Prim.Native.Nat.{_<_};
+ghost use Rattle.model.specs.Length.{listOf};
+ghost use Rattle.model.specs.Kind.{base};
 ghost use Rattle.model.specs.State.{state};
 ghost use Rattle.model.specs.Refuse.{shapeOf};
 ghost use Rattle.model.specs.Calls as calls;
@@ -30,7 +32,7 @@ fn open_split(
     at: Cursor,
     lengths: Lengths,
 ) -> Opened
-    ensures { λ r. ⌜ r ≡ openedBy (splitCauses (state head (now (leaves .entry)) (now (inners .entry)) (now (homes .entry))) at lengths) (shapeOf head) ⌝ }
+    ensures { λ r. ⌜ r ≡ openedBy (splitCauses (state head (now (leaves .entry)) (now (inners .entry)) (now (homes .entry))) at lengths) (shapeOf base head) ⌝ }
 {
     match open_at(head, leaves, inners, homes, at) {
         Opened::Refused(n) => Opened::Refused(n),
@@ -76,7 +78,7 @@ pub fn split_entry(
     lengths: Lengths,
     before: bool,
 ) -> DividedReply
-    ensures { λ r. ⌜ reply (state (r .head) (now (leaves .exit)) (now (inners .exit)) (now (homes .exit))) (r .answer) ≡ calls.splitEntry (state head (now (leaves .entry)) (now (inners .entry)) (now (homes .entry))) at lengths before ⌝ }
+    ensures { λ r. ⌜ reply (state (r .head) (now (leaves .exit)) (now (inners .exit)) (now (homes .exit))) (r .answer) ≡ calls.splitEntry base (state head (now (leaves .entry)) (now (inners .entry)) (now (homes .entry))) at (listOf lengths) before ⌝ }
 {
     match open_split(head, leaves, inners, homes, at, lengths) {
         Opened::Refused(n) => DividedReply {

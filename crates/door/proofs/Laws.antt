@@ -5,6 +5,8 @@ use mathlib.Core.List.{List, [], _∷_}
 use Prim.Native.Nat.{ℕ, _<_}
 use native.Mathlib.Omega.{arith}
 use lib.ListN.{length}
+use Rattle.model.specs.Length.{listOf}
+use Rattle.model.specs.Kind.{base}
 use Rattle.model.specs.Lists.{All, refusal}
 use Rattle.model.specs.Row.{Row}
 use Rattle.model.specs.State.{State}
@@ -17,19 +19,19 @@ use Rattle.row.specs.Run.{fit, Ran, ran, runOn, AsRow}
 use Rattle.door.specs.Door.{opened, firstLengths, doorRow, doorOn}
 
 module _ (ls xs hs : List ℕ) (el : length ls ≡ 3456) (ex : length xs ≡ 3456) (eh : length hs ≡ 512) where
-  not-refused : make 8 512 firstLengths ls xs hs .answer ≡ outcome.Done
+  not-refused : make base 8 512 (listOf firstLengths) ls xs hs .answer ≡ outcome.Done
   unfolding make refusal
   not-refused = rw (el, ex, eh)
 
   -- the tree made stands for the row of one entry
-  pub made : (s : State) (a : Outcome) → reply s a ≡ make 8 512 firstLengths ls xs hs → Stands s doorRow
+  pub made : (s : State) (a : Outcome) → reply s a ≡ make base 8 512 (listOf firstLengths) ls xs hs → Stands base s doorRow
   unfolding All finally
   made s a e =
-      let k : Kept (make 8 512 firstLengths ls xs hs .after) doorRow = whole 8 512 firstLengths ls xs hs (record { prepare = omega arith; effect = omega arith }) not-refused [] tt .1 in
-      subst (λ (r : Reply Outcome). Stands (r .after) doorRow) (sym e) (record { sound = k .sound; entries = k .entries; limit = k .limit })
+      let k : Kept base (make base 8 512 (listOf firstLengths) ls xs hs .after) doorRow = whole base (omega arith) 8 512 (listOf firstLengths) ls xs hs (record { long = refl; small = (omega arith, (omega arith, tt)) }) not-refused [] tt .1 in
+      subst (λ (r : Reply Outcome). Stands base (r .after) doorRow) (sym e) (record { sound = k .sound; entries = k .entries; limit = k .limit })
 
 -- what a run on it gives, by its answer
-module _ (s : State) (bs out : List ℕ) (m : Ran) (e : m ≡ runOn s bs out) (as-row : (q : Row) → fit bs out ≡ true → Stands s q → AsRow bs m q) (w : Stands s doorRow) where
+module _ (s : State) (bs out : List ℕ) (m : Ran) (e : m ≡ runOn s bs out) (as-row : (q : Row) → fit bs out ≡ true → Stands base s q → AsRow bs m q) (w : Stands base s doorRow) where
   abbrev Good : Outcome → Type 0
   Good outcome.Done = opened 0 (m .out) ≡ doorOn bs out
   Good (outcome.Refused n) = opened n (m .out) ≡ doorOn bs out

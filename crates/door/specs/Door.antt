@@ -2,6 +2,8 @@
 use mathlib.Core.Bool.{cond}
 use mathlib.Core.List.{List}
 use Prim.Native.Nat.{ℕ}
+use Rattle.model.specs.Kind.{base}
+use Rattle.model.specs.Length.{listOf}
 use Rattle.model.specs.Row.{Row, madeRow, rowStep}
 use Rattle.model.specs.declared.length.Lengths.{Lengths}
 use Rattle.row.specs.Run.{recordsOf, played, fit}
@@ -18,7 +20,7 @@ abbrev pub firstLengths : Lengths
 firstLengths = record { prepare = 0; effect = 0 }
 
 abbrev pub doorRow : Row
-doorRow = madeRow 512 firstLengths
+doorRow = madeRow 512 (listOf firstLengths)
 
 unfoldable pub doorOn : List ℕ → List ℕ → Opened
-doorOn bs out = cond (fit bs out) (opened 0 (played rowStep doorRow (recordsOf bs))) (opened 11 out)
+doorOn bs out = cond (fit bs out) (opened 0 (played (rowStep base) doorRow (recordsOf bs))) (opened 11 out)

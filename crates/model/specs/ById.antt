@@ -4,11 +4,10 @@ use mathlib.Core.List.{List, [], _∷_, _++_}
 use Prim.Native.Nat.{ℕ}
 use lib.Dec.{eqb}
 use Rattle.model.specs.Row.{Call, reset, insert, add, split, setLengths, update, lookup, rank, next, compare, lengths, count, first, malformed, Answer, done, refused, Moved, moved, noEntry}
+use Rattle.model.specs.declared.shape.Kind.{Kind}
 use Rattle.model.specs.State.{State}
-use Rattle.model.specs.Answer.{outcomeAnswer, numberAnswer, namedAnswer, measuredAnswer, comparedAnswer, insertedAnswer}
+use Rattle.model.specs.Answer.{outcomeAnswer, numberAnswer, namedAnswer, comparedAnswer, insertedAnswer}
 use Rattle.model.specs.Calls as calls
-use Rattle.model.specs.declared.length.View.{View}
-use Rattle.model.specs.declared.length.Lengths.{Lengths}
 use Rattle.model.specs.declared.head.Cursor.{Cursor}
 use Rattle.model.specs.declared.answer.Target.{Target}
 use Rattle.model.specs.declared.answer.Target.the-variants as target
@@ -29,26 +28,26 @@ withCursor s (standing.At c) f = f c
 withCursor s (standing.Refused n) f = moved s (refused n)
 
 -- goes on with the target of an insertion
-abbrev pub withTarget : State → ℕ → (Target → Moved State) → Moved State
-withTarget s i f = cond (eqb i noEntry) (f target.End) (withCursor s (calls.cursor s i) (λ c. f (target.Before c)))
+abbrev pub withTarget : Kind → State → ℕ → (Target → Moved State) → Moved State
+withTarget K s i f = cond (eqb i noEntry) (f target.End) (withCursor s (calls.cursor K s i) (λ c. f (target.Before c)))
 
 -- the id at a cursor, then more values
 abbrev pub idAnswer : Named → List ℕ → Answer
 idAnswer (named.Entry i) vs = done (i .0 ∷ vs)
 idAnswer (named.Refused n) vs = refused n
 
-abbrev pub standingAnswer : State → Standing → Answer
-standingAnswer s (standing.At c) = idAnswer (calls.id s c) []
-standingAnswer s (standing.Refused n) = refused n
+abbrev pub standingAnswer : Kind → State → Standing → Answer
+standingAnswer K s (standing.At c) = idAnswer (calls.id K s c) []
+standingAnswer K s (standing.Refused n) = refused n
 
-abbrev pub nextAnswer : State → Next → Answer
-nextAnswer s (next′.At c) = idAnswer (calls.id s c) []
-nextAnswer s next′.Nothing = done (noEntry ∷ [])
-nextAnswer s (next′.Refused n) = refused n
+abbrev pub nextAnswer : Kind → State → Next → Answer
+nextAnswer K s (next′.At c) = idAnswer (calls.id K s c) []
+nextAnswer K s next′.Nothing = done (noEntry ∷ [])
+nextAnswer K s (next′.Refused n) = refused n
 
-abbrev pub locatedAnswer : State → Located → Answer
-locatedAnswer s (located.At c offset position) = idAnswer (calls.id s c) (offset ∷ position ∷ [])
-locatedAnswer s (located.Refused n) = refused n
+abbrev pub locatedAnswer : Kind → State → Located → Answer
+locatedAnswer K s (located.At c offset position) = idAnswer (calls.id K s c) (offset ∷ position ∷ [])
+locatedAnswer K s (located.Refused n) = refused n
 
 abbrev pub dividedAnswer : Divided → Answer
 dividedAnswer (divided.At i a b) = done (i .0 ∷ [])
@@ -58,18 +57,18 @@ dividedAnswer (divided.Refused n) = refused n
 abbrev pub told : {A : Type 0} → calls.Reply A → (A → Answer) → Moved State
 told r f = moved (r .after) (f (r .answer))
 
-unfoldable pub treeStep : State → Call → Moved State
-treeStep s (reset l) = told (calls.reset s l) outcomeAnswer
-treeStep s (insert i l) = withTarget s i (λ t. told (calls.insert s t l) insertedAnswer)
-treeStep s (add i l) = withTarget s i (λ t. told (calls.add s t l) namedAnswer)
-treeStep s (split flag i l) = withCursor s (calls.cursor s i) (λ c. told (calls.splitEntry s c l flag) dividedAnswer)
-treeStep s (setLengths i l) = withCursor s (calls.cursor s i) (λ c. told (calls.setLengths s c l) outcomeAnswer)
-treeStep s (update i l) = withCursor s (calls.cursor s i) (λ c. told (calls.update s c l) numberAnswer)
-treeStep s (lookup v index) = let r = calls.locate s v index in moved (r .after) (locatedAnswer (r .after) (r .answer))
-treeStep s (rank v i) = withCursor s (calls.cursor s i) (λ c. moved s (numberAnswer (calls.entryToCharIndex s v c)))
-treeStep s (next i) = withCursor s (calls.cursor s i) (λ c. moved s (nextAnswer s (calls.nextAfter s c)))
-treeStep s (compare i j) = withCursor s (calls.cursor s i) (λ a. withCursor s (calls.cursor s j) (λ b. moved s (comparedAnswer (calls.cmp s a b))))
-treeStep s (lengths i) = withCursor s (calls.cursor s i) (λ c. moved s (measuredAnswer (calls.lengthsOf s c)))
-treeStep s count = moved s (numberAnswer (calls.len (s .head)))
-treeStep s first = moved s (standingAnswer s (calls.first s))
-treeStep s malformed = moved s (refused 10)
+unfoldable pub treeStep : Kind → State → Call → Moved State
+treeStep K s (reset l) = told (calls.reset K s l) outcomeAnswer
+treeStep K s (insert i l) = withTarget K s i (λ t. told (calls.insert K s t l) insertedAnswer)
+treeStep K s (add i l) = withTarget K s i (λ t. told (calls.add K s t l) namedAnswer)
+treeStep K s (split flag i l) = withCursor s (calls.cursor K s i) (λ c. told (calls.splitEntry K s c l flag) dividedAnswer)
+treeStep K s (setLengths i l) = withCursor s (calls.cursor K s i) (λ c. told (calls.setLengths K s c l) outcomeAnswer)
+treeStep K s (update i l) = withCursor s (calls.cursor K s i) (λ c. told (calls.update K s c l) numberAnswer)
+treeStep K s (lookup v index) = let r = calls.locate K s v index in moved (r .after) (locatedAnswer K (r .after) (r .answer))
+treeStep K s (rank v i) = withCursor s (calls.cursor K s i) (λ c. moved s (numberAnswer (calls.entryToCharIndex K s v c)))
+treeStep K s (next i) = withCursor s (calls.cursor K s i) (λ c. moved s (nextAnswer K s (calls.nextAfter K s c)))
+treeStep K s (compare i j) = withCursor s (calls.cursor K s i) (λ a. withCursor s (calls.cursor K s j) (λ b. moved s (comparedAnswer (calls.cmp K s a b))))
+treeStep K s (lengths i) = withCursor s (calls.cursor K s i) (λ c. moved s (calls.lengthsOf K s c))
+treeStep K s count = moved s (numberAnswer (calls.len (s .head)))
+treeStep K s first = moved s (standingAnswer K s (calls.first K s))
+treeStep K s malformed = moved s (refused 10)

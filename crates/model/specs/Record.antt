@@ -5,6 +5,7 @@ use Prim.Native.Nat.{ℕ, zero, suc, _+_, _*_, _%_, _/_}
 use lib.ListN.{length, getD, take, drop}
 use lib.Dec.{ltb, eqb}
 use Rattle.model.specs.Row.{Call, reset, insert, add, split, setLengths, update, lookup, rank, next, compare, lengths, count, first, malformed, Answer}
+use Rattle.model.specs.Length.{viewNumber, listOf}
 use Rattle.model.specs.declared.length.View.{View}
 use Rattle.model.specs.declared.length.View.the-variants.{Prepare, Effect}
 use Rattle.model.specs.declared.length.Lengths.{Lengths}
@@ -51,14 +52,14 @@ noLengths f = eqb (f .b) 0 && eqb (f .c) 0
 unfoldable pub kinds : Fields → List Call
 kinds f =
     malformed
-    ∷ only (plain f && eqb (f .a) 0) (reset (lengthsOf f))
-    ∷ only (plain f) (insert (f .a) (lengthsOf f))
-    ∷ only (plain f) (add (f .a) (lengthsOf f))
-    ∷ only (binary f) (split (eqb (f .flag) 1) (f .a) (lengthsOf f))
-    ∷ only (plain f) (setLengths (f .a) (lengthsOf f))
-    ∷ only (plain f) (update (f .a) (lengthsOf f))
-    ∷ only (binary f && noLengths f) (lookup (viewOf (f .flag)) (f .a))
-    ∷ only (binary f && noLengths f) (rank (viewOf (f .flag)) (f .a))
+    ∷ only (plain f && eqb (f .a) 0) (reset (listOf (lengthsOf f)))
+    ∷ only (plain f) (insert (f .a) (listOf (lengthsOf f)))
+    ∷ only (plain f) (add (f .a) (listOf (lengthsOf f)))
+    ∷ only (binary f) (split (eqb (f .flag) 1) (f .a) (listOf (lengthsOf f)))
+    ∷ only (plain f) (setLengths (f .a) (listOf (lengthsOf f)))
+    ∷ only (plain f) (update (f .a) (listOf (lengthsOf f)))
+    ∷ only (binary f && noLengths f) (lookup (viewNumber (viewOf (f .flag))) (f .a))
+    ∷ only (binary f && noLengths f) (rank (viewNumber (viewOf (f .flag))) (f .a))
     ∷ only (plain f && noLengths f) (next (f .a))
     ∷ only (plain f && eqb (f .c) 0) (compare (f .a) (f .b))
     ∷ only (plain f && noLengths f) (lengths (f .a))

@@ -5,24 +5,16 @@ use Prim.Native.Nat.{ℕ, _+_, _*_}
 use lib.ListN.{length, getD}
 use lib.Dec.{ltb, leb, eqb}
 use Rattle.model.specs.Lists.{Cause, cause, some}
+use Rattle.model.specs.Kind.{stride, viewsOf}
+use Rattle.model.specs.declared.shape.Kind.{Kind}
 use Rattle.model.specs.Node.{Node, total, used}
 use Rattle.model.specs.State.{State, shape, nodeAt}
 use Rattle.model.specs.declared.shape.Shape.{Shape}
 use Rattle.model.specs.declared.head.Head.{Head}
 use Rattle.model.specs.declared.head.Cursor.{Cursor}
 
--- the base: slots of three words, prepare is view 0 and effect view 1
-abbrev pub stride : ℕ
-stride = 3
-
-abbrev pub effect : ℕ
-effect = 1
-
-abbrev pub views : List ℕ
-views = 0 ∷ 1 ∷ []
-
-abbrev pub shapeOf : Head → Shape
-shapeOf h = shape stride (h .fan) (h .limit)
+abbrev pub shapeOf : Kind → Head → Shape
+shapeOf K h = shape (stride K) (h .fan) (h .limit)
 
 -- 1: fan not 4 to 32, or limit not 1 to 65,536
 abbrev pub badSize : ℕ → ℕ → Cause
@@ -37,41 +29,41 @@ abbrev pub astray : Shape → Head → Cause
 astray g h =
     cause 9 (leb (g .nodes) (h .root .0) || ltb (h .levels) 1 || ltb 15 (h .levels) || ltb (g .nodes) (h .leaves) || ltb (g .nodes) (h .inners) || ltb (h .limit) (h .entries))
 
-unfoldable pub opening : State → List Cause
-opening s =
+unfoldable pub opening : Kind → State → List Cause
+opening K s =
     let h = s .head in
-    badSize (h .fan) (h .limit) ∷ tooShort (shapeOf h) (h .limit) (s .leaves) (s .inners) (s .homes) ∷ astray (shapeOf h) h ∷ []
+    badSize (h .fan) (h .limit) ∷ tooShort (shapeOf K h) (h .limit) (s .leaves) (s .inners) (s .homes) ∷ astray (shapeOf K h) h ∷ []
 
 -- a cursor is current exactly when the stamp equals the entry count, the leaf is in use and the slot is below its len
-abbrev pub current : State → Cursor → Bool
-current s c = eqb (c .stamp) (s .head .entries) && ltb (c .leaf .0) (s .head .leaves) && ltb (c .slot) (nodeAt (shapeOf (s .head)) (c .leaf .0) (s .leaves) .len)
+abbrev pub current : Kind → State → Cursor → Bool
+current K s c = eqb (c .stamp) (s .head .entries) && ltb (c .leaf .0) (s .head .leaves) && ltb (c .slot) (nodeAt (shapeOf K (s .head)) (c .leaf .0) (s .leaves) .len)
 
 -- 3: cursor not current
-abbrev pub stale : State → Cursor → Cause
-stale s c = cause 3 (not (current s c))
+abbrev pub stale : Kind → State → Cursor → Cause
+stale K s c = cause 3 (not (current K s c))
 
 -- 9: the leaf of a current cursor says that it uses more slots than it has
-abbrev pub overfull : State → Cursor → Cause
-overfull s c = cause 9 (ltb (s .head .fan) (nodeAt (shapeOf (s .head)) (c .leaf .0) (s .leaves) .len))
+abbrev pub overfull : Kind → State → Cursor → Cause
+overfull K s c = cause 9 (ltb (s .head .fan) (nodeAt (shapeOf K (s .head)) (c .leaf .0) (s .leaves) .len))
 
-abbrev pub atCursor : State → Cursor → List Cause
-atCursor s c = stale s c ∷ overfull s c ∷ []
+abbrev pub atCursor : Kind → State → Cursor → List Cause
+atCursor K s c = stale K s c ∷ overfull K s c ∷ []
 
 -- 4: id not below the number of entries
 abbrev pub noSuchId : State → ℕ → Cause
 noSuchId s i = cause 4 (leb (s .head .entries) i)
 
 -- 6: split moves more than the entry has, in either view
-abbrev pub tooMuch : List ℕ → List ℕ → Cause
-tooMuch given ls = cause 6 (some (λ v. ltb (getD ls v 0) (getD given v 0)) views)
+abbrev pub tooMuch : Kind → List ℕ → List ℕ → Cause
+tooMuch K given ls = cause 6 (some (λ v. ltb (getD ls v 0) (getD given v 0)) (viewsOf K))
 
 -- the total in view v, as the root's slots have it
-abbrev pub totalOf : State → ℕ → ℕ
-totalOf s v = total v (used (nodeAt (shapeOf (s .head)) (s .head .root .0) (s .inners)))
+abbrev pub totalOf : Kind → State → ℕ → ℕ
+totalOf K s v = total v (used (nodeAt (shapeOf K (s .head)) (s .head .root .0) (s .inners)))
 
 -- 7: a view's total would pass 4,294,967,295, with old lengths replaced by new ones
-abbrev pub past : State → List ℕ → List ℕ → Cause
-past s old new = cause 7 (some (λ v. ltb (4294967295 + getD old v 0) (totalOf s v + getD new v 0)) views)
+abbrev pub past : Kind → State → List ℕ → List ℕ → Cause
+past K s old new = cause 7 (some (λ v. ltb (4294967295 + getD old v 0) (totalOf K s v + getD new v 0)) (viewsOf K))
 
 -- 8: one entry more, and the tree holds its limit
 abbrev pub full : State → Cause

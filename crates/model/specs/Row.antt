@@ -5,11 +5,10 @@ use Prim.Native.Nat.{ℕ, zero, suc, _+_, _-_}
 use lib.ListN.{length, getD, drop}
 use lib.Dec.{ltb, leb, eqb}
 use Rattle.model.specs.Lists.{sumBy, some, Cause, cause, refusal}
-use Rattle.model.specs.Length.{viewNumber, listOf}
-use Rattle.model.specs.declared.length.View.{View}
-use Rattle.model.specs.declared.length.Lengths.{Lengths}
+use Rattle.model.specs.Kind.{viewsOf}
+use Rattle.model.specs.declared.shape.Kind.{Kind}
 
--- an entry: its id and a length in each view, prepare and effect
+-- an entry: its id and a length in each view
 pub record Entry : Type 0 where
   pub id : ℕ
   pub lengths : List ℕ
@@ -20,14 +19,14 @@ pub record Row : Type 0 where
 
 -- a call of a list; `malformed` stands for a record with a field outside its values
 pub data Call : Type 0 where
-  reset : Lengths → Call
-  insert : ℕ → Lengths → Call
-  add : ℕ → Lengths → Call
-  split : Bool → ℕ → Lengths → Call
-  setLengths : ℕ → Lengths → Call
-  update : ℕ → Lengths → Call
-  lookup : View → ℕ → Call
-  rank : View → ℕ → Call
+  reset : List ℕ → Call
+  insert : ℕ → List ℕ → Call
+  add : ℕ → List ℕ → Call
+  split : Bool → ℕ → List ℕ → Call
+  setLengths : ℕ → List ℕ → Call
+  update : ℕ → List ℕ → Call
+  lookup : ℕ → ℕ → Call
+  rank : ℕ → ℕ → Call
   next : ℕ → Call
   compare : ℕ → ℕ → Call
   lengths : ℕ → Call
@@ -71,13 +70,6 @@ lengthIn v e = getD (e .lengths) v 0
 abbrev pub total : ℕ → List Entry → ℕ
 total v es = sumBy (lengthIn v) es
 
--- prepare is view 0, effect view 1
-abbrev pub effect : ℕ
-effect = 1
-
-abbrev pub views : List ℕ
-views = 0 ∷ 1 ∷ []
-
 -- the entries before the one of that id, and those from it on; all and none where no entry has that id
 unfoldable pub before : ℕ → List Entry → List Entry
 before i [] = []
@@ -112,10 +104,10 @@ abbrev pub changed : ℕ → List ℕ → List Entry → List Entry
 changed i ls es = before i es ++ entry i ls ∷ after i es
 
 -- the one entry whose sum s of view lengths before it has s ≤ index < s + its length; f is the sum of effect lengths before it
-unfoldable pub found : ℕ → ℕ → ℕ → ℕ → List Entry → Answer
-found v index s f [] = refused 5
-found v index s f (e ∷ es) =
-    cond (leb s index && ltb index (s + lengthIn v e)) (done (e .id ∷ (index - s) ∷ f ∷ [])) (found v index (s + lengthIn v e) (f + lengthIn effect e) es)
+unfoldable pub found : Kind → ℕ → ℕ → ℕ → ℕ → List Entry → Answer
+found K v index s f [] = refused 5
+found K v index s f (e ∷ es) =
+    cond (leb s index && ltb index (s + lengthIn v e)) (done (e .id ∷ (index - s) ∷ f ∷ [])) (found K v index (s + lengthIn v e) (f + lengthIn (K .effect) e) es)
 
 -- 0, 1, 2: the first named stands before, is, or stands after the second
 unfoldable pub ordered : ℕ → ℕ → List Entry → ℕ
@@ -131,11 +123,11 @@ noSuchId r i = cause 4 (leb (length (r .entries)) i)
 abbrev pub noSuchPlace : Row → ℕ → Cause
 noSuchPlace r i = cause 4 (leb (length (r .entries)) i && not (eqb i noEntry))
 
-abbrev pub tooMuch : List ℕ → List ℕ → Cause
-tooMuch given ls = cause 6 (some (λ v. ltb (getD ls v 0) (getD given v 0)) views)
+abbrev pub tooMuch : Kind → List ℕ → List ℕ → Cause
+tooMuch K given ls = cause 6 (some (λ v. ltb (getD ls v 0) (getD given v 0)) (viewsOf K))
 
-abbrev pub past : List Entry → Cause
-past es = cause 7 (some (λ v. ltb 4294967295 (total v es)) views)
+abbrev pub past : Kind → List Entry → Cause
+past K es = cause 7 (some (λ v. ltb 4294967295 (total v es)) (viewsOf K))
 
 abbrev pub full : Row → Cause
 full r = cause 8 (leb (r .limit) (length (r .entries)))
@@ -145,34 +137,34 @@ unfoldable pub unless : Row → List Cause → List Entry → Answer → Moved R
 unless r cs es a = cond (eqb (refusal cs) 0) (moved (row (r .limit) es) a) (moved r (refused (refusal cs)))
 
 -- a new entry: its id is the entry count
-abbrev pub newEntry : Row → Lengths → Entry
-newEntry r l = entry (length (r .entries)) (listOf l)
+abbrev pub newEntry : Row → List ℕ → Entry
+newEntry r l = entry (length (r .entries)) l
 
 -- the row that make and reset leave
-abbrev pub madeRow : ℕ → Lengths → Row
-madeRow limit l = row limit (entry 0 (listOf l) ∷ [])
+abbrev pub madeRow : ℕ → List ℕ → Row
+madeRow limit l = row limit (entry 0 l ∷ [])
 
-unfoldable pub rowStep : Row → Call → Moved Row
-rowStep r (reset l) = moved (madeRow (r .limit) l) (done [])
-rowStep r (insert i l) =
+unfoldable pub rowStep : Kind → Row → Call → Moved Row
+rowStep K r (reset l) = moved (madeRow (r .limit) l) (done [])
+rowStep K r (insert i l) =
     let es = inserted i (newEntry r l) (r .entries) in
-    unless r (noSuchPlace r i ∷ past es ∷ full r ∷ []) es (done (length (r .entries) ∷ total effect (before i (r .entries)) ∷ []))
-rowStep r (add i l) =
+    unless r (noSuchPlace r i ∷ past K es ∷ full r ∷ []) es (done (length (r .entries) ∷ total (K .effect) (before i (r .entries)) ∷ []))
+rowStep K r (add i l) =
     let es = inserted i (newEntry r l) (r .entries) in
-    unless r (noSuchPlace r i ∷ past es ∷ full r ∷ []) es (done (length (r .entries) ∷ []))
-rowStep r (split flag i l) =
-    unless r (noSuchId r i ∷ tooMuch (listOf l) (lengthsOf i (r .entries)) ∷ full r ∷ []) (divided flag i (newEntry r l) (r .entries)) (done (length (r .entries) ∷ []))
-rowStep r (setLengths i l) =
-    let es = changed i (listOf l) (r .entries) in
-    unless r (noSuchId r i ∷ past es ∷ []) es (done [])
-rowStep r (update i l) =
-    let es = changed i (listOf l) (r .entries) in
-    unless r (noSuchId r i ∷ past es ∷ []) es (done (total effect (before i (r .entries)) ∷ []))
-rowStep r (lookup v index) = moved r (found (viewNumber v) index 0 0 (r .entries))
-rowStep r (rank v i) = unless r (noSuchId r i ∷ []) (r .entries) (done (total (viewNumber v) (before i (r .entries)) ∷ []))
-rowStep r (next i) = unless r (noSuchId r i ∷ []) (r .entries) (done (firstId (after i (r .entries)) ∷ []))
-rowStep r (compare i j) = unless r (noSuchId r i ∷ noSuchId r j ∷ []) (r .entries) (done (ordered i j (r .entries) ∷ []))
-rowStep r (lengths i) = unless r (noSuchId r i ∷ []) (r .entries) (done (lengthsOf i (r .entries)))
-rowStep r count = moved r (done (length (r .entries) ∷ []))
-rowStep r first = moved r (done (firstId (r .entries) ∷ []))
-rowStep r malformed = moved r (refused 10)
+    unless r (noSuchPlace r i ∷ past K es ∷ full r ∷ []) es (done (length (r .entries) ∷ []))
+rowStep K r (split flag i l) =
+    unless r (noSuchId r i ∷ tooMuch K l (lengthsOf i (r .entries)) ∷ full r ∷ []) (divided flag i (newEntry r l) (r .entries)) (done (length (r .entries) ∷ []))
+rowStep K r (setLengths i l) =
+    let es = changed i l (r .entries) in
+    unless r (noSuchId r i ∷ past K es ∷ []) es (done [])
+rowStep K r (update i l) =
+    let es = changed i l (r .entries) in
+    unless r (noSuchId r i ∷ past K es ∷ []) es (done (total (K .effect) (before i (r .entries)) ∷ []))
+rowStep K r (lookup v index) = moved r (found K v index 0 0 (r .entries))
+rowStep K r (rank v i) = unless r (noSuchId r i ∷ []) (r .entries) (done (total v (before i (r .entries)) ∷ []))
+rowStep K r (next i) = unless r (noSuchId r i ∷ []) (r .entries) (done (firstId (after i (r .entries)) ∷ []))
+rowStep K r (compare i j) = unless r (noSuchId r i ∷ noSuchId r j ∷ []) (r .entries) (done (ordered i j (r .entries) ∷ []))
+rowStep K r (lengths i) = unless r (noSuchId r i ∷ []) (r .entries) (done (lengthsOf i (r .entries)))
+rowStep K r count = moved r (done (length (r .entries) ∷ []))
+rowStep K r first = moved r (done (firstId (r .entries) ∷ []))
+rowStep K r malformed = moved r (refused 10)

@@ -6,6 +6,7 @@ use Prim.Native.Nat.{ℕ, _-_}
 use lib.ListN.{length, replicate}
 use Rattle.model.specs.Lists.{part, putAt, sumBy, some, range, refusal}
 use Rattle.model.specs.Node as node
+use Rattle.model.specs.Kind.{base}
 use Rattle.model.specs.State.{State, state, headOf}
 use Rattle.model.specs.Row as row
 use Rattle.model.specs.Row.{Row, Answer, Moved, moved, done, madeRow, rowStep}
@@ -41,8 +42,8 @@ abbrev pub before : State
 before = state (headOf 0 0 0 0 0 0 0 Absent) (replicate 30 7) (replicate 30 7) (replicate 5 7)
 
 unfoldable pub treePlay : State → Play → Moved State
-treePlay s (made l) = told (calls.make 4 5 l (s .leaves) (s .inners) (s .homes)) outcomeAnswer
-treePlay s (called c) = treeStep s c
+treePlay s (made l) = told (calls.make base 4 5 l (s .leaves) (s .inners) (s .homes)) outcomeAnswer
+treePlay s (called c) = treeStep base s c
 
 -- leaf and slot of the entry made last
 unfoldable pub newestIn : Standing → List ℕ
@@ -50,7 +51,7 @@ newestIn (standing.At c) = c .leaf .0 ∷ c .slot ∷ []
 newestIn (standing.Refused n) = []
 
 unfoldable pub treeSeen : Moved State → Seen
-treeSeen m = seen (m .answer) (map (λ e. e .id) (entriesOf (m .after))) (newestIn (calls.cursor (m .after) (m .after .head .entries - 1))) (audit (m .after))
+treeSeen m = seen (m .answer) (map (λ e. e .id) (entriesOf base (m .after))) (newestIn (calls.cursor base (m .after) (m .after .head .entries - 1))) (audit base (m .after))
 
 unfoldable pub treeRun : State → List Case → List Seen
 treeRun s [] = []
@@ -58,7 +59,7 @@ treeRun s (c ∷ cs) = let m = treePlay s (c .play) in treeSeen m ∷ treeRun (m
 
 unfoldable pub rowPlay : Row → Play → Moved Row
 rowPlay r (made l) = moved (madeRow 5 l) (done [])
-rowPlay r (called c) = rowStep r c
+rowPlay r (called c) = rowStep base r c
 
 unfoldable pub rowSeen : Case → Moved Row → Seen
 rowSeen c m = seen (m .answer) (map (λ e. e .id) (m .after .entries)) (c .newest) verdict.Yes

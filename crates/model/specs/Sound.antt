@@ -1,5 +1,5 @@
 -- A sound tree, field by field as document 01's paragraph on audit has it, and its entries in order ("The plain row", last paragraph).
--- s is the words of a slot, e the effect view; the base is s = 3, e = 1. Assumes nothing.
+-- s is the words of a slot, e the effect view; Sound takes both from a kind. Assumes nothing.
 use mathlib.Core.Path.{_≡_}
 use mathlib.Core.Bool.{Bool, true, false, cond}
 use mathlib.Core.List.{List, [], _∷_, _++_, map, flatMap}
@@ -8,6 +8,8 @@ use lib.ListN.{length, getD, take}
 use lib.Dec.{eqb}
 use Rattle.model.specs.Lists.{All, times, range}
 use Rattle.model.specs.Node.{Node, none, child, lengths, lengthIn, total, used, emptySlot, half}
+use Rattle.model.specs.Kind.{stride}
+use Rattle.model.specs.declared.shape.Kind.{Kind}
 use Rattle.model.specs.Row.{Entry, entry}
 use Rattle.model.specs.State.{State, shape, nodeAt}
 use Rattle.model.specs.declared.shape.Shape.{Shape}
@@ -117,9 +119,9 @@ module _ (s : ℕ) (t : State) where
     pub totals : (v : ℕ) → suc v < s → total v (slotsIn leavesReached) ≤ 4294967295
     pub finger : FingerRight e (t .head .finger)
 
-abbrev pub Sound : State → Type 0
-Sound t = SoundAt 3 t 1
+abbrev pub Sound : Kind → State → Type 0
+Sound K t = SoundAt (stride K) t (K .effect)
 
 -- the entries in order: the slots in use of the leaves, reached from the root with earlier slots first
-unfoldable pub entriesOf : State → List Entry
-entriesOf t = map (λ x. entry (child x) (lengths x)) (slotsIn 3 t (leavesReached 3 t))
+unfoldable pub entriesOf : Kind → State → List Entry
+entriesOf K t = map (λ x. entry (child x) (lengths x)) (slotsIn (stride K) t (leavesReached (stride K) t))

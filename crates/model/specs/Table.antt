@@ -3,13 +3,10 @@ use mathlib.Core.List.{List, [], _∷_, _++_}
 use mathlib.Core.Bool.{Bool, true, false}
 use Prim.Native.Nat.{ℕ}
 use Rattle.model.specs.Row.{Call, insert, split, lookup, next, Answer, done, refused, noEntry}
-use Rattle.model.specs.declared.length.View.{View}
-use Rattle.model.specs.declared.length.View.the-variants.{Prepare, Effect}
-use Rattle.model.specs.declared.length.Lengths.{Lengths}
 
 -- the first record is played as make, the others as calls of a list
 pub data Play : Type 0 where
-  made : Lengths → Play
+  made : List ℕ → Play
   called : Call → Play
 
 -- what is played, the answer, the ids in order afterwards, and leaf and slot of the newest entry
@@ -22,8 +19,8 @@ pub record Case : Type 0 where
 abbrev pub case : Play → Answer → List ℕ → List ℕ → Case
 case p a o n = record { play = p; answer = a; order = o; newest = n }
 
-abbrev pub pair : ℕ → ℕ → Lengths
-pair p e = record { prepare = p; effect = e }
+abbrev pub pair : ℕ → ℕ → List ℕ
+pair p e = p ∷ e ∷ []
 
 abbrev pub p1 : Case
 p1 = case (made (pair 3 3)) (done []) (0 ∷ []) (0 ∷ 0 ∷ [])
@@ -35,19 +32,19 @@ abbrev pub p3 : Case
 p3 = case (called (insert 0 (pair 0 5))) (done (2 ∷ 0 ∷ [])) (2 ∷ 0 ∷ 1 ∷ []) (0 ∷ 0 ∷ [])
 
 abbrev pub p4 : Case
-p4 = case (called (lookup Prepare 0)) (done (0 ∷ 0 ∷ 5 ∷ [])) (2 ∷ 0 ∷ 1 ∷ []) (0 ∷ 0 ∷ [])
+p4 = case (called (lookup 0 0)) (done (0 ∷ 0 ∷ 5 ∷ [])) (2 ∷ 0 ∷ 1 ∷ []) (0 ∷ 0 ∷ [])
 
 abbrev pub p5 : Case
-p5 = case (called (lookup Prepare 5)) (refused 5) (2 ∷ 0 ∷ 1 ∷ []) (0 ∷ 0 ∷ [])
+p5 = case (called (lookup 0 5)) (refused 5) (2 ∷ 0 ∷ 1 ∷ []) (0 ∷ 0 ∷ [])
 
 abbrev pub p6 : Case
 p6 = case (called (next 1)) (done (4294967295 ∷ [])) (2 ∷ 0 ∷ 1 ∷ []) (0 ∷ 0 ∷ [])
 
 abbrev pub p7 : Case
-p7 = case (called (lookup Effect 0)) (done (2 ∷ 0 ∷ 0 ∷ [])) (2 ∷ 0 ∷ 1 ∷ []) (0 ∷ 0 ∷ [])
+p7 = case (called (lookup 1 0)) (done (2 ∷ 0 ∷ 0 ∷ [])) (2 ∷ 0 ∷ 1 ∷ []) (0 ∷ 0 ∷ [])
 
 abbrev pub p8 : Case
-p8 = case (called (lookup Effect 8)) (refused 5) (2 ∷ 0 ∷ 1 ∷ []) (0 ∷ 0 ∷ [])
+p8 = case (called (lookup 1 8)) (refused 5) (2 ∷ 0 ∷ 1 ∷ []) (0 ∷ 0 ∷ [])
 
 abbrev pub p9 : Case
 p9 = case (called (split true 0 (pair 1 1))) (done (3 ∷ [])) (2 ∷ 3 ∷ 0 ∷ 1 ∷ []) (0 ∷ 1 ∷ [])

@@ -8,6 +8,12 @@ pub struct Shape {
     pub nodes: usize,
 }
 
+// The kind of a tree: how many lengths a slot has, and the view in which calls answer positions.
+pub struct Kind {
+    pub views: usize,
+    pub effect: usize,
+}
+
 // The slot that holds a position: slot, offset into it, and the effect lengths before it.
 pub enum Found {
     At(usize, u32, u64),

@@ -8,6 +8,7 @@ use native.Mathlib.Nat.{lt-of-lt-of-le}
 use lib.ListN.{length, getD}
 use lib.Dec.{eqb, ltb}
 use borrow.Author.Tests.{lt-ltb, le-ltb, eq-eqb, ltb-true, ltb-false, not-true, not-false}
+use Rattle.model.specs.Kind.{base}
 use Rattle.model.specs.Lists.{Cause, All}
 use Rattle.model.specs.Node.{lengths}
 use Rattle.model.specs.State.{State, nodeAt}
@@ -26,30 +27,30 @@ use Rattle.open.specs.declared.open.Opened.{Opened}
 use Rattle.open.specs.declared.open.Opened.the-variants.{Good, Refused}
 
 -- what `current` answers where stamp and leaf pass
-pub current-last : (s : State) (c : Cursor) (g : Shape) (len : ℕ) → g ≡ shapeOf (s .head) → c .stamp ≡ s .head .entries → c .leaf .0 < s .head .leaves
-    → len ≡ nodeAt g (c .leaf .0) (s .leaves) .len → ltb (c .slot) len ≡ current s c
+pub current-last : (s : State) (c : Cursor) (g : Shape) (len : ℕ) → g ≡ shapeOf base (s .head) → c .stamp ≡ s .head .entries → c .leaf .0 < s .head .leaves
+    → len ≡ nodeAt g (c .leaf .0) (s .leaves) .len → ltb (c .slot) len ≡ current base s c
 current-last s c g len e p q r =
     rw (eq-eqb (c .stamp) (s .head .entries) p, lt-ltb (c .leaf .0) (s .head .leaves) q)
     (ap (ltb (c .slot)) (r ∙ ap (λ (x : Shape). nodeAt x (c .leaf .0) (s .leaves) .len) e))
 
 -- a current cursor
-pub current-leaf : (s : State) (c : Cursor) → current s c ≡ true → (c .leaf .0 < s .head .leaves) × (c .slot < nodeAt (shapeOf (s .head)) (c .leaf .0) (s .leaves) .len)
+pub current-leaf : (s : State) (c : Cursor) → current base s c ≡ true → (c .leaf .0 < s .head .leaves) × (c .slot < nodeAt (shapeOf base (s .head)) (c .leaf .0) (s .leaves) .len)
 current-leaf s c e =
     let stamp = eqb (c .stamp) (s .head .entries) in
     let leaf = ltb (c .leaf .0) (s .head .leaves) in
-    let p = and-true (stamp && leaf) (ltb (c .slot) (nodeAt (shapeOf (s .head)) (c .leaf .0) (s .leaves) .len)) e in
+    let p = and-true (stamp && leaf) (ltb (c .slot) (nodeAt (shapeOf base (s .head)) (c .leaf .0) (s .leaves) .len)) e in
     (ltb-true _ _ (and-true stamp leaf (p .0) .1), ltb-true _ _ (p .1))
 
 -- what `open_at` answers, from what `open` answered
-module _ (s : State) (c : Cursor) (o : Opened) (e : o ≡ openedBy (opening s) (shapeOf (s .head))) where
-  pub at-refused : (n : ℕ) → o ≡ Refused n → Refused n ≡ openedBy (opening s ++ atCursor s c) (shapeOf (s .head))
-  at-refused n d = sym (opened-stop (opening s) (atCursor s c) _ n (sym e ∙ d))
+module _ (s : State) (c : Cursor) (o : Opened) (e : o ≡ openedBy (opening base s) (shapeOf base (s .head))) where
+  pub at-refused : (n : ℕ) → o ≡ Refused n → Refused n ≡ openedBy (opening base s ++ atCursor base s c) (shapeOf base (s .head))
+  at-refused n d = sym (opened-stop (opening base s) (atCursor base s c) _ n (sym e ∙ d))
 
-  module _ (g : Shape) (d : o ≡ Good g) (t : Bool) (et : t ≡ current s c) where
-    rest : openedBy (opening s ++ atCursor s c) (shapeOf (s .head)) ≡ openedBy (atCursor s c) (shapeOf (s .head))
-    rest = opened-more (opening s) (atCursor s c) _ g (opening-numbered s) (sym e ∙ d)
+  module _ (g : Shape) (d : o ≡ Good g) (t : Bool) (et : t ≡ current base s c) where
+    rest : openedBy (opening base s ++ atCursor base s c) (shapeOf base (s .head)) ≡ openedBy (atCursor base s c) (shapeOf base (s .head))
+    rest = opened-more (opening base s) (atCursor base s c) _ g (opening-numbered s) (sym e ∙ d)
 
-    pub at-stale : not t ≡ true → Refused 3 ≡ openedBy (opening s ++ atCursor s c) (shapeOf (s .head))
+    pub at-stale : not t ≡ true → Refused 3 ≡ openedBy (opening base s ++ atCursor base s c) (shapeOf base (s .head))
     at-stale h = sym (rest ∙ opened-first 2 _ _ _ (ap not (sym et) ∙ h))
 
     -- the cursor is current: its leaf can be read
@@ -60,35 +61,35 @@ module _ (s : State) (c : Cursor) (o : Opened) (e : o ≡ openedBy (opening s) (
 
     -- and its len is read
     module _ (h : not t ≡ false) (len : ℕ) (el : len ≡ nodeAt g (c .leaf .0) (s .leaves) .len) where
-      last : openedBy (opening s ++ atCursor s c) (shapeOf (s .head)) ≡ openedBy (overfull s c ∷ []) (shapeOf (s .head))
+      last : openedBy (opening base s ++ atCursor base s c) (shapeOf base (s .head)) ≡ openedBy (overfull base s c ∷ []) (shapeOf base (s .head))
       last = rest ∙ opened-next 3 _ _ _ (ap not (sym et) ∙ h)
 
-      same : g ≡ shapeOf (s .head)
+      same : g ≡ shapeOf base (s .head)
       same = ready s g o e d .same
 
-      length-same : nodeAt (shapeOf (s .head)) (c .leaf .0) (s .leaves) .len ≡ len
+      length-same : nodeAt (shapeOf base (s .head)) (c .leaf .0) (s .leaves) .len ≡ len
       length-same = ap (λ (x : Shape). nodeAt x (c .leaf .0) (s .leaves) .len) (sym same) ∙ sym el
 
       fan-same : s .head .fan ≡ g .fan
       fan-same = ap (λ (x : Shape). x .fan) (sym same)
 
-      pub at-overfull : g .fan < len → Refused 9 ≡ openedBy (opening s ++ atCursor s c) (shapeOf (s .head))
+      pub at-overfull : g .fan < len → Refused 9 ≡ openedBy (opening base s ++ atCursor base s c) (shapeOf base (s .head))
       at-overfull f = sym (last ∙ opened-first 8 _ _ _ (rw (length-same, fan-same) (lt-ltb (g .fan) len f)))
 
-      pub at-good : len ≤ g .fan → Good g ≡ openedBy (opening s ++ atCursor s c) (shapeOf (s .head))
+      pub at-good : len ≤ g .fan → Good g ≡ openedBy (opening base s ++ atCursor base s c) (shapeOf base (s .head))
       at-good f = sym (last ∙ opened-next 9 _ _ _ (rw (length-same, fan-same) (le-ltb (g .fan) len f)) ∙ opened-none _ ∙ ap Good (sym same))
 
-pub at-numbered : (s : State) (c : Cursor) → Numbered (opening s ++ atCursor s c)
+pub at-numbered : (s : State) (c : Cursor) → Numbered (opening base s ++ atCursor base s c)
 unfolding opening All
 at-numbered s c = (omega arith, (omega arith, (omega arith, (omega arith, (omega arith, tt)))))
 
 -- what is known where `open_at` gives no number
-pub stands : (s : State) (c : Cursor) (g : Shape) (o : Opened) → o ≡ openedBy (opening s ++ atCursor s c) (shapeOf (s .head)) → o ≡ Good g → Stands s c g
+pub stands : (s : State) (c : Cursor) (g : Shape) (o : Opened) → o ≡ openedBy (opening base s ++ atCursor base s c) (shapeOf base (s .head)) → o ≡ Good g → Stands s c g
 unfolding opening All
 stands s c g o e d =
-    let n = none-applies (opening s ++ atCursor s c) (at-numbered s c) (good-number (opening s ++ atCursor s c) (shapeOf (s .head)) g (sym e ∙ d)) in
-    let l = current-leaf s c (not-false (current s c) (n .1 .1 .1 .0)) in
-    rw (← good-shape (opening s ++ atCursor s c) (shapeOf (s .head)) g (sym e ∙ d))
+    let n = none-applies (opening base s ++ atCursor base s c) (at-numbered s c) (good-number (opening base s ++ atCursor base s c) (shapeOf base (s .head)) g (sym e ∙ d)) in
+    let l = current-leaf s c (not-false (current base s c) (n .1 .1 .1 .0)) in
+    rw (← good-shape (opening base s ++ atCursor base s c) (shapeOf base (s .head)) g (sym e ∙ d))
     (record { ready = ready-here s (n .0) (n .1 .0) (n .1 .1 .0); leaf = l .0; slot = l .1; few = ltb-false _ _ (n .1 .1 .1 .1 .0) })
 
 -- the slot of a cursor can be read
@@ -104,6 +105,6 @@ pub both-in : (s : State) (c : Cursor) (g : Shape) → Stands s c g → Area g (
 both-in s c g h = let i = slot-in s c g h in (i .0, ap (λ (x : Shape). x .stride) (h .ready .same), i .1, i .2)
 
 -- the lengths that were read are those of the cursor's slot
-pub own-lengths : (s : State) (c : Cursor) (g : Shape) (ls : List ℕ) → shapeOf (s .head) ≡ g → lengths (getD (nodeAt g (c .leaf .0) (s .leaves) .slots) (c .slot) []) ≡ ls
-    → ls ≡ lengths (slotAt s c)
+pub own-lengths : (s : State) (c : Cursor) (g : Shape) (ls : List ℕ) → shapeOf base (s .head) ≡ g → lengths (getD (nodeAt g (c .leaf .0) (s .leaves) .slots) (c .slot) []) ≡ ls
+    → ls ≡ lengths (slotAt base s c)
 own-lengths s c g ls e h = sym h ∙ ap (λ (x : Shape). lengths (getD (nodeAt x (c .leaf .0) (s .leaves) .slots) (c .slot) [])) (sym e)

@@ -8,7 +8,8 @@ use lib.ListN.{length, getD, take, drop}
 use lib.Seq.{take-all}
 use lib.Dec.{ltb}
 use borrow.Author.Tests.{lt-ltb, le-ltb, ltb-true, ltb-false}
-use Rattle.model.specs.Lists.{some, part}
+use Rattle.model.specs.Kind.{base}
+use Rattle.model.specs.Lists.{some, part, range}
 use Rattle.model.specs.Length.{listOf}
 use Rattle.model.specs.Node.{slotsFrom, nodeOf, lengths, lengthIn, total, used}
 use Rattle.model.specs.State.{state, nodeAt}
@@ -49,12 +50,12 @@ last true = refl
 last false = refl
 
 module _ (given ls : Lengths) where
-  pub more-first : ls .prepare < given .prepare → true ≡ tooMuch (listOf given) (listOf ls) .applies
-  unfolding some
+  pub more-first : ls .prepare < given .prepare → true ≡ tooMuch base (listOf given) (listOf ls) .applies
+  unfolding some range
   more-first h = rw (lt-ltb (ls .prepare) (given .prepare) h)
 
-  pub more-second : given .prepare ≤ ls .prepare → ltb (ls .effect) (given .effect) ≡ tooMuch (listOf given) (listOf ls) .applies
-  unfolding some
+  pub more-second : given .prepare ≤ ls .prepare → ltb (ls .effect) (given .effect) ≡ tooMuch base (listOf given) (listOf ls) .applies
+  unfolding some range
   more-second h = rw (le-ltb (ls .prepare) (given .prepare) h) (last (ltb (ls .effect) (given .effect)))
 
 -- the slots in use are the first k, which are as many as len or, where that is past the fan, as the fan
@@ -68,16 +69,16 @@ in-use s fan n k ws e a b =
     (λ t. sym (slots-take s fan (getD ws 0 0) 3 ws (omega (arith, ltb-true (getD ws 0 0) fan t))))
     (λ t. sym (take-all (getD ws 0 0) (slotsFrom s fan 3 ws) (omega (arith, l, ltb-false (getD ws 0 0) fan t)))))
 
-module _ (h : Head) (xs : List ℕ) (g : Shape) (old new : Lengths) (b : Bool) (eg : g ≡ shapeOf h)
+module _ (h : Head) (xs : List ℕ) (g : Shape) (old new : Lengths) (b : Bool) (eg : g ≡ shapeOf base h)
     (eb : b ≡ ltb (4294967295 + old .prepare) (total 0 (used (nodeAt g (h .root .0) xs)) + new .prepare)) where
-  own : (v o n : ℕ) → ltb (4294967295 + o) (total v (used (nodeAt g (h .root .0) xs)) + n) ≡ ltb (4294967295 + o) (total v (used (nodeAt (shapeOf h) (h .root .0) xs)) + n)
+  own : (v o n : ℕ) → ltb (4294967295 + o) (total v (used (nodeAt g (h .root .0) xs)) + n) ≡ ltb (4294967295 + o) (total v (used (nodeAt (shapeOf base h) (h .root .0) xs)) + n)
   own v o n = ap (λ (x : Shape). ltb (4294967295 + o) (total v (used (nodeAt x (h .root .0) xs)) + n)) eg
 
-  pub past-first : b ≡ true → true ≡ past (state h [] xs []) (listOf old) (listOf new) .applies
-  unfolding some
+  pub past-first : b ≡ true → true ≡ past base (state h [] xs []) (listOf old) (listOf new) .applies
+  unfolding some range
   past-first e = rw (sym (own 0 (old .prepare) (new .prepare)) ∙ sym eb ∙ e)
 
   pub past-second : b ≡ false → (c : Bool) → c ≡ ltb (4294967295 + old .effect) (total 1 (used (nodeAt g (h .root .0) xs)) + new .effect)
-      → c ≡ past (state h [] xs []) (listOf old) (listOf new) .applies
-  unfolding some
-  past-second e c ec = rw (sym (own 0 (old .prepare) (new .prepare)) ∙ sym eb ∙ e) (ec ∙ own 1 (old .effect) (new .effect) ∙ last (ltb (4294967295 + old .effect) (total 1 (used (nodeAt (shapeOf h) (h .root .0) xs)) + new .effect)))
+      → c ≡ past base (state h [] xs []) (listOf old) (listOf new) .applies
+  unfolding some range
+  past-second e c ec = rw (sym (own 0 (old .prepare) (new .prepare)) ∙ sym eb ∙ e) (ec ∙ own 1 (old .effect) (new .effect) ∙ last (ltb (4294967295 + old .effect) (total 1 (used (nodeAt (shapeOf base h) (h .root .0) xs)) + new .effect)))

@@ -6,9 +6,10 @@ use Prim.Native.Nat.{ℕ, suc, _+_, _*_, _≤_, _<_}
 use native.Mathlib.Omega.{arith}
 use native.Mathlib.Nat.{mul-le-mul}
 use borrow.Author.Tests.{ltb-false, leb-false}
+use Rattle.model.specs.Kind.{base, stride}
 use Rattle.model.specs.Lists.{Cause, All}
 use Rattle.model.specs.State.{State, shape}
-use Rattle.model.specs.Refuse.{stride, badSize, tooShort, astray, shapeOf, opening}
+use Rattle.model.specs.Refuse.{badSize, tooShort, astray, shapeOf, opening}
 use Rattle.model.specs.Calls.{makeCauses}
 use Rattle.model.specs.declared.shape.Shape.{Shape}
 use Rattle.node.specs.Shaped.{Shaped}
@@ -41,47 +42,47 @@ few-words g h =
 
 -- what `open_areas` answers
 module _ (fan limit : ℕ) (ls xs hs : List ℕ) (g : Shape) (b t : Bool) (eb : b ≡ badSize fan limit .applies) (nb : b ≡ false)
-    (eg : g ≡ shape stride fan limit) (et : t ≡ tooShort g limit ls xs hs .applies) where
-  pub short-areas : t ≡ true → Refused 2 ≡ openedBy (makeCauses fan limit ls xs hs) (shape stride fan limit)
+    (eg : g ≡ shape (stride base) fan limit) (et : t ≡ tooShort g limit ls xs hs .applies) where
+  pub short-areas : t ≡ true → Refused 2 ≡ openedBy (makeCauses base fan limit ls xs hs) (shape (stride base) fan limit)
   short-areas e =
       sym (opened-next 1 _ _ _ (sym eb ∙ nb) ∙ opened-first 1 _ [] _ (ap (λ (x : Shape). tooShort x limit ls xs hs .applies) (sym eg) ∙ sym et ∙ e))
 
-  pub long-areas : t ≡ false → Good g ≡ openedBy (makeCauses fan limit ls xs hs) (shape stride fan limit)
+  pub long-areas : t ≡ false → Good g ≡ openedBy (makeCauses base fan limit ls xs hs) (shape (stride base) fan limit)
   long-areas e =
       ap Good eg
       ∙ sym (opened-next 1 _ _ _ (sym eb ∙ nb) ∙ opened-next 2 _ [] _ (ap (λ (x : Shape). tooShort x limit ls xs hs .applies) (sym eg) ∙ sym et ∙ e) ∙ opened-none _)
 
 -- the causes of make and of every other call
 abbrev pub areasOf : State → List Cause
-areasOf s = makeCauses (s .head .fan) (s .head .limit) (s .leaves) (s .inners) (s .homes)
+areasOf s = makeCauses base (s .head .fan) (s .head .limit) (s .leaves) (s .inners) (s .homes)
 
 areas-numbered : (s : State) → Numbered (areasOf s)
 unfolding All
 areas-numbered s = (omega arith, (omega arith, tt))
 
-pub opening-numbered : (s : State) → Numbered (opening s)
+pub opening-numbered : (s : State) → Numbered (opening base s)
 unfolding opening All
 opening-numbered s = (omega arith, (omega arith, (omega arith, tt)))
 
 -- what `open` answers, from what `open_areas` answered
-module _ (s : State) (o : Opened) (e : o ≡ openedBy (areasOf s) (shapeOf (s .head))) where
-  pub open-refused : (n : ℕ) → o ≡ Refused n → Refused n ≡ openedBy (opening s) (shapeOf (s .head))
+module _ (s : State) (o : Opened) (e : o ≡ openedBy (areasOf s) (shapeOf base (s .head))) where
+  pub open-refused : (n : ℕ) → o ≡ Refused n → Refused n ≡ openedBy (opening base s) (shapeOf base (s .head))
   unfolding opening
-  open-refused n d = sym (opened-stop (areasOf s) (astray (shapeOf (s .head)) (s .head) ∷ []) _ n (sym e ∙ d))
+  open-refused n d = sym (opened-stop (areasOf s) (astray (shapeOf base (s .head)) (s .head) ∷ []) _ n (sym e ∙ d))
 
   module _ (g : Shape) (d : o ≡ Good g) (t : Bool) (et : t ≡ astray g (s .head) .applies) where
-    last : openedBy (opening s) (shapeOf (s .head)) ≡ openedBy (astray (shapeOf (s .head)) (s .head) ∷ []) (shapeOf (s .head))
+    last : openedBy (opening base s) (shapeOf base (s .head)) ≡ openedBy (astray (shapeOf base (s .head)) (s .head) ∷ []) (shapeOf base (s .head))
     unfolding opening
-    last = opened-more (areasOf s) (astray (shapeOf (s .head)) (s .head) ∷ []) _ g (areas-numbered s) (sym e ∙ d)
+    last = opened-more (areasOf s) (astray (shapeOf base (s .head)) (s .head) ∷ []) _ g (areas-numbered s) (sym e ∙ d)
 
-    same : shapeOf (s .head) ≡ g
+    same : shapeOf base (s .head) ≡ g
     same = good-shape (areasOf s) _ g (sym e ∙ d)
 
-    here : t ≡ astray (shapeOf (s .head)) (s .head) .applies
+    here : t ≡ astray (shapeOf base (s .head)) (s .head) .applies
     here = et ∙ ap (λ (x : Shape). astray x (s .head) .applies) (sym same)
 
-    pub open-astray : t ≡ true → Refused 9 ≡ openedBy (opening s) (shapeOf (s .head))
+    pub open-astray : t ≡ true → Refused 9 ≡ openedBy (opening base s) (shapeOf base (s .head))
     open-astray h = sym (last ∙ opened-first 8 _ [] _ (sym here ∙ h))
 
-    pub open-good : t ≡ false → Good g ≡ openedBy (opening s) (shapeOf (s .head))
+    pub open-good : t ≡ false → Good g ≡ openedBy (opening base s) (shapeOf base (s .head))
     open-good h = sym (last ∙ opened-next 9 _ [] _ (sym here ∙ h) ∙ opened-none _ ∙ ap Good same)

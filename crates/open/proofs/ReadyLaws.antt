@@ -8,10 +8,11 @@ use native.Mathlib.Nat.{div-le-self}
 use lib.ListN.{length}
 use lib.Dec.{ltb}
 use borrow.Author.Tests.{ltb-false, ltb-true, leb-false, not-false, eqb-true}
+use Rattle.model.specs.Kind.{base, stride}
 use Rattle.model.specs.Lists.{Cause, refusal, All}
 use Rattle.model.specs.Length.{viewNumber}
 use Rattle.model.specs.State.{State, nodesFor, shape, nodeAt}
-use Rattle.model.specs.Refuse.{stride, badSize, tooShort, astray, shapeOf, opening, atCursor, stale, overfull}
+use Rattle.model.specs.Refuse.{badSize, tooShort, astray, shapeOf, opening, atCursor, stale, overfull}
 use Rattle.model.specs.declared.shape.Shape.{Shape}
 use Rattle.model.specs.declared.length.View.{View}
 use Rattle.model.specs.declared.length.View.the-variants.{Prepare, Effect}
@@ -31,7 +32,7 @@ few-nodes true n h = omega arith
 few-nodes false n h = h
 
 -- a good fan and limit give a shape that every function takes
-pub shaped : (fan limit : ℕ) → Sized fan limit → Shaped (shape stride fan limit)
+pub shaped : (fan limit : ℕ) → Sized fan limit → Shaped (shape (stride base) fan limit)
 shaped fan limit z =
     record {
       columns = omega arith;
@@ -44,9 +45,9 @@ shaped fan limit z =
 
 module _ (s : State) where
   pub ready-here : (badSize (s .head .fan) (s .head .limit) .applies ≡ false)
-      → (tooShort (shapeOf (s .head)) (s .head .limit) (s .leaves) (s .inners) (s .homes) .applies ≡ false)
-      → (astray (shapeOf (s .head)) (s .head) .applies ≡ false)
-      → Ready s (shapeOf (s .head))
+      → (tooShort (shapeOf base (s .head)) (s .head .limit) (s .leaves) (s .inners) (s .homes) .applies ≡ false)
+      → (astray (shapeOf base (s .head)) (s .head) .applies ≡ false)
+      → Ready s (shapeOf base (s .head))
   ready-here p q r =
       let z = sized (s .head .fan) (s .head .limit) p in
       let short = or-false _ _ q in
@@ -71,11 +72,11 @@ module _ (s : State) where
         entries = ltb-false _ _ (a .1);
       }
 
-  pub ready : (g : Shape) (o : Opened) → o ≡ openedBy (opening s) (shapeOf (s .head)) → o ≡ Good g → Ready s g
+  pub ready : (g : Shape) (o : Opened) → o ≡ openedBy (opening base s) (shapeOf base (s .head)) → o ≡ Good g → Ready s g
   unfolding opening All
   ready g o e d =
-      let n = none-applies (opening s) (opening-numbered s) (good-number (opening s) (shapeOf (s .head)) g (sym e ∙ d)) in
-      rw (← good-shape (opening s) (shapeOf (s .head)) g (sym e ∙ d)) (ready-here (n .0) (n .1 .0) (n .1 .1 .0))
+      let n = none-applies (opening base s) (opening-numbered s) (good-number (opening base s) (shapeOf base (s .head)) g (sym e ∙ d)) in
+      rw (← good-shape (opening base s) (shapeOf base (s .head)) g (sym e ∙ d)) (ready-here (n .0) (n .1 .0) (n .1 .1 .0))
 
 -- an area of a ready tree
 pub leaf-area : (s : State) (g : Shape) → Ready s g → Area g (length (s .leaves))

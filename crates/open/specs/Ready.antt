@@ -2,6 +2,7 @@
 use mathlib.Core.Path.{_≡_}
 use Prim.Native.Nat.{ℕ, _*_, _≤_, _<_}
 use lib.ListN.{length}
+use Rattle.model.specs.Kind.{base}
 use Rattle.model.specs.State.{State, nodeAt}
 use Rattle.model.specs.Refuse.{shapeOf}
 use Rattle.model.specs.declared.shape.Shape.{Shape}
@@ -10,7 +11,7 @@ use Rattle.node.specs.Shaped.{Shaped}
 
 -- g is the tree's shape, the areas are long enough, and the head leads nowhere outside
 pub record Ready (s : State) (g : Shape) : Type 0 where
-  pub same : g ≡ shapeOf (s .head)
+  pub same : g ≡ shapeOf base (s .head)
   pub shaped : Shaped g
   pub limit-most : s .head .limit ≤ 65536
   pub leaf-area : g .nodes * g .size ≤ length (s .leaves)

@@ -9,6 +9,7 @@ ghost use mathlib.Core.List.{[]};
 ghost use Prim.Native.Nat.{_+_, _<_, _≤_};
 ghost use lib.Dec.{ltb};
 ghost use lib.ListN.{length, getD};
+ghost use Rattle.model.specs.Kind.{base};
 ghost use Rattle.model.specs.Length.{listOf};
 ghost use Rattle.model.specs.Node.{lengths, total, used, nodeOf};
 ghost use Rattle.model.specs.State.{state, nodeAt};
@@ -31,7 +32,7 @@ pub fn lengths_at(leaves: &[u32], g: Shape, k: u32, i: u32) -> Lengths
 
 // Whether lengths are more than an entry has, in either view.
 pub fn too_much(given: Lengths, own: Lengths) -> bool
-    ensures { λ r. ⌜ r ≡ tooMuch (listOf given) (listOf own) .applies ⌝ }
+    ensures { λ r. ⌜ r ≡ tooMuch base (listOf given) (listOf own) .applies ⌝ }
 {
     if own.prepare < given.prepare {
         return true;
@@ -100,8 +101,8 @@ fn past_by(sum: u64, old: u32, new: u32) -> bool
 
 // Whether either of the root's totals would.
 pub fn past(head: Head, inners: &[u32], g: Shape, old: Lengths, new: Lengths) -> bool
-    requires { ⌜ (g ≡ shapeOf head) × Area g (length (now inners)) × (head .root .0 < g .nodes) ⌝ }
-    ensures { λ r. ⌜ r ≡ past (state head [] (now (inners .entry)) []) (listOf old) (listOf new) .applies ⌝ }
+    requires { ⌜ (g ≡ shapeOf base head) × Area g (length (now inners)) × (head .root .0 < g .nodes) ⌝ }
+    ensures { λ r. ⌜ r ≡ past base (state head [] (now (inners .entry)) []) (listOf old) (listOf new) .applies ⌝ }
 {
     let root = head.root.0;
     let t = totals_in(inners, g, root);

@@ -7,8 +7,9 @@ ghost use mathlib.Core.Path.{_≡_};
 ghost use mathlib.Core.List.{[], _++_};
 ghost use Prim.Native.Nat.{_+_, _*_, _<_, _≤_};
 ghost use lib.ListN.{length, getD};
+ghost use Rattle.model.specs.Kind.{base, stride};
 ghost use Rattle.model.specs.State.{state, shape, nodesFor, nodeAt};
-ghost use Rattle.model.specs.Refuse.{stride, badSize, tooShort, astray, shapeOf, opening, current, atCursor, full};
+ghost use Rattle.model.specs.Refuse.{badSize, tooShort, astray, shapeOf, opening, current, atCursor, full};
 ghost use Rattle.model.specs.Calls.{makeCauses};
 ghost use Rattle.node.specs.Shaped.{Shaped};
 ghost use Rattle.area.specs.Area.{Area};
@@ -50,7 +51,7 @@ fn nodes_for(fan: u32, limit: u32) -> usize
 // The sizes of everything, from a good fan and limit.
 pub fn shape_of(fan: u32, limit: u32) -> Shape
     requires { ⌜ (4 ≤ fan) × (fan ≤ 32) × (limit ≤ 65536) ⌝ }
-    ensures { λ r. ⌜ (r ≡ shape stride fan limit) × Shaped r ⌝ }
+    ensures { λ r. ⌜ (r ≡ shape (stride base) fan limit) × Shaped r ⌝ }
 {
     let slots = fan as usize;
     let nodes = nodes_for(fan, limit);
@@ -100,7 +101,7 @@ pub fn astray(g: Shape, head: Head) -> bool
 
 // What make and reset test.
 pub fn open_areas(fan: u32, limit: u32, leaves: &[u32], inners: &[u32], homes: &[u32]) -> Opened
-    ensures { λ r. ⌜ r ≡ openedBy (makeCauses fan limit (now (leaves .entry)) (now (inners .entry)) (now (homes .entry))) (shape stride fan limit) ⌝ }
+    ensures { λ r. ⌜ r ≡ openedBy (makeCauses base fan limit (now (leaves .entry)) (now (inners .entry)) (now (homes .entry))) (shape (stride base) fan limit) ⌝ }
 {
     if bad_size(fan, limit) {
         return Opened::Refused(1);
@@ -114,7 +115,7 @@ pub fn open_areas(fan: u32, limit: u32, leaves: &[u32], inners: &[u32], homes: &
 
 // What every call tests that reads links.
 pub fn open(head: Head, leaves: &[u32], inners: &[u32], homes: &[u32]) -> Opened
-    ensures { λ r. ⌜ r ≡ openedBy (opening (state head (now (leaves .entry)) (now (inners .entry)) (now (homes .entry)))) (shapeOf head) ⌝ }
+    ensures { λ r. ⌜ r ≡ openedBy (opening base (state head (now (leaves .entry)) (now (inners .entry)) (now (homes .entry)))) (shapeOf base head) ⌝ }
 {
     let fan = head.fan;
     let limit = head.limit;
@@ -131,8 +132,8 @@ pub fn open(head: Head, leaves: &[u32], inners: &[u32], homes: &[u32]) -> Opened
 
 // Whether a cursor is current: its stamp is the entry count, its leaf in use and its slot below the leaf's len.
 pub fn current(head: Head, leaves: &[u32], g: Shape, c: Cursor) -> bool
-    requires { ⌜ (g ≡ shapeOf head) × Area g (length (now leaves)) × (head .leaves ≤ g .nodes) ⌝ }
-    ensures { λ r. ⌜ r ≡ current (state head (now (leaves .entry)) [] []) c ⌝ }
+    requires { ⌜ (g ≡ shapeOf base head) × Area g (length (now leaves)) × (head .leaves ≤ g .nodes) ⌝ }
+    ensures { λ r. ⌜ r ≡ current base (state head (now (leaves .entry)) [] []) c ⌝ }
 {
     let k = c.leaf.0;
     if c.stamp != head.entries {
@@ -154,7 +155,7 @@ pub fn full(head: Head) -> bool
 
 // What every call tests that takes a cursor.
 pub fn open_at(head: Head, leaves: &[u32], inners: &[u32], homes: &[u32], c: Cursor) -> Opened
-    ensures { λ r. ⌜ r ≡ openedBy (opening (state head (now (leaves .entry)) (now (inners .entry)) (now (homes .entry))) ++ atCursor (state head (now (leaves .entry)) (now (inners .entry)) (now (homes .entry))) c) (shapeOf head) ⌝ }
+    ensures { λ r. ⌜ r ≡ openedBy (opening base (state head (now (leaves .entry)) (now (inners .entry)) (now (homes .entry))) ++ atCursor base (state head (now (leaves .entry)) (now (inners .entry)) (now (homes .entry))) c) (shapeOf base head) ⌝ }
 {
     match open(head, leaves, inners, homes) {
         Opened::Refused(n) => Opened::Refused(n),

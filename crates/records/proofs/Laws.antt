@@ -9,6 +9,7 @@ use native.Mathlib.Omega.{arith}
 use lib.ListN.{length, getD, drop-of-length-le}
 use lib.Dec.{T, eqb, leb, ltb, lit≤, lit<}
 use lib.Seq.{sets, sets-eq, lt-length-sets}
+use Rattle.model.specs.Length.{listOf, viewNumber}
 use Rattle.model.specs.Row as row
 use Rattle.model.specs.Record.{Fields, kinds, only, plain, binary, noLengths, viewOf, lengthsOf}
 use Rattle.model.specs.declared.length.View.{View}
@@ -38,7 +39,7 @@ no-kind f (suc (suc (suc (suc (suc (suc (suc (suc (suc (suc (suc (suc (suc zero)
 no-kind f (suc (suc (suc (suc (suc (suc (suc (suc (suc (suc (suc (suc (suc (suc k)))))))))))))) a b c d e g h i j l m n o = refl
 
 -- the kinds with more than one condition, by what was tested
-pub reset-kind : (f : Fields) (x : row.Call) (b : Bool) → f .kind ≡ 1 → x ≡ only b (row.reset (lengthsOf f)) → b ≡ (plain f && eqb (f .a) 0)
+pub reset-kind : (f : Fields) (x : row.Call) (b : Bool) → f .kind ≡ 1 → x ≡ only b (row.reset (listOf (lengthsOf f))) → b ≡ (plain f && eqb (f .a) 0)
     → x ≡ getD (kinds f) (f .kind) row.malformed
 unfolding kinds
 reset-kind f x b e q eb = at-kind f 1 e x (q ∙ rw eb)
@@ -49,11 +50,11 @@ unfolding kinds
 compare-kind f x b e q eb = at-kind f 10 e x (q ∙ rw eb)
 
 module _ (f : Fields) (x : row.Call) (b n : Bool) (en : n ≡ noLengths f) where
-  pub lookup-kind : (v : View) → v ≡ viewOf (f .flag) → f .kind ≡ 7 → x ≡ only b (row.lookup v (f .a)) → b ≡ (binary f && n) → x ≡ getD (kinds f) (f .kind) row.malformed
+  pub lookup-kind : (v : View) → v ≡ viewOf (f .flag) → f .kind ≡ 7 → x ≡ only b (row.lookup (viewNumber v) (f .a)) → b ≡ (binary f && n) → x ≡ getD (kinds f) (f .kind) row.malformed
   unfolding kinds
   lookup-kind v ev e q eb = at-kind f 7 e x (q ∙ rw (eb, en, ev))
 
-  pub rank-kind : (v : View) → v ≡ viewOf (f .flag) → f .kind ≡ 8 → x ≡ only b (row.rank v (f .a)) → b ≡ (binary f && n) → x ≡ getD (kinds f) (f .kind) row.malformed
+  pub rank-kind : (v : View) → v ≡ viewOf (f .flag) → f .kind ≡ 8 → x ≡ only b (row.rank (viewNumber v) (f .a)) → b ≡ (binary f && n) → x ≡ getD (kinds f) (f .kind) row.malformed
   unfolding kinds
   rank-kind v ev e q eb = at-kind f 8 e x (q ∙ rw (eb, en, ev))
 

@@ -3,6 +3,7 @@ use mathlib.Core.List.{List, [], _∷_}
 use Prim.Native.Nat.{ℕ}
 use lib.ListN.{getD}
 use lib.Dec.{eqb}
+use Rattle.model.specs.Length.{listOf, viewNumber}
 use Rattle.model.specs.Row as row
 use Rattle.model.specs.Record as record′
 use Rattle.model.specs.Record.{kinds, only}
@@ -15,14 +16,14 @@ abbrev pub plainFields : Fields → record′.Fields
 plainFields f = record { kind = f .kind; flag = f .flag; rest = f .rest; a = f .a; b = f .b; c = f .c }
 
 abbrev pub callOf : Call → row.Call
-callOf (call.Reset l) = row.reset l
-callOf (call.Insert i l) = row.insert (i .0) l
-callOf (call.Add i l) = row.add (i .0) l
-callOf (call.Split flag i l) = row.split flag (i .0) l
-callOf (call.SetLengths i l) = row.setLengths (i .0) l
-callOf (call.Update i l) = row.update (i .0) l
-callOf (call.Lookup v index) = row.lookup v index
-callOf (call.Rank v i) = row.rank v (i .0)
+callOf (call.Reset l) = row.reset (listOf l)
+callOf (call.Insert i l) = row.insert (i .0) (listOf l)
+callOf (call.Add i l) = row.add (i .0) (listOf l)
+callOf (call.Split flag i l) = row.split flag (i .0) (listOf l)
+callOf (call.SetLengths i l) = row.setLengths (i .0) (listOf l)
+callOf (call.Update i l) = row.update (i .0) (listOf l)
+callOf (call.Lookup v index) = row.lookup (viewNumber v) index
+callOf (call.Rank v i) = row.rank (viewNumber v) (i .0)
 callOf (call.Next i) = row.next (i .0)
 callOf (call.Compare i j) = row.compare (i .0) (j .0)
 callOf (call.LengthsOf i) = row.lengths (i .0)

@@ -3,7 +3,9 @@ use mathlib.Core.Path.{_≡_, refl, sym, ap, _∙_, subst}
 use mathlib.Core.Bool.{Bool, true, false, cond}
 use mathlib.Core.List.{List}
 use Prim.Native.Nat.{ℕ, _/_}
+use native.Mathlib.Omega.{arith}
 use lib.ListN.{length}
+use Rattle.model.specs.Kind.{base}
 use Rattle.model.specs.Row.{Row, Answer, rowStep}
 use Rattle.model.specs.State.{State}
 use Rattle.model.specs.ById.{treeStep}
@@ -12,12 +14,12 @@ use Rattle.theory.specs.Whole.{runs-alike, kept-of}
 use Rattle.row.specs.Run.{recordsOf, callsOf, written, left, fit, Ran, runOn, AsRow}
 use Rattle.row.proofs.Words.{Bytes, calls-words}
 
-pub as-row : (s : State) (bs out : List ℕ) (r : Row) → Bytes bs → fit bs out ≡ true → Stands s r → AsRow bs (runOn s bs out) r
+pub as-row : (s : State) (bs out : List ℕ) (r : Row) → Bytes bs → fit bs out ≡ true → Stands base s r → AsRow bs (runOn s bs out) r
 unfolding runOn
 as-row s bs out r h f w =
-    let a = runs-alike s r (callsOf (recordsOf bs)) w (calls-words (length bs / 16) bs h) in
+    let a = runs-alike base (omega arith) s r (callsOf (recordsOf bs)) w (calls-words (length bs / 16) bs h) in
     rw f
     (record {
       says = ap (written (recordsOf bs)) (a .0);
-      kept = kept-of (left treeStep s (recordsOf bs)) (left rowStep r (recordsOf bs)) (a .1);
+      kept = kept-of base (omega arith) (left (treeStep base) s (recordsOf bs)) (left (rowStep base) r (recordsOf bs)) (a .1);
     })

@@ -10,6 +10,7 @@ use lib.Seq.{length-take-le, take-at, take-all, drop-drop}
 use borrow.Author.Tests.{eq-eqb, ne-eqb}
 use borrow.Rule.Slice.PartAt.{part-count}
 use borrow.Rule.Slice.PartMut.{putMid, postOf}
+use Rattle.model.specs.Kind.{base}
 use Rattle.model.specs.Row as row
 use Rattle.model.specs.Record.{fieldsOf, decode, encode}
 use Rattle.model.specs.State.{State}
@@ -28,14 +29,14 @@ use Rattle.row.proofs.Words.{Bytes}
 
 -- one record, by its fields, its call and its answer
 pub one-record : (s : State) (bs : List ℕ) (f : Fields) → plainFields f ≡ fieldsOf bs → (k : Call) → callOf k ≡ said (plainFields f)
-    → (t : State) (a : Answer) → stepped t a ≡ stepBy (treeStep s (callOf k)) → (o : List ℕ) → o ≡ encode (f .kind) (filled a) → turned t o ≡ turn s bs
+    → (t : State) (a : Answer) → stepped t a ≡ stepBy (treeStep base s (callOf k)) → (o : List ℕ) → o ≡ encode (f .kind) (filled a) → turned t o ≡ turn s bs
 unfolding said decode encode
 one-record s bs f ef k ek t a e o eo =
     let same : callOf k ≡ decode bs = ek ∙ ap said ef in
     let kind : f .kind ≡ fieldsOf bs .kind = ap (λ x. x .kind) ef in
     ap (turned t) eo
-    ∙ ap (λ (y : Stepped). turned (y .after) (encode (f .kind) (filled (y .answer)))) (e ∙ ap (λ (c : row.Call). stepBy (treeStep s c)) same)
-    ∙ ap (λ (n : ℕ). turned (treeStep s (decode bs) .after) (encode n (treeStep s (decode bs) .answer))) kind
+    ∙ ap (λ (y : Stepped). turned (y .after) (encode (f .kind) (filled (y .answer)))) (e ∙ ap (λ (c : row.Call). stepBy (treeStep base s c)) same)
+    ∙ ap (λ (n : ℕ). turned (treeStep base s (decode bs) .after) (encode n (treeStep base s (decode bs) .answer))) kind
 
 encode-length : (k : ℕ) (a : row.Answer) → length (encode k a) ≡ 16
 unfolding encode
@@ -71,7 +72,7 @@ next-turn whole s bs out at n w pos room t o e =
     let sixteen : at + 16 - at ≡ 16 = omega arith in
     let e′ : turned t o ≡ turn s (take 16 (drop at bs)) = e ∙ ap (λ (k : ℕ). turn s (take k (drop at bs))) sixteen in
     let m = turns t (records (n - 1) (drop (at + 16) bs)) in
-    let lo : length o ≡ 16 = ap (λ (y : Turned). length (y .out)) e′ ∙ encode-length (fieldsOf (take 16 (drop at bs)) .kind) (treeStep s (decode (take 16 (drop at bs))) .answer) in
+    let lo : length o ≡ 16 = ap (λ (y : Turned). length (y .out)) e′ ∙ encode-length (fieldsOf (take 16 (drop at bs)) .kind) (treeStep base s (decode (take 16 (drop at bs))) .answer) in
     w
     ∙ ap (onward s bs out at) l
     ∙ more s bs out at (n - 1) t o e′
@@ -117,7 +118,7 @@ fitting bs out e h = rw (eq-eqb (length bs) (length out) e, eq-eqb (length bs % 
 
 -- a run's two promises
 abbrev pub Promises : State → List ℕ → List ℕ → Ran → Type 0
-Promises s bs out m = (m ≡ runOn s bs out) × ((q : row.Row) → fit bs out ≡ true → Stands s q → AsRow bs m q)
+Promises s bs out m = (m ≡ runOn s bs out) × ((q : row.Row) → fit bs out ≡ true → Stands base s q → AsRow bs m q)
 
 promised : (s : State) (bs out : List ℕ) (m : Ran) → Bytes bs → m ≡ runOn s bs out → Promises s bs out m
 promised s bs out m b e = (e, λ q f w. subst (λ (x : Ran). AsRow bs x q) (sym e) (as-row s bs out q b f w))

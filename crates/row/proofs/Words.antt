@@ -7,6 +7,10 @@ use native.Mathlib.Decide.{decLt}
 use native.Mathlib.Omega.{arith}
 use lib.ListN.{length, getD, take, drop, List·getD-eq-default}
 use lib.Dec.{eqb}
+use Rattle.model.specs.declared.length.View.{View}
+use Rattle.model.specs.declared.length.View.the-variants as view
+use Rattle.model.specs.Length.{listOf, viewNumber}
+use Rattle.model.specs.Kind.{base}
 use Rattle.model.specs.Lists.{All}
 use Rattle.model.specs.Row as row
 use Rattle.model.specs.Row.{Call}
@@ -22,42 +26,47 @@ Bytes bs = (i : ℕ) → getD bs i 0 < 256
 word-of : (p : ℕ) (bs : List ℕ) → Bytes bs → wordAt p bs < 4294967296
 word-of p bs h = omega (arith, h p, h (p + 1), h (p + 2), h (p + 3))
 
-only-words : (b : Bool) (c : Call) → InWords c → InWords (only b c)
+only-words : (b : Bool) (c : Call) → InWords base c → InWords base (only b c)
 only-words true c h = h
 only-words false c h = tt
 
-pick : (cs : List Call) (k : ℕ) → All InWords cs → InWords (getD cs k row.malformed)
+pick : (cs : List Call) (k : ℕ) → All (InWords base) cs → InWords base (getD cs k row.malformed)
 unfolding All
 pick [] k h = tt
 pick (c ∷ cs) zero h = h .0
 pick (c ∷ cs) (suc k) h = pick cs k (h .1)
 
 module _ (f : Fields) (a : f .a < 4294967296) (b : f .b < 4294967296) (c : f .c < 4294967296) where
-  lengths-words : Words (lengthsOf f)
-  lengths-words = record { prepare = b; effect = c }
+  lengths-words : Words base (listOf (lengthsOf f))
+  unfolding All
+  lengths-words = record { long = refl; small = (b, (c, tt)) }
 
-  kinds-words : All InWords (kinds f)
+  view-in : (v : View) → viewNumber v < 2
+  view-in view.Prepare = omega arith
+  view-in view.Effect = omega arith
+
+  kinds-words : All (InWords base) (kinds f)
   unfolding All kinds
   kinds-words =
-      let changing : IsWord (f .a) × Words (lengthsOf f) = (a, lengths-words) in
+      let changing : IsWord (f .a) × Words base (listOf (lengthsOf f)) = (a, lengths-words) in
       let two : IsWord (f .a) × IsWord (f .b) = (a, b) in (
         tt,
         (
-          only-words (plain f && eqb (f .a) 0) (row.reset (lengthsOf f)) lengths-words,
+          only-words (plain f && eqb (f .a) 0) (row.reset (listOf (lengthsOf f))) lengths-words,
           (
-            only-words (plain f) (row.insert (f .a) (lengthsOf f)) changing,
+            only-words (plain f) (row.insert (f .a) (listOf (lengthsOf f))) changing,
             (
-              only-words (plain f) (row.add (f .a) (lengthsOf f)) changing,
+              only-words (plain f) (row.add (f .a) (listOf (lengthsOf f))) changing,
               (
-                only-words (binary f) (row.split (eqb (f .flag) 1) (f .a) (lengthsOf f)) changing,
+                only-words (binary f) (row.split (eqb (f .flag) 1) (f .a) (listOf (lengthsOf f))) changing,
                 (
-                  only-words (plain f) (row.setLengths (f .a) (lengthsOf f)) changing,
+                  only-words (plain f) (row.setLengths (f .a) (listOf (lengthsOf f))) changing,
                   (
-                    only-words (plain f) (row.update (f .a) (lengthsOf f)) changing,
+                    only-words (plain f) (row.update (f .a) (listOf (lengthsOf f))) changing,
                     (
-                      only-words (binary f && noLengths f) (row.lookup (viewOf (f .flag)) (f .a)) a,
+                      only-words (binary f && noLengths f) (row.lookup (viewNumber (viewOf (f .flag))) (f .a)) (view-in (viewOf (f .flag)), a),
                       (
-                        only-words (binary f && noLengths f) (row.rank (viewOf (f .flag)) (f .a)) a,
+                        only-words (binary f && noLengths f) (row.rank (viewNumber (viewOf (f .flag))) (f .a)) (view-in (viewOf (f .flag)), a),
                         (
                           only-words (plain f && noLengths f) (row.next (f .a)) a,
                           (
@@ -84,7 +93,7 @@ module _ (f : Fields) (a : f .a < 4294967296) (b : f .b < 4294967296) (c : f .c 
         ),
       )
 
-pub decoded-words : (bs : List ℕ) → Bytes bs → InWords (decode bs)
+pub decoded-words : (bs : List ℕ) → Bytes bs → InWords base (decode bs)
 unfolding decode fieldsOf
 decoded-words bs h =
     let f = fieldsOf bs in
@@ -102,7 +111,7 @@ drop-byte zero i bs h = h i
 drop-byte (suc n) i [] h = omega arith
 drop-byte (suc n) i (b ∷ bs) h = drop-byte n i bs (λ j. h (suc j))
 
-pub calls-words : (n : ℕ) (bs : List ℕ) → Bytes bs → All InWords (callsOf (records n bs))
+pub calls-words : (n : ℕ) (bs : List ℕ) → Bytes bs → All (InWords base) (callsOf (records n bs))
 unfolding All records
 calls-words zero bs h = tt
 calls-words (suc n) bs h = (decoded-words (take 16 bs) (λ i. take-byte 16 i bs h), calls-words n (drop 16 bs) (λ i. drop-byte 16 i bs h))

@@ -5,6 +5,7 @@ use mathlib.Core.List.{List, [], _∷_, _++_, map}
 use Prim.Native.Nat.{ℕ, zero, suc, _%_, _/_}
 use lib.ListN.{length, take, drop}
 use lib.Dec.{eqb}
+use Rattle.model.specs.Kind.{base}
 use Rattle.model.specs.Row.{Row, Call, Answer, Moved, rowStep}
 use Rattle.model.specs.Record.{fieldsOf, decode, encode}
 use Rattle.model.specs.State.{State}
@@ -47,10 +48,10 @@ abbrev pub turned : State → List ℕ → Turned
 turned s out = record { after = s; out = out }
 
 abbrev pub turn : State → List ℕ → Turned
-turn s r = let m = treeStep s (decode r) in turned (m .after) (encode (fieldsOf r .kind) (m .answer))
+turn s r = let m = treeStep base s (decode r) in turned (m .after) (encode (fieldsOf r .kind) (m .answer))
 
 abbrev pub turns : State → List (List ℕ) → Turned
-turns s rs = turned (left treeStep s rs) (played treeStep s rs)
+turns s rs = turned (left (treeStep base) s rs) (played (treeStep base) s rs)
 
 -- the output is as long as the records, which are whole
 abbrev pub fit : List ℕ → List ℕ → Bool
@@ -71,5 +72,5 @@ runOn s bs out = cond (fit bs out) (let m = turns s (recordsOf bs) in ran (m .af
 
 -- where a tree stands for a row, the output is the row's, and the tree left stands for what the row becomes
 pub record AsRow (bs : List ℕ) (m : Ran) (r : Row) : Type 0 where
-  pub says : m .out ≡ played rowStep r (recordsOf bs)
-  pub kept : Kept (m .after) (left rowStep r (recordsOf bs))
+  pub says : m .out ≡ played (rowStep base) r (recordsOf bs)
+  pub kept : Kept base (m .after) (left (rowStep base) r (recordsOf bs))

@@ -10,6 +10,7 @@ ghost use mathlib.Core.Path.{_≡_};
 ghost use mathlib.Core.Bool.{true};
 ghost use Prim.Native.Nat.{_%_};
 ghost use lib.ListN.{length};
+ghost use Rattle.model.specs.Kind.{base};
 ghost use Rattle.model.specs.Row.{Row};
 ghost use Rattle.model.specs.State.{state};
 ghost use Rattle.theory.specs.Agree.{Stands};
@@ -78,7 +79,7 @@ pub fn run(
     out: &mut [u8],
 ) -> OutcomeReply
     ensures { λ r. ⌜ ran (state (r .head) (now (leaves .exit)) (now (inners .exit)) (now (homes .exit))) (r .answer) (now (out .exit)) ≡ runOn (state head (now (leaves .entry)) (now (inners .entry)) (now (homes .entry))) (now (records .entry)) (now (out .entry)) ⌝ }
-    ensures { λ r. ⌜ ((q : Row) → fit (now (records .entry)) (now (out .entry)) ≡ true → Stands (state head (now (leaves .entry)) (now (inners .entry)) (now (homes .entry))) q → AsRow (now (records .entry)) (ran (state (r .head) (now (leaves .exit)) (now (inners .exit)) (now (homes .exit))) (r .answer) (now (out .exit))) q) ⌝ }
+    ensures { λ r. ⌜ ((q : Row) → fit (now (records .entry)) (now (out .entry)) ≡ true → Stands base (state head (now (leaves .entry)) (now (inners .entry)) (now (homes .entry))) q → AsRow (now (records .entry)) (ran (state (r .head) (now (leaves .exit)) (now (inners .exit)) (now (homes .exit))) (r .answer) (now (out .exit))) q) ⌝ }
 {
     if records.len() != out.len() {
         return OutcomeReply {

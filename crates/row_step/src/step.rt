@@ -28,6 +28,7 @@ use row_answer::answer::outcome;
 use row_answer::answer::refuse;
 use row_answer::answer::updated;
 ghost use mathlib.Core.Path.{_≡_};
+ghost use Rattle.model.specs.Kind.{base};
 ghost use Rattle.model.specs.State.{state};
 ghost use Rattle.model.specs.ById.{treeStep};
 ghost use Rattle.records.specs.Said.{callOf};
@@ -41,7 +42,7 @@ pub fn step(
     homes: &mut [u32],
     call: Call,
 ) -> Step
-    ensures { λ r. ⌜ stepped (state (r .head) (now (leaves .exit)) (now (inners .exit)) (now (homes .exit))) (r .answer) ≡ stepBy (treeStep (state head (now (leaves .entry)) (now (inners .entry)) (now (homes .entry))) (callOf call)) ⌝ }
+    ensures { λ r. ⌜ stepped (state (r .head) (now (leaves .exit)) (now (inners .exit)) (now (homes .exit))) (r .answer) ≡ stepBy (treeStep base (state head (now (leaves .entry)) (now (inners .entry)) (now (homes .entry))) (callOf call)) ⌝ }
 {
     match call {
         Call::Reset(l) => outcome(reset(head, leaves, inners, homes, l)),

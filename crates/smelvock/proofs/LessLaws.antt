@@ -4,6 +4,8 @@ use mathlib.Core.Bool.{Bool, true, false, _||_}
 use mathlib.Core.List.{List}
 use Prim.Native.Nat.{ℕ}
 use lib.Dec.{ltb}
+use Rattle.model.specs.Length.{viewNumber}
+use Rattle.model.specs.Kind.{base}
 use Rattle.model.specs.Row.{Answer, refused}
 use Rattle.model.specs.Answer.{outcomeAnswer, numberAnswer, namedAnswer, selectedAnswer, locatedAnswer, insertedAnswer}
 use Rattle.model.specs.Calls as calls
@@ -58,7 +60,7 @@ pub less-left : (g : Given) (v index : ℕ) (r : FlatLocated) (w ls xs hs : List
 unfolding locate charIndexToEntry calls.charIndexToEntry
 less-left g v index r w ls xs hs e =
     ap (lessLeft less) e
-    ∙ less-by locatedOf locatedAnswer selectedOf selectedAnswer lessEffect less refl less-answer less-number (badHead (g .head) || ltb 1 v) g (calls.locate (stateOf g) (viewFrom v) index)
+    ∙ less-by locatedOf locatedAnswer selectedOf selectedAnswer lessEffect less refl less-answer less-number (badHead (g .head) || ltb 1 v) g (calls.locate base (stateOf g) (viewNumber (viewFrom v)) index)
 
 -- other lengths: with the position, and without
 pub resize-update : (g : Given) (c : FlatCursor) (l : FlatLengths) → shared.resize true g c l ≡ update g c l

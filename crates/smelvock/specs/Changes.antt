@@ -6,6 +6,8 @@ use mathlib.Core.List.{List}
 use Prim.Native.Nat.{ℕ}
 use lib.ListN.{length}
 use lib.Dec.{ltb, eqb}
+use Rattle.model.specs.Length.{listOf, viewNumber}
+use Rattle.model.specs.Kind.{base}
 use Rattle.model.specs.Row.{Answer, refused}
 use Rattle.model.specs.Answer.{outcomeAnswer, numberAnswer, namedAnswer, selectedAnswer, locatedAnswer, insertedAnswer, dividedAnswer}
 use Rattle.model.specs.Calls as calls
@@ -44,31 +46,31 @@ numberAlone a = a .number
 -- a refused make leaves a head of zeros
 unfoldable pub make : ℕ → ℕ → FlatLengths → Given → Left ℕ
 make fan limit l g =
-    leftBy numberAlone outcomeAnswer (λ n h w. headWords h) (not (eqb (length (g .head)) 15)) g (calls.make fan limit (lengthsFrom l) (g .leaves) (g .inners) (g .homes))
+    leftBy numberAlone outcomeAnswer (λ n h w. headWords h) (not (eqb (length (g .head)) 15)) g (calls.make base fan limit (listOf (lengthsFrom l)) (g .leaves) (g .inners) (g .homes))
 
 unfoldable pub reset : Given → FlatLengths → Left ℕ
-reset g l = leftBy numberAlone outcomeAnswer headAfter (badHead (g .head)) g (calls.reset (stateOf g) (lengthsFrom l))
+reset g l = leftBy numberAlone outcomeAnswer headAfter (badHead (g .head)) g (calls.reset base (stateOf g) (listOf (lengthsFrom l)))
 
 unfoldable pub charIndexToEntry : Given → ℕ → ℕ → Left FlatSelected
 charIndexToEntry g v index =
-    leftBy selectedOf selectedAnswer headAfter (badHead (g .head) || ltb 1 v) g (calls.charIndexToEntry (stateOf g) (viewFrom v) index)
+    leftBy selectedOf selectedAnswer headAfter (badHead (g .head) || ltb 1 v) g (calls.charIndexToEntry base (stateOf g) (viewNumber (viewFrom v)) index)
 
 unfoldable pub locate : Given → ℕ → ℕ → Left FlatLocated
-locate g v index = leftBy locatedOf locatedAnswer headAfter (badHead (g .head) || ltb 1 v) g (calls.locate (stateOf g) (viewFrom v) index)
+locate g v index = leftBy locatedOf locatedAnswer headAfter (badHead (g .head) || ltb 1 v) g (calls.locate base (stateOf g) (viewNumber (viewFrom v)) index)
 
 unfoldable pub setLengths : Given → FlatCursor → FlatLengths → Left ℕ
-setLengths g c l = leftBy numberAlone outcomeAnswer headAfter (badHead (g .head)) g (calls.setLengths (stateOf g) (cursorFrom c) (lengthsFrom l))
+setLengths g c l = leftBy numberAlone outcomeAnswer headAfter (badHead (g .head)) g (calls.setLengths base (stateOf g) (cursorFrom c) (listOf (lengthsFrom l)))
 
 unfoldable pub update : Given → FlatCursor → FlatLengths → Left FlatNumber
-update g c l = leftBy numberOf numberAnswer headAfter (badHead (g .head)) g (calls.update (stateOf g) (cursorFrom c) (lengthsFrom l))
+update g c l = leftBy numberOf numberAnswer headAfter (badHead (g .head)) g (calls.update base (stateOf g) (cursorFrom c) (listOf (lengthsFrom l)))
 
 unfoldable pub insert : Given → ℕ → FlatCursor → FlatLengths → Left FlatInserted
 insert g end c l =
-    leftBy insertedOf insertedAnswer headAfter (badHead (g .head) || ltb 1 end) g (calls.insert (stateOf g) (targetFrom end c) (lengthsFrom l))
+    leftBy insertedOf insertedAnswer headAfter (badHead (g .head) || ltb 1 end) g (calls.insert base (stateOf g) (targetFrom end c) (listOf (lengthsFrom l)))
 
 unfoldable pub add : Given → ℕ → FlatCursor → FlatLengths → Left FlatNumber
-add g end c l = leftBy numberOf namedAnswer headAfter (badHead (g .head) || ltb 1 end) g (calls.add (stateOf g) (targetFrom end c) (lengthsFrom l))
+add g end c l = leftBy numberOf namedAnswer headAfter (badHead (g .head) || ltb 1 end) g (calls.add base (stateOf g) (targetFrom end c) (listOf (lengthsFrom l)))
 
 unfoldable pub splitEntry : Given → FlatCursor → FlatLengths → ℕ → Left FlatDivided
 splitEntry g c l before =
-    leftBy dividedOf dividedAnswer headAfter (badHead (g .head) || ltb 1 before) g (calls.splitEntry (stateOf g) (cursorFrom c) (lengthsFrom l) (eqb before 1))
+    leftBy dividedOf dividedAnswer headAfter (badHead (g .head) || ltb 1 before) g (calls.splitEntry base (stateOf g) (cursorFrom c) (listOf (lengthsFrom l)) (eqb before 1))

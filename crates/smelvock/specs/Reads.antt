@@ -4,9 +4,11 @@ use mathlib.Core.Bool.{Bool, cond, _||_}
 use mathlib.Core.List.{List}
 use Prim.Native.Nat.{ℕ}
 use lib.Dec.{ltb}
+use Rattle.model.specs.Length.{viewNumber}
+use Rattle.model.specs.Kind.{base}
 use Rattle.model.specs.Row.{Answer, refused}
 use Rattle.model.specs.State.{State, state}
-use Rattle.model.specs.Answer.{numberAnswer, verdictAnswer, standingAnswer, nextAnswer, namedAnswer, measuredAnswer, comparedAnswer}
+use Rattle.model.specs.Answer.{numberAnswer, verdictAnswer, standingAnswer, nextAnswer, namedAnswer, comparedAnswer}
 use Rattle.model.specs.Calls as calls
 use Rattle.model.specs.Audit as checks
 use Rattle.marshal.specs.Flat.{badHead, headFrom, cursorFrom, viewFrom, numberOf, measuredOf, standingOf}
@@ -38,26 +40,26 @@ unfoldable pub isEmpty : List ℕ → FlatNumber
 isEmpty w = numberOf (unlessBad (badHead w) (verdictAnswer (calls.isEmpty (headFrom w))))
 
 unfoldable pub id : Given → FlatCursor → FlatNumber
-id g c = numberOf (unlessBad (badHead (g .head)) (namedAnswer (calls.id (stateOf g) (cursorFrom c))))
+id g c = numberOf (unlessBad (badHead (g .head)) (namedAnswer (calls.id base (stateOf g) (cursorFrom c))))
 
 unfoldable pub lengths : Given → FlatCursor → FlatMeasured
-lengths g c = measuredOf (unlessBad (badHead (g .head)) (measuredAnswer (calls.lengthsOf (stateOf g) (cursorFrom c))))
+lengths g c = measuredOf (unlessBad (badHead (g .head)) (calls.lengthsOf base (stateOf g) (cursorFrom c)))
 
 unfoldable pub cursor : Given → ℕ → FlatStanding
-cursor g i = standingOf (unlessBad (badHead (g .head)) (standingAnswer (calls.cursor (stateOf g) i)))
+cursor g i = standingOf (unlessBad (badHead (g .head)) (standingAnswer (calls.cursor base (stateOf g) i)))
 
 unfoldable pub entryToCharIndex : Given → ℕ → FlatCursor → FlatNumber
 entryToCharIndex g v c =
-    numberOf (unlessBad (badHead (g .head) || ltb 1 v) (numberAnswer (calls.entryToCharIndex (stateOf g) (viewFrom v) (cursorFrom c))))
+    numberOf (unlessBad (badHead (g .head) || ltb 1 v) (numberAnswer (calls.entryToCharIndex base (stateOf g) (viewNumber (viewFrom v)) (cursorFrom c))))
 
 unfoldable pub first : Given → FlatStanding
-first g = standingOf (unlessBad (badHead (g .head)) (standingAnswer (calls.first (stateOf g))))
+first g = standingOf (unlessBad (badHead (g .head)) (standingAnswer (calls.first base (stateOf g))))
 
 unfoldable pub next : Given → FlatCursor → FlatStanding
-next g c = standingOf (unlessBad (badHead (g .head)) (nextAnswer (calls.nextAfter (stateOf g) (cursorFrom c))))
+next g c = standingOf (unlessBad (badHead (g .head)) (nextAnswer (calls.nextAfter base (stateOf g) (cursorFrom c))))
 
 unfoldable pub cmp : Given → FlatCursor → FlatCursor → FlatNumber
-cmp g a b = numberOf (unlessBad (badHead (g .head)) (comparedAnswer (calls.cmp (stateOf g) (cursorFrom a) (cursorFrom b))))
+cmp g a b = numberOf (unlessBad (badHead (g .head)) (comparedAnswer (calls.cmp base (stateOf g) (cursorFrom a) (cursorFrom b))))
 
 unfoldable pub audit : Given → FlatNumber
-audit g = numberOf (unlessBad (badHead (g .head)) (verdictAnswer (checks.audit (stateOf g))))
+audit g = numberOf (unlessBad (badHead (g .head)) (verdictAnswer (checks.audit base (stateOf g))))

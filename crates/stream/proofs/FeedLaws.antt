@@ -5,6 +5,7 @@ use Prim.Native.Nat.{ℕ, zero, suc, _+_, _-_, _*_, _/_, _%_, _≤_, _<_}
 use native.Mathlib.Omega.{arith}
 use lib.ListN.{length, take, drop, length-append}
 use lib.Seq.{length-take-le}
+use Rattle.model.specs.Kind.{base}
 use Rattle.model.specs.Lists.{part}
 use Rattle.model.specs.Row.{Call, Answer}
 use Rattle.model.specs.State.{State}
@@ -30,23 +31,23 @@ unfolding lines
 lines-short [] = omega arith
 lines-short (a ∷ more) = omega (arith, length-append (line (answerOf a)) (lines more), line-short (answerOf a), lines-short more)
 
-as-many : (s : State) (cs : List Call) → length (answers treeStep s cs) ≡ length cs
+as-many : (s : State) (cs : List Call) → length (answers (treeStep base) s cs) ≡ length cs
 unfolding answers
 as-many s [] = refl
-as-many s (c ∷ cs) = ap suc (as-many (treeStep s c .after) cs)
+as-many s (c ∷ cs) = ap suc (as-many (treeStep base s c .after) cs)
 
 calls-many : (n : ℕ) (bs : List ℕ) → length (callsOf (records n bs)) ≡ n
 unfolding records
 calls-many zero bs = refl
 calls-many (suc n) bs = ap suc (calls-many n (drop 16 bs))
 
-text-short : (s : State) (n : ℕ) (bs : List ℕ) → length (lines (answers treeStep s (callsOf (records n bs)))) ≤ 44 * n
-text-short s n bs = omega (arith, lines-short (answers treeStep s (callsOf (records n bs))), as-many s (callsOf (records n bs)), calls-many n bs)
+text-short : (s : State) (n : ℕ) (bs : List ℕ) → length (lines (answers (treeStep base) s (callsOf (records n bs)))) ≤ 44 * n
+text-short s n bs = omega (arith, lines-short (answers (treeStep base) s (callsOf (records n bs))), as-many s (callsOf (records n bs)), calls-many n bs)
 
 -- the place behind a block's text
 pub shown-short : (s t : State) (bs out o : List ℕ) (end : ℕ) → shown t end o ≡ showFrom s (callsOf (recordsOf bs)) 0 out → end ≤ 44 * (length bs / 16)
 unfolding showFrom
-shown-short s t bs out o end e = omega (arith, behind out o 0 end (lines (answers treeStep s (callsOf (recordsOf bs)))) (ap (λ (x : Shown). x .written) e), text-short s (length bs / 16) bs)
+shown-short s t bs out o end e = omega (arith, behind out o 0 end (lines (answers (treeStep base) s (callsOf (recordsOf bs)))) (ap (λ (x : Shown). x .written) e), text-short s (length bs / 16) bs)
 
 take-few : (n : ℕ) (l : List ℕ) → length (take n l) ≤ n
 take-few zero l = omega arith

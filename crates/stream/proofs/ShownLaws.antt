@@ -5,6 +5,7 @@ use Prim.Native.Nat.{ℕ, suc, _+_, _-_, _≤_, _<_}
 use native.Mathlib.Omega.{arith}
 use lib.ListN.{length, take, drop, length-drop}
 use lib.Seq.{drop-drop, length-take-le}
+use Rattle.model.specs.Kind.{base}
 use Rattle.model.specs.Row.{Call}
 use Rattle.model.specs.Record.{Fields, fieldsOf, decode}
 use Rattle.model.specs.State.{State}
@@ -25,31 +26,31 @@ said-decode c f bs e q = e ∙ ap said q
 abbrev both : State → ℕ × List ℕ → Shown
 both s w = record { after = s; written = w }
 
-pub one-shown : (s t : State) (c d : Call) (a : Answer) (at end : ℕ) (out o : List ℕ) → stepped t a ≡ stepBy (treeStep s c) → c ≡ d → (end, o) ≡ put out at (line a) → shown t end o ≡ showOne s d at out
+pub one-shown : (s t : State) (c d : Call) (a : Answer) (at end : ℕ) (out o : List ℕ) → stepped t a ≡ stepBy (treeStep base s c) → c ≡ d → (end, o) ≡ put out at (line a) → shown t end o ≡ showOne s d at out
 unfolding showOne
 one-shown s t c d a at end out o e q l =
     ap₂ both
-    (ap (λ (x : Stepped). x .after) e ∙ ap (λ (x : Call). treeStep s x .after) q)
-    (l ∙ ap (λ (x : Stepped). put out at (line (x .answer))) e ∙ ap (λ (x : Call). put out at (line (answerOf (treeStep s x .answer)))) q)
+    (ap (λ (x : Stepped). x .after) e ∙ ap (λ (x : Call). treeStep base s x .after) q)
+    (l ∙ ap (λ (x : Stepped). put out at (line (x .answer))) e ∙ ap (λ (x : Call). put out at (line (answerOf (treeStep base s x .answer)))) q)
 
 -- what showing one call says by its parts
 module _ (s t : State) (c : Call) (at end : ℕ) (out o : List ℕ) (e : shown t end o ≡ showOne s c at out) where
-  tree : t ≡ treeStep s c .after
+  tree : t ≡ treeStep base s c .after
   unfolding showOne
   tree = ap (λ (x : Shown). x .after) e
 
-  text : (end, o) ≡ put out at (line (answerOf (treeStep s c .answer)))
+  text : (end, o) ≡ put out at (line (answerOf (treeStep base s c .answer)))
   unfolding showOne
   text = ap (λ (x : Shown). x .written) e
 
   pub one-short : end ≤ at + 44
-  one-short = omega (arith, behind out o at end (line (answerOf (treeStep s c .answer))) text, line-short (answerOf (treeStep s c .answer)))
+  one-short = omega (arith, behind out o at end (line (answerOf (treeStep base s c .answer))) text, line-short (answerOf (treeStep base s c .answer)))
 
   more : (cs : List Call) → showFrom s (c ∷ cs) at out ≡ showFrom t cs end o
   unfolding showFrom lines answers finally
   more cs =
-      ap (λ (x : State). both (finally treeStep x cs) (put out at (line (answerOf (treeStep s c .answer)) ++ lines (answers treeStep x cs)))) (sym tree)
-      ∙ ap (λ (w : ℕ × List ℕ). both (finally treeStep t cs) w) (sym (put-more out o at end (line (answerOf (treeStep s c .answer))) (lines (answers treeStep t cs)) text))
+      ap (λ (x : State). both (finally (treeStep base) x cs) (put out at (line (answerOf (treeStep base s c .answer)) ++ lines (answers (treeStep base) x cs)))) (sym tree)
+      ∙ ap (λ (w : ℕ × List ℕ). both (finally (treeStep base) t cs) w) (sym (put-more out o at end (line (answerOf (treeStep base s c .answer))) (lines (answers (treeStep base) t cs)) text))
 
 -- the part of a block that a record is
 sixteen : (at : ℕ) → at + 16 - at ≡ 16

@@ -4,6 +4,7 @@ use mathlib.Core.List.{List, [], _∷_, _++_}
 use Prim.Native.Nat.{ℕ, _+_, _-_, _%_}
 use lib.ListN.{take}
 use lib.Dec.{eqb}
+use Rattle.model.specs.Kind.{base}
 use Rattle.model.specs.Row.{Call, Answer, refused}
 use Rattle.model.specs.Lists.{part}
 use Rattle.model.specs.State.{State}
@@ -28,11 +29,11 @@ shown s end out = record { after = s; written = (end, out) }
 
 -- one call, its line from place `at` on
 unfoldable pub showOne : State → Call → ℕ → List ℕ → Shown
-showOne s c at out = let m = treeStep s c in record { after = m .after; written = put out at (line (answerOf (m .answer))) }
+showOne s c at out = let m = treeStep base s c in record { after = m .after; written = put out at (line (answerOf (m .answer))) }
 
 -- a list of calls
 unfoldable pub showFrom : State → List Call → ℕ → List ℕ → Shown
-showFrom s cs at out = record { after = finally treeStep s cs; written = put out at (lines (answers treeStep s cs)) }
+showFrom s cs at out = record { after = finally (treeStep base) s cs; written = put out at (lines (answers (treeStep base) s cs)) }
 
 -- what stray bytes at the end print
 unfoldable pub tail : ℕ → List ℕ

@@ -9,6 +9,8 @@ use native.Mathlib.Omega.{arith}
 use lib.Dec.{eqb}
 use lib.ListN.{length, getD, length-map}
 use borrow.Author.Tests.{eq-eqb, ne-eqb}
+use Rattle.model.specs.Kind.{stride}
+use Rattle.model.specs.declared.shape.Kind.{Kind}
 use Rattle.model.specs.Lists.{range, refusal}
 use Rattle.model.specs.Node.{Node, child, used}
 use Rattle.model.specs.State.{State}
@@ -45,104 +47,104 @@ use Rattle.theory.specs.Facts.{HeldBy, ChildBy, areaBy, countBy, InnerBy
 use Rattle.theory.specs.Depth.{dep-depth, index-before, range-below}
 use Rattle.theory.specs.Verdict.{start-at, climb-of, facts-sound}
 
-module _ (t : State) (w : Sound t) where
+module _ (K : Kind) (t : State) (w : Sound K t) where
   abbrev T : Tree
-  T = treeOf 3 t
+  T = treeOf (stride K) t
 
-  nt : Neat 3 t
-  nt = neat-of 3 t 1 w
+  nt : Neat (stride K) t
+  nt = neat-of (stride K) t (K .effect) w
 
   b : Body T
-  b = body-of 3 t 1 w
+  b = body-of (stride K) t (K .effect) w
 
   ck : Checks T
   ck = body-checks T b
 
-  leaf-size : (k : ℕ) → k < t .head .leaves → length (slotsOf (leafIn 3 t k)) ≡ leafIn 3 t k .len
-  leaf-size k lt = size-is 3 (t .head .fan) (leafIn 3 t k) (nt .leaf-tidy k lt)
+  leaf-size : (k : ℕ) → k < t .head .leaves → length (slotsOf (leafIn (stride K) t k)) ≡ leafIn (stride K) t k .len
+  leaf-size k lt = size-is (stride K) (t .head .fan) (leafIn (stride K) t k) (nt .leaf-tidy k lt)
 
   -- how deep a node stands
-  depth-is : (k : ℕ) → k < t .head .inners → depthOf t k ≡ check.depth T k
-  depth-is k lk = dep-depth t (t .head .root .0) (b .few) (ck .root-parent) (ck .parent) (t .head .levels) 17 k (let z = ck .shallow in omega arith) lk (ck .deep k lk)
+  depth-is : (k : ℕ) → k < t .head .inners → depthOf K t k ≡ check.depth T k
+  depth-is k lk = dep-depth K t (t .head .root .0) (b .few) (ck .root-parent) (ck .parent) (t .head .levels) 17 k (let z = ck .shallow in omega arith) lk (ck .deep k lk)
 
   -- a slot in the middle of a node in use
-  slot-back : (p i : ℕ) → p < t .head .inners → i < length (slotsOf (innerIn 3 t p)) → child (getD (innerIn 3 t p .slots) i []) ≡ getD (slotsOf (innerIn 3 t p)) i noSlot .child
+  slot-back : (p i : ℕ) → p < t .head .inners → i < length (slotsOf (innerIn (stride K) t p)) → child (getD (innerIn (stride K) t p .slots) i []) ≡ getD (slotsOf (innerIn (stride K) t p)) i noSlot .child
   slot-back p i lp li =
-      let lu : i < length (used (innerIn 3 t p)) = (let z : length (slotsOf (innerIn 3 t p)) ≡ length (used (innerIn 3 t p)) = length-map (used (innerIn 3 t p)) slotOf in omega arith) in
-      ap child (slot-used 3 (t .head .fan) (innerIn 3 t p) (nt .inner-tidy p lp) i [] lu) ∙ ap (λ (y : Slot). y .child) (sym (getD-slot (used (innerIn 3 t p)) i lu))
+      let lu : i < length (used (innerIn (stride K) t p)) = (let z : length (slotsOf (innerIn (stride K) t p)) ≡ length (used (innerIn (stride K) t p)) = length-map (used (innerIn (stride K) t p)) slotOf in omega arith) in
+      ap child (slot-used (stride K) (t .head .fan) (innerIn (stride K) t p) (nt .inner-tidy p lp) i [] lu) ∙ ap (λ (y : Slot). y .child) (sym (getD-slot (used (innerIn (stride K) t p)) i lu))
 
-  held-of : (k : ℕ) (n : Node) → n .parent < t .head .inners → (n .at < length (T .body .inner .slots (n .parent))) × (getD (T .body .inner .slots (n .parent)) (n .at) noSlot .child ≡ k) → HeldBy t k n
+  held-of : (k : ℕ) (n : Node) → n .parent < t .head .inners → (n .at < length (T .body .inner .slots (n .parent))) × (getD (T .body .inner .slots (n .parent)) (n .at) noSlot .child ≡ k) → HeldBy K t k n
   held-of k n lp h =
-      let sz = size-is 3 (t .head .fan) (innerIn 3 t (n .parent)) (nt .inner-tidy (n .parent) lp) in
+      let sz = size-is (stride K) (t .head .fan) (innerIn (stride K) t (n .parent)) (nt .inner-tidy (n .parent) lp) in
       record { parent = lp; at = (let z = h .0 in omega arith); most = w .inner-filled (n .parent) lp .high; child = slot-back (n .parent) (n .at) lp (h .0) ∙ h .1 }
 
   -- children by the equation between levels
-  kids-of : (N : ℕ → Node) (n k : ℕ) → k < t .head .inners → Kids (total (areaFrom N)) (areaFrom N) n (T .body .inner) k → (i : ℕ) → i < innerIn 3 t k .len → ChildBy t N n k i (getD (innerIn 3 t k .slots) i [])
+  kids-of : (N : ℕ → Node) (n k : ℕ) → k < t .head .inners → Kids (total (areaFrom N)) (areaFrom N) n (T .body .inner) k → (i : ℕ) → i < innerIn (stride K) t k .len → ChildBy K t N n k i (getD (innerIn (stride K) t k .slots) i [])
   kids-of N n k lk h i li =
-      let td : Tidy 3 (t .head .fan) (innerIn 3 t k) = nt .inner-tidy k lk in
-      let lu : i < length (used (innerIn 3 t k)) = rw (len-used 3 (t .head .fan) (innerIn 3 t k) td) at li in
-      let m : Marked N k (0 + i) (getD (used (innerIn 3 t k)) i []) = of-marks N k 0 (used (innerIn 3 t k)) (h .0) i lu in
-      subst (ChildBy t N n k i) (sym (slot-used 3 (t .head .fan) (innerIn 3 t k) td i [] lu))
-      (record { below = kid-at (λ c. c < n) (used (innerIn 3 t k)) (h .1) i lu; parent = m .parent; at = m .at ∙ zero-add i; sums = λ v lv. m .sums v })
+      let td : Tidy (stride K) (t .head .fan) (innerIn (stride K) t k) = nt .inner-tidy k lk in
+      let lu : i < length (used (innerIn (stride K) t k)) = rw (len-used (stride K) (t .head .fan) (innerIn (stride K) t k) td) at li in
+      let m : Marked N k (0 + i) (getD (used (innerIn (stride K) t k)) i []) = of-marks N k 0 (used (innerIn (stride K) t k)) (h .0) i lu in
+      subst (ChildBy K t N n k i) (sym (slot-used (stride K) (t .head .fan) (innerIn (stride K) t k) td i [] lu))
+      (record { below = kid-at (λ c. c < n) (used (innerIn (stride K) t k)) (h .1) i lu; parent = m .parent; at = m .at ∙ zero-add i; sums = λ v lv. m .sums v })
 
-  inner-by : (k : ℕ) → k < t .head .inners → InnerBy t k
+  inner-by : (k : ℕ) → k < t .head .inners → InnerBy K t k
   inner-by k lk =
       let d = depth-is k lk in
       record {
-        some = (let s : check.depth T k ≡ suc (dep (T .body .inner) 16 (innerIn 3 t k .parent)) = dep-step (T .body .inner) 16 k (λ e. let z = b .few in omega arith) in omega arith);
+        some = (let s : check.depth T k ≡ suc (dep (T .body .inner) 16 (innerIn (stride K) t k .parent)) = dep-step (T .body .inner) 16 k (λ e. let z = b .few in omega arith) in omega arith);
         deep = (let z = ck .deep k lk in omega arith);
         filled = record { low = w .inner-filled k lk .low; high = w .inner-filled k lk .high; unused = w .inner-filled k lk .unused };
-        root = λ e. (ap (λ (j : ℕ). innerIn 3 t j .parent) e ∙ ck .root-parent, ap (λ (j : ℕ). innerIn 3 t j .at) e ∙ ck .root-place);
-        held = λ ne. held-of k (innerIn 3 t k) (ck .parent k lk ne) (ck .held k lk ne);
-        kids = λ i li. pick i li (ℕ-discrete (depthOf t k) (t .head .levels));
+        root = λ e. (ap (λ (j : ℕ). innerIn (stride K) t j .parent) e ∙ ck .root-parent, ap (λ (j : ℕ). innerIn (stride K) t j .at) e ∙ ck .root-place);
+        held = λ ne. held-of k (innerIn (stride K) t k) (ck .parent k lk ne) (ck .held k lk ne);
+        kids = λ i li. pick i li (ℕ-discrete (depthOf K t k) (t .head .levels));
       }
     where
-      pick : (i : ℕ) → i < innerIn 3 t k .len → Dec (depthOf t k ≡ t .head .levels) → ChildBy t (areaBy t (eqb (depthOf t k) (t .head .levels))) (countBy t (eqb (depthOf t k) (t .head .levels))) k i (getD (innerIn 3 t k .slots) i [])
-      pick i li (yes e) = subst (λ (q : Bool). ChildBy t (areaBy t q) (countBy t q) k i (getD (innerIn 3 t k .slots) i [])) (sym (eq-eqb (depthOf t k) (t .head .levels) e))
-          (kids-of (leafIn 3 t) (t .head .leaves) k lk (ck .lowest k lk (sym (depth-is k lk) ∙ e)) i li)
-      pick i li (no ne) = subst (λ (q : Bool). ChildBy t (areaBy t q) (countBy t q) k i (getD (innerIn 3 t k .slots) i [])) (sym (ne-eqb (depthOf t k) (t .head .levels) ne))
-          (kids-of (innerIn 3 t) (t .head .inners) k lk (ck .upper k lk (let z = ck .deep k lk in let y = depth-is k lk in omega arith)) i li)
+      pick : (i : ℕ) → i < innerIn (stride K) t k .len → Dec (depthOf K t k ≡ t .head .levels) → ChildBy K t (areaBy K t (eqb (depthOf K t k) (t .head .levels))) (countBy K t (eqb (depthOf K t k) (t .head .levels))) k i (getD (innerIn (stride K) t k .slots) i [])
+      pick i li (yes e) = subst (λ (q : Bool). ChildBy K t (areaBy K t q) (countBy K t q) k i (getD (innerIn (stride K) t k .slots) i [])) (sym (eq-eqb (depthOf K t k) (t .head .levels) e))
+          (kids-of (leafIn (stride K) t) (t .head .leaves) k lk (ck .lowest k lk (sym (depth-is k lk) ∙ e)) i li)
+      pick i li (no ne) = subst (λ (q : Bool). ChildBy K t (areaBy K t q) (countBy K t q) k i (getD (innerIn (stride K) t k .slots) i [])) (sym (ne-eqb (depthOf K t k) (t .head .levels) ne))
+          (kids-of (innerIn (stride K) t) (t .head .inners) k lk (ck .upper k lk (let z = ck .deep k lk in let y = depth-is k lk in omega arith)) i li)
 
-  leaf-by : (k : ℕ) → k < t .head .leaves → LeafBy t k
+  leaf-by : (k : ℕ) → k < t .head .leaves → LeafBy K t k
   leaf-by k lk =
-      let n : Node = leafIn 3 t k in
-      let td : Tidy 3 (t .head .fan) n = nt .leaf-tidy k lk in
+      let n : Node = leafIn (stride K) t k in
+      let td : Tidy (stride K) (t .head .fan) n = nt .leaf-tidy k lk in
       record {
         filled = record { low = w .leaf-filled k lk .low; high = w .leaf-filled k lk .high; unused = w .leaf-filled k lk .unused };
         held = held-of k n (ck .leaf-parent k lk) (ck .leaf-held k lk);
         deep = depth-is (n .parent) (ck .leaf-parent k lk) ∙ ck .leaf-deep k lk;
         entries = λ i li.
-            (let lu : i < length (used n) = rw (len-used 3 (t .head .fan) n td) at li in
-            let e : getD (n .slots) i [] ≡ getD (used n) i [] = slot-used 3 (t .head .fan) n td i [] lu in
+            (let lu : i < length (used n) = rw (len-used (stride K) (t .head .fan) n td) at li in
+            let e : getD (n .slots) i [] ≡ getD (used n) i [] = slot-used (stride K) (t .head .fan) n td i [] lu in
             let ls : i < length (slotsOf n) = (let z = length-map (used n) slotOf in omega arith) in
             let ix : indexOf (child (getD (used n) i [])) (slotsOf n) ≡ i = ap (λ (y : Slot). indexOf (y .child) (slotsOf n)) (sym (getD-slot (used n) i lu)) ∙ ck .firsts k lk i ls in
             record {
               below = subst (λ (x : List ℕ). child x < t .head .entries) (sym e) (slots-all (λ x. x .child < t .head .entries) (used n) (b .below k lk) i lu);
               home = subst (λ (x : List ℕ). getD (t .homes) (child x) 0 ≡ k) (sym e) (slots-all (λ x. getD (t .homes) (x .child) 0 ≡ k) (used n) (b .homed k lk) i lu);
-              alone = λ j lj q. index-before (child (getD (used n) i [])) j (used n) (omega (arith, ix)) (ap child (sym (slot-used 3 (t .head .fan) n td j [] (omega arith))) ∙ q ∙ ap child e);
+              alone = λ j lj q. index-before (child (getD (used n) i [])) j (used n) (omega (arith, ix)) (ap child (sym (slot-used (stride K) (t .head .fan) n td j [] (omega arith))) ∙ q ∙ ap child e);
             });
       }
 
-  hand-by : (h : Held) → FingerRight 3 t 1 h → HandBy t h
+  hand-by : (h : Held) → FingerRight (stride K) t (K .effect) h → HandBy K t h
   hand-by held.Absent r = tt
   hand-by (held.At f) r =
       let k : ℕ = f .leaf in
-      let q = finger-of 3 t 1 w (held.At f) r in
-      let td : Tidy 3 (t .head .fan) (leafIn 3 t k) = nt .leaf-tidy k (r .leaf) in
-      let sl : f .slot ≤ length (slotsOf (leafIn 3 t k)) = (let y = q .slot-in in omega arith) in
-      let st : (v n : ℕ) → n ≡ climb v (T .body .leaf) (T .body .inner) (t .head .levels) k → rankUp (shapeIn 3 t) v (t .head .levels) (leafIn 3 t k .parent) (leafIn 3 t k .at) 0 (t .inners) ≡ sum.Is n =
-      λ v n e. climb-of 3 t nt b k (r .leaf) v ∙ ap sum.Is (zero-add (climb v (T .body .leaf) (T .body .inner) (t .head .levels) k) ∙ sym e) in
+      let q = finger-of (stride K) t (K .effect) w (held.At f) r in
+      let td : Tidy (stride K) (t .head .fan) (leafIn (stride K) t k) = nt .leaf-tidy k (r .leaf) in
+      let sl : f .slot ≤ length (slotsOf (leafIn (stride K) t k)) = (let y = q .slot-in in omega arith) in
+      let st : (v n : ℕ) → n ≡ climb v (T .body .leaf) (T .body .inner) (t .head .levels) k → rankUp (shapeIn (stride K) t) v (t .head .levels) (leafIn (stride K) t k .parent) (leafIn (stride K) t k .at) 0 (t .inners) ≡ sum.Is n =
+      λ v n e. climb-of (stride K) t nt b k (r .leaf) v ∙ ap sum.Is (zero-add (climb v (T .body .leaf) (T .body .inner) (t .head .levels) k) ∙ sym e) in
       record {
         view = (let y = r .view in omega arith);
         leaf = r .leaf;
         slot = r .slot;
         start = st (f .view) (f .start) (q .start);
-        effect = st 1 (f .effect) (q .effect);
-        within = q .within ∙ sym (start-at 3 (t .head .fan) (f .view) (f .slot) (leafIn 3 t k) td sl);
-        effectWithin = q .effectWithin ∙ sym (start-at 3 (t .head .fan) 1 (f .slot) (leafIn 3 t k) td sl);
+        effect = st (K .effect) (f .effect) (q .effect);
+        within = q .within ∙ sym (start-at (stride K) (t .head .fan) (f .view) (f .slot) (leafIn (stride K) t k) td sl);
+        effectWithin = q .effectWithin ∙ sym (start-at (stride K) (t .head .fan) (K .effect) (f .slot) (leafIn (stride K) t k) td sl);
       }
 
-  sound-facts : SoundBy t
+  sound-facts : SoundBy K t
   sound-facts = record {
     entry-count = w .entry-count;
     leaf-count = w .leaf-count;
@@ -152,36 +154,36 @@ module _ (t : State) (w : Sound t) where
     root-in = b .fit .root-in;
     inner = inner-by;
     leaf = leaf-by;
-    count = sym (sumBy-cong (λ k. length (slotsOf (leafIn 3 t k))) (λ k. leafIn 3 t k .len) (range 0 (t .head .leaves))
-        (All-map (λ k. k < t .head .leaves) (λ k. length (slotsOf (leafIn 3 t k)) ≡ leafIn 3 t k .len) leaf-size (range 0 (t .head .leaves)) (range-below 0 (t .head .leaves) (t .head .leaves) (omega arith)))) ∙ ck .count;
-    totals = λ v lv. (let y = ck .totals v in let x = sum-slots v (used (innerIn 3 t (t .head .root .0))) in omega arith);
+    count = sym (sumBy-cong (λ k. length (slotsOf (leafIn (stride K) t k))) (λ k. leafIn (stride K) t k .len) (range 0 (t .head .leaves))
+        (All-map (λ k. k < t .head .leaves) (λ k. length (slotsOf (leafIn (stride K) t k)) ≡ leafIn (stride K) t k .len) leaf-size (range 0 (t .head .leaves)) (range-below 0 (t .head .leaves) (t .head .leaves) (omega arith)))) ∙ ck .count;
+    totals = λ v lv. (let y = ck .totals v in let x = sum-slots v (used (innerIn (stride K) t (t .head .root .0))) in omega arith);
     finger = hand-by (t .head .finger) (w .finger);
   }
 
 -- yes on every sound state
-audit-sound : (t : State) → Sound t → audit t ≡ verdict.Yes
+audit-sound : (K : Kind) (t : State) → Sound K t → audit K t ≡ verdict.Yes
 unfolding audit refusal
-audit-sound t w =
+audit-sound K t w =
     let h = t .head in
-    passed (makeCauses (h .fan) (h .limit) (t .leaves) (t .inners) (t .homes)) verdict.Refused (cond (isSound t) verdict.Yes verdict.No)
-    (good-areas t w []) ∙ rw (sound-test t (sound-facts t w))
+    passed (makeCauses K (h .fan) (h .limit) (t .leaves) (t .inners) (t .homes)) verdict.Refused (cond (isSound K t) verdict.Yes verdict.No)
+    (good-areas K t w []) ∙ rw (sound-test K t (sound-facts K t w))
 
 -- and on no other
-audit-yes : (t : State) → audit t ≡ verdict.Yes → Sound t
+audit-yes : (K : Kind) (t : State) → audit K t ≡ verdict.Yes → Sound K t
 unfolding audit
-audit-yes t e = go (refusal (makeCauses (t .head .fan) (t .head .limit) (t .leaves) (t .inners) (t .homes))) refl
+audit-yes K t e = go (refusal (makeCauses K (t .head .fan) (t .head .limit) (t .leaves) (t .inners) (t .homes))) refl
   where
     true-of : (b : Bool) → cond b verdict.Yes verdict.No ≡ verdict.Yes → b ≡ true
     true-of true q = refl
     true-of false q = absurd (let z : _≡_ {A = ℕ} 0 1 = cc in omega arith)
 
-    go : (n : ℕ) → refusal (makeCauses (t .head .fan) (t .head .limit) (t .leaves) (t .inners) (t .homes)) ≡ n → Sound t
+    go : (n : ℕ) → refusal (makeCauses K (t .head .fan) (t .head .limit) (t .leaves) (t .inners) (t .homes)) ≡ n → Sound K t
     go zero q =
-        let z : Sizes (t .head .fan) (t .head .limit) (t .leaves) (t .inners) (t .homes) = sizes-of (t .head .fan) (t .head .limit) (t .leaves) (t .inners) (t .homes) q in
-        let s : isSound t ≡ true = true-of (isSound t) (sym (passed (makeCauses (t .head .fan) (t .head .limit) (t .leaves) (t .inners) (t .homes)) verdict.Refused (cond (isSound t) verdict.Yes verdict.No) q) ∙ e) in
-        facts-sound t z (sound-by t (λ k lt. formed-at (shapeIn 3 t) k (t .inners) refl (fits (shapeIn 3 t) k (t .inners) lt (z .inner-area))) (λ k lt. formed-at (shapeIn 3 t) k (t .leaves) refl (fits (shapeIn 3 t) k (t .leaves) lt (z .leaf-area))) s)
-    go (suc n) q = absurd (let r : verdict.Refused (suc n) ≡ verdict.Yes = sym (stopped (makeCauses (t .head .fan) (t .head .limit) (t .leaves) (t .inners) (t .homes)) verdict.Refused (cond (isSound t) verdict.Yes verdict.No) n q) ∙ e in
+        let z : Sizes K (t .head .fan) (t .head .limit) (t .leaves) (t .inners) (t .homes) = sizes-of K (t .head .fan) (t .head .limit) (t .leaves) (t .inners) (t .homes) q in
+        let s : isSound K t ≡ true = true-of (isSound K t) (sym (passed (makeCauses K (t .head .fan) (t .head .limit) (t .leaves) (t .inners) (t .homes)) verdict.Refused (cond (isSound K t) verdict.Yes verdict.No) q) ∙ e) in
+        facts-sound K t z (sound-by K t (λ k lt. formed-at (shapeIn (stride K) t) k (t .inners) refl (fits (shapeIn (stride K) t) k (t .inners) lt (z .inner-area))) (λ k lt. formed-at (shapeIn (stride K) t) k (t .leaves) refl (fits (shapeIn (stride K) t) k (t .leaves) lt (z .leaf-area))) s)
+    go (suc n) q = absurd (let r : verdict.Refused (suc n) ≡ verdict.Yes = sym (stopped (makeCauses K (t .head .fan) (t .head .limit) (t .leaves) (t .inners) (t .homes)) verdict.Refused (cond (isSound K t) verdict.Yes verdict.No) n q) ∙ e in
         let z : _≡_ {A = ℕ} 0 1 = cc in omega arith)
 
-pub audit-exactly : (t : State) → (audit t ≡ verdict.Yes → Sound t) × (Sound t → audit t ≡ verdict.Yes)
-audit-exactly t = (audit-yes t, audit-sound t)
+pub audit-exactly : (K : Kind) (t : State) → (audit K t ≡ verdict.Yes → Sound K t) × (Sound K t → audit K t ≡ verdict.Yes)
+audit-exactly K t = (audit-yes K t, audit-sound K t)

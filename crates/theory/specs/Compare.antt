@@ -9,6 +9,8 @@ use native.Mathlib.Omega.{arith}
 use lib.Dec.{ltb, eqb}
 use lib.ListN.{length, length-map}
 use borrow.Author.Tests.{eq-eqb, ne-eqb, lt-ltb, le-ltb}
+use Rattle.model.specs.Kind.{stride}
+use Rattle.model.specs.declared.shape.Kind.{Kind}
 use Rattle.model.specs.Lists.{refusal}
 use Rattle.model.specs.State.{State}
 use Rattle.model.specs.Row as row
@@ -60,36 +62,36 @@ lex-after (x ∷ xs) (y ∷ ys) h = more (x ∷ xs) (y ∷ ys) h
     more (x ∷ xs) (y ∷ ys) (inl h) = rw (le-ltb x y (omega arith), lt-ltb y x h)
     more (x ∷ xs) (y ∷ ys) (inr h) = let z : y ≡ x = h .0 in rw (le-ltb x y (omega arith), le-ltb y x (omega arith)) (more xs ys (h .1))
 
-module _ (t : State) (w : Sound t) where
+module _ (K : Kind) (t : State) (w : Sound K t) where
   -- the path to a seat
-  path-is : (i : ℕ) (c : Seat t w i) → calls.path t (cursorAt (t .head .entries) (c .leaf) (c .slot)) ≡ pathTo (treeOf 3 t) (c .leaf)
+  path-is : (i : ℕ) (c : Seat K t w i) → calls.path K t (cursorAt (t .head .entries) (c .leaf) (c .slot)) ≡ pathTo (treeOf (stride K) t) (c .leaf)
   unfolding calls.path
   path-is i c =
-      let T : Tree = treeOf 3 t in
+      let T : Tree = treeOf (stride K) t in
       let k : ℕ = c .leaf in
       let b = c .cur .body in
-      steps-up 3 t (neat-of 3 t 1 w) (t .head .levels) (T .body .leaf) k []
+      steps-up (stride K) t (neat-of (stride K) t (K .effect) w) (t .head .levels) (T .body .leaf) k []
       (subst (λ (d : ℕ). Way (T .body .leaf) (T .body .inner) (t .head .inners) d k) (b .deep) (way (total (T .body .leaf)) (T .body .leaf) (T .body .inner) (T .body .root) (t .head .inners) (c .cur .A) k (c .cur .B) (above T) (b .links) (b .inner-in)))
       ∙ append-nil (pathTo T k)
 
-  ordered-is : (i j : ℕ) (a : Seat t w i) (c : Seat t w j) (m n : ℕ) → length (front (a .cur)) ≡ m → length (front (c .cur)) ≡ n
-      → ordered i j (entriesOf t) ≡ cond (ltb m n) 0 (cond (eqb m n) 1 2)
+  ordered-is : (i j : ℕ) (a : Seat K t w i) (c : Seat K t w j) (m n : ℕ) → length (front (a .cur)) ≡ m → length (front (c .cur)) ≡ n
+      → ordered i j (entriesOf K t) ≡ cond (ltb m n) 0 (cond (eqb m n) 1 2)
   unfolding ordered
   ordered-is i j a c m n p q =
-      let e : length (before i (entriesOf t)) ≡ m = ap length (before-is t w i a) ∙ length-map (front (a .cur)) (entryFrom 2) ∙ p in
-      let f : length (before j (entriesOf t)) ≡ n = ap length (before-is t w j c) ∙ length-map (front (c .cur)) (entryFrom 2) ∙ q in
+      let e : length (before i (entriesOf K t)) ≡ m = ap length (before-is K t w i a) ∙ length-map (front (a .cur)) (entryFrom (K .views)) ∙ p in
+      let f : length (before j (entriesOf K t)) ≡ n = ap length (before-is K t w j c) ∙ length-map (front (c .cur)) (entryFrom (K .views)) ∙ q in
       rw (e, f)
 
-  compared-is : (i j : ℕ) (a : Seat t w i) (c : Seat t w j)
-      → comparedAnswer (cond (eqb (a .leaf) (c .leaf)) (inOrder (a .slot ∷ []) (c .slot ∷ [])) (byPath (pathTo (treeOf 3 t) (a .leaf)) (pathTo (treeOf 3 t) (c .leaf)))) ≡ done (ordered i j (entriesOf t) ∷ [])
+  compared-is : (i j : ℕ) (a : Seat K t w i) (c : Seat K t w j)
+      → comparedAnswer (cond (eqb (a .leaf) (c .leaf)) (inOrder (a .slot ∷ []) (c .slot ∷ [])) (byPath (pathTo (treeOf (stride K) t) (a .leaf)) (pathTo (treeOf (stride K) t) (c .leaf)))) ≡ done (ordered i j (entriesOf K t) ∷ [])
   unfolding inOrder
   compared-is i j a c = go (ℕ-discrete (a .leaf) (c .leaf))
     where
-      by-paths : First (pathTo (treeOf 3 t) (a .leaf)) (pathTo (treeOf 3 t) (c .leaf)) (length (front (a .cur))) (length (front (c .cur))) ⊎ First (pathTo (treeOf 3 t) (c .leaf)) (pathTo (treeOf 3 t) (a .leaf)) (length (front (c .cur))) (length (front (a .cur)))
-          → comparedAnswer (byPath (pathTo (treeOf 3 t) (a .leaf)) (pathTo (treeOf 3 t) (c .leaf))) ≡ done (ordered i j (entriesOf t) ∷ [])
-      by-paths (inl r) = rw (lex-before (pathTo (treeOf 3 t) (a .leaf)) (pathTo (treeOf 3 t) (c .leaf)) (r .0), ordered-is i j a c (length (front (a .cur))) (length (front (c .cur))) refl refl, lt-ltb (length (front (a .cur))) (length (front (c .cur))) (r .1))
+      by-paths : First (pathTo (treeOf (stride K) t) (a .leaf)) (pathTo (treeOf (stride K) t) (c .leaf)) (length (front (a .cur))) (length (front (c .cur))) ⊎ First (pathTo (treeOf (stride K) t) (c .leaf)) (pathTo (treeOf (stride K) t) (a .leaf)) (length (front (c .cur))) (length (front (a .cur)))
+          → comparedAnswer (byPath (pathTo (treeOf (stride K) t) (a .leaf)) (pathTo (treeOf (stride K) t) (c .leaf))) ≡ done (ordered i j (entriesOf K t) ∷ [])
+      by-paths (inl r) = rw (lex-before (pathTo (treeOf (stride K) t) (a .leaf)) (pathTo (treeOf (stride K) t) (c .leaf)) (r .0), ordered-is i j a c (length (front (a .cur))) (length (front (c .cur))) refl refl, lt-ltb (length (front (a .cur))) (length (front (c .cur))) (r .1))
       by-paths (inr r) = rw (
-        lex-after (pathTo (treeOf 3 t) (a .leaf)) (pathTo (treeOf 3 t) (c .leaf)) (r .0),
+        lex-after (pathTo (treeOf (stride K) t) (a .leaf)) (pathTo (treeOf (stride K) t) (c .leaf)) (r .0),
         ordered-is i j a c (length (front (a .cur))) (length (front (c .cur))) refl refl,
         le-ltb (length (front (a .cur))) (length (front (c .cur))) (let z = r .1 in omega arith),
         ne-eqb (length (front (a .cur))) (length (front (c .cur))) (λ q. let z = r .1 in omega arith),
@@ -103,23 +105,23 @@ module _ (t : State) (w : Sound t) where
           by (no ge) (yes lt) = rw (le-ltb x y (omega arith), lt-ltb y x lt, le-ltb m n (omega arith), ne-eqb m n (λ q. omega arith))
           by (no ge) (no le) = rw (le-ltb x y (omega arith), le-ltb y x (omega arith), le-ltb m n (omega arith), eq-eqb m n (omega arith))
 
-      go : Dec (a .leaf ≡ c .leaf) → comparedAnswer (cond (eqb (a .leaf) (c .leaf)) (inOrder (a .slot ∷ []) (c .slot ∷ [])) (byPath (pathTo (treeOf 3 t) (a .leaf)) (pathTo (treeOf 3 t) (c .leaf)))) ≡ done (ordered i j (entriesOf t) ∷ [])
+      go : Dec (a .leaf ≡ c .leaf) → comparedAnswer (cond (eqb (a .leaf) (c .leaf)) (inOrder (a .slot ∷ []) (c .slot ∷ [])) (byPath (pathTo (treeOf (stride K) t) (a .leaf)) (pathTo (treeOf (stride K) t) (c .leaf)))) ≡ done (ordered i j (entriesOf K t) ∷ [])
       go (yes q) = rw (eq-eqb (a .leaf) (c .leaf) q, ordered-is i j a c (length (front (a .cur))) (length (front (c .cur))) refl refl)
-          (slots (a .slot) (c .slot) (length (front (a .cur))) (length (front (c .cur))) (by-slot 1 (treeOf 3 t) (sound-of 3 t 1 w) i j (a .leaf) (a .slot) (c .leaf) (c .slot) (a .cur) (c .cur) q))
-      go (no ne) = rw (ne-eqb (a .leaf) (c .leaf) ne) (by-paths (by-path 1 (treeOf 3 t) (sound-of 3 t 1 w) i j (a .leaf) (a .slot) (c .leaf) (c .slot) (a .cur) (c .cur) ne))
+          (slots (a .slot) (c .slot) (length (front (a .cur))) (length (front (c .cur))) (by-slot (K .effect) (treeOf (stride K) t) (sound-of (stride K) t (K .effect) w) i j (a .leaf) (a .slot) (c .leaf) (c .slot) (a .cur) (c .cur) q))
+      go (no ne) = rw (ne-eqb (a .leaf) (c .leaf) ne) (by-paths (by-path (K .effect) (treeOf (stride K) t) (sound-of (stride K) t (K .effect) w) i j (a .leaf) (a .slot) (c .leaf) (c .slot) (a .cur) (c .cur) ne))
 
-  pub step-compare : (i j : ℕ) → Agrees (treeStep t (row.compare i j)) (rowStep (rowOf t) (row.compare i j))
+  pub step-compare : (i j : ℕ) → Agrees K (treeStep K t (row.compare i j)) (rowStep K (rowOf K t) (row.compare i j))
   unfolding treeStep rowStep refusal calls.cmp
   step-compare i j =
-      by-id t w i (λ a. withCursor t (calls.cursor t j) (λ b. moved t (comparedAnswer (calls.cmp t a b)))) (noSuchId (rowOf t) j ∷ []) (entriesOf t) (done (ordered i j (entriesOf t) ∷ []))
-      (λ a. by-id t w j (λ b. moved t (comparedAnswer (calls.cmp t (cursorAt (t .head .entries) (a .leaf) (a .slot)) b))) [] (entriesOf t) (done (ordered i j (entriesOf t) ∷ []))
-      (λ c. rw (row-passed (rowOf t) [] (entriesOf t) (done (ordered i j (entriesOf t) ∷ [])) refl) (record { same = at a c; kept = own t w })))
+      by-id K t w i (λ a. withCursor t (calls.cursor K t j) (λ b. moved t (comparedAnswer (calls.cmp K t a b)))) (noSuchId (rowOf K t) j ∷ []) (entriesOf K t) (done (ordered i j (entriesOf K t) ∷ []))
+      (λ a. by-id K t w j (λ b. moved t (comparedAnswer (calls.cmp K t (cursorAt (t .head .entries) (a .leaf) (a .slot)) b))) [] (entriesOf K t) (done (ordered i j (entriesOf K t) ∷ []))
+      (λ c. rw (row-passed (rowOf K t) [] (entriesOf K t) (done (ordered i j (entriesOf K t) ∷ [])) refl) (record { same = at a c; kept = own K t w })))
     where
-      at : (a : Seat t w i) (c : Seat t w j) → comparedAnswer (calls.cmp t (cursorAt (t .head .entries) (a .leaf) (a .slot)) (cursorAt (t .head .entries) (c .leaf) (c .slot))) ≡ done (ordered i j (entriesOf t) ∷ [])
+      at : (a : Seat K t w i) (c : Seat K t w j) → comparedAnswer (calls.cmp K t (cursorAt (t .head .entries) (a .leaf) (a .slot)) (cursorAt (t .head .entries) (c .leaf) (c .slot))) ≡ done (ordered i j (entriesOf K t) ∷ [])
       at a c =
           let ca : Cursor = cursorAt (t .head .entries) (a .leaf) (a .slot) in
           let cc : Cursor = cursorAt (t .head .entries) (c .leaf) (c .slot) in
-          ap comparedAnswer (passed (opening t ++ stale t ca ∷ stale t cc ∷ []) compared.Refused _
-          (opens t w (stale t ca ∷ stale t cc ∷ []) ∙ fresh t w (a .leaf) (a .slot) (stale t cc ∷ []) (a .leaf-in) (a .slot-in) ∙ fresh t w (c .leaf) (c .slot) [] (c .leaf-in) (c .slot-in)))
+          ap comparedAnswer (passed (opening K t ++ stale K t ca ∷ stale K t cc ∷ []) compared.Refused _
+          (opens K t w (stale K t ca ∷ stale K t cc ∷ []) ∙ fresh K t w (a .leaf) (a .slot) (stale K t cc ∷ []) (a .leaf-in) (a .slot-in) ∙ fresh K t w (c .leaf) (c .slot) [] (c .leaf-in) (c .slot-in)))
           ∙ ap₂ (λ (p q : List ℕ). comparedAnswer (cond (eqb (a .leaf) (c .leaf)) (inOrder (a .slot ∷ []) (c .slot ∷ [])) (byPath p q))) (path-is i a) (path-is j c)
           ∙ compared-is i j a c

@@ -8,8 +8,9 @@ use native.Mathlib.Omega.{arith}
 use lib.Dec.{ltb, leb}
 use lib.ListN.{length, getD}
 use borrow.Author.Tests.{eq-eqb, lt-ltb}
+use Rattle.model.specs.Kind.{stride}
+use Rattle.model.specs.declared.shape.Kind.{Kind}
 use Rattle.model.specs.Lists.{refusal}
-use Rattle.model.specs.Length.{viewNumber, listOf}
 use Rattle.model.specs.Node.{child}
 use Rattle.model.specs.State.{State}
 use Rattle.model.specs.Row as row
@@ -19,8 +20,6 @@ use Rattle.model.specs.Refuse.{opening, overfull, atCursor, current}
 use Rattle.model.specs.Calls as calls
 use Rattle.model.specs.Calls.{cursorAt, entryId, slotAt}
 use Rattle.model.specs.ById.{withCursor, idAnswer, standingAnswer, nextAnswer, locatedAnswer, treeStep}
-use Rattle.model.specs.declared.length.View.{View}
-use Rattle.model.specs.declared.length.Lengths.{Lengths}
 use Rattle.model.specs.declared.head.Cursor.{Cursor}
 use Rattle.model.specs.declared.answer.Named.{Named}
 use Rattle.model.specs.declared.answer.Named.the-variants as named
@@ -45,32 +44,32 @@ use Rattle.theory.specs.Splits.{TwoParts, split-by}
 use Rattle.theory.specs.Current.{not-current, current-is, is-current}
 
 -- a cursor that is current and stands at the entry of that id
-pub record At (s : State) (c : Cursor) (i : ℕ) : Type 0 where
-  pub current : current s c ≡ true
-  pub id : calls.id s c ≡ named.Entry (entryId i)
+pub record At (K : Kind) (s : State) (c : Cursor) (i : ℕ) : Type 0 where
+  pub current : current K s c ≡ true
+  pub id : calls.id K s c ≡ named.Entry (entryId i)
 
 -- what an answer says; it is a refusal only where the row's is
-abbrev pub StandsAt : State → Standing → ℕ → Type 0
-StandsAt s (standing.At c) i = At s c i
-StandsAt s (standing.Refused n) i = ⊥
+abbrev pub StandsAt : Kind → State → Standing → ℕ → Type 0
+StandsAt K s (standing.At c) i = At K s c i
+StandsAt K s (standing.Refused n) i = ⊥
 
-abbrev pub NextAt : State → Next → ℕ → Type 0
-NextAt s (next.At c) i = At s c i
-NextAt s next.Nothing i = i ≡ noEntry
-NextAt s (next.Refused n) i = ⊥
+abbrev pub NextAt : Kind → State → Next → ℕ → Type 0
+NextAt K s (next.At c) i = At K s c i
+NextAt K s next.Nothing i = i ≡ noEntry
+NextAt K s (next.Refused n) i = ⊥
 
-abbrev pub LocatedAt : State → Located → Answer → Type 0
-LocatedAt s (located.At c offset position) a = (i : ℕ) × (a ≡ done (i ∷ offset ∷ position ∷ [])) × At s c i
-LocatedAt s (located.Refused n) a = a ≡ refused n
+abbrev pub LocatedAt : Kind → State → Located → Answer → Type 0
+LocatedAt K s (located.At c offset position) a = (i : ℕ) × (a ≡ done (i ∷ offset ∷ position ∷ [])) × At K s c i
+LocatedAt K s (located.Refused n) a = a ≡ refused n
 
-abbrev pub SelectedAt : State → Selected → Answer → Type 0
-SelectedAt s (selected.At c offset) a = (i : ℕ) × (position : ℕ) × (a ≡ done (i ∷ offset ∷ position ∷ [])) × At s c i
-SelectedAt s (selected.Refused n) a = a ≡ refused n
+abbrev pub SelectedAt : Kind → State → Selected → Answer → Type 0
+SelectedAt K s (selected.At c offset) a = (i : ℕ) × (position : ℕ) × (a ≡ done (i ∷ offset ∷ position ∷ [])) × At K s c i
+SelectedAt K s (selected.Refused n) a = a ≡ refused n
 
 -- the entry i divided: the new one has the id n and stands before it if so flagged, else after
-abbrev pub DividedAt : Bool → ℕ → ℕ → State → Divided → Answer → Type 0
-DividedAt flag i n s (divided.At k c d) a = (a ≡ done (n ∷ [])) × (k ≡ entryId n) × At s c (cond flag n i) × At s d (cond flag i n)
-DividedAt flag i n s (divided.Refused m) a = a ≡ refused m
+abbrev pub DividedAt : Kind → Bool → ℕ → ℕ → State → Divided → Answer → Type 0
+DividedAt K flag i n s (divided.At k c d) a = (a ≡ done (n ∷ [])) × (k ≡ entryId n) × At K s c (cond flag n i) × At K s d (cond flag i n)
+DividedAt K flag i n s (divided.Refused m) a = a ≡ refused m
 
 -- the cursor of an answer, and the first of an answer's values
 abbrev cursorOf : Cursor → Standing → Cursor
@@ -84,106 +83,106 @@ no-refusal : (n i : ℕ) (ws : List ℕ) → refused n ≡ done (i ∷ ws) → �
 no-refusal n i ws e = (let z = ap (λ (a : Answer). length (a .values)) e in omega arith)
 
 -- the row's lookup refuses by 5 alone
-found-not-stale : (v x m f : ℕ) (es : List Entry) → found v x m f es .number ≡ 3 → ⊥
+found-not-stale : (K : Kind) (v x m f : ℕ) (es : List Entry) → found K v x m f es .number ≡ 3 → ⊥
 unfolding found
-found-not-stale v x m f [] e = omega arith
-found-not-stale v x m f (y ∷ es) e = go (leb m x && ltb x (m + lengthIn v y)) refl (found-not-stale v x (m + lengthIn v y) (f + lengthIn 1 y) es)
+found-not-stale K v x m f [] e = omega arith
+found-not-stale K v x m f (y ∷ es) e = go (leb m x && ltb x (m + lengthIn v y)) refl (found-not-stale K v x (m + lengthIn v y) (f + lengthIn (K .effect) y) es)
   where
-    go : (b : Bool) → (leb m x && ltb x (m + lengthIn v y)) ≡ b → (found v x (m + lengthIn v y) (f + lengthIn 1 y) es .number ≡ 3 → ⊥) → ⊥
+    go : (b : Bool) → (leb m x && ltb x (m + lengthIn v y)) ≡ b → (found K v x (m + lengthIn v y) (f + lengthIn (K .effect) y) es .number ≡ 3 → ⊥) → ⊥
     go true q h = (let z : _≡_ {A = ℕ} 0 3 = rw q at e in omega arith)
     go false q h = h (rw q at e)
 
-module _ (s : State) (w : Sound s) where
-  at-slot : (k j : ℕ) → k < s .head .leaves → j < leafIn 3 s k .len → At s (cursorAt (s .head .entries) k j) (tree.slotAt (treeOf 3 s) k j .child)
-  at-slot k j lk lj = record { current = rw (eq-eqb (s .head .entries) (s .head .entries) refl, lt-ltb k (s .head .leaves) lk, lt-ltb j (leafIn 3 s k .len) lj); id = id-at s w k j lk lj }
+module _ (K : Kind) (s : State) (w : Sound K s) where
+  at-slot : (k j : ℕ) → k < s .head .leaves → j < leafIn (stride K) s k .len → At K s (cursorAt (s .head .entries) k j) (tree.slotAt (treeOf (stride K) s) k j .child)
+  at-slot k j lk lj = record { current = rw (eq-eqb (s .head .entries) (s .head .entries) refl, lt-ltb k (s .head .leaves) lk, lt-ltb j (leafIn (stride K) s k .len) lj); id = id-at K s w k j lk lj }
 
   -- every current cursor stands at an entry, any other has no id
-  pub current-at : (c : Cursor) → current s c ≡ true → At s c (child (slotAt s c))
+  pub current-at : (c : Cursor) → current K s c ≡ true → At K s c (child (slotAt K s c))
   unfolding calls.id refusal
   current-at c e =
-      let r = current-is s w c e in
-      let ok : refusal (atCursor s c) ≡ 0 = subst (λ (m : ℕ). refusal (atCursor s (cursorAt m (c .leaf .0) (c .slot))) ≡ 0) (sym (r .0)) (fresh-at s w (c .leaf .0) (c .slot) [] (r .1) (r .2)) in
-      record { current = e; id = passed (opening s ++ atCursor s c) named.Refused _ (opens s w (atCursor s c) ∙ ok) }
+      let r = current-is K s w c e in
+      let ok : refusal (atCursor K s c) ≡ 0 = subst (λ (m : ℕ). refusal (atCursor K s (cursorAt m (c .leaf .0) (c .slot))) ≡ 0) (sym (r .0)) (fresh-at K s w (c .leaf .0) (c .slot) [] (r .1) (r .2)) in
+      record { current = e; id = passed (opening K s ++ atCursor K s c) named.Refused _ (opens K s w (atCursor K s c) ∙ ok) }
 
-  no-id : (c : Cursor) → current s c ≡ false → calls.id s c ≡ named.Refused 3
+  no-id : (c : Cursor) → current K s c ≡ false → calls.id K s c ≡ named.Refused 3
   unfolding calls.id
-  no-id c e = stopped (opening s ++ atCursor s c) named.Refused _ 2 (not-current s w c (overfull s c ∷ []) e)
+  no-id c e = stopped (opening K s ++ atCursor K s c) named.Refused _ 2 (not-current K s w c (overfull K s c ∷ []) e)
 
   -- an answer with the id at a cursor that is no refusal by 3
-  answered-at : (c : Cursor) (vs : List ℕ) (a : Answer) → (a .number ≡ 3 → ⊥) → idAnswer (calls.id s c) vs ≡ a → (i : ℕ) × (a ≡ done (i ∷ vs)) × At s c i
-  answered-at c vs a ok e = go (current s c) refl
+  answered-at : (c : Cursor) (vs : List ℕ) (a : Answer) → (a .number ≡ 3 → ⊥) → idAnswer (calls.id K s c) vs ≡ a → (i : ℕ) × (a ≡ done (i ∷ vs)) × At K s c i
+  answered-at c vs a ok e = go (current K s c) refl
     where
-      go : (b : Bool) → current s c ≡ b → (i : ℕ) × (a ≡ done (i ∷ vs)) × At s c i
-      go true q = (child (slotAt s c), sym e ∙ ap (λ (n : Named). idAnswer n vs) (current-at c q .id), current-at c q)
+      go : (b : Bool) → current K s c ≡ b → (i : ℕ) × (a ≡ done (i ∷ vs)) × At K s c i
+      go true q = (child (slotAt K s c), sym e ∙ ap (λ (n : Named). idAnswer n vs) (current-at c q .id), current-at c q)
       go false q = absurd (ok (ap (λ (z : Answer). z .number) (sym e) ∙ ap (λ (n : Named). idAnswer n vs .number) (no-id c q)))
 
-  named-at : (c : Cursor) (i : ℕ) → idAnswer (calls.id s c) [] ≡ done (i ∷ []) → At s c i
-  named-at c i e = let r = answered-at c [] (done (i ∷ [])) (λ z. omega arith) e in subst (At s c) (ap value (sym (r .1))) (r .2)
+  named-at : (c : Cursor) (i : ℕ) → idAnswer (calls.id K s c) [] ≡ done (i ∷ []) → At K s c i
+  named-at c i e = let r = answered-at c [] (done (i ∷ [])) (λ z. omega arith) e in subst (At K s c) (ap value (sym (r .1))) (r .2)
 
   -- a cursor at an entry is the entry's
-  own-cursor : (c : Cursor) (i : ℕ) → At s c i → (i < s .head .entries) × (calls.cursor s i ≡ standing.At c)
+  own-cursor : (c : Cursor) (i : ℕ) → At K s c i → (i < s .head .entries) × (calls.cursor K s i ≡ standing.At c)
   own-cursor c i h =
-      let e : child (slotAt s c) ≡ i = ap (λ (n : Named). value (idAnswer n [])) (sym (current-at c (h .current) .id) ∙ h .id) in
-      subst (λ (k : ℕ). (k < s .head .entries) × (calls.cursor s k ≡ standing.At c)) e (is-current s w c (h .current))
+      let e : child (slotAt K s c) ≡ i = ap (λ (n : Named). value (idAnswer n [])) (sym (current-at c (h .current) .id) ∙ h .id) in
+      subst (λ (k : ℕ). (k < s .head .entries) × (calls.cursor K s k ≡ standing.At c)) e (is-current K s w c (h .current))
 
-module _ (s : State) (w : Sound s) where
-  pub cursor-at : (i : ℕ) → i < s .head .entries → StandsAt s (calls.cursor s i) i
+module _ (K : Kind) (ok : K .effect < K .views) (s : State) (w : Sound K s) where
+  pub cursor-at : (i : ℕ) → i < s .head .entries → StandsAt K s (calls.cursor K s i) i
   cursor-at i lt =
-      let c = seat s w i lt in
-      subst (λ (a : Standing). StandsAt s a i) (sym (c .is)) (subst (At s (cursorAt (s .head .entries) (c .leaf) (c .slot))) (ap (λ (y : Slot). y .child) (c .cur .at) ∙ c .cur .own) (at-slot s w (c .leaf) (c .slot) (c .leaf-in) (c .slot-in)))
+      let c = seat K s w i lt in
+      subst (λ (a : Standing). StandsAt K s a i) (sym (c .is)) (subst (At K s (cursorAt (s .head .entries) (c .leaf) (c .slot))) (ap (λ (y : Slot). y .child) (c .cur .at) ∙ c .cur .own) (at-slot K s w (c .leaf) (c .slot) (c .leaf-in) (c .slot-in)))
 
-  pub first-at : StandsAt s (calls.first s) (firstId (entriesOf s))
+  pub first-at : StandsAt K s (calls.first K s) (firstId (entriesOf K s))
   unfolding treeStep rowStep
-  first-at = go (calls.first s) (step-first s w .same)
+  first-at = go (calls.first K s) (step-first K s w .same)
     where
-      go : (a : Standing) → standingAnswer s a ≡ done (firstId (entriesOf s) ∷ []) → StandsAt s a (firstId (entriesOf s))
-      go (standing.At c) e = named-at s w c (firstId (entriesOf s)) e
-      go (standing.Refused n) e = no-refusal n (firstId (entriesOf s)) [] e
+      go : (a : Standing) → standingAnswer K s a ≡ done (firstId (entriesOf K s) ∷ []) → StandsAt K s a (firstId (entriesOf K s))
+      go (standing.At c) e = named-at K s w c (firstId (entriesOf K s)) e
+      go (standing.Refused n) e = no-refusal n (firstId (entriesOf K s)) [] e
 
-  pub next-at : (c : Cursor) (i : ℕ) → At s c i → NextAt s (calls.nextAfter s c) (firstId (after i (entriesOf s)))
+  pub next-at : (c : Cursor) (i : ℕ) → At K s c i → NextAt K s (calls.nextAfter K s c) (firstId (after i (entriesOf K s)))
   unfolding treeStep rowStep refusal
   next-at c i h =
-      let o = own-cursor s w c i h in
-      go (calls.nextAfter s c) (sym (ap (λ (z : Standing). withCursor s z (λ d. moved s (nextAnswer s (calls.nextAfter s d))) .answer) (o .1)) ∙ step-next s w i .same
-      ∙ ap (λ (m : Moved Row). m .answer) (row-passed (rowOf s) (row.noSuchId (rowOf s) i ∷ []) (entriesOf s) (done (n ∷ [])) (row-known s w i [] (o .0))))
+      let o = own-cursor K s w c i h in
+      go (calls.nextAfter K s c) (sym (ap (λ (z : Standing). withCursor s z (λ d. moved s (nextAnswer K s (calls.nextAfter K s d))) .answer) (o .1)) ∙ step-next K s w i .same
+      ∙ ap (λ (m : Moved Row). m .answer) (row-passed (rowOf K s) (row.noSuchId (rowOf K s) i ∷ []) (entriesOf K s) (done (n ∷ [])) (row-known K s w i [] (o .0))))
     where
       n : ℕ
-      n = firstId (after i (entriesOf s))
+      n = firstId (after i (entriesOf K s))
 
-      go : (a : Next) → nextAnswer s a ≡ done (n ∷ []) → NextAt s a n
-      go (next.At d) e = named-at s w d n e
+      go : (a : Next) → nextAnswer K s a ≡ done (n ∷ []) → NextAt K s a n
+      go (next.At d) e = named-at K s w d n e
       go next.Nothing e = sym (ap value e)
       go (next.Refused m) e = no-refusal m n [] e
 
-  pub locate-at : (v : View) (x : ℕ) → (let r = calls.locate s v x in LocatedAt (r .after) (r .answer) (found (viewNumber v) x 0 0 (entriesOf s)))
+  pub locate-at : (v : ℕ) (lv : v < K .views) (x : ℕ) → (let r = calls.locate K s v x in LocatedAt K (r .after) (r .answer) (found K v x 0 0 (entriesOf K s)))
   unfolding treeStep rowStep
-  locate-at v x = go (calls.locate s v x .answer) (step-lookup s w v x .same)
+  locate-at v lv x = go (calls.locate K s v x .answer) (step-lookup K ok s w v lv x .same)
     where
-      go : (a : Located) → locatedAnswer (calls.locate s v x .after) a ≡ found (viewNumber v) x 0 0 (entriesOf s) → LocatedAt (calls.locate s v x .after) a (found (viewNumber v) x 0 0 (entriesOf s))
-      go (located.At c offset position) e = answered-at (calls.locate s v x .after) (step-lookup s w v x .kept .sound) c (offset ∷ position ∷ []) (found (viewNumber v) x 0 0 (entriesOf s)) (found-not-stale (viewNumber v) x 0 0 (entriesOf s)) e
+      go : (a : Located) → locatedAnswer K (calls.locate K s v x .after) a ≡ found K v x 0 0 (entriesOf K s) → LocatedAt K (calls.locate K s v x .after) a (found K v x 0 0 (entriesOf K s))
+      go (located.At c offset position) e = answered-at K (calls.locate K s v x .after) (step-lookup K ok s w v lv x .kept .sound) c (offset ∷ position ∷ []) (found K v x 0 0 (entriesOf K s)) (found-not-stale K v x 0 0 (entriesOf K s)) e
       go (located.Refused n) e = sym e
 
-  pub select-at : (v : View) (x : ℕ) → (let r = calls.charIndexToEntry s v x in SelectedAt (r .after) (r .answer) (found (viewNumber v) x 0 0 (entriesOf s)))
+  pub select-at : (v : ℕ) (lv : v < K .views) (x : ℕ) → (let r = calls.charIndexToEntry K s v x in SelectedAt K (r .after) (r .answer) (found K v x 0 0 (entriesOf K s)))
   unfolding calls.charIndexToEntry
-  select-at v x = go (calls.locate s v x .answer) (locate-at v x)
+  select-at v lv x = go (calls.locate K s v x .answer) (locate-at v lv x)
     where
-      go : (a : Located) → LocatedAt (calls.locate s v x .after) a (found (viewNumber v) x 0 0 (entriesOf s)) → SelectedAt (calls.locate s v x .after) (calls.lessEffect a) (found (viewNumber v) x 0 0 (entriesOf s))
+      go : (a : Located) → LocatedAt K (calls.locate K s v x .after) a (found K v x 0 0 (entriesOf K s)) → SelectedAt K (calls.locate K s v x .after) (calls.lessEffect a) (found K v x 0 0 (entriesOf K s))
       go (located.At c offset position) h = (h .0, position, h .1, h .2)
       go (located.Refused n) h = h
 
-  pub split-at : (c : Cursor) (i : ℕ) → At s c i → (l : Lengths) (flag : Bool)
-      → (let r = calls.splitEntry s c l flag in DividedAt flag i (s .head .entries) (r .after) (r .answer) (rowStep (rowOf s) (row.split flag i l) .answer))
+  pub split-at : (c : Cursor) (i : ℕ) → At K s c i → (l : List ℕ) (wl : length l ≡ K .views) (flag : Bool)
+      → (let r = calls.splitEntry K s c l flag in DividedAt K flag i (s .head .entries) (r .after) (r .answer) (rowStep K (rowOf K s) (row.split flag i l) .answer))
   unfolding rowStep unless
-  split-at c i h l flag =
-      let o = own-cursor s w c i h in
-      let e = seat s w i (o .0) in
+  split-at c i h l wl flag =
+      let o = own-cursor K s w c i h in
+      let e = seat K s w i (o .0) in
       let here : cursorAt (s .head .entries) (e .leaf) (e .slot) ≡ c = ap (cursorOf c) (sym (e .is) ∙ o .1) in
-      subst (λ (d : Cursor). let r = calls.splitEntry s d l flag in DividedAt flag i (s .head .entries) (r .after) (r .answer) (rowStep (rowOf s) (row.split flag i l) .answer)) here
-      (rw (row-known s w i (row.tooMuch (listOf l) (row.lengthsOf i (entriesOf s)) ∷ row.full (rowOf s) ∷ []) (o .0))
-      (split-by s w i e l flag (λ m n. DividedAt flag i (s .head .entries) (m .after) (m .answer) (n .answer)) (λ n. refl) (λ t k j p g. (ap (λ (n : ℕ). done (n ∷ [])) (count-is s w), refl, first-part t k j p, second-part t k j p))))
+      subst (λ (d : Cursor). let r = calls.splitEntry K s d l flag in DividedAt K flag i (s .head .entries) (r .after) (r .answer) (rowStep K (rowOf K s) (row.split flag i l) .answer)) here
+      (rw (row-known K s w i (row.tooMuch K l (row.lengthsOf i (entriesOf K s)) ∷ row.full (rowOf K s) ∷ []) (o .0))
+      (split-by K s w i e l wl flag (λ m n. DividedAt K flag i (s .head .entries) (m .after) (m .answer) (n .answer)) (λ n. refl) (λ t k j p g. (ap (λ (n : ℕ). done (n ∷ [])) (count-is K s w), refl, first-part t k j p, second-part t k j p))))
     where
-      first-part : (t : State) (k j : ℕ) → TwoParts flag i (s .head .entries) t k j → At t (cursorAt (s .head .entries + 1) k j) (cond flag (s .head .entries) i)
-      first-part t k j p = subst (λ (m : ℕ). At t (cursorAt m k j) (cond flag (s .head .entries) i)) (p .count) (subst (At t (cursorAt (t .head .entries) k j)) (p .first) (at-slot t (p .sound) k j (p .leaf-in) (let z = p .slot-in in omega arith)))
+      first-part : (t : State) (k j : ℕ) → TwoParts K flag i (s .head .entries) t k j → At K t (cursorAt (s .head .entries + 1) k j) (cond flag (s .head .entries) i)
+      first-part t k j p = subst (λ (m : ℕ). At K t (cursorAt m k j) (cond flag (s .head .entries) i)) (p .count) (subst (At K t (cursorAt (t .head .entries) k j)) (p .first) (at-slot K t (p .sound) k j (p .leaf-in) (let z = p .slot-in in omega arith)))
 
-      second-part : (t : State) (k j : ℕ) → TwoParts flag i (s .head .entries) t k j → At t (cursorAt (s .head .entries + 1) k (j + 1)) (cond flag i (s .head .entries))
-      second-part t k j p = subst (λ (m : ℕ). At t (cursorAt m k (j + 1)) (cond flag i (s .head .entries))) (p .count) (subst (At t (cursorAt (t .head .entries) k (j + 1))) (p .second) (at-slot t (p .sound) k (j + 1) (p .leaf-in) (p .slot-in)))
+      second-part : (t : State) (k j : ℕ) → TwoParts K flag i (s .head .entries) t k j → At K t (cursorAt (s .head .entries + 1) k (j + 1)) (cond flag i (s .head .entries))
+      second-part t k j p = subst (λ (m : ℕ). At K t (cursorAt m k (j + 1)) (cond flag i (s .head .entries))) (p .count) (subst (At K t (cursorAt (t .head .entries) k (j + 1))) (p .second) (at-slot K t (p .sound) k (j + 1) (p .leaf-in) (p .slot-in)))

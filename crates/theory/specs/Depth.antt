@@ -7,6 +7,8 @@ use native.Mathlib.Decide.{ℕ-discrete, decLt}
 use native.Mathlib.Omega.{arith}
 use lib.ListN.{length, getD}
 use borrow.Author.Tests.{eq-eqb, ne-eqb, lt-ltb, le-ltb}
+use Rattle.model.specs.Kind.{stride}
+use Rattle.model.specs.declared.shape.Kind.{Kind}
 use Rattle.model.specs.Lists.{All, range}
 use Rattle.model.specs.Node.{none, child}
 use Rattle.model.specs.State.{State}
@@ -17,54 +19,54 @@ use Rattle.abstract_tree.specs.Apart.{dep, dep-none, dep-step}
 use Rattle.abstract_tree.specs.Cursor.{indexOf}
 use Rattle.theory.specs.Tree.{slotOf, treeOf}
 
-module _ (t : State) where
+module _ (K : Kind) (t : State) where
   abbrev up : Area
-  up = treeOf 3 t .body .inner
+  up = treeOf (stride K) t .body .inner
 
   -- one link of audit's climb
-  depth-none : (n k : ℕ) → k ≡ none → depth t n k ≡ 0
+  depth-none : (n k : ℕ) → k ≡ none → depth K t n k ≡ 0
   unfolding depth
   depth-none zero k e = rw (eq-eqb k none e)
   depth-none (suc n) k e = rw (eq-eqb k none e)
 
-  depth-more : (n k : ℕ) → k ≢ none → k < t .head .inners → depth t (suc n) k ≡ suc (depth t n (innerIn 3 t k .parent))
+  depth-more : (n k : ℕ) → k ≢ none → k < t .head .inners → depth K t (suc n) k ≡ suc (depth K t n (innerIn (stride K) t k .parent))
   unfolding depth
   depth-more n k ne lt = rw (ne-eqb k none ne, lt-ltb k (t .head .inners) lt)
 
-  depth-out : (n k : ℕ) → k ≢ none → t .head .inners ≤ k → depth t (suc n) k ≡ suc (suc n)
+  depth-out : (n k : ℕ) → k ≢ none → t .head .inners ≤ k → depth K t (suc n) k ≡ suc (suc n)
   unfolding depth
   depth-out n k ne ge = rw (ne-eqb k none ne, le-ltb k (t .head .inners) ge)
 
-  depth-zero : (k : ℕ) → k ≢ none → depth t 0 k ≡ 1
+  depth-zero : (k : ℕ) → k ≢ none → depth K t 0 k ≡ 1
   unfolding depth
   depth-zero k ne = rw (ne-eqb k none ne)
 
   -- a climb that ended in time
-  pub depth-dep : (n k : ℕ) → depth t n k ≤ n → (K : ℕ) → n ≤ K → dep (treeOf 3 t .body .inner) K k ≡ depth t n k
-  depth-dep zero k h K le = elim (ℕ-discrete k none) [
-    | yes e ↦ ap (dep (treeOf 3 t .body .inner) K) e ∙ dep-none (treeOf 3 t .body .inner) K ∙ sym (depth-none zero k e)
+  pub depth-dep : (n k : ℕ) → depth K t n k ≤ n → (M : ℕ) → n ≤ M → dep (treeOf (stride K) t .body .inner) M k ≡ depth K t n k
+  depth-dep zero k h M le = elim (ℕ-discrete k none) [
+    | yes e ↦ ap (dep (treeOf (stride K) t .body .inner) M) e ∙ dep-none (treeOf (stride K) t .body .inner) M ∙ sym (depth-none zero k e)
     | no ne ↦ absurd (let z = depth-zero k ne in omega arith)
   ]
   depth-dep (suc n) k h zero le = absurd (omega arith)
-  depth-dep (suc n) k h (suc K) le = elim (ℕ-discrete k none) [
-    | yes e ↦ ap (dep (treeOf 3 t .body .inner) (suc K)) e ∙ dep-none (treeOf 3 t .body .inner) (suc K) ∙ sym (depth-none (suc n) k e)
+  depth-dep (suc n) k h (suc M) le = elim (ℕ-discrete k none) [
+    | yes e ↦ ap (dep (treeOf (stride K) t .body .inner) (suc M)) e ∙ dep-none (treeOf (stride K) t .body .inner) (suc M) ∙ sym (depth-none (suc n) k e)
     | no ne ↦ elim (decLt k (t .head .inners)) [
-      | yes lt ↦ (let z = depth-more n k ne lt in dep-step (treeOf 3 t .body .inner) K k ne ∙ ap suc (depth-dep n (innerIn 3 t k .parent) (omega arith) K (omega arith)) ∙ sym z)
+      | yes lt ↦ (let z = depth-more n k ne lt in dep-step (treeOf (stride K) t .body .inner) M k ne ∙ ap suc (depth-dep n (innerIn (stride K) t k .parent) (omega arith) M (omega arith)) ∙ sym z)
       | no ge ↦ absurd (let z = depth-out n k ne (omega arith) in omega arith)
     ]
   ]
 
   -- and back, where every link but the root's leads to a node in use
-  module _ (root : ℕ) (few : t .head .inners ≤ none) (top : innerIn 3 t root .parent ≡ none) (links : (k : ℕ) → k < t .head .inners → k ≢ root → innerIn 3 t k .parent < t .head .inners) where
-    pub dep-depth : (n K k : ℕ) → n < K → k < t .head .inners → dep (treeOf 3 t .body .inner) K k ≤ n → depth t n k ≡ dep (treeOf 3 t .body .inner) K k
+  module _ (root : ℕ) (few : t .head .inners ≤ none) (top : innerIn (stride K) t root .parent ≡ none) (links : (k : ℕ) → k < t .head .inners → k ≢ root → innerIn (stride K) t k .parent < t .head .inners) where
+    pub dep-depth : (n M k : ℕ) → n < M → k < t .head .inners → dep (treeOf (stride K) t .body .inner) M k ≤ n → depth K t n k ≡ dep (treeOf (stride K) t .body .inner) M k
     dep-depth n zero k lt lk h = absurd (omega arith)
-    dep-depth zero (suc K) k lt lk h = absurd (let z = dep-step (treeOf 3 t .body .inner) K k (λ e. omega arith) in omega arith)
-    dep-depth (suc n) (suc K) k lt lk h =
-        let st : dep (treeOf 3 t .body .inner) (suc K) k ≡ suc (dep (treeOf 3 t .body .inner) K (innerIn 3 t k .parent)) = dep-step (treeOf 3 t .body .inner) K k (λ e. omega arith) in
+    dep-depth zero (suc M) k lt lk h = absurd (let z = dep-step (treeOf (stride K) t .body .inner) M k (λ e. omega arith) in omega arith)
+    dep-depth (suc n) (suc M) k lt lk h =
+        let st : dep (treeOf (stride K) t .body .inner) (suc M) k ≡ suc (dep (treeOf (stride K) t .body .inner) M (innerIn (stride K) t k .parent)) = dep-step (treeOf (stride K) t .body .inner) M k (λ e. omega arith) in
         depth-more n k (λ e. omega arith) lk
         ∙ ap suc (elim (ℕ-discrete k root) [
-          | yes e ↦ (let q : innerIn 3 t k .parent ≡ none = ap (λ (j : ℕ). innerIn 3 t j .parent) e ∙ top in depth-none n (innerIn 3 t k .parent) q ∙ sym (ap (dep (treeOf 3 t .body .inner) K) q ∙ dep-none (treeOf 3 t .body .inner) K))
-          | no ne ↦ dep-depth n K (innerIn 3 t k .parent) (omega arith) (links k lk ne) (omega arith)
+          | yes e ↦ (let q : innerIn (stride K) t k .parent ≡ none = ap (λ (j : ℕ). innerIn (stride K) t j .parent) e ∙ top in depth-none n (innerIn (stride K) t k .parent) q ∙ sym (ap (dep (treeOf (stride K) t .body .inner) M) q ∙ dep-none (treeOf (stride K) t .body .inner) M))
+          | no ne ↦ dep-depth n M (innerIn (stride K) t k .parent) (omega arith) (links k lk ne) (omega arith)
         ])
         ∙ sym st
 

@@ -6,6 +6,8 @@ use native.Mathlib.Nat.{not-suc-le-zero}
 use native.Mathlib.Numerals.{add-one}
 use native.Mathlib.Omega.{arith}
 use lib.ListN.{length, getD}
+use Rattle.model.specs.Kind.{stride}
+use Rattle.model.specs.declared.shape.Kind.{Kind}
 use Rattle.model.specs.Lists.{All, sumBy}
 use Rattle.model.specs.Node.{child, lengths, used}
 use Rattle.model.specs.State.{State}
@@ -34,7 +36,7 @@ getD-firsts zero f v h = absurd (not-suc-le-zero h)
 getD-firsts (suc n) f zero h = refl
 getD-firsts (suc n) f (suc v) h = getD-firsts n (λ w. f (suc w)) v (omega arith)
 
-firsts-list : (l : List ℕ) → firsts (length l) (λ v. getD l v 0) ≡ l
+pub firsts-list : (l : List ℕ) → firsts (length l) (λ v. getD l v 0) ≡ l
 unfolding firsts
 firsts-list [] = refl
 firsts-list (x ∷ l) = ap {B = List ℕ} (λ m. x ∷ m) (firsts-list l)
@@ -59,14 +61,14 @@ all-entries n [] w = refl
 all-entries n (x ∷ xs) w = ap₂ _∷_ (entry-is n x (w .0)) (all-entries n xs (w .1))
 
 -- the entries of a sound state are those of its tree's row
-pub entries-row : (t : State) → Neat 3 t → All (λ k. k < t .head .leaves) (leavesReached 3 t) → entriesOf t ≡ map (entryFrom 2) (tree.row (treeOf 3 t))
+pub entries-row : (K : Kind) (t : State) → Neat (stride K) t → All (λ k. k < t .head .leaves) (leavesReached (stride K) t) → entriesOf K t ≡ map (entryFrom (K .views)) (tree.row (treeOf (stride K) t))
 unfolding entriesOf
-entries-row t n h =
-    let xs : List (List ℕ) = slotsIn 3 t (leavesReached 3 t) in
-    let w : Wide 3 xs = subst (Wide 3) (sym (flat-cat (λ k. used (leafIn 3 t k)) (leavesReached 3 t)))
-    (All-cat (λ x. length x ≡ 3) (λ k. used (leafIn 3 t k)) (leavesReached 3 t)
-    (All-map (λ k. k < t .head .leaves) (λ k. Wide 3 (used (leafIn 3 t k))) (λ k lt. n .leaf-tidy k lt .wide) (leavesReached 3 t) h)) in
-    sym (all-entries 2 xs w) ∙ ap (map (entryFrom 2)) (slots-row 3 t)
+entries-row K t n h =
+    let xs : List (List ℕ) = slotsIn (stride K) t (leavesReached (stride K) t) in
+    let w : Wide (stride K) xs = subst (Wide (stride K)) (sym (flat-cat (λ k. used (leafIn (stride K) t k)) (leavesReached (stride K) t)))
+    (All-cat (λ x. length x ≡ stride K) (λ k. used (leafIn (stride K) t k)) (leavesReached (stride K) t)
+    (All-map (λ k. k < t .head .leaves) (λ k. Wide (stride K) (used (leafIn (stride K) t k))) (λ k lt. n .leaf-tidy k lt .wide) (leavesReached (stride K) t) h)) in
+    sym (all-entries (K .views) xs w) ∙ ap (map (entryFrom (K .views))) (slots-row (stride K) t)
 
 -- sums and ids of entries that come from slots
 pub total-entries : (n v : ℕ) (R : List Slot) → v < n → row.total v (map (entryFrom n) R) ≡ sumBy (len v) R

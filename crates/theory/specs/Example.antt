@@ -3,9 +3,10 @@
 use mathlib.Core.Path.{_≡_, refl}
 use mathlib.Core.Bool.{true}
 use mathlib.Core.List.{List, [], _∷_}
-use Prim.Native.Nat.{ℕ, _*_, _≤_}
+use Prim.Native.Nat.{ℕ, _*_, _≤_, _<_}
 use native.Mathlib.Omega.{arith}
 use lib.ListN.{replicate}
+use Rattle.model.specs.Kind.{base}
 use Rattle.model.specs.Lists.{All, refusal}
 use Rattle.model.specs.State.{State}
 use Rattle.model.specs.Row as row
@@ -14,8 +15,6 @@ use Rattle.model.specs.ById.{treeStep}
 use Rattle.model.specs.Sound.{Sound}
 use Rattle.model.specs.Calls.{begun, make, cursor}
 use Rattle.model.specs.Audit.{audit}
-use Rattle.model.specs.declared.length.View.the-variants as view
-use Rattle.model.specs.declared.length.Lengths.{Lengths}
 use Rattle.model.specs.declared.answer.Outcome.the-variants as outcome
 use Rattle.model.specs.declared.answer.Verdict.the-variants as verdict
 use Rattle.theory.specs.Make.{Words}
@@ -25,58 +24,64 @@ use Rattle.theory.specs.Audited.{audit-exactly}
 use Rattle.theory.specs.Steps.{steps, audit-steps}
 use Rattle.theory.specs.Cursors.{StandsAt, cursor-at}
 
-abbrev pair : ℕ → ℕ → Lengths
-pair p e = record { prepare = p; effect = e }
+abbrev pair : ℕ → ℕ → List ℕ
+pair p e = p ∷ e ∷ []
 
 abbrev areaWords : List ℕ
 areaWords = replicate 30 7
 
 abbrev start : State
-start = make 4 5 (pair 3 3) areaWords areaWords (replicate 5 7) .after
+start = make base 4 5 (pair 3 3) areaWords areaWords (replicate 5 7) .after
 
-made : make 4 5 (pair 3 3) areaWords areaWords (replicate 5 7) .answer ≡ outcome.Done
+made : make base 4 5 (pair 3 3) areaWords areaWords (replicate 5 7) .answer ≡ outcome.Done
 unfolding make refusal
 made = refl
 
-first-words : Words (pair 3 3)
-first-words = record { prepare = omega arith; effect = omega arith }
+first-words : Words base (pair 3 3)
+unfolding All
+first-words = record { long = refl; small = omega arith }
+
+-- a pair of words
+two : (p e : ℕ) → p < 4294967296 → e < 4294967296 → Words base (pair p e)
+unfolding All
+two p e a b = record { long = refl; small = (a, (b, tt)) }
 
 -- every kind of call
 abbrev calls : List Call
-calls = row.insert noEntry (pair 2 0) ∷ row.add 0 (pair 0 5) ∷ row.split true 0 (pair 1 1) ∷ row.setLengths 1 (pair 4 0) ∷ row.update 1 (pair 2 0) ∷ row.lookup view.Prepare 3
-    ∷ row.rank view.Effect 1 ∷ row.next 1 ∷ row.compare 0 1 ∷ row.lengths 0 ∷ row.count ∷ row.first ∷ row.malformed ∷ row.reset (pair 1 1) ∷ []
+calls = row.insert noEntry (pair 2 0) ∷ row.add 0 (pair 0 5) ∷ row.split true 0 (pair 1 1) ∷ row.setLengths 1 (pair 4 0) ∷ row.update 1 (pair 2 0) ∷ row.lookup 0 3
+    ∷ row.rank 1 1 ∷ row.next 1 ∷ row.compare 0 1 ∷ row.lengths 0 ∷ row.count ∷ row.first ∷ row.malformed ∷ row.reset (pair 1 1) ∷ []
 
 -- the same, looked up elsewhere
 abbrev calls′ : List Call
-calls′ = row.lookup view.Effect 9 ∷ row.insert noEntry (pair 2 0) ∷ row.add 0 (pair 0 5) ∷ row.split true 0 (pair 1 1) ∷ row.setLengths 1 (pair 4 0) ∷ row.update 1 (pair 2 0)
-    ∷ row.rank view.Effect 1 ∷ row.next 1 ∷ row.compare 0 1 ∷ row.lengths 0 ∷ row.count ∷ row.first ∷ row.malformed ∷ row.reset (pair 1 1) ∷ []
+calls′ = row.lookup 1 9 ∷ row.insert noEntry (pair 2 0) ∷ row.add 0 (pair 0 5) ∷ row.split true 0 (pair 1 1) ∷ row.setLengths 1 (pair 4 0) ∷ row.update 1 (pair 2 0)
+    ∷ row.rank 1 1 ∷ row.next 1 ∷ row.compare 0 1 ∷ row.lengths 0 ∷ row.count ∷ row.first ∷ row.malformed ∷ row.reset (pair 1 1) ∷ []
 
-in-words : All InWords calls
+in-words : All (InWords base) calls
 unfolding All
-in-words = omega arith
+in-words = ((omega arith, two 2 0 (omega arith) (omega arith)), ((omega arith, two 0 5 (omega arith) (omega arith)), ((omega arith, two 1 1 (omega arith) (omega arith)), ((omega arith, two 4 0 (omega arith) (omega arith)), ((omega arith, two 2 0 (omega arith) (omega arith)), ((omega arith, omega arith), ((omega arith, omega arith), (omega arith, ((omega arith, omega arith), (omega arith, (tt, (tt, (tt, (two 1 1 (omega arith) (omega arith), tt))))))))))))))
 
-in-words′ : All InWords calls′
+in-words′ : All (InWords base) calls′
 unfolding All
-in-words′ = omega arith
+in-words′ = ((omega arith, omega arith), ((omega arith, two 2 0 (omega arith) (omega arith)), ((omega arith, two 0 5 (omega arith) (omega arith)), ((omega arith, two 1 1 (omega arith) (omega arith)), ((omega arith, two 4 0 (omega arith) (omega arith)), ((omega arith, two 2 0 (omega arith) (omega arith)), ((omega arith, omega arith), (omega arith, ((omega arith, omega arith), (omega arith, (tt, (tt, (tt, (two 1 1 (omega arith) (omega arith), tt))))))))))))))
 
 -- both lists get the row's answers, and their other calls the same ones
-pub answered : answers treeStep start calls ≡ answers rowStep (madeRow 5 (pair 3 3)) calls
-answered = whole 4 5 (pair 3 3) areaWords areaWords (replicate 5 7) first-words made calls in-words .0
+pub answered : answers (treeStep base) start calls ≡ answers (rowStep base) (madeRow 5 (pair 3 3)) calls
+answered = whole base (omega arith) 4 5 (pair 3 3) areaWords areaWords (replicate 5 7) first-words made calls in-words .0
 
 same-others : others calls ≡ others calls′
 unfolding others
 same-others = refl
 
-pub answered-alike : otherAnswers treeStep start calls ≡ otherAnswers treeStep start calls′
-answered-alike = alike 4 5 (pair 3 3) areaWords areaWords (replicate 5 7) first-words made calls calls′ in-words in-words′ same-others
+pub answered-alike : otherAnswers (treeStep base) start calls ≡ otherAnswers (treeStep base) start calls′
+answered-alike = alike base (omega arith) 4 5 (pair 3 3) areaWords areaWords (replicate 5 7) first-words made calls calls′ in-words in-words′ same-others
 
 -- the tree that make leaves is sound, and audit says so
-pub sound-start : Sound start
+pub sound-start : Sound base start
 unfolding finally All
-sound-start = whole 4 5 (pair 3 3) areaWords areaWords (replicate 5 7) first-words made [] tt .1 .sound
+sound-start = whole base (omega arith) 4 5 (pair 3 3) areaWords areaWords (replicate 5 7) first-words made [] tt .1 .sound
 
-pub audited-start : audit start ≡ verdict.Yes
-audited-start = audit-exactly start .1 sound-start
+pub audited-start : audit base start ≡ verdict.Yes
+audited-start = audit-exactly base start .1 sound-start
 
 -- one leaf, one inner node, fan 4 and one level
 pub steps-start : steps start ≤ 22 * (2 * 4 * 1)
@@ -84,6 +89,6 @@ unfolding make begun refusal
 steps-start = audit-steps start (omega arith) (omega arith) (omega arith) (omega arith)
 
 -- and its entry has a cursor, at which next and split_entry can start
-pub cursor-start : StandsAt start (cursor start 0) 0
+pub cursor-start : StandsAt base start (cursor base start 0) 0
 unfolding make begun refusal
-cursor-start = cursor-at start sound-start 0 (omega arith)
+cursor-start = cursor-at base (omega arith) start sound-start 0 (omega arith)

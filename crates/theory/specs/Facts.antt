@@ -9,6 +9,8 @@ use native.Mathlib.Omega.{arith}
 use lib.Dec.{ltb, leb, eqb}
 use lib.ListN.{getD}
 use borrow.Author.Tests.{eqb-true, eq-eqb, ne-eqb, le-leb, leb-true, lt-ltb, ltb-true}
+use Rattle.model.specs.Kind.{stride}
+use Rattle.model.specs.declared.shape.Kind.{Kind}
 use Rattle.model.specs.Lists.{sumBy, range}
 use Rattle.model.specs.Node.{Node, none, child, lengthIn, total, used}
 use Rattle.model.specs.Node as node
@@ -25,11 +27,11 @@ use Rattle.laws.specs.Nodes.{Formed}
 use Rattle.theory.specs.Tests.{both, join, every-at, every-of, FilledBy, filled-by, filled-test}
 
 -- both views
-views-at : (q : ℕ → Bool) → every q 0 2 ≡ true → (v : ℕ) → v < 2 → q v ≡ true
-views-at q e v lv = every-at q 0 2 e v (omega arith) (omega arith)
+views-at : (n : ℕ) (q : ℕ → Bool) → every q 0 n ≡ true → (v : ℕ) → v < n → q v ≡ true
+views-at n q e v lv = every-at q 0 n e v (omega arith) (omega arith)
 
-views-of : (q : ℕ → Bool) → ((v : ℕ) → v < 2 → q v ≡ true) → every q 0 2 ≡ true
-views-of q h = every-of q 0 2 (λ v lo hi. h v (omega arith))
+views-of : (n : ℕ) (q : ℕ → Bool) → ((v : ℕ) → v < n → q v ≡ true) → every q 0 n ≡ true
+views-of n q h = every-of q 0 n (λ v lo hi. h v (omega arith))
 
 -- a child that no earlier slot holds
 new-at : (n : Node) (i c : ℕ) → every (isOther n c) 0 i ≡ true → (j : ℕ) → j < i → child (getD (n .slots) j []) ≢ c
@@ -45,32 +47,32 @@ is-sum : (n : ℕ) (s : Sum) → isSum n s ≡ true → s ≡ sum.Is n
 is-sum n (sum.Is m) e = ap sum.Is (sym (eqb-true n m e))
 is-sum n sum.Broken e = absurd (let z : _≡_ {A = ℕ} 0 1 = cc in omega arith)
 
-module _ (t : State) where
+module _ (K : Kind) (t : State) where
   pub record HeldBy (k : ℕ) (n : Node) : Type 0 where
     pub parent : n .parent < t .head .inners
-    pub at : n .at < innerIn 3 t (n .parent) .len
-    pub most : innerIn 3 t (n .parent) .len ≤ t .head .fan
-    pub child : child (getD (innerIn 3 t (n .parent) .slots) (n .at) []) ≡ k
+    pub at : n .at < innerIn (stride K) t (n .parent) .len
+    pub most : innerIn (stride K) t (n .parent) .len ≤ t .head .fan
+    pub child : child (getD (innerIn (stride K) t (n .parent) .slots) (n .at) []) ≡ k
 
   pub record ChildBy (area : ℕ → Node) (count k i : ℕ) (x : List ℕ) : Type 0 where
     pub below : child x < count
     pub parent : area (child x) .parent ≡ k
     pub at : area (child x) .at ≡ i
-    pub sums : (v : ℕ) → v < 2 → lengthIn v x ≡ total v (used (area (child x)))
+    pub sums : (v : ℕ) → v < K .views → lengthIn v x ≡ total v (used (area (child x)))
 
   abbrev pub areaBy : Bool → ℕ → Node
-  areaBy lowest = cond lowest (leafIn 3 t) (innerIn 3 t)
+  areaBy lowest = cond lowest (leafIn (stride K) t) (innerIn (stride K) t)
 
   abbrev pub countBy : Bool → ℕ
   countBy lowest = cond lowest (t .head .leaves) (t .head .inners)
 
   pub record InnerBy (k : ℕ) : Type 0 where
-    pub some : 1 ≤ depthOf t k
-    pub deep : depthOf t k ≤ t .head .levels
-    pub filled : FilledBy t (leastInner 3 t k) (innerIn 3 t k)
-    pub root : k ≡ t .head .root .0 → (innerIn 3 t k .parent ≡ none) × (innerIn 3 t k .at ≡ 0)
-    pub held : k ≢ t .head .root .0 → HeldBy k (innerIn 3 t k)
-    pub kids : (i : ℕ) → i < innerIn 3 t k .len → ChildBy (areaBy (eqb (depthOf t k) (t .head .levels))) (countBy (eqb (depthOf t k) (t .head .levels))) k i (getD (innerIn 3 t k .slots) i [])
+    pub some : 1 ≤ depthOf K t k
+    pub deep : depthOf K t k ≤ t .head .levels
+    pub filled : FilledBy K t (leastInner (stride K) t k) (innerIn (stride K) t k)
+    pub root : k ≡ t .head .root .0 → (innerIn (stride K) t k .parent ≡ none) × (innerIn (stride K) t k .at ≡ 0)
+    pub held : k ≢ t .head .root .0 → HeldBy k (innerIn (stride K) t k)
+    pub kids : (i : ℕ) → i < innerIn (stride K) t k .len → ChildBy (areaBy (eqb (depthOf K t k) (t .head .levels))) (countBy (eqb (depthOf K t k) (t .head .levels))) k i (getD (innerIn (stride K) t k .slots) i [])
 
   pub record EntryBy (k : ℕ) (n : Node) (i : ℕ) : Type 0 where
     pub below : child (getD (n .slots) i []) < t .head .entries
@@ -78,19 +80,19 @@ module _ (t : State) where
     pub alone : (j : ℕ) → j < i → child (getD (n .slots) j []) ≢ child (getD (n .slots) i [])
 
   pub record LeafBy (k : ℕ) : Type 0 where
-    pub filled : FilledBy t (leastLeaf 3 t) (leafIn 3 t k)
-    pub held : HeldBy k (leafIn 3 t k)
-    pub deep : depthOf t (leafIn 3 t k .parent) ≡ t .head .levels
-    pub entries : (i : ℕ) → i < leafIn 3 t k .len → EntryBy k (leafIn 3 t k) i
+    pub filled : FilledBy K t (leastLeaf (stride K) t) (leafIn (stride K) t k)
+    pub held : HeldBy k (leafIn (stride K) t k)
+    pub deep : depthOf K t (leafIn (stride K) t k .parent) ≡ t .head .levels
+    pub entries : (i : ℕ) → i < leafIn (stride K) t k .len → EntryBy k (leafIn (stride K) t k) i
 
   pub record FingerBy (f : Finger) : Type 0 where
-    pub view : f .view < 2
+    pub view : f .view < K .views
     pub leaf : f .leaf < t .head .leaves
-    pub slot : f .slot < leafIn 3 t (f .leaf) .len
-    pub start : leafStart t (f .view) (leafIn 3 t (f .leaf)) ≡ sum.Is (f .start)
-    pub effect : leafStart t 1 (leafIn 3 t (f .leaf)) ≡ sum.Is (f .effect)
-    pub within : f .within ≡ node.start (f .view) (f .slot) (leafIn 3 t (f .leaf))
-    pub effectWithin : f .«effect_within» ≡ node.start 1 (f .slot) (leafIn 3 t (f .leaf))
+    pub slot : f .slot < leafIn (stride K) t (f .leaf) .len
+    pub start : leafStart K t (f .view) (leafIn (stride K) t (f .leaf)) ≡ sum.Is (f .start)
+    pub effect : leafStart K t (K .effect) (leafIn (stride K) t (f .leaf)) ≡ sum.Is (f .effect)
+    pub within : f .within ≡ node.start (f .view) (f .slot) (leafIn (stride K) t (f .leaf))
+    pub effectWithin : f .«effect_within» ≡ node.start (K .effect) (f .slot) (leafIn (stride K) t (f .leaf))
 
   abbrev pub HandBy : Held → Type 0
   HandBy held.Absent = Unit {0}
@@ -98,21 +100,21 @@ module _ (t : State) where
 
   pub record SoundBy : Type 0 where
     pub entry-count : t .head .entries ≤ t .head .limit
-    pub leaf-count : t .head .leaves ≤ shapeIn 3 t .nodes
-    pub inner-count : t .head .inners ≤ shapeIn 3 t .nodes
+    pub leaf-count : t .head .leaves ≤ shapeIn (stride K) t .nodes
+    pub inner-count : t .head .inners ≤ shapeIn (stride K) t .nodes
     pub some : 1 ≤ t .head .levels
     pub shallow : t .head .levels ≤ 15
     pub root-in : t .head .root .0 < t .head .inners
     pub inner : (k : ℕ) → k < t .head .inners → InnerBy k
     pub leaf : (k : ℕ) → k < t .head .leaves → LeafBy k
-    pub count : sumBy (λ k. leafIn 3 t k .len) (range 0 (t .head .leaves)) ≡ t .head .entries
-    pub totals : (v : ℕ) → v < 2 → totalOf t v ≤ 4294967295
+    pub count : sumBy (λ k. leafIn (stride K) t k .len) (range 0 (t .head .leaves)) ≡ t .head .entries
+    pub totals : (v : ℕ) → v < K .views → totalOf K t v ≤ 4294967295
     pub finger : HandBy (t .head .finger)
 
-  held-by : (k : ℕ) (n : Node) → isHeld t k n ≡ true → HeldBy k n
+  held-by : (k : ℕ) (n : Node) → isHeld K t k n ≡ true → HeldBy k n
   unfolding isHeld
   held-by k n e =
-      let p : Node = innerIn 3 t (n .parent) in
+      let p : Node = innerIn (stride K) t (n .parent) in
       let a : Bool = ltb (n .parent) (t .head .inners) in
       let b : Bool = ltb (n .at) (p .len) in
       let c : Bool = leb (p .len) (t .head .fan) in
@@ -121,38 +123,38 @@ module _ (t : State) where
       let u = both a b (s .0) in
       record { parent = ltb-true (n .parent) (t .head .inners) (u .0); at = ltb-true (n .at) (p .len) (u .1); most = leb-true (p .len) (t .head .fan) (s .1); child = eqb-true (child (getD (p .slots) (n .at) [])) k (r .1) }
 
-  held-test : (k : ℕ) (n : Node) → HeldBy k n → isHeld t k n ≡ true
+  held-test : (k : ℕ) (n : Node) → HeldBy k n → isHeld K t k n ≡ true
   unfolding isHeld
-  held-test k n h = rw (lt-ltb (n .parent) (t .head .inners) (h .parent), lt-ltb (n .at) (innerIn 3 t (n .parent) .len) (h .at), le-leb (innerIn 3 t (n .parent) .len) (t .head .fan) (h .most), eq-eqb (child (getD (innerIn 3 t (n .parent) .slots) (n .at) [])) k (h .child))
+  held-test k n h = rw (lt-ltb (n .parent) (t .head .inners) (h .parent), lt-ltb (n .at) (innerIn (stride K) t (n .parent) .len) (h .at), le-leb (innerIn (stride K) t (n .parent) .len) (t .head .fan) (h .most), eq-eqb (child (getD (innerIn (stride K) t (n .parent) .slots) (n .at) [])) k (h .child))
 
-  child-by : (area : ℕ → Node) (count k i : ℕ) (x : List ℕ) → isChild t area count k i x ≡ true → ChildBy area count k i x
+  child-by : (area : ℕ → Node) (count k i : ℕ) (x : List ℕ) → isChild K t area count k i x ≡ true → ChildBy area count k i x
   unfolding isChild
   child-by area count k i x e =
       let n : Node = area (child x) in
       let q : ℕ → Bool = λ v. eqb (lengthIn v x) (total v (used n)) in
-      let r = both (ltb (child x) count && eqb (n .parent) k && eqb (n .at) i) (every q 0 2) e in
+      let r = both (ltb (child x) count && eqb (n .parent) k && eqb (n .at) i) (every q 0 (K .views)) e in
       let s = both (ltb (child x) count && eqb (n .parent) k) (eqb (n .at) i) (r .0) in
       let u = both (ltb (child x) count) (eqb (n .parent) k) (s .0) in
-      record { below = ltb-true (child x) count (u .0); parent = eqb-true (n .parent) k (u .1); at = eqb-true (n .at) i (s .1); sums = λ v lv. eqb-true (lengthIn v x) (total v (used n)) (views-at q (r .1) v lv) }
+      record { below = ltb-true (child x) count (u .0); parent = eqb-true (n .parent) k (u .1); at = eqb-true (n .at) i (s .1); sums = λ v lv. eqb-true (lengthIn v x) (total v (used n)) (views-at (K .views) q (r .1) v lv) }
 
-  child-test : (area : ℕ → Node) (count k i : ℕ) (x : List ℕ) → ChildBy area count k i x → isChild t area count k i x ≡ true
+  child-test : (area : ℕ → Node) (count k i : ℕ) (x : List ℕ) → ChildBy area count k i x → isChild K t area count k i x ≡ true
   unfolding isChild
   child-test area count k i x h =
       let n : Node = area (child x) in
       let q : ℕ → Bool = λ v. eqb (lengthIn v x) (total v (used n)) in
-      rw (lt-ltb (child x) count (h .below), eq-eqb (n .parent) k (h .parent), eq-eqb (n .at) i (h .at)) (views-of q (λ v lv. eq-eqb (lengthIn v x) (total v (used n)) (h .sums v lv)))
+      rw (lt-ltb (child x) count (h .below), eq-eqb (n .parent) k (h .parent), eq-eqb (n .at) i (h .at)) (views-of (K .views) q (λ v lv. eq-eqb (lengthIn v x) (total v (used n)) (h .sums v lv)))
 
-  inner-by : (k : ℕ) → Formed 3 (t .head .fan) (innerIn 3 t k) → isInner t k ≡ true → InnerBy k
+  inner-by : (k : ℕ) → Formed (stride K) (t .head .fan) (innerIn (stride K) t k) → isInner K t k ≡ true → InnerBy k
   unfolding isInner
   inner-by k f e =
-      let n : Node = innerIn 3 t k in
-      let d : ℕ = depthOf t k in
+      let n : Node = innerIn (stride K) t k in
+      let d : ℕ = depthOf K t k in
       let low : Bool = eqb d (t .head .levels) in
-      let root : Bool = cond (eqb k (t .head .root .0)) (eqb (n .parent) none && eqb (n .at) 0) (isHeld t k n) in
-      let q : ℕ → Bool = λ i. isChild t (areaBy low) (countBy low) k i (getD (n .slots) i []) in
+      let root : Bool = cond (eqb k (t .head .root .0)) (eqb (n .parent) none && eqb (n .at) 0) (isHeld K t k n) in
+      let q : ℕ → Bool = λ i. isChild K t (areaBy low) (countBy low) k i (getD (n .slots) i []) in
       let a : Bool = leb 1 d in
       let b : Bool = leb d (t .head .levels) in
-      let c : Bool = isFilled t (leastInner 3 t k) n in
+      let c : Bool = isFilled K t (leastInner (stride K) t k) n in
       let r = both (a && b && c && root) (every q 0 (n .len)) e in
       let s = both (a && b && c) root (r .0) in
       let u = both (a && b) c (s .0) in
@@ -160,28 +162,28 @@ module _ (t : State) where
       record {
         some = leb-true 1 d (w .0);
         deep = leb-true d (t .head .levels) (w .1);
-        filled = filled-by t (leastInner 3 t k) n f (u .1);
+        filled = filled-by K t (leastInner (stride K) t k) n f (u .1);
         root = λ p. (let z = both (eqb (n .parent) none) (eqb (n .at) 0) (rw (eq-eqb k (t .head .root .0) p) at (s .1)) in (eqb-true (n .parent) none (z .0), eqb-true (n .at) 0 (z .1)));
         held = λ ne. held-by k n (rw (ne-eqb k (t .head .root .0) ne) at (s .1));
         kids = λ i li. child-by (areaBy low) (countBy low) k i (getD (n .slots) i []) (every-at q 0 (n .len) (r .1) i (omega arith) (omega arith));
       }
 
-  inner-test : (k : ℕ) → InnerBy k → isInner t k ≡ true
+  inner-test : (k : ℕ) → InnerBy k → isInner K t k ≡ true
   unfolding isInner
   inner-test k h =
-      let n : Node = innerIn 3 t k in
-      let d : ℕ = depthOf t k in
+      let n : Node = innerIn (stride K) t k in
+      let d : ℕ = depthOf K t k in
       let low : Bool = eqb d (t .head .levels) in
-      let q : ℕ → Bool = λ i. isChild t (areaBy low) (countBy low) k i (getD (n .slots) i []) in
-      rw (le-leb 1 d (h .some), le-leb d (t .head .levels) (h .deep), filled-test t (leastInner 3 t k) n (h .filled))
-      (join (cond (eqb k (t .head .root .0)) (eqb (n .parent) none && eqb (n .at) 0) (isHeld t k n)) (every q 0 (n .len)) (rooted (ℕ-discrete k (t .head .root .0)))
+      let q : ℕ → Bool = λ i. isChild K t (areaBy low) (countBy low) k i (getD (n .slots) i []) in
+      rw (le-leb 1 d (h .some), le-leb d (t .head .levels) (h .deep), filled-test K t (leastInner (stride K) t k) n (h .filled))
+      (join (cond (eqb k (t .head .root .0)) (eqb (n .parent) none && eqb (n .at) 0) (isHeld K t k n)) (every q 0 (n .len)) (rooted (ℕ-discrete k (t .head .root .0)))
       (every-of q 0 (n .len) (λ i lo hi. child-test (areaBy low) (countBy low) k i (getD (n .slots) i []) (h .kids i (omega arith)))))
     where
-      rooted : Dec (k ≡ t .head .root .0) → cond (eqb k (t .head .root .0)) (eqb (innerIn 3 t k .parent) none && eqb (innerIn 3 t k .at) 0) (isHeld t k (innerIn 3 t k)) ≡ true
-      rooted (yes p) = rw (eq-eqb k (t .head .root .0) p, eq-eqb (innerIn 3 t k .parent) none (h .root p .0), eq-eqb (innerIn 3 t k .at) 0 (h .root p .1))
-      rooted (no ne) = rw (ne-eqb k (t .head .root .0) ne) (held-test k (innerIn 3 t k) (h .held ne))
+      rooted : Dec (k ≡ t .head .root .0) → cond (eqb k (t .head .root .0)) (eqb (innerIn (stride K) t k .parent) none && eqb (innerIn (stride K) t k .at) 0) (isHeld K t k (innerIn (stride K) t k)) ≡ true
+      rooted (yes p) = rw (eq-eqb k (t .head .root .0) p, eq-eqb (innerIn (stride K) t k .parent) none (h .root p .0), eq-eqb (innerIn (stride K) t k .at) 0 (h .root p .1))
+      rooted (no ne) = rw (ne-eqb k (t .head .root .0) ne) (held-test k (innerIn (stride K) t k) (h .held ne))
 
-  entry-by : (k : ℕ) (n : Node) (i : ℕ) → isEntry t k n i ≡ true → EntryBy k n i
+  entry-by : (k : ℕ) (n : Node) (i : ℕ) → isEntry K t k n i ≡ true → EntryBy k n i
   unfolding isEntry
   entry-by k n i e =
       let id : ℕ = child (getD (n .slots) i []) in
@@ -189,47 +191,47 @@ module _ (t : State) where
       let s = both (ltb id (t .head .entries)) (eqb (getD (t .homes) id 0) k) (r .0) in
       record { below = ltb-true id (t .head .entries) (s .0); home = eqb-true (getD (t .homes) id 0) k (s .1); alone = new-at n i id (r .1) }
 
-  entry-test : (k : ℕ) (n : Node) (i : ℕ) → EntryBy k n i → isEntry t k n i ≡ true
+  entry-test : (k : ℕ) (n : Node) (i : ℕ) → EntryBy k n i → isEntry K t k n i ≡ true
   unfolding isEntry
   entry-test k n i h =
       let id : ℕ = child (getD (n .slots) i []) in
       rw (lt-ltb id (t .head .entries) (h .below), eq-eqb (getD (t .homes) id 0) k (h .home)) (new-of n i id (h .alone))
 
-  leaf-by : (k : ℕ) → Formed 3 (t .head .fan) (leafIn 3 t k) → isLeaf t k ≡ true → LeafBy k
+  leaf-by : (k : ℕ) → Formed (stride K) (t .head .fan) (leafIn (stride K) t k) → isLeaf K t k ≡ true → LeafBy k
   unfolding isLeaf
   leaf-by k f e =
-      let n : Node = leafIn 3 t k in
-      let a : Bool = isFilled t (leastLeaf 3 t) n in
-      let b : Bool = isHeld t k n in
-      let c : Bool = eqb (depthOf t (n .parent)) (t .head .levels) in
-      let r = both (a && b && c) (every (isEntry t k n) 0 (n .len)) e in
+      let n : Node = leafIn (stride K) t k in
+      let a : Bool = isFilled K t (leastLeaf (stride K) t) n in
+      let b : Bool = isHeld K t k n in
+      let c : Bool = eqb (depthOf K t (n .parent)) (t .head .levels) in
+      let r = both (a && b && c) (every (isEntry K t k n) 0 (n .len)) e in
       let s = both (a && b) c (r .0) in
       let u = both a b (s .0) in
       record {
-        filled = filled-by t (leastLeaf 3 t) n f (u .0);
+        filled = filled-by K t (leastLeaf (stride K) t) n f (u .0);
         held = held-by k n (u .1);
-        deep = eqb-true (depthOf t (n .parent)) (t .head .levels) (s .1);
-        entries = λ i li. entry-by k n i (every-at (isEntry t k n) 0 (n .len) (r .1) i (omega arith) (omega arith));
+        deep = eqb-true (depthOf K t (n .parent)) (t .head .levels) (s .1);
+        entries = λ i li. entry-by k n i (every-at (isEntry K t k n) 0 (n .len) (r .1) i (omega arith) (omega arith));
       }
 
-  leaf-test : (k : ℕ) → LeafBy k → isLeaf t k ≡ true
+  leaf-test : (k : ℕ) → LeafBy k → isLeaf K t k ≡ true
   unfolding isLeaf
   leaf-test k h =
-      let n : Node = leafIn 3 t k in
-      rw (filled-test t (leastLeaf 3 t) n (h .filled), held-test k n (h .held), eq-eqb (depthOf t (n .parent)) (t .head .levels) (h .deep))
-      (every-of (isEntry t k n) 0 (n .len) (λ i lo hi. entry-test k n i (h .entries i (omega arith))))
+      let n : Node = leafIn (stride K) t k in
+      rw (filled-test K t (leastLeaf (stride K) t) n (h .filled), held-test k n (h .held), eq-eqb (depthOf K t (n .parent)) (t .head .levels) (h .deep))
+      (every-of (isEntry K t k n) 0 (n .len) (λ i lo hi. entry-test k n i (h .entries i (omega arith))))
 
-  finger-by : (f : Finger) → isFinger t f ≡ true → FingerBy f
+  finger-by : (f : Finger) → isFinger K t f ≡ true → FingerBy f
   unfolding isFinger
   finger-by f e =
-      let n : Node = leafIn 3 t (f .leaf) in
-      let a : Bool = ltb (f .view) 2 in
+      let n : Node = leafIn (stride K) t (f .leaf) in
+      let a : Bool = ltb (f .view) (K .views) in
       let b : Bool = ltb (f .leaf) (t .head .leaves) in
       let c : Bool = ltb (f .slot) (n .len) in
-      let d : Bool = isSum (f .start) (leafStart t (f .view) n) in
-      let g : Bool = isSum (f .effect) (leafStart t 1 n) in
+      let d : Bool = isSum (f .start) (leafStart K t (f .view) n) in
+      let g : Bool = isSum (f .effect) (leafStart K t (K .effect) n) in
       let h : Bool = eqb (f .within) (node.start (f .view) (f .slot) n) in
-      let i : Bool = eqb (f .«effect_within») (node.start 1 (f .slot) n) in
+      let i : Bool = eqb (f .«effect_within») (node.start (K .effect) (f .slot) n) in
       let r1 = both (a && b && c && d && g && h) i e in
       let r2 = both (a && b && c && d && g) h (r1 .0) in
       let r3 = both (a && b && c && d) g (r2 .0) in
@@ -237,21 +239,21 @@ module _ (t : State) where
       let r5 = both (a && b) c (r4 .0) in
       let r6 = both a b (r5 .0) in
       record {
-        view = ltb-true (f .view) 2 (r6 .0);
+        view = ltb-true (f .view) (K .views) (r6 .0);
         leaf = ltb-true (f .leaf) (t .head .leaves) (r6 .1);
         slot = ltb-true (f .slot) (n .len) (r5 .1);
-        start = is-sum (f .start) (leafStart t (f .view) n) (r4 .1);
-        effect = is-sum (f .effect) (leafStart t 1 n) (r3 .1);
+        start = is-sum (f .start) (leafStart K t (f .view) n) (r4 .1);
+        effect = is-sum (f .effect) (leafStart K t (K .effect) n) (r3 .1);
         within = eqb-true (f .within) (node.start (f .view) (f .slot) n) (r2 .1);
-        effectWithin = eqb-true (f .«effect_within») (node.start 1 (f .slot) n) (r1 .1);
+        effectWithin = eqb-true (f .«effect_within») (node.start (K .effect) (f .slot) n) (r1 .1);
       }
 
-  finger-test : (f : Finger) → FingerBy f → isFinger t f ≡ true
+  finger-test : (f : Finger) → FingerBy f → isFinger K t f ≡ true
   unfolding isFinger
   finger-test f h =
-      let n : Node = leafIn 3 t (f .leaf) in
+      let n : Node = leafIn (stride K) t (f .leaf) in
       rw (
-        lt-ltb (f .view) 2 (h .view),
+        lt-ltb (f .view) (K .views) (h .view),
         lt-ltb (f .leaf) (t .head .leaves) (h .leaf),
         lt-ltb (f .slot) (n .len) (h .slot),
         h .start,
@@ -259,35 +261,35 @@ module _ (t : State) where
         eq-eqb (f .start) (f .start) refl,
         eq-eqb (f .effect) (f .effect) refl,
         eq-eqb (f .within) (node.start (f .view) (f .slot) n) (h .within),
-        eq-eqb (f .«effect_within») (node.start 1 (f .slot) n) (h .effectWithin),
+        eq-eqb (f .«effect_within») (node.start (K .effect) (f .slot) n) (h .effectWithin),
       )
 
-  hand-by : (h : Held) → isHeldFinger t h ≡ true → HandBy h
+  hand-by : (h : Held) → isHeldFinger K t h ≡ true → HandBy h
   hand-by held.Absent e = tt
   hand-by (held.At f) e = finger-by f e
 
-  hand-test : (h : Held) → HandBy h → isHeldFinger t h ≡ true
+  hand-test : (h : Held) → HandBy h → isHeldFinger K t h ≡ true
   hand-test held.Absent h = refl
   hand-test (held.At f) h = finger-test f h
 
-  module _ (inners : (k : ℕ) → k < shapeIn 3 t .nodes → Formed 3 (t .head .fan) (innerIn 3 t k)) (leaves : (k : ℕ) → k < shapeIn 3 t .nodes → Formed 3 (t .head .fan) (leafIn 3 t k)) where
-    pub sound-by : isSound t ≡ true → SoundBy
+  module _ (inners : (k : ℕ) → k < shapeIn (stride K) t .nodes → Formed (stride K) (t .head .fan) (innerIn (stride K) t k)) (leaves : (k : ℕ) → k < shapeIn (stride K) t .nodes → Formed (stride K) (t .head .fan) (leafIn (stride K) t k)) where
+    pub sound-by : isSound K t ≡ true → SoundBy
     unfolding isSound
     sound-by e =
         let h = t .head in
-        let g = shapeIn 3 t in
+        let g = shapeIn (stride K) t in
         let a1 : Bool = leb (h .entries) (h .limit) in
         let a2 : Bool = leb (h .leaves) (g .nodes) in
         let a3 : Bool = leb (h .inners) (g .nodes) in
         let a4 : Bool = leb 1 (h .levels) in
         let a5 : Bool = leb (h .levels) 15 in
         let a6 : Bool = ltb (h .root .0) (h .inners) in
-        let a7 : Bool = every (isInner t) 0 (h .inners) in
-        let a8 : Bool = every (isLeaf t) 0 (h .leaves) in
-        let a9 : Bool = eqb (sumBy (λ k. leafIn 3 t k .len) (range 0 (h .leaves))) (h .entries) in
-        let q : ℕ → Bool = λ v. leb (totalOf t v) 4294967295 in
-        let b10 = both (a1 && a2 && a3 && a4 && a5 && a6 && a7 && a8 && a9 && every q 0 2) (isHeldFinger t (h .finger)) e in
-        let b9 = both (a1 && a2 && a3 && a4 && a5 && a6 && a7 && a8 && a9) (every q 0 2) (b10 .0) in
+        let a7 : Bool = every (isInner K t) 0 (h .inners) in
+        let a8 : Bool = every (isLeaf K t) 0 (h .leaves) in
+        let a9 : Bool = eqb (sumBy (λ k. leafIn (stride K) t k .len) (range 0 (h .leaves))) (h .entries) in
+        let q : ℕ → Bool = λ v. leb (totalOf K t v) 4294967295 in
+        let b10 = both (a1 && a2 && a3 && a4 && a5 && a6 && a7 && a8 && a9 && every q 0 (K .views)) (isHeldFinger K t (h .finger)) e in
+        let b9 = both (a1 && a2 && a3 && a4 && a5 && a6 && a7 && a8 && a9) (every q 0 (K .views)) (b10 .0) in
         let b8 = both (a1 && a2 && a3 && a4 && a5 && a6 && a7 && a8) a9 (b9 .0) in
         let b7 = both (a1 && a2 && a3 && a4 && a5 && a6 && a7) a8 (b8 .0) in
         let b6 = both (a1 && a2 && a3 && a4 && a5 && a6) a7 (b7 .0) in
@@ -305,19 +307,19 @@ module _ (t : State) where
           some = leb-true 1 (h .levels) (b3 .1);
           shallow = leb-true (h .levels) 15 (b4 .1);
           root-in = ltb-true (h .root .0) (h .inners) (b5 .1);
-          inner = λ k lt. inner-by k (inners k (omega arith)) (every-at (isInner t) 0 (h .inners) (b6 .1) k (omega arith) (omega arith));
-          leaf = λ k lt. leaf-by k (leaves k (omega arith)) (every-at (isLeaf t) 0 (h .leaves) (b7 .1) k (omega arith) (omega arith));
-          count = eqb-true (sumBy (λ k. leafIn 3 t k .len) (range 0 (h .leaves))) (h .entries) (b8 .1);
-          totals = λ v lv. leb-true (totalOf t v) 4294967295 (views-at q (b9 .1) v lv);
+          inner = λ k lt. inner-by k (inners k (omega arith)) (every-at (isInner K t) 0 (h .inners) (b6 .1) k (omega arith) (omega arith));
+          leaf = λ k lt. leaf-by k (leaves k (omega arith)) (every-at (isLeaf K t) 0 (h .leaves) (b7 .1) k (omega arith) (omega arith));
+          count = eqb-true (sumBy (λ k. leafIn (stride K) t k .len) (range 0 (h .leaves))) (h .entries) (b8 .1);
+          totals = λ v lv. leb-true (totalOf K t v) 4294967295 (views-at (K .views) q (b9 .1) v lv);
           finger = hand-by (h .finger) (b10 .1);
         }
 
-  pub sound-test : SoundBy → isSound t ≡ true
+  pub sound-test : SoundBy → isSound K t ≡ true
   unfolding isSound
   sound-test s =
       let h = t .head in
-      let g = shapeIn 3 t in
-      let q : ℕ → Bool = λ v. leb (totalOf t v) 4294967295 in
+      let g = shapeIn (stride K) t in
+      let q : ℕ → Bool = λ v. leb (totalOf K t v) 4294967295 in
       rw (
         le-leb (h .entries) (h .limit) (s .entry-count),
         le-leb (h .leaves) (g .nodes) (s .leaf-count),
@@ -325,9 +327,9 @@ module _ (t : State) where
         le-leb 1 (h .levels) (s .some),
         le-leb (h .levels) 15 (s .shallow),
         lt-ltb (h .root .0) (h .inners) (s .root-in),
-        every-of (isInner t) 0 (h .inners) (λ k lo hi. inner-test k (s .inner k (omega arith))),
-        every-of (isLeaf t) 0 (h .leaves) (λ k lo hi. leaf-test k (s .leaf k (omega arith))),
-        eq-eqb (sumBy (λ k. leafIn 3 t k .len) (range 0 (h .leaves))) (h .entries) (s .count),
-        views-of q (λ v lv. le-leb (totalOf t v) 4294967295 (s .totals v lv)),
+        every-of (isInner K t) 0 (h .inners) (λ k lo hi. inner-test k (s .inner k (omega arith))),
+        every-of (isLeaf K t) 0 (h .leaves) (λ k lo hi. leaf-test k (s .leaf k (omega arith))),
+        eq-eqb (sumBy (λ k. leafIn (stride K) t k .len) (range 0 (h .leaves))) (h .entries) (s .count),
+        views-of (K .views) q (λ v lv. le-leb (totalOf K t v) 4294967295 (s .totals v lv)),
       )
       (hand-test (h .finger) (s .finger))

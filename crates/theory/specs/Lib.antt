@@ -8,6 +8,7 @@ pub mod Neat
 pub mod Down
 pub mod Up
 pub mod Entries
+pub mod Views
 pub mod Open
 pub mod Way
 pub mod Edge

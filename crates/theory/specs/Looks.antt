@@ -5,8 +5,9 @@ use mathlib.Core.List.{[], _∷_, _++_, map}
 use Prim.Native.Nat.{ℕ, suc, _+_, _%_, _^_, _≤_, _<_}
 use native.Mathlib.Decide.{decLt}
 use native.Mathlib.Omega.{arith}
+use Rattle.model.specs.Kind.{stride}
+use Rattle.model.specs.declared.shape.Kind.{Kind}
 use Rattle.model.specs.Lists.{sumBy, refusal}
-use Rattle.model.specs.Length.{viewNumber}
 use Rattle.model.specs.Node.{child}
 use Rattle.model.specs.State.{State, state}
 use Rattle.model.specs.Locate.{finger, effectAt, servedBy, fromRoot}
@@ -17,7 +18,6 @@ use Rattle.model.specs.Sound.{leafIn, shapeIn, Sound, entriesOf}
 use Rattle.model.specs.Refuse.{opening}
 use Rattle.model.specs.Calls as calls
 use Rattle.model.specs.ById.{idAnswer, locatedAnswer, treeStep}
-use Rattle.model.specs.declared.length.View.{View}
 use Rattle.model.specs.declared.shape.Found.the-variants.{At, Nothing}
 use Rattle.model.specs.declared.head.Finger.{Finger}
 use Rattle.model.specs.declared.head.Held.the-variants as held
@@ -39,7 +39,7 @@ use Rattle.theory.specs.Down.{body-of, sound-of}
 use Rattle.theory.specs.Up.{sound-up}
 use Rattle.theory.specs.Entries.{getD-firsts, entryFrom, total-entries, split-entries}
 use Rattle.theory.specs.Open.{passed, opens}
-use Rattle.theory.specs.Read.{id-at, view-in}
+use Rattle.theory.specs.Read.{id-at}
 use Rattle.theory.specs.Agree.{Agrees, rowOf, own, entries-are}
 use Rattle.theory.specs.Lookup.{Got, servedBy-is, searched, root-hit, root-miss}
 
@@ -47,10 +47,10 @@ use Rattle.theory.specs.Lookup.{Got, servedBy-is, searched, root-hit, ro
 abbrev pub fingered : State → Finger → State
 fingered t f = state (withFinger (held.At f) (t .head)) (t .leaves) (t .inners) (t .homes)
 
-module _ (t : State) (w : Sound t) where
-  body-fingered : (f : Finger) → Body (treeOf 3 (fingered t f))
+module _ (K : Kind) (ok : K .effect < K .views) (t : State) (w : Sound K t) where
+  body-fingered : (f : Finger) → Body (treeOf (stride K) (fingered t f))
   body-fingered f =
-      let b : Body (treeOf 3 t) = body-of 3 t 1 w in
+      let b : Body (treeOf (stride K) t) = body-of (stride K) t (K .effect) w in
       record {
         fan-low = b .fan-low;
         fan-high = b .fan-high;
@@ -77,10 +77,10 @@ module _ (t : State) (w : Sound t) where
         totals = b .totals;
       }
 
-  pub sound-fingered : (f : Finger) → suc (f .view) < 3 → tree.FingerRight 1 (treeOf 3 t) f → Sound (fingered t f)
+  pub sound-fingered : (f : Finger) → suc (f .view) < stride K → tree.FingerRight (K .effect) (treeOf (stride K) t) f → Sound K (fingered t f)
   sound-fingered f lv r =
-      let n : Neat 3 t = neat-of 3 t 1 w in
-      sound-up 3 (fingered t f) 1
+      let n : Neat (stride K) t = neat-of (stride K) t (K .effect) w in
+      sound-up (stride K) (fingered t f) (K .effect)
       (record {
         leaf-area = n .leaf-area;
         inner-area = n .inner-area;
@@ -97,50 +97,50 @@ module _ (t : State) (w : Sound t) where
       })
 
   -- a lookup that found an entry
-  found-step : (v : View) (x : ℕ) (f : Finger) (offset : ℕ) → f .view ≡ viewNumber v → Looked 1 (treeOf 3 t) (viewNumber v) x f offset
-      → Agrees (let r = calls.hit t f offset in moved (r .after) (locatedAnswer (r .after) (r .answer))) (rowStep (rowOf t) (row.lookup v x))
+  found-step : (v : ℕ) (lv : v < K .views) (x : ℕ) (f : Finger) (offset : ℕ) → f .view ≡ v → Looked (K .effect) (treeOf (stride K) t) v x f offset
+      → Agrees K (let r = calls.hit t f offset in moved (r .after) (locatedAnswer K (r .after) (r .answer))) (rowStep K (rowOf K t) (row.lookup v x))
   unfolding rowStep
-  found-step v x f offset vw k =
-      let T : Tree = treeOf 3 t in
+  found-step v lv x f offset vw k =
+      let T : Tree = treeOf (stride K) t in
       let t′ : State = fingered t f in
-      let w′ : Sound t′ = sound-fingered f (let z = view-in v in omega arith) (k .right) in
-      let lf : f .slot < leafIn 3 t (f .leaf) .len = (let y = size-is 3 (t .head .fan) (leafIn 3 t (f .leaf)) (neat-of 3 t 1 w .leaf-tidy (f .leaf) (k .right .leaf-in)) in let z = k .right .slot-in in omega arith) in
+      let w′ : Sound K t′ = sound-fingered f (let z = lv in omega arith) (k .right) in
+      let lf : f .slot < leafIn (stride K) t (f .leaf) .len = (let y = size-is (stride K) (t .head .fan) (leafIn (stride K) t (f .leaf)) (neat-of (stride K) t (K .effect) w .leaf-tidy (f .leaf) (k .right .leaf-in)) in let z = k .right .slot-in in omega arith) in
       let e : Slot = slotAt T (f .leaf) (f .slot) in
-      let es : entriesOf t ≡ map (entryFrom 2) (k .front) ++ entryFrom 2 e ∷ map (entryFrom 2) (k .behind) = entries-are t w ∙ ap (map (entryFrom 2)) (k .row) ∙ split-entries 2 (k .front) e (k .behind) in
-      let all : sumBy (len 1) (tree.row T) ≡ sumBy (len 1) (k .front) + sumBy (len 1) (e ∷ k .behind) = ap (sumBy (len 1)) (k .row) ∙ sumBy-append (len 1) (k .front) (e ∷ k .behind) in
-      let pos : (f .effect + f .«effect_within») % 2 ^ 32 ≡ sumBy (len 1) (k .front) = omega (arith, k .effect, body-of 3 t 1 w .totals 1) in
-      let tv : row.total (viewNumber v) (map (entryFrom 2) (k .front)) ≡ sumBy (len (viewNumber v)) (k .front) = total-entries 2 (viewNumber v) (k .front) (view-in v) in
-      let te : row.total 1 (map (entryFrom 2) (k .front)) ≡ sumBy (len 1) (k .front) = total-entries 2 1 (k .front) (omega arith) in
+      let es : entriesOf K t ≡ map (entryFrom (K .views)) (k .front) ++ entryFrom (K .views) e ∷ map (entryFrom (K .views)) (k .behind) = entries-are K t w ∙ ap (map (entryFrom (K .views))) (k .row) ∙ split-entries (K .views) (k .front) e (k .behind) in
+      let all : sumBy (len (K .effect)) (tree.row T) ≡ sumBy (len (K .effect)) (k .front) + sumBy (len (K .effect)) (e ∷ k .behind) = ap (sumBy (len (K .effect))) (k .row) ∙ sumBy-append (len (K .effect)) (k .front) (e ∷ k .behind) in
+      let pos : (f .effect + f .«effect_within») % 2 ^ 32 ≡ sumBy (len (K .effect)) (k .front) = omega (arith, k .effect, body-of (stride K) t (K .effect) w .totals (K .effect)) in
+      let tv : row.total v (map (entryFrom (K .views)) (k .front)) ≡ sumBy (len v) (k .front) = total-entries (K .views) v (k .front) lv in
+      let te : row.total (K .effect) (map (entryFrom (K .views)) (k .front)) ≡ sumBy (len (K .effect)) (k .front) = total-entries (K .views) (K .effect) (k .front) (ok) in
       record {
-        same = ap (λ (n : Named). idAnswer n (offset ∷ effectAt f ∷ [])) (id-at t′ w′ (f .leaf) (f .slot) (k .right .leaf-in) lf)
-            ∙ ap (λ (p : ℕ). done (e .child ∷ offset ∷ p ∷ [])) (pos ∙ (let z : sumBy (len 1) (k .front) ≡ 0 + row.total 1 (map (entryFrom 2) (k .front)) = omega arith in z))
-            ∙ sym (ap (found (viewNumber v) x 0 0) es ∙ found-at (viewNumber v) x 0 0 (map (entryFrom 2) (k .front)) (entryFrom 2 e) (map (entryFrom 2) (k .behind)) offset (omega (arith, k .sums))
-            (subst (λ (n : ℕ). offset < n) (sym (getD-firsts 2 (e .lens) (viewNumber v) (view-in v))) (k .inside)));
-        kept = record { sound = w′; entries = entries-are t′ w′ ∙ sym (entries-are t w); limit = refl };
+        same = ap (λ (n : Named). idAnswer n (offset ∷ effectAt f ∷ [])) (id-at K t′ w′ (f .leaf) (f .slot) (k .right .leaf-in) lf)
+            ∙ ap (λ (p : ℕ). done (e .child ∷ offset ∷ p ∷ [])) (pos ∙ (let z : sumBy (len (K .effect)) (k .front) ≡ 0 + row.total (K .effect) (map (entryFrom (K .views)) (k .front)) = omega arith in z))
+            ∙ sym (ap (found K v x 0 0) es ∙ found-at K v x 0 0 (map (entryFrom (K .views)) (k .front)) (entryFrom (K .views) e) (map (entryFrom (K .views)) (k .behind)) offset (omega (arith, k .sums))
+            (subst (λ (n : ℕ). offset < n) (sym (getD-firsts (K .views) (e .lens) v lv)) (k .inside)));
+        kept = record { sound = w′; entries = entries-are K t′ w′ ∙ sym (entries-are K t w); limit = refl };
       }
 
   -- a lookup past the total
-  lost-step : (v : View) (x : ℕ) → sumBy (len (viewNumber v)) (tree.row (treeOf 3 t)) ≤ x → Agrees (moved t (refused 5)) (rowStep (rowOf t) (row.lookup v x))
+  lost-step : (v : ℕ) (lv : v < K .views) (x : ℕ) → sumBy (len v) (tree.row (treeOf (stride K) t)) ≤ x → Agrees K (moved t (refused 5)) (rowStep K (rowOf K t) (row.lookup v x))
   unfolding rowStep
-  lost-step v x le =
-      let tv : row.total (viewNumber v) (entriesOf t) ≡ sumBy (len (viewNumber v)) (tree.row (treeOf 3 t)) = ap (row.total (viewNumber v)) (entries-are t w) ∙ total-entries 2 (viewNumber v) (tree.row (treeOf 3 t)) (view-in v) in
-      record { same = sym (found-past (viewNumber v) x 0 0 (entriesOf t) (omega arith)); kept = own t w }
+  lost-step v lv x le =
+      let tv : row.total v (entriesOf K t) ≡ sumBy (len v) (tree.row (treeOf (stride K) t)) = ap (row.total v) (entries-are K t w) ∙ total-entries (K .views) v (tree.row (treeOf (stride K) t)) lv in
+      record { same = sym (found-past K v x 0 0 (entriesOf K t) (omega arith)); kept = own K t w }
 
-  by-search : (v : View) (x : ℕ) (a b : Search) → (Got 3 1 t (viewNumber v) x a) ⊎ (a ≡ search.Nothing)
-      → (x < sumBy (len (viewNumber v)) (tree.row (treeOf 3 t)) → Got 3 1 t (viewNumber v) x b) → (sumBy (len (viewNumber v)) (tree.row (treeOf 3 t)) ≤ x → b ≡ search.Nothing)
-      → Agrees (let r = calls.byFinger t a b in moved (r .after) (locatedAnswer (r .after) (r .answer))) (rowStep (rowOf t) (row.lookup v x))
-  by-search v x a b (inl g) hit miss = rw (g .is) (found-step v x (g .finger) (g .offset) (g .view) (g .looked))
-  by-search v x a b (inr q) hit miss = go (decLt x (sumBy (len (viewNumber v)) (tree.row (treeOf 3 t))))
+  by-search : (v : ℕ) (lv : v < K .views) (x : ℕ) (a b : Search) → (Got (stride K) (K .effect) t v x a) ⊎ (a ≡ search.Nothing)
+      → (x < sumBy (len v) (tree.row (treeOf (stride K) t)) → Got (stride K) (K .effect) t v x b) → (sumBy (len v) (tree.row (treeOf (stride K) t)) ≤ x → b ≡ search.Nothing)
+      → Agrees K (let r = calls.byFinger t a b in moved (r .after) (locatedAnswer K (r .after) (r .answer))) (rowStep K (rowOf K t) (row.lookup v x))
+  by-search v lv x a b (inl g) hit miss = rw (g .is) (found-step v lv x (g .finger) (g .offset) (g .view) (g .looked))
+  by-search v lv x a b (inr q) hit miss = go (decLt x (sumBy (len v) (tree.row (treeOf (stride K) t))))
     where
-      go : Dec (x < sumBy (len (viewNumber v)) (tree.row (treeOf 3 t))) → Agrees (let r = calls.byFinger t a b in moved (r .after) (locatedAnswer (r .after) (r .answer))) (rowStep (rowOf t) (row.lookup v x))
-      go (yes lt) = let g = hit lt in rw (q, g .is) (found-step v x (g .finger) (g .offset) (g .view) (g .looked))
-      go (no ge) = rw (q, miss (omega arith)) (lost-step v x (omega arith))
+      go : Dec (x < sumBy (len v) (tree.row (treeOf (stride K) t))) → Agrees K (let r = calls.byFinger t a b in moved (r .after) (locatedAnswer K (r .after) (r .answer))) (rowStep K (rowOf K t) (row.lookup v x))
+      go (yes lt) = let g = hit lt in rw (q, g .is) (found-step v lv x (g .finger) (g .offset) (g .view) (g .looked))
+      go (no ge) = rw (q, miss (omega arith)) (lost-step v lv x (omega arith))
 
-  pub step-lookup : (v : View) (x : ℕ) → Agrees (treeStep t (row.lookup v x)) (rowStep (rowOf t) (row.lookup v x))
+  pub step-lookup : (v : ℕ) (lv : v < K .views) (x : ℕ) → Agrees K (treeStep K t (row.lookup v x)) (rowStep K (rowOf K t) (row.lookup v x))
   unfolding treeStep calls.locate opening searched refusal
-  step-lookup v x =
-      let a : Search = servedBy (viewNumber v) 1 (shapeIn 3 t) (t .head .finger) (t .head .leaves) x (t .leaves) in
-      let b : Search = fromRoot (viewNumber v) 1 (shapeIn 3 t) (t .head .levels) (t .head .root .0) x (t .leaves) (t .inners) in
-      subst (λ (r : calls.Reply Located). Agrees (moved (r .after) (locatedAnswer (r .after) (r .answer))) (rowStep (rowOf t) (row.lookup v x)))
-      (sym (passed (opening t) (λ n. calls.reply t (located.Refused n)) (calls.byFinger t a b) (opens t w [])))
-      (by-search v x a b (servedBy-is 3 1 t w (viewNumber v) (t .head .finger) (sound-of 3 t 1 w .finger) x) (root-hit 3 1 t w (viewNumber v) x) (root-miss 3 1 t w (viewNumber v) x))
+  step-lookup v lv x =
+      let a : Search = servedBy v (K .effect) (shapeIn (stride K) t) (t .head .finger) (t .head .leaves) x (t .leaves) in
+      let b : Search = fromRoot v (K .effect) (shapeIn (stride K) t) (t .head .levels) (t .head .root .0) x (t .leaves) (t .inners) in
+      subst (λ (r : calls.Reply Located). Agrees K (moved (r .after) (locatedAnswer K (r .after) (r .answer))) (rowStep K (rowOf K t) (row.lookup v x)))
+      (sym (passed (opening K t) (λ n. calls.reply t (located.Refused n)) (calls.byFinger t a b) (opens K t w [])))
+      (by-search v lv x a b (servedBy-is (stride K) (K .effect) t w v (t .head .finger) (sound-of (stride K) t (K .effect) w .finger) x) (root-hit (stride K) (K .effect) t w v x) (root-miss (stride K) (K .effect) t w v x))

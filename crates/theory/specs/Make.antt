@@ -10,19 +10,19 @@ use lib.Dec.{ltb}
 use lib.ListN.{length, length-set}
 use lib.Seq.{getD-set-same}
 use borrow.Author.Tests.{ltb-false}
+use Rattle.model.specs.Kind.{stride}
+use Rattle.model.specs.declared.shape.Kind.{Kind}
 use Rattle.model.specs.Lists.{All, refusal}
-use Rattle.model.specs.Length.{listOf}
 use Rattle.model.specs.Node.{Node, none, half, newNode}
 use Rattle.model.specs.State.{State, nodesFor, shape, nodeAt, putNode}
 use Rattle.model.specs.Row as row
-use Rattle.model.specs.Row.{madeRow, rowStep}
+use Rattle.model.specs.Row.{Entry, madeRow, rowStep}
 use Rattle.model.specs.Sound.{Sound}
 use Rattle.model.specs.Calls as calls
 use Rattle.model.specs.Calls.{begun, makeCauses}
 use Rattle.model.specs.ById.{told, treeStep}
 use Rattle.model.specs.Answer.{outcomeAnswer}
 use Rattle.model.specs.declared.shape.Shape.{Shape}
-use Rattle.model.specs.declared.length.Lengths.{Lengths}
 use Rattle.model.specs.declared.answer.Outcome.{Outcome}
 use Rattle.model.specs.declared.answer.Outcome.the-variants as outcome
 use Rattle.laws.specs.Areas.{node-same}
@@ -33,23 +33,24 @@ use Rattle.theory.specs.Tree.{slotOf, slotsOf, treeOf}
 use Rattle.theory.specs.Neat.{Neat}
 use Rattle.theory.specs.Up.{sound-up}
 use Rattle.theory.specs.Put.{Keeps, put-next}
-use Rattle.theory.specs.Entries.{firsts, entryFrom}
+use Rattle.theory.specs.Entries.{firsts, entryFrom, entry-is}
+use Rattle.theory.specs.Views.{each-small}
 use Rattle.theory.specs.Open.{passed, good-areas}
 use Rattle.theory.specs.Agree.{Stands, Agrees, rowOf, entries-are}
 
 -- lengths that are words
-pub record Words (l : Lengths) : Type 0 where
-  pub prepare : l .prepare < 4294967296
-  pub effect : l .effect < 4294967296
+pub record Words (K : Kind) (l : List ℕ) : Type 0 where
+  pub long : length l ≡ K .views
+  pub small : All (λ x. x < 4294967296) l
 
 -- what the causes of a make leave
-pub record Sizes (fan limit : ℕ) (ls xs hs : List ℕ) : Type 0 where
+pub record Sizes (K : Kind) (fan limit : ℕ) (ls xs hs : List ℕ) : Type 0 where
   pub fan-low : 4 ≤ fan
   pub fan-high : fan ≤ 32
   pub limit-low : 1 ≤ limit
   pub limit-high : limit ≤ 65536
-  pub leaf-area : shape 3 fan limit .nodes * shape 3 fan limit .size ≤ length ls
-  pub inner-area : shape 3 fan limit .nodes * shape 3 fan limit .size ≤ length xs
+  pub leaf-area : shape (stride K) fan limit .nodes * shape (stride K) fan limit .size ≤ length ls
+  pub inner-area : shape (stride K) fan limit .nodes * shape (stride K) fan limit .size ≤ length xs
   pub home-area : limit ≤ length hs
 
 or-left : (a b : Bool) → (a || b) ≡ false → a ≡ false
@@ -60,11 +61,11 @@ or-right : (a b : Bool) → (a || b) ≡ false → b ≡ false
 or-right true b e = absurd (let z : _≡_ {A = ℕ} 0 1 = cc in omega arith)
 or-right false b e = e
 
-pub sizes-of : (fan limit : ℕ) (ls xs hs : List ℕ) → refusal (makeCauses fan limit ls xs hs) ≡ 0 → Sizes fan limit ls xs hs
+pub sizes-of : (K : Kind) (fan limit : ℕ) (ls xs hs : List ℕ) → refusal (makeCauses K fan limit ls xs hs) ≡ 0 → Sizes K fan limit ls xs hs
 unfolding refusal
-sizes-of fan limit ls xs hs e =
+sizes-of K fan limit ls xs hs e =
     let a : Bool = ltb fan 4 || ltb 32 fan || ltb limit 1 || ltb 65536 limit in
-    let g : Shape = shape 3 fan limit in
+    let g : Shape = shape (stride K) fan limit in
     let b : Bool = ltb (length ls) (g .nodes * g .size) || ltb (length xs) (g .nodes * g .size) || ltb (length hs) limit in
     let r = none-of a b e in
     record {
@@ -89,32 +90,30 @@ nodes-least fan limit = go (ltb (limit / half fan) 1) refl
     go true e = omega arith
     go false e = ltb-false (limit / half fan) 1 e
 
-module _ (fan limit : ℕ) (l : Lengths) (ls xs hs : List ℕ) (z : Sizes fan limit ls xs hs) (small : Words l) where
+module _ (K : Kind) (fan limit : ℕ) (l : List ℕ) (ls xs hs : List ℕ) (z : Sizes K fan limit ls xs hs) (small : Words K l) where
   g : Shape
-  g = shape 3 fan limit
+  g = shape (stride K) fan limit
 
   x : List ℕ
-  x = 0 ∷ listOf l
+  x = 0 ∷ l
 
   -- a node of one slot at the area's start
-  first-keeps : (p : ℕ) (area : List ℕ) → g .nodes * g .size ≤ length area → Keeps g 1 (putNode g 0 (newNode 3 fan p (x ∷ [])) area)
+  first-keeps : (p : ℕ) (area : List ℕ) → g .nodes * g .size ≤ length area → Keeps g 1 (putNode g 0 (newNode (stride K) fan p (x ∷ [])) area)
   unfolding g x All
-  first-keeps p area h = put-next g refl (omega arith) 0 (newNode 3 fan p (x ∷ [])) area (nodes-least fan limit) (tidy-made 3 fan p 0 (x ∷ []) (omega (arith, z .fan-low)) (refl, tt)) (record { long = h; few = omega arith; tidy = λ k lt. absurd (not-suc-le-zero lt) })
+  first-keeps p area h = put-next g refl (omega arith) 0 (newNode (stride K) fan p (x ∷ [])) area (nodes-least fan limit) (tidy-made (stride K) fan p 0 (x ∷ []) (omega (arith, z .fan-low)) (ap suc (small .long), tt)) (record { long = h; few = omega arith; tidy = λ k lt. absurd (not-suc-le-zero lt) })
 
-  first-node : (p : ℕ) (area : List ℕ) → g .nodes * g .size ≤ length area → nodeAt g 0 (putNode g 0 (newNode 3 fan p (x ∷ [])) area) ≡ newNode 3 fan p (x ∷ [])
+  first-node : (p : ℕ) (area : List ℕ) → g .nodes * g .size ≤ length area → nodeAt g 0 (putNode g 0 (newNode (stride K) fan p (x ∷ [])) area) ≡ newNode (stride K) fan p (x ∷ [])
   unfolding g x All
-  first-node p area h = node-same g 0 area refl (fits g 0 area (nodes-least fan limit) h) (newNode 3 fan p (x ∷ [])) (tidy-formed 3 fan (newNode 3 fan p (x ∷ [])) (tidy-made 3 fan p 0 (x ∷ []) (omega (arith, z .fan-low)) (refl, tt)) (omega arith))
+  first-node p area h = node-same g 0 area refl (fits g 0 area (nodes-least fan limit) h) (newNode (stride K) fan p (x ∷ [])) (tidy-formed (stride K) fan (newNode (stride K) fan p (x ∷ [])) (tidy-made (stride K) fan p 0 (x ∷ []) (omega (arith, z .fan-low)) (ap suc (small .long), tt)) (omega arith))
 
   lens-small : (v : ℕ) → slotOf x .lens v < 4294967296
   unfolding x
-  lens-small zero = small .prepare
-  lens-small (suc zero) = small .effect
-  lens-small (suc (suc v)) = rw add-one (omega arith)
+  lens-small v = rw (add-one v) (each-small 4294967296 l (omega arith) (small .small) v)
 
   abbrev start : State
-  start = begun fan limit l ls xs hs
+  start = begun K fan limit l ls xs hs
 
-  fresh : Fresh (treeOf 3 start) (slotOf x) (slotOf x)
+  fresh : Fresh (treeOf (stride K) start) (slotOf x) (slotOf x)
   unfolding begun g x
   fresh = record {
     fan-low = z .fan-low;
@@ -139,7 +138,7 @@ module _ (fan limit : ℕ) (l : Lengths) (ls xs hs : List ℕ) (z : Sizes fan li
     small = lens-small;
   }
 
-  neat : Neat 3 start
+  neat : Neat (stride K) start
   unfolding begun g x
   neat = record {
     leaf-area = first-keeps 0 ls (z .leaf-area) .long;
@@ -152,19 +151,19 @@ module _ (fan limit : ℕ) (l : Lengths) (ls xs hs : List ℕ) (z : Sizes fan li
     view = tt;
   }
 
-  start-sound : Sound start
+  start-sound : Sound K start
   unfolding begun
-  start-sound = sound-up 3 start 1 neat (record { body = fresh-body (treeOf 3 start) (slotOf x) (slotOf x) fresh; finger = tt })
+  start-sound = sound-up (stride K) start (K .effect) neat (record { body = fresh-body (treeOf (stride K) start) (slotOf x) (slotOf x) fresh; finger = tt })
 
-  pub begun-stands : Stands (begun fan limit l ls xs hs) (madeRow limit l)
+  pub begun-stands : Stands K (begun K fan limit l ls xs hs) (madeRow limit l)
   unfolding begun firsts x
-  begun-stands = record { sound = start-sound; entries = entries-are start start-sound ∙ ap (map (entryFrom 2)) (fresh-row (treeOf 3 start) (slotOf x) (slotOf x) fresh); limit = refl }
+  begun-stands = record { sound = start-sound; entries = entries-are K start start-sound ∙ ap (map (entryFrom (K .views))) (fresh-row (treeOf (stride K) start) (slotOf x) (slotOf x) fresh) ∙ ap (λ (y : Entry). y ∷ []) (entry-is (K .views) x (ap suc (small .long))); limit = refl }
 
-pub step-reset : (t : State) (w : Sound t) (l : Lengths) → Words l → Agrees (treeStep t (row.reset l)) (rowStep (rowOf t) (row.reset l))
+pub step-reset : (K : Kind) (t : State) (w : Sound K t) (l : List ℕ) → Words K l → Agrees K (treeStep K t (row.reset l)) (rowStep K (rowOf K t) (row.reset l))
 unfolding treeStep rowStep calls.reset refusal
-step-reset t w l small =
+step-reset K t w l small =
     let h = t .head in
-    let z : Sizes (h .fan) (h .limit) (t .leaves) (t .inners) (t .homes) = record {
+    let z : Sizes K (h .fan) (h .limit) (t .leaves) (t .inners) (t .homes) = record {
       fan-low = w .fan-least;
       fan-high = w .fan-most;
       limit-low = w .limit-least;
@@ -173,6 +172,6 @@ step-reset t w l small =
       inner-area = w .inner-area;
       home-area = w .home-area;
     } in
-    subst (λ (r : calls.Reply Outcome). Agrees (told r outcomeAnswer) (rowStep (rowOf t) (row.reset l)))
-    (sym (passed (makeCauses (h .fan) (h .limit) (t .leaves) (t .inners) (t .homes)) (λ n. calls.reply t (outcome.Refused n)) (calls.reply (begun (h .fan) (h .limit) l (t .leaves) (t .inners) (t .homes)) outcome.Done) (good-areas t w [])))
-    (record { same = refl; kept = begun-stands (h .fan) (h .limit) l (t .leaves) (t .inners) (t .homes) z small })
+    subst (λ (r : calls.Reply Outcome). Agrees K (told r outcomeAnswer) (rowStep K (rowOf K t) (row.reset l)))
+    (sym (passed (makeCauses K (h .fan) (h .limit) (t .leaves) (t .inners) (t .homes)) (λ n. calls.reply t (outcome.Refused n)) (calls.reply (begun K (h .fan) (h .limit) l (t .leaves) (t .inners) (t .homes)) outcome.Done) (good-areas K t w [])))
+    (record { same = refl; kept = begun-stands K (h .fan) (h .limit) l (t .leaves) (t .inners) (t .homes) z small })

@@ -3,12 +3,13 @@ use mathlib.Core.Path.{_≡_, refl, sym, ap, _∙_}
 use mathlib.Core.Logic.{_≢_}
 use mathlib.Core.Bool.{Bool, true, false, cond, _&&_}
 use mathlib.Core.List.{List, [], _∷_}
-use Prim.Native.Nat.{ℕ, _+_, _≤_}
+use Prim.Native.Nat.{ℕ, _+_, _≤_, _<_}
 use native.Mathlib.Decide.{ℕ-discrete}
 use native.Mathlib.Omega.{arith}
 use lib.Dec.{eqb, leb, ltb}
 use lib.ListN.{length}
 use borrow.Author.Tests.{eq-eqb, ne-eqb, leb-true, le-leb}
+use Rattle.model.specs.declared.shape.Kind.{Kind}
 use Rattle.model.specs.Lists.{Cause, cause, refusal}
 use Rattle.model.specs.State.{State}
 use Rattle.model.specs.Row as row
@@ -76,74 +77,74 @@ three-causes x m n k false true c o p q r e = q e
 three-causes x m n k false false true o p q r e = r e
 three-causes x m n k false false false o p q r e = o (sym e)
 
-found-number : (n : ℕ) → n ≢ 0 → n ≢ 5 → (v x s f : ℕ) (es : List Entry) → found v x s f es .number ≢ n
+found-number : (K : Kind) (n : ℕ) → n ≢ 0 → n ≢ 5 → (v x s f : ℕ) (es : List Entry) → found K v x s f es .number ≢ n
 unfolding found
-found-number n o p v x s f [] e = p (sym e)
-found-number n o p v x s f (y ∷ es) e = go (leb s x && ltb x (s + row.lengthIn v y)) refl (found-number n o p v x (s + row.lengthIn v y) (f + row.lengthIn 1 y) es)
+found-number K n o p v x s f [] e = p (sym e)
+found-number K n o p v x s f (y ∷ es) e = go (leb s x && ltb x (s + row.lengthIn v y)) refl (found-number K n o p v x (s + row.lengthIn v y) (f + row.lengthIn (K .effect) y) es)
   where
-    go : (b : Bool) → (leb s x && ltb x (s + row.lengthIn v y)) ≡ b → (found v x (s + row.lengthIn v y) (f + row.lengthIn 1 y) es .number ≢ n) → ⊥
+    go : (b : Bool) → (leb s x && ltb x (s + row.lengthIn v y)) ≡ b → (found K v x (s + row.lengthIn v y) (f + row.lengthIn (K .effect) y) es .number ≢ n) → ⊥
     go true q ih = o (sym (rw q at e))
     go false q ih = ih (rw q at e)
 
-row-eight : (r : Row) (c : Call) → rowStep r c .answer .number ≡ 8 → r .limit ≤ length (r .entries)
+row-eight : (K : Kind) (r : Row) (c : Call) → rowStep K r c .answer .number ≡ 8 → r .limit ≤ length (r .entries)
 unfolding rowStep
-row-eight r (row.reset l) e = absurd (omega arith)
-row-eight r (row.insert i l) e = leb-true (r .limit) (length (r .entries)) (eight-last 4 7 _ _ (leb (r .limit) (length (r .entries))) (λ z. omega arith) (λ z. omega arith) (sym (number-is r _ _ _) ∙ e))
-row-eight r (row.add i l) e = leb-true (r .limit) (length (r .entries)) (eight-last 4 7 _ _ (leb (r .limit) (length (r .entries))) (λ z. omega arith) (λ z. omega arith) (sym (number-is r _ _ _) ∙ e))
-row-eight r (row.split flag i l) e = leb-true (r .limit) (length (r .entries)) (eight-last 4 6 _ _ (leb (r .limit) (length (r .entries))) (λ z. omega arith) (λ z. omega arith) (sym (number-is r _ _ _) ∙ e))
-row-eight r (row.setLengths i l) e = absurd (two-causes 8 4 7 _ _ (λ z. omega arith) (λ z. omega arith) (λ z. omega arith) (sym (number-is r _ _ _) ∙ e))
-row-eight r (row.update i l) e = absurd (two-causes 8 4 7 _ _ (λ z. omega arith) (λ z. omega arith) (λ z. omega arith) (sym (number-is r _ _ _) ∙ e))
-row-eight r (row.lookup v x) e = absurd (found-number 8 (λ z. omega arith) (λ z. omega arith) _ x 0 0 (r .entries) e)
-row-eight r (row.rank v i) e = absurd (one-cause 8 4 _ (λ z. omega arith) (λ z. omega arith) (sym (number-is r _ _ _) ∙ e))
-row-eight r (row.next i) e = absurd (one-cause 8 4 _ (λ z. omega arith) (λ z. omega arith) (sym (number-is r _ _ _) ∙ e))
-row-eight r (row.compare i j) e = absurd (two-causes 8 4 4 _ _ (λ z. omega arith) (λ z. omega arith) (λ z. omega arith) (sym (number-is r _ _ _) ∙ e))
-row-eight r (row.lengths i) e = absurd (one-cause 8 4 _ (λ z. omega arith) (λ z. omega arith) (sym (number-is r _ _ _) ∙ e))
-row-eight r row.count e = absurd (omega arith)
-row-eight r row.first e = absurd (omega arith)
-row-eight r row.malformed e = absurd (omega arith)
+row-eight K r (row.reset l) e = absurd (omega arith)
+row-eight K r (row.insert i l) e = leb-true (r .limit) (length (r .entries)) (eight-last 4 7 _ _ (leb (r .limit) (length (r .entries))) (λ z. omega arith) (λ z. omega arith) (sym (number-is r _ _ _) ∙ e))
+row-eight K r (row.add i l) e = leb-true (r .limit) (length (r .entries)) (eight-last 4 7 _ _ (leb (r .limit) (length (r .entries))) (λ z. omega arith) (λ z. omega arith) (sym (number-is r _ _ _) ∙ e))
+row-eight K r (row.split flag i l) e = leb-true (r .limit) (length (r .entries)) (eight-last 4 6 _ _ (leb (r .limit) (length (r .entries))) (λ z. omega arith) (λ z. omega arith) (sym (number-is r _ _ _) ∙ e))
+row-eight K r (row.setLengths i l) e = absurd (two-causes 8 4 7 _ _ (λ z. omega arith) (λ z. omega arith) (λ z. omega arith) (sym (number-is r _ _ _) ∙ e))
+row-eight K r (row.update i l) e = absurd (two-causes 8 4 7 _ _ (λ z. omega arith) (λ z. omega arith) (λ z. omega arith) (sym (number-is r _ _ _) ∙ e))
+row-eight K r (row.lookup v x) e = absurd (found-number K 8 (λ z. omega arith) (λ z. omega arith) _ x 0 0 (r .entries) e)
+row-eight K r (row.rank v i) e = absurd (one-cause 8 4 _ (λ z. omega arith) (λ z. omega arith) (sym (number-is r _ _ _) ∙ e))
+row-eight K r (row.next i) e = absurd (one-cause 8 4 _ (λ z. omega arith) (λ z. omega arith) (sym (number-is r _ _ _) ∙ e))
+row-eight K r (row.compare i j) e = absurd (two-causes 8 4 4 _ _ (λ z. omega arith) (λ z. omega arith) (λ z. omega arith) (sym (number-is r _ _ _) ∙ e))
+row-eight K r (row.lengths i) e = absurd (one-cause 8 4 _ (λ z. omega arith) (λ z. omega arith) (sym (number-is r _ _ _) ∙ e))
+row-eight K r row.count e = absurd (omega arith)
+row-eight K r row.first e = absurd (omega arith)
+row-eight K r row.malformed e = absurd (omega arith)
 
 -- the row never answers 9
-row-nine : (r : Row) (c : Call) → rowStep r c .answer .number ≢ 9
+row-nine : (K : Kind) (r : Row) (c : Call) → rowStep K r c .answer .number ≢ 9
 unfolding rowStep
-row-nine r (row.reset l) e = absurd (omega arith)
-row-nine r (row.insert i l) e = three-causes 9 4 7 8 _ _ _ (λ z. omega arith) (λ z. omega arith) (λ z. omega arith) (λ z. omega arith) (sym (number-is r _ _ _) ∙ e)
-row-nine r (row.add i l) e = three-causes 9 4 7 8 _ _ _ (λ z. omega arith) (λ z. omega arith) (λ z. omega arith) (λ z. omega arith) (sym (number-is r _ _ _) ∙ e)
-row-nine r (row.split flag i l) e = three-causes 9 4 6 8 _ _ _ (λ z. omega arith) (λ z. omega arith) (λ z. omega arith) (λ z. omega arith) (sym (number-is r _ _ _) ∙ e)
-row-nine r (row.setLengths i l) e = two-causes 9 4 7 _ _ (λ z. omega arith) (λ z. omega arith) (λ z. omega arith) (sym (number-is r _ _ _) ∙ e)
-row-nine r (row.update i l) e = two-causes 9 4 7 _ _ (λ z. omega arith) (λ z. omega arith) (λ z. omega arith) (sym (number-is r _ _ _) ∙ e)
-row-nine r (row.lookup v x) e = found-number 9 (λ z. omega arith) (λ z. omega arith) _ x 0 0 (r .entries) e
-row-nine r (row.rank v i) e = one-cause 9 4 _ (λ z. omega arith) (λ z. omega arith) (sym (number-is r _ _ _) ∙ e)
-row-nine r (row.next i) e = one-cause 9 4 _ (λ z. omega arith) (λ z. omega arith) (sym (number-is r _ _ _) ∙ e)
-row-nine r (row.lengths i) e = one-cause 9 4 _ (λ z. omega arith) (λ z. omega arith) (sym (number-is r _ _ _) ∙ e)
-row-nine r (row.compare i j) e = two-causes 9 4 4 _ _ (λ z. omega arith) (λ z. omega arith) (λ z. omega arith) (sym (number-is r _ _ _) ∙ e)
-row-nine r row.count e = absurd (omega arith)
-row-nine r row.first e = absurd (omega arith)
-row-nine r row.malformed e = absurd (omega arith)
+row-nine K r (row.reset l) e = absurd (omega arith)
+row-nine K r (row.insert i l) e = three-causes 9 4 7 8 _ _ _ (λ z. omega arith) (λ z. omega arith) (λ z. omega arith) (λ z. omega arith) (sym (number-is r _ _ _) ∙ e)
+row-nine K r (row.add i l) e = three-causes 9 4 7 8 _ _ _ (λ z. omega arith) (λ z. omega arith) (λ z. omega arith) (λ z. omega arith) (sym (number-is r _ _ _) ∙ e)
+row-nine K r (row.split flag i l) e = three-causes 9 4 6 8 _ _ _ (λ z. omega arith) (λ z. omega arith) (λ z. omega arith) (λ z. omega arith) (sym (number-is r _ _ _) ∙ e)
+row-nine K r (row.setLengths i l) e = two-causes 9 4 7 _ _ (λ z. omega arith) (λ z. omega arith) (λ z. omega arith) (sym (number-is r _ _ _) ∙ e)
+row-nine K r (row.update i l) e = two-causes 9 4 7 _ _ (λ z. omega arith) (λ z. omega arith) (λ z. omega arith) (sym (number-is r _ _ _) ∙ e)
+row-nine K r (row.lookup v x) e = found-number K 9 (λ z. omega arith) (λ z. omega arith) _ x 0 0 (r .entries) e
+row-nine K r (row.rank v i) e = one-cause 9 4 _ (λ z. omega arith) (λ z. omega arith) (sym (number-is r _ _ _) ∙ e)
+row-nine K r (row.next i) e = one-cause 9 4 _ (λ z. omega arith) (λ z. omega arith) (sym (number-is r _ _ _) ∙ e)
+row-nine K r (row.lengths i) e = one-cause 9 4 _ (λ z. omega arith) (λ z. omega arith) (sym (number-is r _ _ _) ∙ e)
+row-nine K r (row.compare i j) e = two-causes 9 4 4 _ _ (λ z. omega arith) (λ z. omega arith) (λ z. omega arith) (sym (number-is r _ _ _) ∙ e)
+row-nine K r row.count e = absurd (omega arith)
+row-nine K r row.first e = absurd (omega arith)
+row-nine K r row.malformed e = absurd (omega arith)
 
-row-full : (r : Row) (c : Call) → Adds c → r .limit ≤ length (r .entries) → rowStep r c .answer .number ≢ 0
+row-full : (K : Kind) (r : Row) (c : Call) → Adds c → r .limit ≤ length (r .entries) → rowStep K r c .answer .number ≢ 0
 unfolding rowStep
-row-full r (row.insert i l) h f e = never-done 4 7 _ _ (leb (r .limit) (length (r .entries))) (λ z. omega arith) (λ z. omega arith) (le-leb (r .limit) (length (r .entries)) f) (sym (number-is r _ _ _) ∙ e)
-row-full r (row.add i l) h f e = never-done 4 7 _ _ (leb (r .limit) (length (r .entries))) (λ z. omega arith) (λ z. omega arith) (le-leb (r .limit) (length (r .entries)) f) (sym (number-is r _ _ _) ∙ e)
-row-full r (row.split flag i l) h f e = never-done 4 6 _ _ (leb (r .limit) (length (r .entries))) (λ z. omega arith) (λ z. omega arith) (le-leb (r .limit) (length (r .entries)) f) (sym (number-is r _ _ _) ∙ e)
-row-full r (row.reset l) h f e = absurd h
-row-full r (row.setLengths i l) h f e = absurd h
-row-full r (row.update i l) h f e = absurd h
-row-full r (row.lookup v x) h f e = absurd h
-row-full r (row.rank v i) h f e = absurd h
-row-full r (row.next i) h f e = absurd h
-row-full r (row.compare i j) h f e = absurd h
-row-full r (row.lengths i) h f e = absurd h
-row-full r row.count h f e = absurd h
-row-full r row.first h f e = absurd h
-row-full r row.malformed h f e = absurd h
+row-full K r (row.insert i l) h f e = never-done 4 7 _ _ (leb (r .limit) (length (r .entries))) (λ z. omega arith) (λ z. omega arith) (le-leb (r .limit) (length (r .entries)) f) (sym (number-is r _ _ _) ∙ e)
+row-full K r (row.add i l) h f e = never-done 4 7 _ _ (leb (r .limit) (length (r .entries))) (λ z. omega arith) (λ z. omega arith) (le-leb (r .limit) (length (r .entries)) f) (sym (number-is r _ _ _) ∙ e)
+row-full K r (row.split flag i l) h f e = never-done 4 6 _ _ (leb (r .limit) (length (r .entries))) (λ z. omega arith) (λ z. omega arith) (le-leb (r .limit) (length (r .entries)) f) (sym (number-is r _ _ _) ∙ e)
+row-full K r (row.reset l) h f e = absurd h
+row-full K r (row.setLengths i l) h f e = absurd h
+row-full K r (row.update i l) h f e = absurd h
+row-full K r (row.lookup v x) h f e = absurd h
+row-full K r (row.rank v i) h f e = absurd h
+row-full K r (row.next i) h f e = absurd h
+row-full K r (row.compare i j) h f e = absurd h
+row-full K r (row.lengths i) h f e = absurd h
+row-full K r row.count h f e = absurd h
+row-full K r row.first h f e = absurd h
+row-full K r row.malformed h f e = absurd h
 
 -- so it is on the tree
-pub record Numbers (s : State) (r : Row) (c : Call) : Type 0 where
-  pub only : treeStep s c .answer .number ≡ 8 → r .limit ≤ length (r .entries)
-  pub nine : treeStep s c .answer .number ≢ 9
-  pub always : Adds c → r .limit ≤ length (r .entries) → treeStep s c .answer .number ≢ 0
+pub record Numbers (K : Kind) (s : State) (r : Row) (c : Call) : Type 0 where
+  pub only : treeStep K s c .answer .number ≡ 8 → r .limit ≤ length (r .entries)
+  pub nine : treeStep K s c .answer .number ≢ 9
+  pub always : Adds c → r .limit ≤ length (r .entries) → treeStep K s c .answer .number ≢ 0
 
-pub numbers-are : (s : State) (r : Row) → Stands s r → (c : Call) → InWords c → Numbers s r c
-numbers-are s r h c k =
-    let a : treeStep s c .answer .number ≡ rowStep r c .answer .number = ap (λ (x : Answer). x .number) (step s r h c k .same) in
-    record { nine = λ e. row-nine r c (sym a ∙ e); only = λ e. row-eight r c (sym a ∙ e); always = λ d f e. row-full r c d f (sym a ∙ e) }
+pub numbers-are : (K : Kind) (ok : K .effect < K .views) (s : State) (r : Row) → Stands K s r → (c : Call) → InWords K c → Numbers K s r c
+numbers-are K ok s r h c k =
+    let a : treeStep K s c .answer .number ≡ rowStep K r c .answer .number = ap (λ (x : Answer). x .number) (step K ok s r h c k .same) in
+    record { nine = λ e. row-nine K r c (sym a ∙ e); only = λ e. row-eight K r c (sym a ∙ e); always = λ d f e. row-full K r c d f (sym a ∙ e) }

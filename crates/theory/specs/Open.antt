@@ -7,6 +7,8 @@ use native.Mathlib.Decide.{ℕ-discrete}
 use native.Mathlib.Omega.{arith}
 use lib.ListN.{length, getD, length-map}
 use borrow.Author.Tests.{eq-eqb, ne-eqb, lt-ltb, le-ltb, le-leb, lt-leb}
+use Rattle.model.specs.Kind.{stride}
+use Rattle.model.specs.declared.shape.Kind.{Kind}
 use Rattle.model.specs.Lists.{Cause, refusal}
 use Rattle.model.specs.Node.{Node, child, used, indexFrom}
 use Rattle.model.specs.State.{State}
@@ -43,26 +45,26 @@ index-lift c k (x ∷ xs) h = elim (ℕ-discrete (child x) c) [
       rw (ne-eqb (child x) c ne, indexOf) (index-lift c (k + 1) xs (omega arith) ∙ ap slot.Slot (let z : k + 1 + indexOf c (map slotOf xs) ≡ k + suc (indexOf c (map slotOf xs)) = omega arith in z)))
 ]
 
-module _ (t : State) (w : Sound t) where
+module _ (K : Kind) (t : State) (w : Sound K t) where
   -- good fan, limit and areas
   pub good-size : (cs : List Cause) → refusal (badSize (t .head .fan) (t .head .limit) ∷ cs) ≡ refusal cs
   unfolding refusal
   good-size cs = rw (le-ltb (t .head .fan) 4 (w .fan-least), le-ltb 32 (t .head .fan) (w .fan-most), le-ltb (t .head .limit) 1 (w .limit-least), le-ltb 65536 (t .head .limit) (w .limit-most))
 
-  pub good-areas : (cs : List Cause) → refusal (badSize (t .head .fan) (t .head .limit) ∷ tooShort (shapeIn 3 t) (t .head .limit) (t .leaves) (t .inners) (t .homes) ∷ cs) ≡ refusal cs
+  pub good-areas : (cs : List Cause) → refusal (badSize (t .head .fan) (t .head .limit) ∷ tooShort (shapeIn (stride K) t) (t .head .limit) (t .leaves) (t .inners) (t .homes) ∷ cs) ≡ refusal cs
   unfolding refusal
   good-areas cs =
-      let g = shapeIn 3 t in
+      let g = shapeIn (stride K) t in
       good-size (tooShort g (t .head .limit) (t .leaves) (t .inners) (t .homes) ∷ cs)
       ∙ rw (le-ltb (length (t .leaves)) (g .nodes * g .size) (w .leaf-area), le-ltb (length (t .inners)) (g .nodes * g .size) (w .inner-area), le-ltb (length (t .homes)) (t .head .limit) (w .home-area))
 
-  pub opens : (cs : List Cause) → refusal (opening t ++ cs) ≡ refusal cs
+  pub opens : (cs : List Cause) → refusal (opening K t ++ cs) ≡ refusal cs
   unfolding opening refusal
   opens cs =
       let h = t .head in
-      let g = shapeIn 3 t in
-      let lv = levels-most (treeOf 3 t) (body-of 3 t 1 w) in
-      let rt : h .root .0 < h .inners = body-of 3 t 1 w .fit .root-in in
+      let g = shapeIn (stride K) t in
+      let lv = levels-most (treeOf (stride K) t) (body-of (stride K) t (K .effect) w) in
+      let rt : h .root .0 < h .inners = body-of (stride K) t (K .effect) w .fit .root-in in
       good-areas (astray g h ∷ cs) ∙ rw (
         lt-leb (g .nodes) (h .root .0) (omega (arith, w .inner-count)),
         le-ltb (h .levels) 1 (w .levels-least),
@@ -73,14 +75,14 @@ module _ (t : State) (w : Sound t) where
       )
 
   -- a cursor of now, at a slot in use
-  pub fresh : (k j : ℕ) (cs : List Cause) → k < t .head .leaves → j < leafIn 3 t k .len → refusal (stale t (cursorAt (t .head .entries) k j) ∷ cs) ≡ refusal cs
+  pub fresh : (k j : ℕ) (cs : List Cause) → k < t .head .leaves → j < leafIn (stride K) t k .len → refusal (stale K t (cursorAt (t .head .entries) k j) ∷ cs) ≡ refusal cs
   unfolding refusal
-  fresh k j cs lk lj = rw (eq-eqb (t .head .entries) (t .head .entries) refl, lt-ltb k (t .head .leaves) lk, lt-ltb j (leafIn 3 t k .len) lj)
+  fresh k j cs lk lj = rw (eq-eqb (t .head .entries) (t .head .entries) refl, lt-ltb k (t .head .leaves) lk, lt-ltb j (leafIn (stride K) t k .len) lj)
 
   -- nor is its leaf overfull
-  pub fresh-at : (k j : ℕ) (cs : List Cause) → k < t .head .leaves → j < leafIn 3 t k .len → refusal (stale t (cursorAt (t .head .entries) k j) ∷ overfull t (cursorAt (t .head .entries) k j) ∷ cs) ≡ refusal cs
+  pub fresh-at : (k j : ℕ) (cs : List Cause) → k < t .head .leaves → j < leafIn (stride K) t k .len → refusal (stale K t (cursorAt (t .head .entries) k j) ∷ overfull K t (cursorAt (t .head .entries) k j) ∷ cs) ≡ refusal cs
   unfolding refusal
-  fresh-at k j cs lk lj = fresh k j (overfull t (cursorAt (t .head .entries) k j) ∷ cs) lk lj ∙ rw (le-ltb (t .head .fan) (leafIn 3 t k .len) (w .leaf-filled k lk .high))
+  fresh-at k j cs lk lj = fresh k j (overfull K t (cursorAt (t .head .entries) k j) ∷ cs) lk lj ∙ rw (le-ltb (t .head .fan) (leafIn (stride K) t k .len) (w .leaf-filled k lk .high))
 
   pub known : (i : ℕ) (cs : List Cause) → i < t .head .entries → refusal (noSuchId t i ∷ cs) ≡ refusal cs
   unfolding refusal
@@ -94,27 +96,27 @@ module _ (t : State) (w : Sound t) where
   pub record Seat (i : ℕ) : Type 0 where
     pub leaf : ℕ
     pub slot : ℕ
-    pub cur : Cur 1 (treeOf 3 t) i leaf slot
-    pub is : calls.cursor t i ≡ standing.At (cursorAt (t .head .entries) leaf slot)
+    pub cur : Cur (K .effect) (treeOf (stride K) t) i leaf slot
+    pub is : calls.cursor K t i ≡ standing.At (cursorAt (t .head .entries) leaf slot)
     pub leaf-in : leaf < t .head .leaves
-    pub slot-in : slot < leafIn 3 t leaf .len
+    pub slot-in : slot < leafIn (stride K) t leaf .len
 
   -- its leaf is its home, its slot the first that holds it
-  own-seat : (i : ℕ) → i < t .head .entries → (getD (t .homes) i 0 < t .head .leaves) × (indexOf i (slotsOf (leafIn 3 t (getD (t .homes) i 0))) < length (slotsOf (leafIn 3 t (getD (t .homes) i 0))))
+  own-seat : (i : ℕ) → i < t .head .entries → (getD (t .homes) i 0 < t .head .leaves) × (indexOf i (slotsOf (leafIn (stride K) t (getD (t .homes) i 0))) < length (slotsOf (leafIn (stride K) t (getD (t .homes) i 0))))
   own-seat i lt =
-      let c : Cur 1 (treeOf 3 t) i (getD (t .homes) i 0) (indexOf i (slotsOf (leafIn 3 t (getD (t .homes) i 0)))) = cur 1 (treeOf 3 t) (sound-of 3 t 1 w) i lt in
-      (leaf-here (treeOf 3 t) (c .A) (getD (t .homes) i 0) (c .B) (above (treeOf 3 t)) (c .body), c .inside)
+      let c : Cur (K .effect) (treeOf (stride K) t) i (getD (t .homes) i 0) (indexOf i (slotsOf (leafIn (stride K) t (getD (t .homes) i 0)))) = cur (K .effect) (treeOf (stride K) t) (sound-of (stride K) t (K .effect) w) i lt in
+      (leaf-here (treeOf (stride K) t) (c .A) (getD (t .homes) i 0) (c .B) (above (treeOf (stride K) t)) (c .body), c .inside)
 
-  pub cursor-is : (i : ℕ) → i < t .head .entries → calls.cursor t i ≡ standing.At (cursorAt (t .head .entries) (getD (t .homes) i 0) (indexOf i (slotsOf (leafIn 3 t (getD (t .homes) i 0)))))
+  pub cursor-is : (i : ℕ) → i < t .head .entries → calls.cursor K t i ≡ standing.At (cursorAt (t .head .entries) (getD (t .homes) i 0) (indexOf i (slotsOf (leafIn (stride K) t (getD (t .homes) i 0)))))
   unfolding calls.cursor refusal
   cursor-is i lt =
       let k : ℕ = getD (t .homes) i 0 in
-      let n : Node = leafIn 3 t k in
+      let n : Node = leafIn (stride K) t k in
       let j : ℕ = indexOf i (slotsOf n) in
       let o = own-seat i lt in
       let lm : length (slotsOf n) ≡ length (used n) = length-map (used n) slotOf in
       let z : 0 + j ≡ j = omega arith in
-      passed (opening t ++ noSuchId t i ∷ []) standing.Refused _ (opens (noSuchId t i ∷ []) ∙ known i [] lt)
+      passed (opening K t ++ noSuchId t i ∷ []) standing.Refused _ (opens (noSuchId t i ∷ []) ∙ known i [] lt)
       ∙ rw (lt-ltb k (t .head .leaves) (o .0), le-leb (n .len) (t .head .fan) (w .leaf-filled k (o .0) .high), index-lift i 0 (used n) (let y = o .1 in omega arith), z)
 
   pub seat : (i : ℕ) → i < t .head .entries → Seat i
@@ -123,13 +125,13 @@ module _ (t : State) (w : Sound t) where
       let o = own-seat i lt in
       record {
         leaf = k;
-        slot = indexOf i (slotsOf (leafIn 3 t k));
-        cur = cur 1 (treeOf 3 t) (sound-of 3 t 1 w) i lt;
+        slot = indexOf i (slotsOf (leafIn (stride K) t k));
+        cur = cur (K .effect) (treeOf (stride K) t) (sound-of (stride K) t (K .effect) w) i lt;
         is = cursor-is i lt;
         leaf-in = o .0;
-        slot-in = (let sz : length (slotsOf (leafIn 3 t k)) ≡ leafIn 3 t k .len = size-is 3 (t .head .fan) (leafIn 3 t k) (neat-of 3 t 1 w .leaf-tidy k (o .0)) in let y = o .1 in omega arith);
+        slot-in = (let sz : length (slotsOf (leafIn (stride K) t k)) ≡ leafIn (stride K) t k .len = size-is (stride K) (t .head .fan) (leafIn (stride K) t k) (neat-of (stride K) t (K .effect) w .leaf-tidy k (o .0)) in let y = o .1 in omega arith);
       }
 
-  pub no-seat : (i : ℕ) → t .head .entries ≤ i → calls.cursor t i ≡ standing.Refused 4
+  pub no-seat : (i : ℕ) → t .head .entries ≤ i → calls.cursor K t i ≡ standing.Refused 4
   unfolding calls.cursor refusal
-  no-seat i le = stopped (opening t ++ noSuchId t i ∷ []) standing.Refused _ 3 (opens (noSuchId t i ∷ []) ∙ unknown i [] le)
+  no-seat i le = stopped (opening K t ++ noSuchId t i ∷ []) standing.Refused _ 3 (opens (noSuchId t i ∷ []) ∙ unknown i [] le)

@@ -9,8 +9,9 @@ use lib.Dec.{ltb, eqb}
 use lib.ListN.{length, getD, drop, set, length-map, length-drop, List·getD-eq-default}
 use lib.Seq.{take-set-le}
 use borrow.Author.Tests.{lt-ltb, le-ltb, ltb-false}
+use Rattle.model.specs.Kind.{stride, viewsOf}
+use Rattle.model.specs.declared.shape.Kind.{Kind}
 use Rattle.model.specs.Lists.{sumBy, some, Cause, refusal}
-use Rattle.model.specs.Length.{listOf}
 use Rattle.model.specs.Node as node
 use Rattle.model.specs.Node.{Node, child, lengths, used, start, minus, withLengths}
 use Rattle.model.specs.State.{State, state, nodeAt, putNode}
@@ -25,7 +26,6 @@ use Rattle.model.specs.Calls as calls
 use Rattle.model.specs.Calls.{cursorAt, resized, resizeCauses}
 use Rattle.model.specs.ById.{told, treeStep}
 use Rattle.model.specs.Answer.{outcomeAnswer, numberAnswer}
-use Rattle.model.specs.declared.length.Lengths.{Lengths}
 use Rattle.model.specs.declared.head.Held.{Held}
 use Rattle.model.specs.declared.head.Held.the-variants as held
 use Rattle.model.specs.declared.way.Sum.{Sum}
@@ -33,6 +33,7 @@ use Rattle.model.specs.declared.answer.Outcome.the-variants as outcome
 use Rattle.model.specs.declared.answer.Number.the-variants as number
 use Rattle.laws.specs.Lists.{All-at, length-zip}
 use Rattle.laws.specs.Areas.{node-same}
+use Rattle.theory.specs.Views.{none-in, some-views, firsts-of}
 use Rattle.theory.specs.Fits.{fits}
 use Rattle.abstract_tree.specs.Lists.{sumBy-append}
 use Rattle.abstract_tree.specs.Levels.{Slot, Area, total, len}
@@ -67,11 +68,6 @@ viewed-changing s k j (held.At f) v = go (eqb (f .leaf) k) (ltb j (f .slot))
     go true false = v
     go false b = tt
 
--- both views
-pub some-views : (q q′ : ℕ → Bool) → ((v : ℕ) → v < 2 → q v ≡ q′ v) → some q (0 ∷ 1 ∷ []) ≡ some q′ (0 ∷ 1 ∷ [])
-unfolding some
-some-views q q′ h = ap₂ (λ (a b : Bool). a || (b || false)) (h 0 (omega arith)) (h 1 (omega arith))
-
 pub ltb-same : (a b c d : ℕ) → (a < b → c < d) → (c < d → a < b) → ltb a b ≡ ltb c d
 ltb-same a b c d f g = go (decLt a b)
   where
@@ -83,75 +79,75 @@ ltb-same a b c d f g = go (decLt a b)
         later (yes h) = absurd (n (g h))
         later (no m) = omega arith
 
-module _ (t : State) (w : Sound t) (i : ℕ) (c : Seat t w i) (l : Lengths) where
+module _ (K : Kind) (t : State) (w : Sound K t) (i : ℕ) (c : Seat K t w i) (l : List ℕ) (wl : length l ≡ K .views) where
   -- the slot, its lengths, the difference
   x : List ℕ
-  x = getD (leafIn 3 t (c .leaf) .slots) (c .slot) []
+  x = getD (leafIn (stride K) t (c .leaf) .slots) (c .slot) []
 
   abbrev pub new : ℕ → ℕ
-  new v = getD (listOf l) v 0
+  new v = getD l v 0
 
   delta : List ℕ
-  delta = minus (listOf l) (lengths x)
+  delta = minus l (lengths x)
 
-  nt : Neat 3 t
-  nt = neat-of 3 t 1 w
+  nt : Neat (stride K) t
+  nt = neat-of (stride K) t (K .effect) w
 
-  td : Tidy 3 (t .head .fan) (leafIn 3 t (c .leaf))
-  td = neat-of 3 t 1 w .leaf-tidy (c .leaf) (c .leaf-in)
+  td : Tidy (stride K) (t .head .fan) (leafIn (stride K) t (c .leaf))
+  td = neat-of (stride K) t (K .effect) w .leaf-tidy (c .leaf) (c .leaf-in)
 
-  lu : c .slot < length (used (leafIn 3 t (c .leaf)))
-  lu = (let z : length (slotsOf (leafIn 3 t (c .leaf))) ≡ length (used (leafIn 3 t (c .leaf))) = length-map (used (leafIn 3 t (c .leaf))) slotOf in omega (arith, c .cur .inside))
+  lu : c .slot < length (used (leafIn (stride K) t (c .leaf)))
+  lu = (let z : length (slotsOf (leafIn (stride K) t (c .leaf))) ≡ length (used (leafIn (stride K) t (c .leaf))) = length-map (used (leafIn (stride K) t (c .leaf))) slotOf in omega (arith, c .cur .inside))
 
-  x-used : x ≡ getD (used (leafIn 3 t (c .leaf))) (c .slot) []
+  x-used : x ≡ getD (used (leafIn (stride K) t (c .leaf))) (c .slot) []
   unfolding x
-  x-used = slot-used 3 (t .head .fan) (leafIn 3 t (c .leaf)) td (c .slot) [] lu
+  x-used = slot-used (stride K) (t .head .fan) (leafIn (stride K) t (c .leaf)) td (c .slot) [] lu
 
-  x-long : length (lengths x) ≡ 2
-  x-long = (let z : length x ≡ 3 = ap length x-used ∙ All-at (λ y. length y ≡ 3) (c .slot) [] (used (leafIn 3 t (c .leaf))) lu (td .wide) in let y = length-drop 1 x in omega arith)
+  x-long : length (lengths x) ≡ K .views
+  x-long = (let z : length x ≡ stride K = ap length x-used ∙ All-at (λ y. length y ≡ stride K) (c .slot) [] (used (leafIn (stride K) t (c .leaf))) lu (td .wide) in let y = length-drop 1 x in omega arith)
 
   old-is : (v : ℕ) → getD (lengths x) v 0 ≡ c .cur .e .lens v
   unfolding x
-  old-is v = lengths-at x v ∙ ap (λ (y : Slot). y .lens v) (slot-is t w i c)
+  old-is v = lengths-at x v ∙ ap (λ (y : Slot). y .lens v) (slot-is K t w i c)
 
   -- the leaf with the new lengths
   node′ : Node
-  node′ = withLengths (c .slot) (listOf l) (leafIn 3 t (c .leaf))
+  node′ = withLengths (c .slot) l (leafIn (stride K) t (c .leaf))
 
-  node-tidy : Tidy 3 (t .head .fan) node′
+  node-tidy : Tidy (stride K) (t .head .fan) node′
   unfolding node′
-  node-tidy = lengths-tidy 3 (t .head .fan) (leafIn 3 t (c .leaf)) td (c .slot) (listOf l) lu refl
+  node-tidy = lengths-tidy (stride K) (t .head .fan) (leafIn (stride K) t (c .leaf)) td (c .slot) l lu (omega arith)
 
   leaves′ : List ℕ
-  leaves′ = putNode (shapeIn 3 t) (c .leaf) node′ (t .leaves)
+  leaves′ = putNode (shapeIn (stride K) t) (c .leaf) node′ (t .leaves)
 
-  leaves-keep : Keeps (shapeIn 3 t) (t .head .leaves) leaves′
+  leaves-keep : Keeps (shapeIn (stride K) t) (t .head .leaves) leaves′
   unfolding leaves′
-  leaves-keep = put-same (shapeIn 3 t) refl (omega arith) (t .head .leaves) (c .leaf) node′ (t .leaves) (c .leaf-in) node-tidy (leaf-keeps 3 t nt)
+  leaves-keep = put-same (shapeIn (stride K) t) refl (omega arith) (t .head .leaves) (c .leaf) node′ (t .leaves) (c .leaf-in) node-tidy (leaf-keeps (stride K) t nt)
 
-  leaf-area : areaOf (shapeIn 3 t) leaves′ ≡ setSlots (treeOf 3 t .body .leaf) (c .leaf) (set (slotsOf (leafIn 3 t (c .leaf))) (c .slot) (insert.slotOf (slotAt (treeOf 3 t) (c .leaf) (c .slot) .child) new))
+  leaf-area : areaOf (shapeIn (stride K) t) leaves′ ≡ setSlots (treeOf (stride K) t .body .leaf) (c .leaf) (set (slotsOf (leafIn (stride K) t (c .leaf))) (c .slot) (insert.slotOf (slotAt (treeOf (stride K) t) (c .leaf) (c .slot) .child) new))
   unfolding leaves′ node′
   leaf-area =
-      put-slots (shapeIn 3 t) refl (omega arith) (t .head .leaves) (c .leaf) node′ (t .leaves) (omega (arith, c .leaf-in, nt .leaf-count)) node-tidy (leaf-keeps 3 t nt) refl refl
-      ∙ ap (setSlots (treeOf 3 t .body .leaf) (c .leaf))
-      (lengths-slots 3 (t .head .fan) (leafIn 3 t (c .leaf)) td (c .slot) (listOf l) lu
-      ∙ ap (λ (k : ℕ). set (slotsOf (leafIn 3 t (c .leaf))) (c .slot) (insert.slotOf k new)) (ap (λ (y : Slot). y .child) (sym (getD-slot (used (leafIn 3 t (c .leaf))) (c .slot) lu))))
+      put-slots (shapeIn (stride K) t) refl (omega arith) (t .head .leaves) (c .leaf) node′ (t .leaves) (omega (arith, c .leaf-in, nt .leaf-count)) node-tidy (leaf-keeps (stride K) t nt) refl refl
+      ∙ ap (setSlots (treeOf (stride K) t .body .leaf) (c .leaf))
+      (lengths-slots (stride K) (t .head .fan) (leafIn (stride K) t (c .leaf)) td (c .slot) l lu
+      ∙ ap (λ (k : ℕ). set (slotsOf (leafIn (stride K) t (c .leaf))) (c .slot) (insert.slotOf k new)) (ap (λ (y : Slot). y .child) (sym (getD-slot (used (leafIn (stride K) t (c .leaf))) (c .slot) lu))))
 
-  read-back : nodeAt (shapeIn 3 t) (c .leaf) leaves′ ≡ node′
+  read-back : nodeAt (shapeIn (stride K) t) (c .leaf) leaves′ ≡ node′
   unfolding leaves′
-  read-back = node-same (shapeIn 3 t) (c .leaf) (t .leaves) refl (fits (shapeIn 3 t) (c .leaf) (t .leaves) (omega (arith, c .leaf-in, nt .leaf-count)) (nt .leaf-area)) node′ (tidy-formed 3 (t .head .fan) node′ node-tidy (omega arith))
+  read-back = node-same (shapeIn (stride K) t) (c .leaf) (t .leaves) refl (fits (shapeIn (stride K) t) (c .leaf) (t .leaves) (omega (arith, c .leaf-in, nt .leaf-count)) (nt .leaf-area)) node′ (tidy-formed (stride K) (t .head .fan) node′ node-tidy (omega arith))
 
   -- the climb above the leaf
-  delta-wide : length delta + 1 ≡ 3
+  delta-wide : length delta + 1 ≡ stride K
   unfolding delta minus
-  delta-wide = ap (λ (n : ℕ). n + 1) (length-zip (λ a b. (a + (2 ^ 32 - b)) % 2 ^ 32) (listOf l) (lengths x) (sym x-long))
+  delta-wide = (let z = length-zip (λ a b. (a + (2 ^ 32 - b)) % 2 ^ 32) l (lengths x) (wl ∙ sym x-long) in omega arith)
 
-  carried : Carried (shapeIn 3 t) delta (t .head .inners) 1 (t .head .levels) (leafIn 3 t (c .leaf) .parent) (leafIn 3 t (c .leaf) .at) (start 1 (c .slot) (leafIn 3 t (c .leaf))) (t .inners)
+  carried : Carried (shapeIn (stride K) t) delta (t .head .inners) (K .effect) (t .head .levels) (leafIn (stride K) t (c .leaf) .parent) (leafIn (stride K) t (c .leaf) .at) (start (K .effect) (c .slot) (leafIn (stride K) t (c .leaf))) (t .inners)
   carried =
-      let T : Tree = treeOf 3 t in
+      let T : Tree = treeOf (stride K) t in
       let b = c .cur .body in
-      climb-up (shapeIn 3 t) refl (omega arith) delta (t .head .inners) delta-wide 1 (t .head .levels) (leafIn 3 t (c .leaf) .parent) (leafIn 3 t (c .leaf) .at) (start 1 (c .slot) (leafIn 3 t (c .leaf))) (t .inners) (inner-keeps 3 t nt)
-      (subst (λ (d : ℕ). Up (T .body .inner) (t .head .inners) d (leafIn 3 t (c .leaf) .parent) (leafIn 3 t (c .leaf) .at)) (b .deep)
+      climb-up (shapeIn (stride K) t) refl (omega arith) delta (t .head .inners) delta-wide (K .effect) (t .head .levels) (leafIn (stride K) t (c .leaf) .parent) (leafIn (stride K) t (c .leaf) .at) (start (K .effect) (c .slot) (leafIn (stride K) t (c .leaf))) (t .inners) (inner-keeps (stride K) t nt)
+      (subst (λ (d : ℕ). Up (T .body .inner) (t .head .inners) d (leafIn (stride K) t (c .leaf) .parent) (leafIn (stride K) t (c .leaf) .at)) (b .deep)
       (up-of (total (T .body .leaf)) (T .body .leaf) (T .body .inner) (T .body .root) (t .head .inners) (c .cur .A) (c .leaf) (c .cur .B) (above T) (b .links) (reals (t .head .inners) (b .few) (above T) (b .inner-in))
       (way (total (T .body .leaf)) (T .body .leaf) (T .body .inner) (T .body .root) (t .head .inners) (c .cur .A) (c .leaf) (c .cur .B) (above T) (b .links) (b .inner-in))))
 
@@ -159,13 +155,13 @@ module _ (t : State) (w : Sound t) (i : ℕ) (c : Seat t w i) (l : Lengths) wher
   state′ : State
   state′ = state (withFinger (changing (c .leaf) (c .slot) (t .head .finger)) (t .head)) leaves′ (carried .words) (t .homes)
 
-  tree-is : treeOf 3 state′ ≡ setIn (treeOf 3 t) (c .leaf) (c .slot) new
+  tree-is : treeOf (stride K) state′ ≡ setIn (treeOf (stride K) t) (c .leaf) (c .slot) new
   unfolding state′ delta
   tree-is =
-      let T : Tree = treeOf 3 t in
+      let T : Tree = treeOf (stride K) t in
       let e : Slot = slotAt T (c .leaf) (c .slot) in
       let f : ℕ → ℕ → ℕ = λ v y. (y + (new v + (4294967296 - e .lens v)) % 4294967296) % 4294967296 in
-      let same : added delta ≡ f = fun-ext (λ v. fun-ext (λ y. ap (λ (d : ℕ). (y + d) % 2 ^ 32) (minus-at (listOf l) (lengths x) v (sym x-long) ∙ ap (λ (o : ℕ). (new v + (2 ^ 32 - o)) % 2 ^ 32) (old-is v ∙ ap (λ (z : Slot). z .lens v) (sym (c .cur .at)))))) in
+      let same : added delta ≡ f = fun-ext (λ v. fun-ext (λ y. ap (λ (d : ℕ). (y + d) % 2 ^ 32) (minus-at l (lengths x) v (wl ∙ sym x-long) ∙ ap (λ (o : ℕ). (new v + (2 ^ 32 - o)) % 2 ^ 32) (old-is v ∙ ap (λ (z : Slot). z .lens v) (sym (c .cur .at)))))) in
       ap₂ (λ (a b : Area). record {
         body = record { leaf = a; inner = b; root = t .head .root .0; next = t .head .inners; levels = t .head .levels };
         homes = λ j. getD (t .homes) j 0;
@@ -175,9 +171,9 @@ module _ (t : State) (w : Sound t) (i : ℕ) (c : Seat t w i) (l : Lengths) wher
         limit = t .head .limit;
         finger = changing (c .leaf) (c .slot) (t .head .finger);
       })
-      leaf-area (carried .area ∙ ap (λ (g : ℕ → ℕ → ℕ). carry g (t .head .levels) (T .body .inner) (leafIn 3 t (c .leaf) .parent) (leafIn 3 t (c .leaf) .at)) same)
+      leaf-area (carried .area ∙ ap (λ (g : ℕ → ℕ → ℕ). carry g (t .head .levels) (T .body .inner) (leafIn (stride K) t (c .leaf) .parent) (leafIn (stride K) t (c .leaf) .at)) same)
 
-  neat′ : Neat 3 state′
+  neat′ : Neat (stride K) state′
   unfolding state′
   neat′ = record {
     leaf-area = leaves-keep .long;
@@ -187,135 +183,122 @@ module _ (t : State) (w : Sound t) (i : ℕ) (c : Seat t w i) (l : Lengths) wher
     inner-count = nt .inner-count;
     leaf-tidy = leaves-keep .tidy;
     inner-tidy = carried .keeps .tidy;
-    view = viewed-changing 3 (c .leaf) (c .slot) (t .head .finger) (nt .view);
+    view = viewed-changing (stride K) (c .leaf) (c .slot) (t .head .finger) (nt .view);
   }
 
   -- what the row becomes
   after-row : List Slot
   after-row = front (c .cur) ++ insert.slotOf (c .cur .e .child) new ∷ behind (c .cur)
 
-  sum-after : (v : ℕ) → sumBy (len v) after-row + c .cur .e .lens v ≡ sumBy (len v) (tree.row (treeOf 3 t)) + new v
+  sum-after : (v : ℕ) → sumBy (len v) after-row + c .cur .e .lens v ≡ sumBy (len v) (tree.row (treeOf (stride K) t)) + new v
   unfolding after-row sumBy
   sum-after v =
-      let a : sumBy (len v) (tree.row (treeOf 3 t)) ≡ sumBy (len v) (front (c .cur)) + (c .cur .e .lens v + sumBy (len v) (behind (c .cur))) = ap (sumBy (len v)) (c .cur .row) ∙ sumBy-append (len v) (front (c .cur)) (c .cur .e ∷ behind (c .cur)) in
+      let a : sumBy (len v) (tree.row (treeOf (stride K) t)) ≡ sumBy (len v) (front (c .cur)) + (c .cur .e .lens v + sumBy (len v) (behind (c .cur))) = ap (sumBy (len v)) (c .cur .row) ∙ sumBy-append (len v) (front (c .cur)) (c .cur .e ∷ behind (c .cur)) in
       let b : sumBy (len v) (front (c .cur) ++ insert.slotOf (c .cur .e .child) new ∷ behind (c .cur)) ≡ sumBy (len v) (front (c .cur)) + (new v + sumBy (len v) (behind (c .cur))) = sumBy-append (len v) (front (c .cur)) (insert.slotOf (c .cur .e .child) new ∷ behind (c .cur)) in
       omega arith
 
-  entries-after : map (entryFrom 2) after-row ≡ changed i (listOf l) (entriesOf t)
+  entries-after : map (entryFrom (K .views)) after-row ≡ changed i l (entriesOf K t)
   unfolding after-row firsts
   entries-after =
-      split-entries 2 (front (c .cur)) (insert.slotOf (c .cur .e .child) new) (behind (c .cur))
-      ∙ ap₂ (λ (a : List Entry) (k : ℕ). a ++ entry k (listOf l) ∷ map (entryFrom 2) (behind (c .cur))) (sym (before-is t w i c)) (c .cur .own)
-      ∙ ap (λ (b : List Entry). before i (entriesOf t) ++ entry i (listOf l) ∷ drop 1 b) (sym (from-is t w i c))
+      split-entries (K .views) (front (c .cur)) (insert.slotOf (c .cur .e .child) new) (behind (c .cur))
+      ∙ ap (λ (m : List ℕ). map (entryFrom (K .views)) (front (c .cur)) ++ entry (c .cur .e .child) m ∷ map (entryFrom (K .views)) (behind (c .cur))) (firsts-of (K .views) l wl)
+      ∙ ap₂ (λ (a : List Entry) (k : ℕ). a ++ entry k l ∷ map (entryFrom (K .views)) (behind (c .cur))) (sym (before-is K t w i c)) (c .cur .own)
+      ∙ ap (λ (b : List Entry). before i (entriesOf K t) ++ entry i l ∷ drop 1 b) (sym (from-is K t w i c))
 
-  total-after : (v : ℕ) → v < 2 → row.total v (changed i (listOf l) (entriesOf t)) ≡ sumBy (len v) after-row
-  total-after v lv = ap (row.total v) (sym entries-after) ∙ total-entries 2 v after-row lv
+  total-after : (v : ℕ) → v < K .views → row.total v (changed i l (entriesOf K t)) ≡ sumBy (len v) after-row
+  total-after v lv = ap (row.total v) (sym entries-after) ∙ total-entries (K .views) v after-row lv
 
   -- both count the total alike
-  past-is : some (λ v. ltb (4294967295 + getD (lengths x) v 0) (totalOf t v + new v)) (0 ∷ 1 ∷ []) ≡ some (λ v. ltb 4294967295 (row.total v (changed i (listOf l) (entriesOf t)))) (0 ∷ 1 ∷ [])
-  past-is = some-views (λ v. ltb (4294967295 + getD (lengths x) v 0) (totalOf t v + new v)) (λ v. ltb 4294967295 (row.total v (changed i (listOf l) (entriesOf t))))
+  past-is : some (λ v. ltb (4294967295 + getD (lengths x) v 0) (totalOf K t v + new v)) (viewsOf K) ≡ some (λ v. ltb 4294967295 (row.total v (changed i l (entriesOf K t)))) (viewsOf K)
+  past-is = some-views (K .views) (λ v. ltb (4294967295 + getD (lengths x) v 0) (totalOf K t v + new v)) (λ v. ltb 4294967295 (row.total v (changed i l (entriesOf K t))))
       (λ v lv. (let a = total-after v lv in let b = sum-after v in let d = old-is v in
-      let e : totalOf t v ≡ sumBy (len v) (tree.row (treeOf 3 t)) = sym (sum-slots v (used (innerIn 3 t (t .head .root .0)))) ∙ total-is (treeOf 3 t) (body-of 3 t 1 w) v in
-      ltb-same (4294967295 + getD (lengths x) v 0) (totalOf t v + new v) 4294967295 (row.total v (changed i (listOf l) (entriesOf t))) (λ h. omega arith) (λ h. omega arith)))
+      let e : totalOf K t v ≡ sumBy (len v) (tree.row (treeOf (stride K) t)) = sym (sum-slots v (used (innerIn (stride K) t (t .head .root .0)))) ∙ total-is (treeOf (stride K) t) (body-of (stride K) t (K .effect) w) v in
+      ltb-same (4294967295 + getD (lengths x) v 0) (totalOf K t v + new v) 4294967295 (row.total v (changed i l (entriesOf K t))) (λ h. omega arith) (λ h. omega arith)))
 
   -- where no total passes u32
-  module _ (ok : some (λ v. ltb 4294967295 (row.total v (changed i (listOf l) (entriesOf t)))) (0 ∷ 1 ∷ []) ≡ false) where
+  module _ (ok : some (λ v. ltb 4294967295 (row.total v (changed i l (entriesOf K t)))) (viewsOf K) ≡ false) where
     small : (v : ℕ) → sumBy (len v) after-row < 4294967296
-    unfolding some
-    small v = go (decLt v 2)
+    small v = go (decLt v (K .views))
       where
-        both : (a b : Bool) → (a || (b || false)) ≡ false → (a ≡ false) × (b ≡ false)
-        both true b e = absurd (let z : _≡_ {A = ℕ} 0 1 = cc in omega arith)
-        both false true e = absurd (let z : _≡_ {A = ℕ} 0 1 = cc in omega arith)
-        both false false e = (refl, refl)
+        go : Dec (v < K .views) → sumBy (len v) after-row < 4294967296
+        go (yes lv) = (let z = ltb-false 4294967295 (row.total v (changed i l (entriesOf K t))) (none-in (λ v. ltb 4294967295 (row.total v (changed i l (entriesOf K t)))) (K .views) ok v lv) in omega (arith, total-after v lv))
+        go (no ge) = (let z : new v ≡ 0 = List·getD-eq-default l 0 {n = v} (omega arith) in let y = sum-after v in omega (arith, body-of (stride K) t (K .effect) w .totals v))
 
-        oks : (ltb 4294967295 (row.total 0 (changed i (listOf l) (entriesOf t))) ≡ false) × (ltb 4294967295 (row.total 1 (changed i (listOf l) (entriesOf t))) ≡ false)
-        oks = both (ltb 4294967295 (row.total 0 (changed i (listOf l) (entriesOf t)))) (ltb 4294967295 (row.total 1 (changed i (listOf l) (entriesOf t)))) ok
-
-        low : (v : ℕ) → v < 2 → ltb 4294967295 (row.total v (changed i (listOf l) (entriesOf t))) ≡ false
-        low zero lv = oks .0
-        low (suc zero) lv = oks .1
-        low (suc (suc v)) lv = absurd (omega arith)
-
-        go : Dec (v < 2) → sumBy (len v) after-row < 4294967296
-        go (yes lv) = (let z = ltb-false 4294967295 (row.total v (changed i (listOf l) (entriesOf t))) (low v lv) in omega (arith, total-after v lv))
-        go (no ge) = (let z : new v ≡ 0 = List·getD-eq-default (listOf l) 0 {n = v} (omega arith) in let y = sum-after v in omega (arith, body-of 3 t 1 w .totals v))
-
-    done-is : Done 1 (spot (treeOf 3 t) (c .leaf) (c .slot)) (front (c .cur)) (setIn (treeOf 3 t) (c .leaf) (c .slot) new) after-row
+    done-is : Done (K .effect) (spot (treeOf (stride K) t) (c .leaf) (c .slot)) (front (c .cur)) (setIn (treeOf (stride K) t) (c .leaf) (c .slot) new) after-row
     unfolding after-row
-    done-is = set-done 1 (treeOf 3 t) (spot (treeOf 3 t) (c .leaf) (c .slot)) (front (c .cur)) (c .cur .e) (behind (c .cur)) (c .cur .room) new (c .cur .inside) small
+    done-is = set-done (K .effect) (treeOf (stride K) t) (spot (treeOf (stride K) t) (c .leaf) (c .slot)) (front (c .cur)) (c .cur .e) (behind (c .cur)) (c .cur .room) new (c .cur .inside) small
 
-    sound′ : Sound state′
-    sound′ = sound-up 3 state′ 1 neat′ (subst (tree.Sound 1) (sym tree-is) (done-is .sound))
+    sound′ : Sound K state′
+    sound′ = sound-up (stride K) state′ (K .effect) neat′ (subst (tree.Sound (K .effect)) (sym tree-is) (done-is .sound))
 
-    entries′ : entriesOf state′ ≡ changed i (listOf l) (entriesOf t)
-    entries′ = entries-are state′ sound′ ∙ ap (λ (T : Tree). map (entryFrom 2) (tree.row T)) tree-is ∙ ap (map (entryFrom 2)) (done-is .is) ∙ entries-after
+    entries′ : entriesOf K state′ ≡ changed i l (entriesOf K t)
+    entries′ = entries-are K state′ sound′ ∙ ap (λ (T : Tree). map (entryFrom (K .views)) (tree.row T)) tree-is ∙ ap (map (entryFrom (K .views))) (done-is .is) ∙ entries-after
 
-    stands′ : Stands state′ (row.row (t .head .limit) (changed i (listOf l) (entriesOf t)))
+    stands′ : Stands K state′ (row.row (t .head .limit) (changed i l (entriesOf K t)))
     unfolding state′
     stands′ = record { sound = sound′; entries = entries′; limit = refl }
 
   -- the change as the call makes it
-  resized-is : resized t (cursorAt (t .head .entries) (c .leaf) (c .slot)) l ≡ (change 0 state′ (c .leaf) (c .slot), sumBy (len 1) (front (c .cur)))
+  resized-is : resized K t (cursorAt (t .head .entries) (c .leaf) (c .slot)) l ≡ (change 0 state′ (c .leaf) (c .slot), sumBy (len (K .effect)) (front (c .cur)))
   unfolding climb replace state′ leaves′ node′ x delta
   resized-is =
-      let g = shapeIn 3 t in
-      let st : start 1 (c .slot) node′ ≡ start 1 (c .slot) (leafIn 3 t (c .leaf)) = ap (node.total 1) (take-set-le (c .slot) (leafIn 3 t (c .leaf) .slots) (c .slot) (child (getD (leafIn 3 t (c .leaf) .slots) (c .slot) []) ∷ listOf l) (omega arith)) in
-      let n : ℕ = sumBy (len 1) (front (c .cur)) in
-      let small : n % 2 ^ 32 ≡ n = (let z : n < 4294967296 = front-small t w i c 1 in omega arith) in
-      let r : Change = replace g t (c .leaf) (c .slot) (listOf l) in
-      ap (λ (m : Node). summed g r (climbUp g 1 delta (t .head .levels) (m .parent) (m .at) (start 1 (c .slot) m) (t .inners))) read-back
-      ∙ ap (λ (a : ℕ). summed g r (climbUp g 1 delta (t .head .levels) (leafIn 3 t (c .leaf) .parent) (leafIn 3 t (c .leaf) .at) a (t .inners))) st
-      ∙ ap (summed g r) (carried .is ∙ ap (λ (z : Sum). (z, carried .words)) (rank-is t w i c 1))
+      let g = shapeIn (stride K) t in
+      let st : start (K .effect) (c .slot) node′ ≡ start (K .effect) (c .slot) (leafIn (stride K) t (c .leaf)) = ap (node.total (K .effect)) (take-set-le (c .slot) (leafIn (stride K) t (c .leaf) .slots) (c .slot) (child (getD (leafIn (stride K) t (c .leaf) .slots) (c .slot) []) ∷ l) (omega arith)) in
+      let n : ℕ = sumBy (len (K .effect)) (front (c .cur)) in
+      let small : n % 2 ^ 32 ≡ n = (let z : n < 4294967296 = front-small K t w i c (K .effect) in omega arith) in
+      let r : Change = replace g t (c .leaf) (c .slot) l in
+      ap (λ (m : Node). summed g r (climbUp g (K .effect) delta (t .head .levels) (m .parent) (m .at) (start (K .effect) (c .slot) m) (t .inners))) read-back
+      ∙ ap (λ (a : ℕ). summed g r (climbUp g (K .effect) delta (t .head .levels) (leafIn (stride K) t (c .leaf) .parent) (leafIn (stride K) t (c .leaf) .at) a (t .inners))) st
+      ∙ ap (summed g r) (carried .is ∙ ap (λ (z : Sum). (z, carried .words)) (rank-is K t w i c (K .effect)))
       ∙ ap (λ (m : ℕ). (change 0 (state (r .state .head) (r .state .leaves) (carried .words) (r .state .homes)) (c .leaf) (c .slot), m)) small
 
   -- the causes of both calls come to the same
-  resize-causes : refusal (resizeCauses t (cursorAt (t .head .entries) (c .leaf) (c .slot)) l) ≡ refusal (row.past (changed i (listOf l) (entriesOf t)) ∷ [])
+  resize-causes : refusal (resizeCauses K t (cursorAt (t .head .entries) (c .leaf) (c .slot)) l) ≡ refusal (row.past K (changed i l (entriesOf K t)) ∷ [])
   unfolding refusal x
   resize-causes =
-      ap refusal (append-assoc (opening t) (stale t (cursorAt (t .head .entries) (c .leaf) (c .slot)) ∷ overfull t (cursorAt (t .head .entries) (c .leaf) (c .slot)) ∷ []) (past t (lengths x) (listOf l) ∷ []))
-      ∙ opens t w (stale t (cursorAt (t .head .entries) (c .leaf) (c .slot)) ∷ overfull t (cursorAt (t .head .entries) (c .leaf) (c .slot)) ∷ past t (lengths x) (listOf l) ∷ []) ∙ fresh-at t w (c .leaf) (c .slot) (past t (lengths x) (listOf l) ∷ []) (c .leaf-in) (c .slot-in)
+      ap refusal (append-assoc (opening K t) (stale K t (cursorAt (t .head .entries) (c .leaf) (c .slot)) ∷ overfull K t (cursorAt (t .head .entries) (c .leaf) (c .slot)) ∷ []) (past K t (lengths x) l ∷ []))
+      ∙ opens K t w (stale K t (cursorAt (t .head .entries) (c .leaf) (c .slot)) ∷ overfull K t (cursorAt (t .head .entries) (c .leaf) (c .slot)) ∷ past K t (lengths x) l ∷ []) ∙ fresh-at K t w (c .leaf) (c .slot) (past K t (lengths x) l ∷ []) (c .leaf-in) (c .slot-in)
       ∙ ap (λ (b : Bool). cond b 7 0) past-is
 
   -- a call that answers A, where the row answers a
-  module _ {A : Type 0} (refuse : ℕ → A) (answer : ℕ → A) (say : A → Answer) (a : Answer) (says : (n : ℕ) → say (refuse n) ≡ refused n) (right : say (answer (sumBy (len 1) (front (c .cur)))) ≡ a) where
-    resize-step : Agrees
-        (told (calls.unless (resizeCauses t (cursorAt (t .head .entries) (c .leaf) (c .slot)) l) (λ n. calls.reply t (refuse n))
-        (calls.settled t (resized t (cursorAt (t .head .entries) (c .leaf) (c .slot)) l .0) refuse (answer (resized t (cursorAt (t .head .entries) (c .leaf) (c .slot)) l .1)))) say)
-        (unless (rowOf t) (row.past (changed i (listOf l) (entriesOf t)) ∷ []) (changed i (listOf l) (entriesOf t)) a)
+  module _ {A : Type 0} (refuse : ℕ → A) (answer : ℕ → A) (say : A → Answer) (a : Answer) (says : (n : ℕ) → say (refuse n) ≡ refused n) (right : say (answer (sumBy (len (K .effect)) (front (c .cur)))) ≡ a) where
+    resize-step : Agrees K
+        (told (calls.unless (resizeCauses K t (cursorAt (t .head .entries) (c .leaf) (c .slot)) l) (λ n. calls.reply t (refuse n))
+        (calls.settled t (resized K t (cursorAt (t .head .entries) (c .leaf) (c .slot)) l .0) refuse (answer (resized K t (cursorAt (t .head .entries) (c .leaf) (c .slot)) l .1)))) say)
+        (unless (rowOf K t) (row.past K (changed i l (entriesOf K t)) ∷ []) (changed i l (entriesOf K t)) a)
     unfolding refusal
-    resize-step = go (some (λ v. ltb 4294967295 (row.total v (changed i (listOf l) (entriesOf t)))) (0 ∷ 1 ∷ [])) refl
+    resize-step = go (some (λ v. ltb 4294967295 (row.total v (changed i l (entriesOf K t)))) (viewsOf K)) refl
       where
         cs : List Cause
-        cs = resizeCauses t (cursorAt (t .head .entries) (c .leaf) (c .slot)) l
+        cs = resizeCauses K t (cursorAt (t .head .entries) (c .leaf) (c .slot)) l
 
-        go : (b : Bool) → some (λ v. ltb 4294967295 (row.total v (changed i (listOf l) (entriesOf t)))) (0 ∷ 1 ∷ []) ≡ b → Agrees
-            (told (calls.unless (resizeCauses t (cursorAt (t .head .entries) (c .leaf) (c .slot)) l) (λ n. calls.reply t (refuse n))
-            (calls.settled t (resized t (cursorAt (t .head .entries) (c .leaf) (c .slot)) l .0) refuse (answer (resized t (cursorAt (t .head .entries) (c .leaf) (c .slot)) l .1)))) say)
-            (unless (rowOf t) (row.past (changed i (listOf l) (entriesOf t)) ∷ []) (changed i (listOf l) (entriesOf t)) a)
+        go : (b : Bool) → some (λ v. ltb 4294967295 (row.total v (changed i l (entriesOf K t)))) (viewsOf K) ≡ b → Agrees K
+            (told (calls.unless (resizeCauses K t (cursorAt (t .head .entries) (c .leaf) (c .slot)) l) (λ n. calls.reply t (refuse n))
+            (calls.settled t (resized K t (cursorAt (t .head .entries) (c .leaf) (c .slot)) l .0) refuse (answer (resized K t (cursorAt (t .head .entries) (c .leaf) (c .slot)) l .1)))) say)
+            (unless (rowOf K t) (row.past K (changed i l (entriesOf K t)) ∷ []) (changed i l (entriesOf K t)) a)
         go true q =
-            let e : refusal (row.past (changed i (listOf l) (entriesOf t)) ∷ []) ≡ 7 = ap (λ (b : Bool). cond b 7 0) q in
+            let e : refusal (row.past K (changed i l (entriesOf K t)) ∷ []) ≡ 7 = ap (λ (b : Bool). cond b 7 0) q in
             rw (
-              stopped cs (λ n. calls.reply t (refuse n)) (calls.settled t (resized t (cursorAt (t .head .entries) (c .leaf) (c .slot)) l .0) refuse (answer (resized t (cursorAt (t .head .entries) (c .leaf) (c .slot)) l .1))) 6 (resize-causes ∙ e),
-              row-stopped (rowOf t) (row.past (changed i (listOf l) (entriesOf t)) ∷ []) (changed i (listOf l) (entriesOf t)) a 6 e,
+              stopped cs (λ n. calls.reply t (refuse n)) (calls.settled t (resized K t (cursorAt (t .head .entries) (c .leaf) (c .slot)) l .0) refuse (answer (resized K t (cursorAt (t .head .entries) (c .leaf) (c .slot)) l .1))) 6 (resize-causes ∙ e),
+              row-stopped (rowOf K t) (row.past K (changed i l (entriesOf K t)) ∷ []) (changed i l (entriesOf K t)) a 6 e,
             )
-            (record { same = says 7; kept = own t w })
+            (record { same = says 7; kept = own K t w })
         go false q =
-            let e : refusal (row.past (changed i (listOf l) (entriesOf t)) ∷ []) ≡ 0 = ap (λ (b : Bool). cond b 7 0) q in
+            let e : refusal (row.past K (changed i l (entriesOf K t)) ∷ []) ≡ 0 = ap (λ (b : Bool). cond b 7 0) q in
             rw (
-              passed cs (λ n. calls.reply t (refuse n)) (calls.settled t (resized t (cursorAt (t .head .entries) (c .leaf) (c .slot)) l .0) refuse (answer (resized t (cursorAt (t .head .entries) (c .leaf) (c .slot)) l .1))) (resize-causes ∙ e),
-              row-passed (rowOf t) (row.past (changed i (listOf l) (entriesOf t)) ∷ []) (changed i (listOf l) (entriesOf t)) a e,
+              passed cs (λ n. calls.reply t (refuse n)) (calls.settled t (resized K t (cursorAt (t .head .entries) (c .leaf) (c .slot)) l .0) refuse (answer (resized K t (cursorAt (t .head .entries) (c .leaf) (c .slot)) l .1))) (resize-causes ∙ e),
+              row-passed (rowOf K t) (row.past K (changed i l (entriesOf K t)) ∷ []) (changed i l (entriesOf K t)) a e,
               resized-is,
             )
             (record { same = right; kept = stands′ q })
 
-module _ (t : State) (w : Sound t) where
-  pub step-set : (i : ℕ) (l : Lengths) → Agrees (treeStep t (row.setLengths i l)) (rowStep (rowOf t) (row.setLengths i l))
+module _ (K : Kind) (ok : K .effect < K .views) (t : State) (w : Sound K t) where
+  pub step-set : (i : ℕ) (l : List ℕ) (wl : length l ≡ K .views) → Agrees K (treeStep K t (row.setLengths i l)) (rowStep K (rowOf K t) (row.setLengths i l))
   unfolding treeStep rowStep calls.setLengths
-  step-set i l = by-id t w i (λ c. told (calls.setLengths t c l) outcomeAnswer) (row.past (changed i (listOf l) (entriesOf t)) ∷ []) (changed i (listOf l) (entriesOf t)) (done [])
-      (λ c. resize-step t w i c l outcome.Refused (λ n. outcome.Done) outcomeAnswer (done []) (λ n. refl) refl)
+  step-set i l wl = by-id K t w i (λ c. told (calls.setLengths K t c l) outcomeAnswer) (row.past K (changed i l (entriesOf K t)) ∷ []) (changed i l (entriesOf K t)) (done [])
+      (λ c. resize-step K t w i c l wl outcome.Refused (λ n. outcome.Done) outcomeAnswer (done []) (λ n. refl) refl)
 
-  pub step-update : (i : ℕ) (l : Lengths) → Agrees (treeStep t (row.update i l)) (rowStep (rowOf t) (row.update i l))
+  pub step-update : (i : ℕ) (l : List ℕ) (wl : length l ≡ K .views) → Agrees K (treeStep K t (row.update i l)) (rowStep K (rowOf K t) (row.update i l))
   unfolding treeStep rowStep calls.update
-  step-update i l = by-id t w i (λ c. told (calls.update t c l) numberAnswer) (row.past (changed i (listOf l) (entriesOf t)) ∷ []) (changed i (listOf l) (entriesOf t)) (done (row.total 1 (before i (entriesOf t)) ∷ []))
-      (λ c. resize-step t w i c l number.Refused number.Is numberAnswer (done (row.total 1 (before i (entriesOf t)) ∷ [])) (λ n. refl) (ap (λ (n : ℕ). done (n ∷ [])) (sym (total-before t w i c 1 (omega arith)))))
+  step-update i l wl = by-id K t w i (λ c. told (calls.update K t c l) numberAnswer) (row.past K (changed i l (entriesOf K t)) ∷ []) (changed i l (entriesOf K t)) (done (row.total (K .effect) (before i (entriesOf K t)) ∷ []))
+      (λ c. resize-step K t w i c l wl number.Refused number.Is numberAnswer (done (row.total (K .effect) (before i (entriesOf K t)) ∷ [])) (λ n. refl) (ap (λ (n : ℕ). done (n ∷ [])) (sym (total-before K t w i c (K .effect) (ok)))))

@@ -1,6 +1,7 @@
 -- Every call of a list, on a sound state: its answer is the row's, and what it leaves is sound and stands for what the row becomes.
 use mathlib.Core.Path.{refl, ap₂, subst}
 use Prim.Native.Nat.{ℕ, _<_}
+use Rattle.model.specs.declared.shape.Kind.{Kind}
 use Rattle.model.specs.State.{State}
 use Rattle.model.specs.Row as row
 use Rattle.model.specs.Row.{Row, Call, rowStep}
@@ -19,38 +20,38 @@ use Rattle.theory.specs.Splits.{step-split}
 abbrev pub IsWord : ℕ → Type 0
 IsWord n = n < 4294967296
 
-abbrev pub InWords : Call → Type 0
-InWords (row.reset l) = Words l
-InWords (row.insert i l) = IsWord i × Words l
-InWords (row.add i l) = IsWord i × Words l
-InWords (row.split flag i l) = IsWord i × Words l
-InWords (row.setLengths i l) = IsWord i × Words l
-InWords (row.update i l) = IsWord i × Words l
-InWords (row.lookup v x) = IsWord x
-InWords (row.rank v i) = IsWord i
-InWords (row.next i) = IsWord i
-InWords (row.compare i j) = IsWord i × IsWord j
-InWords (row.lengths i) = IsWord i
-InWords row.count = Unit {0}
-InWords row.first = Unit {0}
-InWords row.malformed = Unit {0}
+abbrev pub InWords : Kind → Call → Type 0
+InWords K (row.reset l) = Words K l
+InWords K (row.insert i l) = IsWord i × Words K l
+InWords K (row.add i l) = IsWord i × Words K l
+InWords K (row.split flag i l) = IsWord i × Words K l
+InWords K (row.setLengths i l) = IsWord i × Words K l
+InWords K (row.update i l) = IsWord i × Words K l
+InWords K (row.lookup v x) = (v < K .views) × IsWord x
+InWords K (row.rank v i) = (v < K .views) × IsWord i
+InWords K (row.next i) = IsWord i
+InWords K (row.compare i j) = IsWord i × IsWord j
+InWords K (row.lengths i) = IsWord i
+InWords K row.count = Unit {0}
+InWords K row.first = Unit {0}
+InWords K row.malformed = Unit {0}
 
-own-step : (t : State) → Sound t → (c : Call) → InWords c → Agrees (treeStep t c) (rowStep (rowOf t) c)
+own-step : (K : Kind) (ok : K .effect < K .views) (t : State) → Sound K t → (c : Call) → InWords K c → Agrees K (treeStep K t c) (rowStep K (rowOf K t) c)
 unfolding treeStep rowStep
-own-step t w (row.reset l) h = step-reset t w l h
-own-step t w (row.insert i l) h = step-insert t w i l
-own-step t w (row.add i l) h = step-add t w i l
-own-step t w (row.split flag i l) h = step-split t w flag i l
-own-step t w (row.setLengths i l) h = step-set t w i l
-own-step t w (row.update i l) h = step-update t w i l
-own-step t w (row.lookup v x) h = step-lookup t w v x
-own-step t w (row.rank v i) h = step-rank t w v i
-own-step t w (row.next i) h = step-next t w i
-own-step t w (row.compare i j) h = step-compare t w i j
-own-step t w (row.lengths i) h = step-lengths t w i
-own-step t w row.count h = step-count t w
-own-step t w row.first h = step-first t w
-own-step t w row.malformed h = record { same = refl; kept = own t w }
+own-step K ok t w (row.reset l) h = step-reset K t w l h
+own-step K ok t w (row.insert i l) h = step-insert K ok t w i l (h .1 .long)
+own-step K ok t w (row.add i l) h = step-add K ok t w i l (h .1 .long)
+own-step K ok t w (row.split flag i l) h = step-split K t w flag i l (h .1 .long)
+own-step K ok t w (row.setLengths i l) h = step-set K ok t w i l (h .1 .long)
+own-step K ok t w (row.update i l) h = step-update K ok t w i l (h .1 .long)
+own-step K ok t w (row.lookup v x) h = step-lookup K ok t w v (h .0) x
+own-step K ok t w (row.rank v i) h = step-rank K t w v (h .0) i
+own-step K ok t w (row.next i) h = step-next K t w i
+own-step K ok t w (row.compare i j) h = step-compare K t w i j
+own-step K ok t w (row.lengths i) h = step-lengths K t w i
+own-step K ok t w row.count h = step-count K t w
+own-step K ok t w row.first h = step-first K t w
+own-step K ok t w row.malformed h = record { same = refl; kept = own K t w }
 
-pub step : (t : State) (r : Row) → Stands t r → (c : Call) → InWords c → Agrees (treeStep t c) (rowStep r c)
-step t r h c k = subst (λ (q : Row). Agrees (treeStep t c) (rowStep q c)) (ap₂ row.row (h .limit) (h .entries)) (own-step t (h .sound) c k)
+pub step : (K : Kind) (ok : K .effect < K .views) (t : State) (r : Row) → Stands K t r → (c : Call) → InWords K c → Agrees K (treeStep K t c) (rowStep K r c)
+step K ok t r h c k = subst (λ (q : Row). Agrees K (treeStep K t c) (rowStep K q c)) (ap₂ row.row (h .limit) (h .entries)) (own-step K ok t (h .sound) c k)

@@ -12,7 +12,7 @@ use Rattle.model.specs.Lists.{sumBy, range}
 use Rattle.model.specs.Node.{Node, child}
 use Rattle.model.specs.State.{State}
 use Rattle.model.specs.Sound.{leafIn, innerIn}
-use Rattle.model.specs.Refuse.{stride}
+use Rattle.model.specs.Kind.{base}
 use Rattle.model.specs.Audit.{depthOf}
 use Rattle.theory.specs.StepsLaws.{sum-le, sum-plus, sum-same, parents, places, half-square, all-most}
 
@@ -20,23 +20,23 @@ module _ (t : State) where
   -- slot i of inner node k: the slot, its link, and the child's lengths in both views if the child knows this place
   unfoldable pub stepsChild : (ℕ → Node) → ℕ → ℕ → ℕ → ℕ
   stepsChild area count k i =
-      let c = child (getD (innerIn stride t k .slots) i []) in
+      let c = child (getD (innerIn 3 t k .slots) i []) in
       2 + cond (ltb c count && eqb (area c .parent) k && eqb (area c .at) i) (2 * t .head .fan) 0
 
   -- depth by climbing, unused slots, the link to the parent and the slot there, then the slots in use
   unfoldable pub stepsInner : ℕ → ℕ
   stepsInner k =
       let h = t .head in
-      let n = innerIn stride t k in
-      let lowest = eqb (depthOf t k) (h .levels) in
+      let n = innerIn 3 t k in
+      let lowest = eqb (depthOf base t k) (h .levels) in
       h .levels + 1 + (h .fan - n .len) + 2
-      + cond (leb (n .len) (h .fan)) (sumBy (stepsChild (cond lowest (leafIn stride t) (innerIn stride t)) (cond lowest (h .leaves) (h .inners)) k) (range 0 (n .len))) 0
+      + cond (leb (n .len) (h .fan)) (sumBy (stepsChild (cond lowest (leafIn 3 t) (innerIn 3 t)) (cond lowest (h .leaves) (h .inners)) k) (range 0 (n .len))) 0
 
   -- unused slots, the link to the parent and the slot there, depth by climbing, then each slot in use, its home and the ids before it
   unfoldable pub stepsLeaf : ℕ → ℕ
   stepsLeaf k =
       let h = t .head in
-      let n = leafIn stride t k in
+      let n = leafIn 3 t k in
       h .fan - n .len + 2 + (h .levels + 1) + cond (leb (n .len) (h .fan)) (sumBy (λ i. 2 + i) (range 0 (n .len))) 0
 
   -- every node in use, the slots in use counted, the root's totals, the finger's sums by two climbs and two sums in its leaf
@@ -59,7 +59,7 @@ module _ (t : State) where
 
   inner-most : (k : ℕ) → stepsInner k ≤ t .head .levels + 2 * t .head .fan + 3 + (charged (leafIn 3 t) (t .head .leaves) k + charged (innerIn 3 t) (t .head .inners) k)
   unfolding stepsInner
-  inner-most k = go (leb (innerIn 3 t k .len) (t .head .fan)) refl (eqb (depthOf t k) (t .head .levels))
+  inner-most k = go (leb (innerIn 3 t k .len) (t .head .fan)) refl (eqb (depthOf base t k) (t .head .levels))
     where
       go : (b : Bool) → leb (innerIn 3 t k .len) (t .head .fan) ≡ b → (lowest : Bool)
           → t .head .levels + 1 + (t .head .fan - innerIn 3 t k .len) + 2

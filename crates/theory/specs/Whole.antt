@@ -3,9 +3,11 @@
 use mathlib.Core.Path.{_≡_, refl, sym, ap, ap₂, _∙_, subst}
 use mathlib.Core.Bool.{Bool, true, false, cond}
 use mathlib.Core.List.{List, [], _∷_}
-use Prim.Native.Nat.{ℕ, zero, suc, _*_, _^_, _≤_}
+use Prim.Native.Nat.{ℕ, zero, suc, _*_, _^_, _≤_, _<_}
 use native.Mathlib.Omega.{arith}
 use lib.ListN.{length}
+use Rattle.model.specs.Kind.{stride}
+use Rattle.model.specs.declared.shape.Kind.{Kind}
 use Rattle.model.specs.Lists.{All, refusal}
 use Rattle.model.specs.Node.{half}
 use Rattle.model.specs.State.{State, state, headOf}
@@ -15,7 +17,6 @@ use Rattle.model.specs.ById.{treeStep}
 use Rattle.model.specs.Sound.{Sound, entriesOf}
 use Rattle.model.specs.Calls as calls
 use Rattle.model.specs.Calls.{make, begun, makeCauses}
-use Rattle.model.specs.declared.length.Lengths.{Lengths}
 use Rattle.model.specs.declared.head.Held.the-variants as held
 use Rattle.model.specs.declared.answer.Outcome.{Outcome}
 use Rattle.model.specs.declared.answer.Outcome.the-variants as outcome
@@ -65,97 +66,97 @@ otherAnswers move s [] = []
 otherAnswers move s (c ∷ cs) = let rest = otherAnswers move (move s c .after) cs in cond (isLookup c) rest (move s c .answer ∷ rest)
 
 -- what holds of a state that stands for the row r
-pub record Kept (s : State) (r : Row) : Type 0 where
-  pub sound : Sound s
-  pub entries : entriesOf s ≡ r .entries
+pub record Kept (K : Kind) (s : State) (r : Row) : Type 0 where
+  pub sound : Sound K s
+  pub entries : entriesOf K s ≡ r .entries
   pub limit : s .head .limit ≡ r .limit
   pub count : s .head .entries ≡ length (r .entries)
   pub within : length (r .entries) ≤ r .limit
   pub levels : s .head .levels ≤ 15
   pub floor : 2 ≤ s .head .levels → 2 * half (s .head .fan) ^ s .head .levels ≤ length (r .entries)
-  pub numbers : (c : Call) → InWords c → Numbers s r c
+  pub numbers : (c : Call) → InWords K c → Numbers K s r c
 
-pub kept-of : (s : State) (r : Row) → Stands s r → Kept s r
-kept-of s r h =
-    let n : s .head .entries ≡ length (r .entries) = sym (count-is s (h .sound)) ∙ ap length (h .entries) in
-    let b = body-of 3 s 1 (h .sound) in
+pub kept-of : (K : Kind) (ok : K .effect < K .views) (s : State) (r : Row) → Stands K s r → Kept K s r
+kept-of K ok s r h =
+    let n : s .head .entries ≡ length (r .entries) = sym (count-is K s (h .sound)) ∙ ap length (h .entries) in
+    let b = body-of (stride K) s (K .effect) (h .sound) in
     record {
       sound = h .sound;
       entries = h .entries;
       limit = h .limit;
       count = n;
       within = (let z = h .sound .entry-count in let y = h .limit in omega arith);
-      levels = levels-most (treeOf 3 s) b;
-      floor = λ two. (let z = entry-floor (treeOf 3 s) b two in omega arith);
-      numbers = numbers-are s r h;
+      levels = levels-most (treeOf (stride K) s) b;
+      floor = λ two. (let z = entry-floor (treeOf (stride K) s) b two in omega arith);
+      numbers = numbers-are K ok s r h;
     }
 
 never : false ≡ true → ⊥
 never e = let z : _≡_ {A = ℕ} 0 1 = cc in omega arith
 
 -- a lookup leaves the row as it was
-lookup-keeps : (r : Row) (c : Call) → isLookup c ≡ true → rowStep r c .after ≡ r
+lookup-keeps : (K : Kind) (r : Row) (c : Call) → isLookup c ≡ true → rowStep K r c .after ≡ r
 unfolding rowStep
-lookup-keeps r (row.lookup v x) e = refl
-lookup-keeps r (row.reset l) e = absurd (never e)
-lookup-keeps r (row.insert i l) e = absurd (never e)
-lookup-keeps r (row.add i l) e = absurd (never e)
-lookup-keeps r (row.split flag i l) e = absurd (never e)
-lookup-keeps r (row.setLengths i l) e = absurd (never e)
-lookup-keeps r (row.update i l) e = absurd (never e)
-lookup-keeps r (row.rank v i) e = absurd (never e)
-lookup-keeps r (row.next i) e = absurd (never e)
-lookup-keeps r (row.compare i j) e = absurd (never e)
-lookup-keeps r (row.lengths i) e = absurd (never e)
-lookup-keeps r row.count e = absurd (never e)
-lookup-keeps r row.first e = absurd (never e)
-lookup-keeps r row.malformed e = absurd (never e)
+lookup-keeps K r (row.lookup v x) e = refl
+lookup-keeps K r (row.reset l) e = absurd (never e)
+lookup-keeps K r (row.insert i l) e = absurd (never e)
+lookup-keeps K r (row.add i l) e = absurd (never e)
+lookup-keeps K r (row.split flag i l) e = absurd (never e)
+lookup-keeps K r (row.setLengths i l) e = absurd (never e)
+lookup-keeps K r (row.update i l) e = absurd (never e)
+lookup-keeps K r (row.rank v i) e = absurd (never e)
+lookup-keeps K r (row.next i) e = absurd (never e)
+lookup-keeps K r (row.compare i j) e = absurd (never e)
+lookup-keeps K r (row.lengths i) e = absurd (never e)
+lookup-keeps K r row.count e = absurd (never e)
+lookup-keeps K r row.first e = absurd (never e)
+lookup-keeps K r row.malformed e = absurd (never e)
 
-pub runs-alike : (s : State) (r : Row) (cs : List Call) → Stands s r → All InWords cs → (answers treeStep s cs ≡ answers rowStep r cs) × Stands (finally treeStep s cs) (finally rowStep r cs)
+pub runs-alike : (K : Kind) (ok : K .effect < K .views) (s : State) (r : Row) (cs : List Call) → Stands K s r → All (InWords K) cs → (answers (treeStep K) s cs ≡ answers (rowStep K) r cs) × Stands K (finally (treeStep K) s cs) (finally (rowStep K) r cs)
 unfolding answers finally All
-runs-alike s r [] h k = (refl, h)
-runs-alike s r (c ∷ cs) h k =
-    let a : Agrees (treeStep s c) (rowStep r c) = step s r h c (k .0) in
-    let i = runs-alike (treeStep s c .after) (rowStep r c .after) cs (a .kept) (k .1) in
+runs-alike K ok s r [] h k = (refl, h)
+runs-alike K ok s r (c ∷ cs) h k =
+    let a : Agrees K (treeStep K s c) (rowStep K r c) = step K ok s r h c (k .0) in
+    let i = runs-alike K ok (treeStep K s c .after) (rowStep K r c .after) cs (a .kept) (k .1) in
     (ap₂ _∷_ (a .same) (i .0), i .1)
 
-others-alike : (s : State) (r : Row) (cs : List Call) → Stands s r → All InWords cs → otherAnswers treeStep s cs ≡ answers rowStep r (others cs)
+others-alike : (K : Kind) (ok : K .effect < K .views) (s : State) (r : Row) (cs : List Call) → Stands K s r → All (InWords K) cs → otherAnswers (treeStep K) s cs ≡ answers (rowStep K) r (others cs)
 unfolding answers otherAnswers others All
-others-alike s r [] h k = refl
-others-alike s r (c ∷ cs) h k =
-    let a : Agrees (treeStep s c) (rowStep r c) = step s r h c (k .0) in
-    other (isLookup c) refl (a .same) (others-alike (treeStep s c .after) (rowStep r c .after) cs (a .kept) (k .1))
+others-alike K ok s r [] h k = refl
+others-alike K ok s r (c ∷ cs) h k =
+    let a : Agrees K (treeStep K s c) (rowStep K r c) = step K ok s r h c (k .0) in
+    other (isLookup c) refl (a .same) (others-alike K ok (treeStep K s c .after) (rowStep K r c .after) cs (a .kept) (k .1))
   where
-    other : (b : Bool) → isLookup c ≡ b → treeStep s c .answer ≡ rowStep r c .answer → otherAnswers treeStep (treeStep s c .after) cs ≡ answers rowStep (rowStep r c .after) (others cs)
-        → cond (isLookup c) (otherAnswers treeStep (treeStep s c .after) cs) (treeStep s c .answer ∷ otherAnswers treeStep (treeStep s c .after) cs) ≡ answers rowStep r (cond (isLookup c) (others cs) (c ∷ others cs))
-    other true q e i = rw q (i ∙ ap (λ (z : Row). answers rowStep z (others cs)) (lookup-keeps r c q))
+    other : (b : Bool) → isLookup c ≡ b → treeStep K s c .answer ≡ rowStep K r c .answer → otherAnswers (treeStep K) (treeStep K s c .after) cs ≡ answers (rowStep K) (rowStep K r c .after) (others cs)
+        → cond (isLookup c) (otherAnswers (treeStep K) (treeStep K s c .after) cs) (treeStep K s c .answer ∷ otherAnswers (treeStep K) (treeStep K s c .after) cs) ≡ answers (rowStep K) r (cond (isLookup c) (others cs) (c ∷ others cs))
+    other true q e i = rw q (i ∙ ap (λ (z : Row). answers (rowStep K) z (others cs)) (lookup-keeps K r c q))
     other false q e i = rw q (ap₂ _∷_ e i)
 
 -- make, not refused
-module _ (fan limit : ℕ) (l : Lengths) (ls xs hs : List ℕ) (small : Words l) (given : make fan limit l ls xs hs .answer ≡ outcome.Done) where
-  not-refused : refusal (makeCauses fan limit ls xs hs) ≡ 0
+module _ (K : Kind) (ok : K .effect < K .views) (fan limit : ℕ) (l : List ℕ) (ls xs hs : List ℕ) (small : Words K l) (given : make K fan limit l ls xs hs .answer ≡ outcome.Done) where
+  not-refused : refusal (makeCauses K fan limit ls xs hs) ≡ 0
   unfolding make
-  not-refused = go (refusal (makeCauses fan limit ls xs hs)) refl
+  not-refused = go (refusal (makeCauses K fan limit ls xs hs)) refl
     where
-      go : (n : ℕ) → refusal (makeCauses fan limit ls xs hs) ≡ n → refusal (makeCauses fan limit ls xs hs) ≡ 0
+      go : (n : ℕ) → refusal (makeCauses K fan limit ls xs hs) ≡ n → refusal (makeCauses K fan limit ls xs hs) ≡ 0
       go zero e = e
-      go (suc n) e = absurd (let q : outcome.Refused (suc n) ≡ outcome.Done = sym (ap (λ (r : calls.Reply Outcome). r .answer) (stopped (makeCauses fan limit ls xs hs) (λ n. calls.reply (state (headOf 0 0 0 0 0 0 0 held.Absent) ls xs hs) (outcome.Refused n)) (calls.reply (begun fan limit l ls xs hs) outcome.Done) n e)) ∙ given in
+      go (suc n) e = absurd (let q : outcome.Refused (suc n) ≡ outcome.Done = sym (ap (λ (r : calls.Reply Outcome). r .answer) (stopped (makeCauses K fan limit ls xs hs) (λ n. calls.reply (state (headOf 0 0 0 0 0 0 0 held.Absent) ls xs hs) (outcome.Refused n)) (calls.reply (begun K fan limit l ls xs hs) outcome.Done) n e)) ∙ given in
           let z : _≡_ {A = ℕ} 0 1 = cc in omega arith)
 
-  made : Stands (make fan limit l ls xs hs .after) (madeRow limit l)
+  made : Stands K (make K fan limit l ls xs hs .after) (madeRow limit l)
   unfolding make
-  made = subst (λ (r : calls.Reply Outcome). Stands (r .after) (madeRow limit l)) (sym (passed (makeCauses fan limit ls xs hs) (λ n. calls.reply (state (headOf 0 0 0 0 0 0 0 held.Absent) ls xs hs) (outcome.Refused n)) (calls.reply (begun fan limit l ls xs hs) outcome.Done) not-refused))
-      (begun-stands fan limit l ls xs hs (sizes-of fan limit ls xs hs not-refused) small)
+  made = subst (λ (r : calls.Reply Outcome). Stands K (r .after) (madeRow limit l)) (sym (passed (makeCauses K fan limit ls xs hs) (λ n. calls.reply (state (headOf 0 0 0 0 0 0 0 held.Absent) ls xs hs) (outcome.Refused n)) (calls.reply (begun K fan limit l ls xs hs) outcome.Done) not-refused))
+      (begun-stands K fan limit l ls xs hs (sizes-of K fan limit ls xs hs not-refused) small)
 
   -- every list of calls: the answers are the row's, and the state stands for the row
-  pub whole : (cs : List Call) → All InWords cs
-      → (answers treeStep (make fan limit l ls xs hs .after) cs ≡ answers rowStep (madeRow limit l) cs)
-      × Kept (finally treeStep (make fan limit l ls xs hs .after) cs) (finally rowStep (madeRow limit l) cs)
-  whole cs k = let r = runs-alike (make fan limit l ls xs hs .after) (madeRow limit l) cs made k in (r .0, kept-of (finally treeStep (make fan limit l ls xs hs .after) cs) (finally rowStep (madeRow limit l) cs) (r .1))
+  pub whole : (cs : List Call) → All (InWords K) cs
+      → (answers (treeStep K) (make K fan limit l ls xs hs .after) cs ≡ answers (rowStep K) (madeRow limit l) cs)
+      × Kept K (finally (treeStep K) (make K fan limit l ls xs hs .after) cs) (finally (rowStep K) (madeRow limit l) cs)
+  whole cs k = let r = runs-alike K ok (make K fan limit l ls xs hs .after) (madeRow limit l) cs made k in (r .0, kept-of K ok (finally (treeStep K) (make K fan limit l ls xs hs .after) cs) (finally (rowStep K) (madeRow limit l) cs) (r .1))
 
   -- two lists alike but for lookups
-  pub alike : (cs ds : List Call) → All InWords cs → All InWords ds → others cs ≡ others ds
-      → otherAnswers treeStep (make fan limit l ls xs hs .after) cs ≡ otherAnswers treeStep (make fan limit l ls xs hs .after) ds
+  pub alike : (cs ds : List Call) → All (InWords K) cs → All (InWords K) ds → others cs ≡ others ds
+      → otherAnswers (treeStep K) (make K fan limit l ls xs hs .after) cs ≡ otherAnswers (treeStep K) (make K fan limit l ls xs hs .after) ds
   alike cs ds k m e =
-      others-alike (make fan limit l ls xs hs .after) (madeRow limit l) cs made k ∙ ap (answers rowStep (madeRow limit l)) e
-      ∙ sym (others-alike (make fan limit l ls xs hs .after) (madeRow limit l) ds made m)
+      others-alike K ok (make K fan limit l ls xs hs .after) (madeRow limit l) cs made k ∙ ap (answers (rowStep K) (madeRow limit l)) e
+      ∙ sym (others-alike K ok (make K fan limit l ls xs hs .after) (madeRow limit l) ds made m)

@@ -6,6 +6,7 @@ use native.Mathlib.Omega.{arith}
 use native.Mathlib.Nat.{lt-of-lt-of-le}
 use denote.Ref.{now}
 use borrow.Author.Tests.{not-true, not-false}
+use Rattle.model.specs.Kind.{base}
 use Rattle.model.specs.State.{state}
 use Rattle.model.specs.Audit.{every, isInner}
 use Rattle.audit_node.proofs.Every.{every-all, every-stop, every-on, every-end}
@@ -13,19 +14,19 @@ use Rattle.audit.proofs.tree.every_inner.Statement.{statement}
 use Rattle.audit.proofs.tree.every_inner.Tie as tie
 
 abbrev Inv-loop : tie.InvT-loop
-Inv-loop head leaves inners g count k₀ k = every (isInner (state head leaves inners [])) k (count - k) ≡ every (isInner (state head leaves inners [])) 0 count
+Inv-loop head leaves inners g count k₀ k = every (isInner base (state head leaves inners [])) k (count - k) ≡ every (isInner base (state head leaves inners [])) 0 count
 
 abbrev μ-loop : tie.MeasureT-loop
 μ-loop head leaves inners g count k₀ k = count - k
 
 loop-holds : tie.Need-loop-holds Inv-loop μ-loop
-loop-holds c = every-all (isInner (state (c .before .before .args .head) (now (c .before .before .args .leaves)) (now (c .before .before .args .inners)) [])) _
+loop-holds c = every-all (isInner base (state (c .before .before .args .head) (now (c .before .before .args .leaves)) (now (c .before .before .args .inners)) [])) _
 
 is-inner-requires : tie.Need-is-inner-requires Inv-loop μ-loop
 is-inner-requires c κs = (c .before .before .before .before .pre .0, lt-of-lt-of-le (c .loop-test .taken) (c .before .before .before .before .pre .1))
 
 returns : tie.Need-returns Inv-loop μ-loop
-returns c = sym (every-stop (isInner (state (c .before .before .before .before .before .before .args .head) (now (c .before .before .before .before .before .before .args .leaves)) (now (c .before .before .before .before .before .before .args .inners)) [])) _ _ (c .before .before .loop-test .taken) (sym (c .before .is-inner .ensures) ∙ not-true _ (c .if1 .taken))) ∙ c .before .before .before .loop .inv
+returns c = sym (every-stop (isInner base (state (c .before .before .before .before .before .before .args .head) (now (c .before .before .before .before .before .before .args .leaves)) (now (c .before .before .before .before .before .before .args .inners)) [])) _ _ (c .before .before .loop-test .taken) (sym (c .before .is-inner .ensures) ∙ not-true _ (c .if1 .taken))) ∙ c .before .before .before .loop .inv
 
 add-k : tie.Need-add-k Inv-loop μ-loop
 add-k c = omega arith
@@ -34,10 +35,10 @@ loop-less : tie.Need-loop-less Inv-loop μ-loop
 loop-less c = omega arith
 
 loop-again : tie.Need-loop-again Inv-loop μ-loop
-loop-again c = sym (every-on (isInner (state (c .before .before .before .before .before .before .args .head) (now (c .before .before .before .before .before .before .args .leaves)) (now (c .before .before .before .before .before .before .args .inners)) [])) _ _ (c .before .before .loop-test .taken) (sym (c .before .is-inner .ensures) ∙ not-false _ (c .if1 .left))) ∙ c .before .before .before .loop .inv
+loop-again c = sym (every-on (isInner base (state (c .before .before .before .before .before .before .args .head) (now (c .before .before .before .before .before .before .args .leaves)) (now (c .before .before .before .before .before .before .args .inners)) [])) _ _ (c .before .before .loop-test .taken) (sym (c .before .is-inner .ensures) ∙ not-false _ (c .if1 .left))) ∙ c .before .before .before .loop .inv
 
 returns-2 : tie.Need-returns-2 Inv-loop μ-loop
-returns-2 c = sym (every-end (isInner (state (c .before .before .before .before .args .head) (now (c .before .before .before .before .args .leaves)) (now (c .before .before .before .before .args .inners)) [])) _ _ (c .loop-test .left)) ∙ c .before .loop .inv
+returns-2 c = sym (every-end (isInner base (state (c .before .before .before .before .args .head) (now (c .before .before .before .before .args .leaves)) (now (c .before .before .before .before .args .inners)) [])) _ _ (c .loop-test .left)) ∙ c .before .loop .inv
 
 pub every-inner-spec : {M : Type 1} → statement M
 every-inner-spec =

@@ -6,6 +6,7 @@ use native.Mathlib.Omega.{arith}
 use native.Mathlib.Nat.{lt-of-lt-of-le}
 use denote.Ref.{now}
 use borrow.Author.Tests.{not-true, not-false}
+use Rattle.model.specs.Kind.{base}
 use Rattle.model.specs.State.{state}
 use Rattle.model.specs.Audit.{every, isLeaf}
 use Rattle.audit_node.proofs.Every.{every-all, every-stop, every-on, every-end}
@@ -13,19 +14,19 @@ use Rattle.audit.proofs.tree.every_leaf.Statement.{statement}
 use Rattle.audit.proofs.tree.every_leaf.Tie as tie
 
 abbrev Inv-loop : tie.InvT-loop
-Inv-loop head leaves inners homes g count k₀ k = every (isLeaf (state head leaves inners homes)) k (count - k) ≡ every (isLeaf (state head leaves inners homes)) 0 count
+Inv-loop head leaves inners homes g count k₀ k = every (isLeaf base (state head leaves inners homes)) k (count - k) ≡ every (isLeaf base (state head leaves inners homes)) 0 count
 
 abbrev μ-loop : tie.MeasureT-loop
 μ-loop head leaves inners homes g count k₀ k = count - k
 
 loop-holds : tie.Need-loop-holds Inv-loop μ-loop
-loop-holds c = every-all (isLeaf (state (c .before .before .before .args .head) (now (c .before .before .before .args .leaves)) (now (c .before .before .before .args .inners)) (now (c .before .before .before .args .homes)))) _
+loop-holds c = every-all (isLeaf base (state (c .before .before .before .args .head) (now (c .before .before .before .args .leaves)) (now (c .before .before .before .args .inners)) (now (c .before .before .before .args .homes)))) _
 
 is-leaf-requires : tie.Need-is-leaf-requires Inv-loop μ-loop
 is-leaf-requires c κs = (c .before .before .before .before .before .pre .0, c .before .before .before .before .before .pre .1, lt-of-lt-of-le (c .loop-test .taken) (c .before .before .before .before .before .pre .2))
 
 returns : tie.Need-returns Inv-loop μ-loop
-returns c = sym (every-stop (isLeaf (state (c .before .before .before .before .before .before .before .args .head) (now (c .before .before .before .before .before .before .before .args .leaves)) (now (c .before .before .before .before .before .before .before .args .inners)) (now (c .before .before .before .before .before .before .before .args .homes)))) _ _ (c .before .before .loop-test .taken) (sym (c .before .is-leaf .ensures) ∙ not-true _ (c .if1 .taken))) ∙ c .before .before .before .loop .inv
+returns c = sym (every-stop (isLeaf base (state (c .before .before .before .before .before .before .before .args .head) (now (c .before .before .before .before .before .before .before .args .leaves)) (now (c .before .before .before .before .before .before .before .args .inners)) (now (c .before .before .before .before .before .before .before .args .homes)))) _ _ (c .before .before .loop-test .taken) (sym (c .before .is-leaf .ensures) ∙ not-true _ (c .if1 .taken))) ∙ c .before .before .before .loop .inv
 
 add-k : tie.Need-add-k Inv-loop μ-loop
 add-k c = omega arith
@@ -34,10 +35,10 @@ loop-less : tie.Need-loop-less Inv-loop μ-loop
 loop-less c = omega arith
 
 loop-again : tie.Need-loop-again Inv-loop μ-loop
-loop-again c = sym (every-on (isLeaf (state (c .before .before .before .before .before .before .before .args .head) (now (c .before .before .before .before .before .before .before .args .leaves)) (now (c .before .before .before .before .before .before .before .args .inners)) (now (c .before .before .before .before .before .before .before .args .homes)))) _ _ (c .before .before .loop-test .taken) (sym (c .before .is-leaf .ensures) ∙ not-false _ (c .if1 .left))) ∙ c .before .before .before .loop .inv
+loop-again c = sym (every-on (isLeaf base (state (c .before .before .before .before .before .before .before .args .head) (now (c .before .before .before .before .before .before .before .args .leaves)) (now (c .before .before .before .before .before .before .before .args .inners)) (now (c .before .before .before .before .before .before .before .args .homes)))) _ _ (c .before .before .loop-test .taken) (sym (c .before .is-leaf .ensures) ∙ not-false _ (c .if1 .left))) ∙ c .before .before .before .loop .inv
 
 returns-2 : tie.Need-returns-2 Inv-loop μ-loop
-returns-2 c = sym (every-end (isLeaf (state (c .before .before .before .before .before .args .head) (now (c .before .before .before .before .before .args .leaves)) (now (c .before .before .before .before .before .args .inners)) (now (c .before .before .before .before .before .args .homes)))) _ _ (c .loop-test .left)) ∙ c .before .loop .inv
+returns-2 c = sym (every-end (isLeaf base (state (c .before .before .before .before .before .args .head) (now (c .before .before .before .before .before .args .leaves)) (now (c .before .before .before .before .before .args .inners)) (now (c .before .before .before .before .before .args .homes)))) _ _ (c .loop-test .left)) ∙ c .before .loop .inv
 
 pub every-leaf-spec : {M : Type 1} → statement M
 every-leaf-spec =

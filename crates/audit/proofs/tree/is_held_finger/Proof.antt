@@ -3,6 +3,7 @@ use borrow.Author.Needs.{needs}
 use mathlib.Core.Path.{sym, ap, _∙_}
 use mathlib.Core.List.{[]}
 use denote.Ref.{now}
+use Rattle.model.specs.Kind.{base}
 use Rattle.model.specs.State.{state}
 use Rattle.model.specs.Audit.{isHeldFinger}
 use Rattle.audit.proofs.tree.is_held_finger.Statement.{statement}
@@ -18,10 +19,10 @@ is-finger-requires : tie.Need-is-finger-requires
 is-finger-requires c κs = search needs
 
 returns : tie.Need-returns
-returns c = ap (isHeldFinger (state (c .before .before .before .before .args .head) (now (c .before .before .before .before .args .leaves)) (now (c .before .before .before .before .args .inners)) [])) (sym (c .enum-told .given .1))
+returns c = ap (isHeldFinger base (state (c .before .before .before .before .args .head) (now (c .before .before .before .before .args .leaves)) (now (c .before .before .before .before .args .inners)) [])) (sym (c .enum-told .given .1))
 
 returns-2 : tie.Need-returns-2
-returns-2 c = c .is-finger .ensures ∙ ap (isHeldFinger (state (c .before .before .before .before .before .before .args .head) (now (c .before .before .before .before .before .before .args .leaves)) (now (c .before .before .before .before .before .before .args .inners)) [])) (sym (c .before .before .held .given .1))
+returns-2 c = c .is-finger .ensures ∙ ap (isHeldFinger base (state (c .before .before .before .before .before .before .args .head) (now (c .before .before .before .before .before .before .args .leaves)) (now (c .before .before .before .before .before .before .args .inners)) [])) (sym (c .before .before .held .given .1))
 
 pub is-held-finger-spec : {M : Type 1} → statement M
 is-held-finger-spec =

@@ -6,6 +6,7 @@ use native.Mathlib.Omega.{arith}
 use lib.ListN.{getD}
 use denote.Ref.{now}
 use borrow.Author.Tests.{not-true, not-false}
+use Rattle.model.specs.Kind.{base}
 use Rattle.model.specs.State.{nodeAt}
 use Rattle.model.specs.Audit.{every, isEmptySlot}
 use Rattle.audit_node.proofs.Every.{every-stop, every-on, every-end}
@@ -14,7 +15,7 @@ use Rattle.audit_node.proofs.nodes.is_empty_from.Tie as tie
 
 abbrev Inv-loop : tie.InvT-loop
 Inv-loop area g k len fan i₀ i =
-    every (λ j. isEmptySlot (getD (nodeAt g k area .slots) j [])) i (fan - i) ≡ every (λ j. isEmptySlot (getD (nodeAt g k area .slots) j [])) len (fan - len)
+    every (λ j. isEmptySlot base (getD (nodeAt g k area .slots) j [])) i (fan - i) ≡ every (λ j. isEmptySlot base (getD (nodeAt g k area .slots) j [])) len (fan - len)
 
 abbrev μ-loop : tie.MeasureT-loop
 μ-loop area g k len fan i₀ i = fan - i
@@ -26,7 +27,7 @@ is-empty-slot-requires : tie.Need-is-empty-slot-requires Inv-loop μ-loop
 is-empty-slot-requires c κs = (c .before .before .before .pre .0, c .before .before .before .pre .1, c .loop-test .taken, c .before .before .before .pre .2)
 
 returns : tie.Need-returns Inv-loop μ-loop
-returns c = sym (every-stop (λ j. isEmptySlot (getD (nodeAt (c .before .before .before .before .before .args .g) (c .before .before .before .before .before .args .k) (now (c .before .before .before .before .before .args .area)) .slots) j [])) _ _ (c .before .before .loop-test .taken) (sym (c .before .is-empty-slot .ensures) ∙ not-true _ (c .if1 .taken))) ∙ c .before .before .before .loop .inv
+returns c = sym (every-stop (λ j. isEmptySlot base (getD (nodeAt (c .before .before .before .before .before .args .g) (c .before .before .before .before .before .args .k) (now (c .before .before .before .before .before .args .area)) .slots) j [])) _ _ (c .before .before .loop-test .taken) (sym (c .before .is-empty-slot .ensures) ∙ not-true _ (c .if1 .taken))) ∙ c .before .before .before .loop .inv
 
 add-i : tie.Need-add-i Inv-loop μ-loop
 add-i c = omega (arith, c .before .before .before .before .before .pre .0 .shaped .few)
@@ -35,10 +36,10 @@ loop-less : tie.Need-loop-less Inv-loop μ-loop
 loop-less c = omega arith
 
 loop-again : tie.Need-loop-again Inv-loop μ-loop
-loop-again c = sym (every-on (λ j. isEmptySlot (getD (nodeAt (c .before .before .before .before .before .args .g) (c .before .before .before .before .before .args .k) (now (c .before .before .before .before .before .args .area)) .slots) j [])) _ _ (c .before .before .loop-test .taken) (sym (c .before .is-empty-slot .ensures) ∙ not-false _ (c .if1 .left))) ∙ c .before .before .before .loop .inv
+loop-again c = sym (every-on (λ j. isEmptySlot base (getD (nodeAt (c .before .before .before .before .before .args .g) (c .before .before .before .before .before .args .k) (now (c .before .before .before .before .before .args .area)) .slots) j [])) _ _ (c .before .before .loop-test .taken) (sym (c .before .is-empty-slot .ensures) ∙ not-false _ (c .if1 .left))) ∙ c .before .before .before .loop .inv
 
 returns-2 : tie.Need-returns-2 Inv-loop μ-loop
-returns-2 c = sym (every-end (λ j. isEmptySlot (getD (nodeAt (c .before .before .before .args .g) (c .before .before .before .args .k) (now (c .before .before .before .args .area)) .slots) j [])) _ _ (c .loop-test .left)) ∙ c .before .loop .inv
+returns-2 c = sym (every-end (λ j. isEmptySlot base (getD (nodeAt (c .before .before .before .args .g) (c .before .before .before .args .k) (now (c .before .before .before .args .area)) .slots) j [])) _ _ (c .loop-test .left)) ∙ c .before .loop .inv
 
 pub is-empty-from-spec : {M : Type 1} → statement M
 is-empty-from-spec =

@@ -2,6 +2,8 @@
 use borrow.Author.Needs.{needs}
 use mathlib.Core.Path.{refl, sym, _∙_}
 use Rattle.marshal.specs.Flat.{headAfter, dividedOf}
+use Rattle.model.specs.Length.{listOf}
+use Rattle.model.specs.Kind.{base}
 use Rattle.model.specs.Answer.{dividedAnswer}
 use Rattle.model.specs.State.{state}
 use Rattle.smelvock.specs.Reads.{given}
@@ -66,7 +68,7 @@ returns-2 : tie.Need-returns-2
 unfolding flat.splitEntry
 returns-2 c =
     let a = c .before .before .before .before .before .before .before .before .before .before .before .before .before .before .before .before .before .before .before .before .before .before .before .before .before .before .before .args in
-    reply-settled dividedOf dividedAnswer (λ (q : FlatDivided). q .number) (λ x. refl) _ (given (a .head .now) (a .leaves .now) (a .inners .now) (a .homes .now)) _ _ _ _ _ _ _ _ (sym (c .before .before .before .before .before .before .before .before .before .before .before .before .before .before .before .before .before .before .before .before .before .bad-flag .ensures) ∙ c .before .before .before .before .before .before .before .before .before .before .before .before .before .before .before .before .before .before .before .before .if1 .left) (c .before .before .before .before .divided-of .ensures) (c .before .before .settle .ensures) (c .before .before .before .before .before .before .before .before .before .before .before .before .split-entry .ensures ∙ ap₃ (λ (h : Head) (k : Cursor) (l : Lengths). calls.splitEntry (state h (a .leaves .now) (a .inners .now) (a .homes .now)) k l (eqb (a .before) 1)) (c .before .before .before .before .before .before .before .before .before .before .before .before .before .before .before .before .before .before .head-from .ensures) (c .before .before .before .before .before .before .before .before .before .before .before .before .before .before .cursor-from .ensures) (c .before .before .before .before .before .before .before .before .before .before .before .before .before .lengths-from .ensures))
+    reply-settled dividedOf dividedAnswer (λ (q : FlatDivided). q .number) (λ x. refl) _ (given (a .head .now) (a .leaves .now) (a .inners .now) (a .homes .now)) _ _ _ _ _ _ _ _ (sym (c .before .before .before .before .before .before .before .before .before .before .before .before .before .before .before .before .before .before .before .before .before .bad-flag .ensures) ∙ c .before .before .before .before .before .before .before .before .before .before .before .before .before .before .before .before .before .before .before .before .if1 .left) (c .before .before .before .before .divided-of .ensures) (c .before .before .settle .ensures) (c .before .before .before .before .before .before .before .before .before .before .before .before .split-entry .ensures ∙ ap₃ (λ (h : Head) (k : Cursor) (l : Lengths). calls.splitEntry base (state h (a .leaves .now) (a .inners .now) (a .homes .now)) k (listOf l) (eqb (a .before) 1)) (c .before .before .before .before .before .before .before .before .before .before .before .before .before .before .before .before .before .before .head-from .ensures) (c .before .before .before .before .before .before .before .before .before .before .before .before .before .before .cursor-from .ensures) (c .before .before .before .before .before .before .before .before .before .before .before .before .before .lengths-from .ensures))
 
 pub smelvock-split-entry-spec : {M : Type 1} → statement M
 smelvock-split-entry-spec =

@@ -2,6 +2,8 @@
 use borrow.Author.Needs.{needs}
 use mathlib.Core.Path.{refl, sym, ap₂, _∙_}
 use Rattle.marshal.specs.Flat.{headAfter, locatedOf}
+use Rattle.model.specs.Length.{viewNumber}
+use Rattle.model.specs.Kind.{base}
 use Rattle.model.specs.Answer.{locatedAnswer}
 use Rattle.model.specs.State.{state}
 use Rattle.smelvock.specs.Reads.{given}
@@ -52,7 +54,7 @@ returns-2 : tie.Need-returns-2
 unfolding flat.locate
 returns-2 c =
     let a = c .before .before .before .before .before .before .before .before .before .before .before .before .before .before .before .before .before .args in
-    reply-settled locatedOf locatedAnswer (λ (q : FlatLocated). q .number) (λ x. refl) _ (given (a .head .now) (a .leaves .now) (a .inners .now) (a .homes .now)) _ _ _ _ _ _ _ _ (sym (c .before .before .before .before .before .before .before .before .before .before .before .bad-flag .ensures) ∙ c .before .before .before .before .before .before .before .before .before .before .if1 .left) (c .before .before .before .before .located-of .ensures) (c .before .before .settle .ensures) (c .before .before .before .before .before .before .locate .ensures ∙ ap₂ (λ (h : Head) (v : View). calls.locate (state h (a .leaves .now) (a .inners .now) (a .homes .now)) v (a .index)) (c .before .before .before .before .before .before .before .before .head-from .ensures) (c .before .before .before .before .before .before .before .view-from .ensures))
+    reply-settled locatedOf locatedAnswer (λ (q : FlatLocated). q .number) (λ x. refl) _ (given (a .head .now) (a .leaves .now) (a .inners .now) (a .homes .now)) _ _ _ _ _ _ _ _ (sym (c .before .before .before .before .before .before .before .before .before .before .before .bad-flag .ensures) ∙ c .before .before .before .before .before .before .before .before .before .before .if1 .left) (c .before .before .before .before .located-of .ensures) (c .before .before .settle .ensures) (c .before .before .before .before .before .before .locate .ensures ∙ ap₂ (λ (h : Head) (v : View). calls.locate base (state h (a .leaves .now) (a .inners .now) (a .homes .now)) (viewNumber v) (a .index)) (c .before .before .before .before .before .before .before .before .head-from .ensures) (c .before .before .before .before .before .before .before .view-from .ensures))
 
 pub smelvock-locate-spec : {M : Type 1} → statement M
 smelvock-locate-spec =

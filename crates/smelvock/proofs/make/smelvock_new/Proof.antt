@@ -6,6 +6,8 @@ use mathlib.Core.List.{List}
 use Prim.Native.Nat.{ℕ}
 use lib.ListN.{length}
 use borrow.Author.Tests.{eq-eqb, ne-eqb}
+use Rattle.model.specs.Length.{listOf}
+use Rattle.model.specs.Kind.{base}
 use Rattle.model.specs.Answer.{outcomeAnswer}
 use Rattle.model.specs.Calls as calls
 use Rattle.model.specs.declared.head.Head.{Head}
@@ -52,7 +54,7 @@ returns-2 : tie.Need-returns-2
 unfolding flat.make
 returns-2 c =
     let a = c .before .before .before .before .before .before .before .before .before .before .before .before .before .before .before .before .before .before .before .before .before .before .args in
-    reply-good numberAlone outcomeAnswer (λ (n : ℕ) (h : Head) (w : List ℕ). headWords h) _ (given (a .head .now) (a .leaves .now) (a .inners .now) (a .homes .now)) _ _ _ _ _ _ _ _ (ap not (eq-eqb (length (a .head .now)) 15 (c .before .before .before .before .before .before .before .before .before .before .before .before .before .before .before .before .before .if1 .left))) (c .outcome-of .ensures) (c .before .before .before .put-head .ensures) (c .before .before .before .before .before .before .before .before .before .before .before .before .new .ensures ∙ ap (λ (l : Lengths). calls.make (a .fan) (a .limit) l (a .leaves .now) (a .inners .now) (a .homes .now)) (c .before .before .before .before .before .before .before .before .before .before .before .before .before .before .before .before .lengths-from .ensures))
+    reply-good numberAlone outcomeAnswer (λ (n : ℕ) (h : Head) (w : List ℕ). headWords h) _ (given (a .head .now) (a .leaves .now) (a .inners .now) (a .homes .now)) _ _ _ _ _ _ _ _ (ap not (eq-eqb (length (a .head .now)) 15 (c .before .before .before .before .before .before .before .before .before .before .before .before .before .before .before .before .before .if1 .left))) (c .outcome-of .ensures) (c .before .before .before .put-head .ensures) (c .before .before .before .before .before .before .before .before .before .before .before .before .new .ensures ∙ ap (λ (l : Lengths). calls.make base (a .fan) (a .limit) (listOf l) (a .leaves .now) (a .inners .now) (a .homes .now)) (c .before .before .before .before .before .before .before .before .before .before .before .before .before .before .before .before .lengths-from .ensures))
 
 pub smelvock-new-spec : {M : Type 1} → statement M
 smelvock-new-spec =

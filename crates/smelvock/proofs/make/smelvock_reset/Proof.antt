@@ -3,6 +3,8 @@ use borrow.Author.Needs.{needs}
 use Prim.Native.Nat.{ℕ}
 use mathlib.Core.Path.{refl, sym, ap₂, _∙_}
 use Rattle.marshal.specs.Flat.{headAfter}
+use Rattle.model.specs.Length.{listOf}
+use Rattle.model.specs.Kind.{base}
 use Rattle.model.specs.Answer.{outcomeAnswer}
 use Rattle.model.specs.State.{state}
 use Rattle.smelvock.specs.Reads.{given}
@@ -59,7 +61,7 @@ returns-2 : tie.Need-returns-2
 unfolding flat.reset
 returns-2 c =
     let a = c .before .before .before .before .before .before .before .before .before .before .before .before .before .before .before .before .before .before .before .before .before .before .before .before .before .before .args in
-    reply-settled numberAlone outcomeAnswer (λ (q : ℕ). q) (λ x. refl) _ (given (a .head .now) (a .leaves .now) (a .inners .now) (a .homes .now)) _ _ _ _ _ _ _ _ (sym (c .before .before .before .before .before .before .before .before .before .before .before .before .before .before .before .before .before .before .before .before .bad-head .ensures) ∙ c .before .before .before .before .before .before .before .before .before .before .before .before .before .before .before .before .before .before .before .if1 .left) (c .before .before .before .before .outcome-of .ensures) (c .before .before .settle .ensures) (c .before .before .before .before .before .before .before .before .before .before .before .before .reset .ensures ∙ ap₂ (λ (h : Head) (l : Lengths). calls.reset (state h (a .leaves .now) (a .inners .now) (a .homes .now)) l) (c .before .before .before .before .before .before .before .before .before .before .before .before .before .before .before .before .before .head-from .ensures) (c .before .before .before .before .before .before .before .before .before .before .before .before .before .before .before .before .lengths-from .ensures))
+    reply-settled numberAlone outcomeAnswer (λ (q : ℕ). q) (λ x. refl) _ (given (a .head .now) (a .leaves .now) (a .inners .now) (a .homes .now)) _ _ _ _ _ _ _ _ (sym (c .before .before .before .before .before .before .before .before .before .before .before .before .before .before .before .before .before .before .before .before .bad-head .ensures) ∙ c .before .before .before .before .before .before .before .before .before .before .before .before .before .before .before .before .before .before .before .if1 .left) (c .before .before .before .before .outcome-of .ensures) (c .before .before .settle .ensures) (c .before .before .before .before .before .before .before .before .before .before .before .before .reset .ensures ∙ ap₂ (λ (h : Head) (l : Lengths). calls.reset base (state h (a .leaves .now) (a .inners .now) (a .homes .now)) (listOf l)) (c .before .before .before .before .before .before .before .before .before .before .before .before .before .before .before .before .before .head-from .ensures) (c .before .before .before .before .before .before .before .before .before .before .before .before .before .before .before .before .lengths-from .ensures))
 
 pub smelvock-reset-spec : {M : Type 1} → statement M
 smelvock-reset-spec =

@@ -2,6 +2,7 @@
 use borrow.Author.Needs.{needs}
 use mathlib.Core.Path.{sym, ap, ap₂, _∙_}
 use Rattle.marshal.specs.Flat.{standingOf}
+use Rattle.model.specs.Kind.{base}
 use Rattle.model.specs.Answer.{nextAnswer}
 use Rattle.model.specs.State.{state}
 use Rattle.smelvock.specs.Reads as flat
@@ -39,7 +40,7 @@ returns-2 : tie.Need-returns-2
 unfolding flat.next
 returns-2 c =
     let a = c .before .before .before .before .before .before .before .before .before .before .args in
-    answer-good standingOf _ _ _ _ (sym (c .before .before .before .before .before .bad-head .ensures) ∙ c .before .before .before .before .if1 .left) (c .standing-of-next .ensures) (ap nextAnswer (c .before .next .ensures ∙ ap₂ (λ (h : Head) (k : Cursor). calls.nextAfter (state h (a .leaves .now) (a .inners .now) (a .homes .now)) k) (c .before .before .before .head-from .ensures) (c .before .before .cursor-from .ensures)))
+    answer-good standingOf _ _ _ _ (sym (c .before .before .before .before .before .bad-head .ensures) ∙ c .before .before .before .before .if1 .left) (c .standing-of-next .ensures) (ap nextAnswer (c .before .next .ensures ∙ ap₂ (λ (h : Head) (k : Cursor). calls.nextAfter base (state h (a .leaves .now) (a .inners .now) (a .homes .now)) k) (c .before .before .before .head-from .ensures) (c .before .before .cursor-from .ensures)))
 
 pub smelvock-next-spec : {M : Type 1} → statement M
 smelvock-next-spec =

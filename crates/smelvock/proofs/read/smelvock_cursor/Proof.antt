@@ -2,6 +2,7 @@
 use borrow.Author.Needs.{needs}
 use mathlib.Core.Path.{sym, ap, _∙_}
 use Rattle.marshal.specs.Flat.{standingOf}
+use Rattle.model.specs.Kind.{base}
 use Rattle.model.specs.Answer.{standingAnswer}
 use Rattle.model.specs.State.{state}
 use Rattle.smelvock.specs.Reads as flat
@@ -35,7 +36,7 @@ returns-2 : tie.Need-returns-2
 unfolding flat.cursor
 returns-2 c =
     let a = c .before .before .before .before .before .before .before .before .before .args in
-    answer-good standingOf _ _ _ _ (sym (c .before .before .before .before .bad-head .ensures) ∙ c .before .before .before .if1 .left) (c .standing-of .ensures) (ap standingAnswer (c .before .cursor .ensures ∙ ap (λ (h : Head). calls.cursor (state h (a .leaves .now) (a .inners .now) (a .homes .now)) (a .id)) (c .before .before .head-from .ensures)))
+    answer-good standingOf _ _ _ _ (sym (c .before .before .before .before .bad-head .ensures) ∙ c .before .before .before .if1 .left) (c .standing-of .ensures) (ap standingAnswer (c .before .cursor .ensures ∙ ap (λ (h : Head). calls.cursor base (state h (a .leaves .now) (a .inners .now) (a .homes .now)) (a .id)) (c .before .before .head-from .ensures)))
 
 pub smelvock-cursor-spec : {M : Type 1} → statement M
 smelvock-cursor-spec =

@@ -2,6 +2,7 @@
 use borrow.Author.Needs.{needs}
 use mathlib.Core.Path.{sym, ap, ap₂, _∙_}
 use Rattle.marshal.specs.Flat.{numberOf}
+use Rattle.model.specs.Kind.{base}
 use Rattle.model.specs.Answer.{namedAnswer}
 use Rattle.model.specs.State.{state}
 use Rattle.smelvock.specs.Reads as flat
@@ -39,7 +40,7 @@ returns-2 : tie.Need-returns-2
 unfolding flat.id
 returns-2 c =
     let a = c .before .before .before .before .before .before .before .before .before .before .args in
-    answer-good numberOf _ _ _ _ (sym (c .before .before .before .before .before .bad-head .ensures) ∙ c .before .before .before .before .if1 .left) (c .number-of-named .ensures) (ap namedAnswer (c .before .id .ensures ∙ ap₂ (λ (h : Head) (k : Cursor). calls.id (state h (a .leaves .now) (a .inners .now) (a .homes .now)) k) (c .before .before .before .head-from .ensures) (c .before .before .cursor-from .ensures)))
+    answer-good numberOf _ _ _ _ (sym (c .before .before .before .before .before .bad-head .ensures) ∙ c .before .before .before .before .if1 .left) (c .number-of-named .ensures) (ap namedAnswer (c .before .id .ensures ∙ ap₂ (λ (h : Head) (k : Cursor). calls.id base (state h (a .leaves .now) (a .inners .now) (a .homes .now)) k) (c .before .before .before .head-from .ensures) (c .before .before .cursor-from .ensures)))
 
 pub smelvock-id-spec : {M : Type 1} → statement M
 smelvock-id-spec =

@@ -1,0 +1,16 @@
+-- The kind of a tree: a slot is a child and as many lengths as the kind has views. Assumes nothing.
+use Prim.Native.Nat.{ℕ, suc}
+use mathlib.Core.List.{List}
+use Rattle.model.specs.Lists.{range}
+use Rattle.model.specs.declared.shape.Kind.{Kind}
+
+-- the words of a slot
+abbrev pub stride : Kind → ℕ
+stride K = suc (K .views)
+
+abbrev pub viewsOf : Kind → List ℕ
+viewsOf K = range 0 (K .views)
+
+-- the full tree: prepare is view 0 and effect view 1
+abbrev pub base : Kind
+base = record { views = 2; effect = 1 }
