@@ -73,7 +73,7 @@ unfolding others
 same-others = refl
 
 pub answered-alike : otherAnswers (treeStep base) start calls ≡ otherAnswers (treeStep base) start calls′
-answered-alike = alike base (omega arith) 4 5 (pair 3 3) areaWords areaWords (replicate 5 7) first-words made calls calls′ in-words in-words′ same-others
+answered-alike = alike base (omega arith) 5 (pair 3 3) first-words 4 areaWords areaWords (replicate 5 7) made 4 areaWords areaWords (replicate 5 7) made calls calls′ in-words in-words′ same-others
 
 -- the tree that make leaves is sound, and audit says so
 pub sound-start : Sound base start

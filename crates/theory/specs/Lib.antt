@@ -38,6 +38,7 @@ pub mod Halved
 pub mod Splits
 pub mod Step
 pub mod Numbers
+pub mod Fixed
 pub mod Whole
 pub mod Tests
 pub mod Facts

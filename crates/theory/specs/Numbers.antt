@@ -8,13 +8,14 @@ use native.Mathlib.Decide.{ℕ-discrete}
 use native.Mathlib.Omega.{arith}
 use lib.Dec.{eqb, leb, ltb}
 use lib.ListN.{length}
-use borrow.Author.Tests.{eq-eqb, ne-eqb, leb-true, le-leb}
+use borrow.Author.Tests.{eq-eqb, ne-eqb, leb-true, le-leb, ltb-false}
 use Rattle.model.specs.declared.shape.Kind.{Kind}
-use Rattle.model.specs.Lists.{Cause, cause, refusal}
+use Rattle.model.specs.Lists.{sumBy, Cause, cause, refusal}
 use Rattle.model.specs.State.{State}
 use Rattle.model.specs.Row as row
 use Rattle.model.specs.Row.{Row, Call, Entry, Answer, done, unless, found, rowStep}
 use Rattle.model.specs.ById.{treeStep}
+use Rattle.abstract_tree.specs.Row.{found-past}
 use Rattle.theory.specs.Agree.{Stands}
 use Rattle.theory.specs.Step.{InWords, step}
 
@@ -35,6 +36,23 @@ Adds row.count = ⊥
 Adds row.first = ⊥
 Adds row.malformed = ⊥
 
+-- the row's refusal before the limit is asked: 0 where the earlier checks are passed
+abbrev pub earlier : Kind → Row → Call → ℕ
+earlier K r (row.insert i l) = refusal (row.noSuchPlace r i ∷ row.past K (row.inserted i (row.newEntry r l) (r .entries)) ∷ [])
+earlier K r (row.add i l) = refusal (row.noSuchPlace r i ∷ row.past K (row.inserted i (row.newEntry r l) (r .entries)) ∷ [])
+earlier K r (row.split flag i l) = refusal (row.noSuchId r i ∷ row.tooMuch K l (row.lengthsOf i (r .entries)) ∷ [])
+earlier K r (row.reset l) = 0
+earlier K r (row.setLengths i l) = 0
+earlier K r (row.update i l) = 0
+earlier K r (row.lookup v x) = 0
+earlier K r (row.rank v i) = 0
+earlier K r (row.next i) = 0
+earlier K r (row.compare i j) = 0
+earlier K r (row.lengths i) = 0
+earlier K r row.count = 0
+earlier K r row.first = 0
+earlier K r row.malformed = 0
+
 number-is : (r : Row) (cs : List Cause) (es : List Entry) (vs : List ℕ) → unless r cs es (done vs) .answer .number ≡ refusal cs
 unfolding unless
 number-is r cs es vs = go (ℕ-discrete (refusal cs) 0)
@@ -50,6 +68,13 @@ eight-last m n true b c p q e = absurd (p e)
 eight-last m n false true c p q e = absurd (q e)
 eight-last m n false false true p q e = refl
 eight-last m n false false false p q e = absurd (omega arith)
+
+eight-then : (m n : ℕ) (a b c : Bool) → m ≢ 0 → n ≢ 0 → c ≡ true → refusal (cause m a ∷ cause n b ∷ []) ≡ 0 → refusal (cause m a ∷ cause n b ∷ cause 8 c ∷ []) ≡ 8
+unfolding refusal
+eight-then m n true b c p q e z = absurd (p z)
+eight-then m n false true c p q e z = absurd (q z)
+eight-then m n false false true p q e z = refl
+eight-then m n false false false p q e z = absurd (let u : _≡_ {A = ℕ} 0 1 = cc in omega arith)
 
 never-done : (m n : ℕ) (a b c : Bool) → m ≢ 0 → n ≢ 0 → c ≡ true → refusal (cause m a ∷ cause n b ∷ cause 8 c ∷ []) ≢ 0
 unfolding refusal
@@ -85,6 +110,25 @@ found-number K n o p v x s f (y ∷ es) e = go (leb s x && ltb x (s + row.length
     go : (b : Bool) → (leb s x && ltb x (s + row.lengthIn v y)) ≡ b → (found K v x (s + row.lengthIn v y) (f + row.lengthIn (K .effect) y) es .number ≢ n) → ⊥
     go true q ih = o (sym (rw q at e))
     go false q ih = ih (rw q at e)
+
+-- 5: the row finds no entry exactly where the position is at or past the view's total
+found-five : (K : Kind) (v x s f : ℕ) (es : List Entry) → s ≤ x → found K v x s f es .number ≡ 5 → s + row.total v es ≤ x
+unfolding found sumBy
+found-five K v x s f [] le e = omega arith
+found-five K v x s f (y ∷ es) le e = go (leb s x && ltb x (s + row.lengthIn v y)) refl (found-five K v x (s + row.lengthIn v y) (f + row.lengthIn (K .effect) y) es)
+  where
+    go : (b : Bool) → (leb s x && ltb x (s + row.lengthIn v y)) ≡ b → (s + row.lengthIn v y ≤ x → found K v x (s + row.lengthIn v y) (f + row.lengthIn (K .effect) y) es .number ≡ 5 → s + row.lengthIn v y + row.total v es ≤ x)
+        → s + row.total v (y ∷ es) ≤ x
+    go true q ih = absurd (let z : _≡_ {A = ℕ} 0 5 = rw q at e in omega arith)
+    go false q ih =
+        let low : s + row.lengthIn v y ≤ x = ltb-false x (s + row.lengthIn v y) (rw (le-leb s x le) at q) in
+        let z = ih low (rw q at e) in
+        omega arith
+
+pub five : (K : Kind) (r : Row) (v x : ℕ)
+    → (rowStep K r (row.lookup v x) .answer .number ≡ 5 → row.total v (r .entries) ≤ x) × (row.total v (r .entries) ≤ x → rowStep K r (row.lookup v x) .answer ≡ row.refused 5)
+unfolding rowStep
+five K r v x = (λ e. (let z = found-five K v x 0 0 (r .entries) (omega arith) e in omega arith), λ le. found-past K v x 0 0 (r .entries) (omega arith))
 
 row-eight : (K : Kind) (r : Row) (c : Call) → rowStep K r c .answer .number ≡ 8 → r .limit ≤ length (r .entries)
 unfolding rowStep
@@ -138,13 +182,31 @@ row-full K r row.count h f e = absurd h
 row-full K r row.first h f e = absurd h
 row-full K r row.malformed h f e = absurd h
 
+row-exactly : (K : Kind) (r : Row) (c : Call) → Adds c → earlier K r c ≡ 0 → r .limit ≤ length (r .entries) → rowStep K r c .answer .number ≡ 8
+unfolding rowStep
+row-exactly K r (row.insert i l) h z f = number-is r _ _ _ ∙ eight-then 4 7 _ _ (leb (r .limit) (length (r .entries))) (λ z. omega arith) (λ z. omega arith) (le-leb (r .limit) (length (r .entries)) f) z
+row-exactly K r (row.add i l) h z f = number-is r _ _ _ ∙ eight-then 4 7 _ _ (leb (r .limit) (length (r .entries))) (λ z. omega arith) (λ z. omega arith) (le-leb (r .limit) (length (r .entries)) f) z
+row-exactly K r (row.split flag i l) h z f = number-is r _ _ _ ∙ eight-then 4 6 _ _ (leb (r .limit) (length (r .entries))) (λ z. omega arith) (λ z. omega arith) (le-leb (r .limit) (length (r .entries)) f) z
+row-exactly K r (row.reset l) h z f = absurd h
+row-exactly K r (row.setLengths i l) h z f = absurd h
+row-exactly K r (row.update i l) h z f = absurd h
+row-exactly K r (row.lookup v x) h z f = absurd h
+row-exactly K r (row.rank v i) h z f = absurd h
+row-exactly K r (row.next i) h z f = absurd h
+row-exactly K r (row.compare i j) h z f = absurd h
+row-exactly K r (row.lengths i) h z f = absurd h
+row-exactly K r row.count h z f = absurd h
+row-exactly K r row.first h z f = absurd h
+row-exactly K r row.malformed h z f = absurd h
+
 -- so it is on the tree
 pub record Numbers (K : Kind) (s : State) (r : Row) (c : Call) : Type 0 where
   pub only : treeStep K s c .answer .number ≡ 8 → r .limit ≤ length (r .entries)
   pub nine : treeStep K s c .answer .number ≢ 9
   pub always : Adds c → r .limit ≤ length (r .entries) → treeStep K s c .answer .number ≢ 0
+  pub exactly : Adds c → earlier K r c ≡ 0 → r .limit ≤ length (r .entries) → treeStep K s c .answer .number ≡ 8
 
 pub numbers-are : (K : Kind) (ok : K .effect < K .views) (s : State) (r : Row) → Stands K s r → (c : Call) → InWords K c → Numbers K s r c
 numbers-are K ok s r h c k =
     let a : treeStep K s c .answer .number ≡ rowStep K r c .answer .number = ap (λ (x : Answer). x .number) (step K ok s r h c k .same) in
-    record { nine = λ e. row-nine K r c (sym a ∙ e); only = λ e. row-eight K r c (sym a ∙ e); always = λ d f e. row-full K r c d f (sym a ∙ e) }
+    record { nine = λ e. row-nine K r c (sym a ∙ e); only = λ e. row-eight K r c (sym a ∙ e); always = λ d f e. row-full K r c d f (sym a ∙ e); exactly = λ d z f. a ∙ row-exactly K r c d z f }

@@ -28,6 +28,7 @@ use Rattle.theory.specs.Agree.{Stands, Agrees, count-is}
 use Rattle.theory.specs.Make.{Words, sizes-of, begun-stands}
 use Rattle.theory.specs.Step.{InWords, step}
 use Rattle.theory.specs.Numbers.{Numbers, numbers-are}
+use Rattle.theory.specs.Fixed.{step-fixed}
 
 -- the answers to a list of calls, each on what the one before left, and what the last leaves
 module _ {S : Type 0} (move : S → Call → Moved S) where
@@ -120,6 +121,18 @@ runs-alike K ok s r (c ∷ cs) h k =
     let i = runs-alike K ok (treeStep K s c .after) (rowStep K r c .after) cs (a .kept) (k .1) in
     (ap₂ _∷_ (a .same) (i .0), i .1)
 
+-- every call of a list gets the row's answer, and before and after each of them the state stands for the row
+unfoldable pub Along : Kind → State → Row → List Call → Type 0
+Along K s r [] = Kept K s r
+Along K s r (c ∷ cs) = Kept K s r × (treeStep K s c .answer ≡ rowStep K r c .answer) × Along K (treeStep K s c .after) (rowStep K r c .after) cs
+
+along : (K : Kind) (ok : K .effect < K .views) (s : State) (r : Row) (cs : List Call) → Stands K s r → All (InWords K) cs → Along K s r cs
+unfolding Along All
+along K ok s r [] h k = kept-of K ok s r h
+along K ok s r (c ∷ cs) h k =
+    let a : Agrees K (treeStep K s c) (rowStep K r c) = step K ok s r h c (k .0) in
+    (kept-of K ok s r h, a .same, along K ok (treeStep K s c .after) (rowStep K r c .after) cs (a .kept) (k .1))
+
 others-alike : (K : Kind) (ok : K .effect < K .views) (s : State) (r : Row) (cs : List Call) → Stands K s r → All (InWords K) cs → otherAnswers (treeStep K) s cs ≡ answers (rowStep K) r (others cs)
 unfolding answers otherAnswers others All
 others-alike K ok s r [] h k = refl
@@ -131,6 +144,12 @@ others-alike K ok s r (c ∷ cs) h k =
         → cond (isLookup c) (otherAnswers (treeStep K) (treeStep K s c .after) cs) (treeStep K s c .answer ∷ otherAnswers (treeStep K) (treeStep K s c .after) cs) ≡ answers (rowStep K) r (cond (isLookup c) (others cs) (c ∷ others cs))
     other true q e i = rw q (i ∙ ap (λ (z : Row). answers (rowStep K) z (others cs)) (lookup-keeps K r c q))
     other false q e i = rw q (ap₂ _∷_ e i)
+
+-- no call changes the fan
+fan-kept : (K : Kind) (s : State) (cs : List Call) → finally (treeStep K) s cs .head .fan ≡ s .head .fan
+unfolding finally
+fan-kept K s [] = refl
+fan-kept K s (c ∷ cs) = fan-kept K (treeStep K s c .after) cs ∙ step-fixed K s c .fan
 
 -- make, not refused
 module _ (K : Kind) (ok : K .effect < K .views) (fan limit : ℕ) (l : List ℕ) (ls xs hs : List ℕ) (small : Words K l) (given : make K fan limit l ls xs hs .answer ≡ outcome.Done) where
@@ -148,15 +167,27 @@ module _ (K : Kind) (ok : K .effect < K .views) (fan limit : ℕ) (l : List ℕ)
   made = subst (λ (r : calls.Reply Outcome). Stands K (r .after) (madeRow limit l)) (sym (passed (makeCauses K fan limit ls xs hs) (λ n. calls.reply (state (headOf 0 0 0 0 0 0 0 held.Absent) ls xs hs) (outcome.Refused n)) (calls.reply (begun K fan limit l ls xs hs) outcome.Done) not-refused))
       (begun-stands K fan limit l ls xs hs (sizes-of K fan limit ls xs hs not-refused) small)
 
-  -- every list of calls: the answers are the row's, and the state stands for the row
+  fan-made : make K fan limit l ls xs hs .after .head .fan ≡ fan
+  unfolding make begun
+  fan-made = ap (λ (r : calls.Reply Outcome). r .after .head .fan) (passed (makeCauses K fan limit ls xs hs) (λ n. calls.reply (state (headOf 0 0 0 0 0 0 0 held.Absent) ls xs hs) (outcome.Refused n)) (calls.reply (begun K fan limit l ls xs hs) outcome.Done) not-refused)
+
+  -- every list of calls: the answers are the row's, the state stands for the row, and its fan is make's
   pub whole : (cs : List Call) → All (InWords K) cs
       → (answers (treeStep K) (make K fan limit l ls xs hs .after) cs ≡ answers (rowStep K) (madeRow limit l) cs)
       × Kept K (finally (treeStep K) (make K fan limit l ls xs hs .after) cs) (finally (rowStep K) (madeRow limit l) cs)
-  whole cs k = let r = runs-alike K ok (make K fan limit l ls xs hs .after) (madeRow limit l) cs made k in (r .0, kept-of K ok (finally (treeStep K) (make K fan limit l ls xs hs .after) cs) (finally (rowStep K) (madeRow limit l) cs) (r .1))
+      × (finally (treeStep K) (make K fan limit l ls xs hs .after) cs .head .fan ≡ fan)
+  whole cs k = let r = runs-alike K ok (make K fan limit l ls xs hs .after) (madeRow limit l) cs made k in (r .0, kept-of K ok (finally (treeStep K) (make K fan limit l ls xs hs .after) cs) (finally (rowStep K) (madeRow limit l) cs) (r .1), fan-kept K (make K fan limit l ls xs hs .after) cs ∙ fan-made)
 
-  -- two lists alike but for lookups
-  pub alike : (cs ds : List Call) → All (InWords K) cs → All (InWords K) ds → others cs ≡ others ds
-      → otherAnswers (treeStep K) (make K fan limit l ls xs hs .after) cs ≡ otherAnswers (treeStep K) (make K fan limit l ls xs hs .after) ds
-  alike cs ds k m e =
-      others-alike K ok (make K fan limit l ls xs hs .after) (madeRow limit l) cs made k ∙ ap (answers (rowStep K) (madeRow limit l)) e
-      ∙ sym (others-alike K ok (make K fan limit l ls xs hs .after) (madeRow limit l) ds made m)
+  -- the same after each call
+  pub each : (cs : List Call) → All (InWords K) cs → Along K (make K fan limit l ls xs hs .after) (madeRow limit l) cs
+  each cs k = along K ok (make K fan limit l ls xs hs .after) (madeRow limit l) cs made k
+
+-- two lists alike but for lookups, from areas that held anything and at any two fans
+pub alike : (K : Kind) (ok : K .effect < K .views) (limit : ℕ) (l : List ℕ) → Words K l
+    → (fan : ℕ) (ls xs hs : List ℕ) → make K fan limit l ls xs hs .answer ≡ outcome.Done
+    → (fan′ : ℕ) (ls′ xs′ hs′ : List ℕ) → make K fan′ limit l ls′ xs′ hs′ .answer ≡ outcome.Done
+    → (cs ds : List Call) → All (InWords K) cs → All (InWords K) ds → others cs ≡ others ds
+    → otherAnswers (treeStep K) (make K fan limit l ls xs hs .after) cs ≡ otherAnswers (treeStep K) (make K fan′ limit l ls′ xs′ hs′ .after) ds
+alike K ok limit l small fan ls xs hs given fan′ ls′ xs′ hs′ given′ cs ds k m e =
+    others-alike K ok (make K fan limit l ls xs hs .after) (madeRow limit l) cs (made K ok fan limit l ls xs hs small given) k ∙ ap (answers (rowStep K) (madeRow limit l)) e
+    ∙ sym (others-alike K ok (make K fan′ limit l ls′ xs′ hs′ .after) (madeRow limit l) ds (made K ok fan′ limit l ls′ xs′ hs′ small given′) m)
