@@ -37,7 +37,7 @@ module _ (s : State) where
     fingerBy w g = servedBy w (base .effect) g (s .head .finger) (s .head .leaves) index (s .leaves)
 
     abbrev rootBy : ℕ → Shape → Search
-    rootBy w g = fromRoot w (base .effect) g (s .head .levels) (s .head .root .0) index (s .leaves) (s .inners)
+    rootBy w g = fromRoot w (base .effect) g (s .head .levels) (s .head .root .0) (s .head .leaves) index (s .leaves) (s .inners)
 
     abbrev lookupBy : Shape → Reply Located
     lookupBy g = byFinger s (fingerBy (viewNumber v) g) (rootBy (viewNumber v) g)

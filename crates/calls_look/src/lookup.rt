@@ -88,7 +88,17 @@ pub fn locate(
             match served_by(leaves, g, v, 1, finger, head.leaves, index) {
                 Search::At(f, offset) => hit(head, f, offset),
                 Search::Nothing => {
-                    let found = from_root(leaves, inners, g, v, 1, head.levels, head.root.0, index);
+                    let found = from_root(
+                        leaves,
+                        inners,
+                        g,
+                        v,
+                        1,
+                        head.levels,
+                        head.root.0,
+                        head.leaves,
+                        index,
+                    );
                     by_search(head, found)
                 }
                 Search::Broken => LocatedReply {

@@ -1,6 +1,7 @@
 // The search from the root.
 use area::word::child_of;
 use area::word::find_in;
+use area::word::len_of;
 use model::head::Finger;
 use model::number::LeafNo;
 use model::shape::Found;
@@ -51,21 +52,27 @@ pub fn descend(
     Descent::At(LeafNo(node), rest, sum)
 }
 
-// The slot of leaf k that holds the position left, and the finger there; sum is the effect lengths before the leaf.
+// The slot of leaf k that holds the position left, and the finger there; sum is the effect lengths before the leaf, and `used` leaves are in use.
 fn search_leaf(
     leaves: &[u32],
     g: Shape,
     view: usize,
     effect: usize,
+    used: u32,
     k: u32,
     index: u32,
     rest: u32,
     sum: u64,
 ) -> Search
-    requires { ⌜ Area g (length (now leaves)) × (view + 1 < g .stride) × (effect + 1 < g .stride) × (rest ≤ index) ⌝ }
-    ensures { λ r. ⌜ r ≡ leafOf view effect g index (now (leaves .entry)) (Descent.At (leafNo k) rest sum) ⌝ }
+    requires { ⌜ Area g (length (now leaves)) × (view + 1 < g .stride) × (effect + 1 < g .stride) × (used ≤ g .nodes) × (rest ≤ index) ⌝ }
+    ensures { λ r. ⌜ r ≡ leafOf view effect g used index (now (leaves .entry)) (Descent.At (leafNo k) rest sum) ⌝ }
 {
-    if !sized(leaves, g, k) {
+    let fan = g.fan;
+    if k >= used {
+        return Search::Broken;
+    }
+    let len = len_of(leaves, g, k);
+    if len as usize > fan {
         return Search::Broken;
     }
     let found = find_in(leaves, g, view, effect, k, 0, rest, 0);
@@ -84,7 +91,7 @@ fn search_leaf(
     Search::At(finger, offset)
 }
 
-// The search from the root, and the finger that it sets (locate).
+// The search from the root, and the finger that it sets (locate); `used` leaves are in use.
 pub fn from_root(
     leaves: &[u32],
     inners: &[u32],
@@ -93,16 +100,17 @@ pub fn from_root(
     effect: usize,
     levels: u32,
     root: u32,
+    used: u32,
     index: u32,
 ) -> Search
-    requires { ⌜ Area g (length (now leaves)) × Area g (length (now inners)) × (view + 1 < g .stride) × (effect + 1 < g .stride) × (levels ≤ 15) ⌝ }
-    ensures { λ r. ⌜ r ≡ fromRoot view effect g levels root index (now (leaves .entry)) (now (inners .entry)) ⌝ }
+    requires { ⌜ Area g (length (now leaves)) × Area g (length (now inners)) × (view + 1 < g .stride) × (effect + 1 < g .stride) × (levels ≤ 15) × (used ≤ g .nodes) ⌝ }
+    ensures { λ r. ⌜ r ≡ fromRoot view effect g levels root used index (now (leaves .entry)) (now (inners .entry)) ⌝ }
 {
     let way = descend(inners, g, view, effect, levels, root, index);
     match way {
         Descent::At(leaf, rest, sum) => {
             let k = leaf.0;
-            search_leaf(leaves, g, view, effect, k, index, rest, sum)
+            search_leaf(leaves, g, view, effect, used, k, index, rest, sum)
         }
         Descent::Nothing => Search::Nothing,
         Descent::Broken => Search::Broken,

@@ -18,23 +18,25 @@ use Rattle.model.specs.declared.head.Finger.{Finger}
 use Rattle.model.specs.declared.head.Held.the-variants as held
 use Rattle.model.specs.declared.way.Descent.the-variants as descent
 use Rattle.model.specs.declared.way.Search.the-variants as search
-use Rattle.laws.specs.Down.{sized}
 
 -- a slot in use is that slot
 pub used-at : (n : Node) (j : ℕ) → j < n .len → getD (used n) j [] ≡ getD (n .slots) j []
 used-at n j h = getD-take (n .len) (n .slots) j [] h
 
--- in the leaf
-module _ (v e : ℕ) (g : Shape) (k index rest s : ℕ) (ls : List ℕ) where
-  pub leaf-broken : sized g k ls ≡ false → leafOf v e g index ls (descent.At (leafNo k) rest s) ≡ search.Broken
-  leaf-broken q = rw q
+-- in the leaf: one that is not in use, one that says more slots than it has, no slot, or a slot that holds the index
+module _ (v e : ℕ) (g : Shape) (leaves k index rest s : ℕ) (ls : List ℕ) where
+  pub leaf-out : leaves ≤ k → leafOf v e g leaves index ls (descent.At (leafNo k) rest s) ≡ search.Broken
+  leaf-out o = rw (le-ltb k leaves o)
 
-  pub leaf-miss : sized g k ls ≡ true → findFrom v e 0 rest 0 (used (nodeAt g k ls)) ≡ Nothing → leafOf v e g index ls (descent.At (leafNo k) rest s) ≡ search.Broken
-  leaf-miss q f = rw (q, f)
+  pub leaf-full : k < leaves → g .fan < nodeAt g k ls .len → leafOf v e g leaves index ls (descent.At (leafNo k) rest s) ≡ search.Broken
+  leaf-full o n = rw (lt-ltb k leaves o, lt-leb (nodeAt g k ls .len) (g .fan) n)
 
-  pub leaf-found : (j o t : ℕ) → sized g k ls ≡ true → findFrom v e 0 rest 0 (used (nodeAt g k ls)) ≡ At j o t
-      → leafOf v e g index ls (descent.At (leafNo k) rest s) ≡ search.At (finger v k (index - rest) (wrap s) j (rest - o) (wrap t)) o
-  leaf-found j o t q f = rw (q, f)
+  pub leaf-miss : k < leaves → nodeAt g k ls .len ≤ g .fan → findFrom v e 0 rest 0 (used (nodeAt g k ls)) ≡ Nothing → leafOf v e g leaves index ls (descent.At (leafNo k) rest s) ≡ search.Broken
+  leaf-miss o n f = rw (lt-ltb k leaves o, le-leb (nodeAt g k ls .len) (g .fan) n, f)
+
+  pub leaf-found : (j o t : ℕ) → k < leaves → nodeAt g k ls .len ≤ g .fan → findFrom v e 0 rest 0 (used (nodeAt g k ls)) ≡ At j o t
+      → leafOf v e g leaves index ls (descent.At (leafNo k) rest s) ≡ search.At (finger v k (index - rest) (wrap s) j (rest - o) (wrap t)) o
+  leaf-found j o t l n f = rw (lt-ltb k leaves l, le-leb (nodeAt g k ls .len) (g .fan) n, f)
 
 -- back from a slot: at the first slot, at a slot that doesn't start past the index, or one slot further back
 module _ (v e : ℕ) (slots : List (List ℕ)) (index w f : ℕ) where

@@ -214,7 +214,7 @@ locate K s v index =
     let g = shapeOf K h in
     unless (opening K s) (λ n. reply s (located.Refused n))
     (byFinger s (servedBy v (K .effect) g (h .finger) (h .leaves) index (s .leaves))
-    (fromRoot v (K .effect) g (h .levels) (h .root .0) index (s .leaves) (s .inners)))
+    (fromRoot v (K .effect) g (h .levels) (h .root .0) (h .leaves) index (s .leaves) (s .inners)))
 
 -- `locate` less the effect position
 abbrev pub lessEffect : Located → Selected

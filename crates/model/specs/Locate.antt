@@ -89,16 +89,17 @@ module _ (v e : ℕ) where
     setIn k index rest s (At j offset effectWithin) = search.At (finger v k (index - rest) (wrap s) j (rest - offset) (wrap effectWithin)) offset
     setIn k index rest s Nothing = search.Broken
 
-    abbrev pub leafOf : ℕ → List ℕ → Descent → Search
-    leafOf index ls (descent.At k rest s) =
+    -- in a leaf in use; leaves is how many are
+    abbrev pub leafOf : ℕ → ℕ → List ℕ → Descent → Search
+    leafOf leaves index ls (descent.At k rest s) =
         let m = nodeAt g (k .0) ls in
-        cond (ltb (k .0) (g .nodes) && leb (m .len) (g .fan)) (setIn (k .0) index rest s (findFrom v e 0 rest 0 (used m))) search.Broken
-    leafOf index ls descent.Nothing = search.Nothing
-    leafOf index ls descent.Broken = search.Broken
+        cond (ltb (k .0) leaves && leb (m .len) (g .fan)) (setIn (k .0) index rest s (findFrom v e 0 rest 0 (used m))) search.Broken
+    leafOf leaves index ls descent.Nothing = search.Nothing
+    leafOf leaves index ls descent.Broken = search.Broken
 
     -- Nothing: the root doesn't hold the index, so it is at or past the total
-    unfoldable pub fromRoot : ℕ → ℕ → ℕ → List ℕ → List ℕ → Search
-    fromRoot levels root index ls xs = leafOf index ls (descend descent.Nothing levels root index 0 xs)
+    unfoldable pub fromRoot : ℕ → ℕ → ℕ → ℕ → List ℕ → List ℕ → Search
+    fromRoot levels root leaves index ls xs = leafOf leaves index ls (descend descent.Nothing levels root index 0 xs)
 
 -- `changing`: what a change at a slot of a leaf leaves of the finger
 abbrev pub rewound : Finger → Finger

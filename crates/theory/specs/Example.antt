@@ -1,20 +1,24 @@
 -- The premises of the theorems are met: a make of fan 4 and limit 5 that isn't refused, a list of calls in words with every kind in it,
--- two lists alike but for lookups, and a cursor at an entry.
+-- two lists alike but for lookups, and a cursor at an entry; and a lookup on a tree that is not sound.
 use mathlib.Core.Path.{_≡_, refl}
 use mathlib.Core.Bool.{true}
-use mathlib.Core.List.{List, [], _∷_}
+use mathlib.Core.List.{List, [], _∷_, _++_}
 use Prim.Native.Nat.{ℕ, _*_, _≤_, _<_}
 use native.Mathlib.Omega.{arith}
 use lib.ListN.{replicate}
 use Rattle.model.specs.Kind.{base}
-use Rattle.model.specs.Lists.{All, refusal}
-use Rattle.model.specs.State.{State}
+use Rattle.model.specs.Lists.{part, All, refusal}
+use Rattle.model.specs.Node.{none, nodeOf, slotsFrom, findFrom}
+use Rattle.model.specs.State.{State, state, headOf}
 use Rattle.model.specs.Row as row
-use Rattle.model.specs.Row.{Call, noEntry, madeRow, rowStep}
+use Rattle.model.specs.Row.{Call, refused, moved, noEntry, madeRow, rowStep}
+use Rattle.model.specs.Locate.{descend, fromRoot}
+use Rattle.model.specs.Refuse.{opening}
 use Rattle.model.specs.ById.{treeStep}
 use Rattle.model.specs.Sound.{Sound}
-use Rattle.model.specs.Calls.{begun, make, cursor}
+use Rattle.model.specs.Calls.{begun, make, cursor, locate}
 use Rattle.model.specs.Audit.{audit}
+use Rattle.model.specs.declared.head.Held.the-variants as held
 use Rattle.model.specs.declared.answer.Outcome.the-variants as outcome
 use Rattle.model.specs.declared.answer.Verdict.the-variants as verdict
 use Rattle.theory.specs.Make.{Words}
@@ -92,3 +96,11 @@ steps-start = audit-steps start (omega arith) (omega arith) (omega arith) (omega
 pub cursor-start : StandsAt base start (cursor base start 0) 0
 unfolding make begun refusal
 cursor-start = cursor-at base (omega arith) start sound-start 0 (omega arith)
+
+-- a root that leads to leaf 1, which is not in use: 9, and no finger is set
+abbrev loose : State
+loose = state (headOf 4 5 0 1 1 1 1 held.Absent) (replicate 15 7 ++ 1 ∷ 0 ∷ 0 ∷ 0 ∷ 3 ∷ 3 ∷ replicate 9 7) (1 ∷ none ∷ 0 ∷ 1 ∷ 3 ∷ 3 ∷ replicate 24 7) (replicate 5 0)
+
+pub not-followed : treeStep base loose (row.lookup 0 0) ≡ moved loose (refused 9)
+unfolding treeStep locate opening refusal fromRoot descend nodeOf slotsFrom part findFrom
+not-followed = refl

@@ -200,7 +200,7 @@ module _ (K : Kind) (s : State) where
   locate-fixed : (v x : ℕ) → Fixed s (calls.locate K s v x .after)
   unfolding calls.locate
   locate-fixed v x = let h = s .head in let g = shapeOf K h in
-      let a = servedBy v (K .effect) g (h .finger) (h .leaves) x (s .leaves) in let b = fromRoot v (K .effect) g (h .levels) (h .root .0) x (s .leaves) (s .inners) in
+      let a = servedBy v (K .effect) g (h .finger) (h .leaves) x (s .leaves) in let b = fromRoot v (K .effect) g (h .levels) (h .root .0) (h .leaves) x (s .leaves) (s .inners) in
       unless-fixed s (opening K s) located.Refused (calls.byFinger s a b) (finger-fixed a b)
 
   at-fixed : (c : Standing) (f : Cursor → Moved State) → ((c : Cursor) → Fixed s (f c .after)) → Fixed s (withCursor s c f .after)

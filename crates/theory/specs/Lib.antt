@@ -39,6 +39,8 @@ pub mod Splits
 pub mod Step
 pub mod Numbers
 pub mod Fixed
+pub mod Spans
+pub mod Refused
 pub mod Whole
 pub mod Tests
 pub mod Facts

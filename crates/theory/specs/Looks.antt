@@ -140,7 +140,7 @@ module _ (K : Kind) (ok : K .effect < K .views) (t : State) (w : Sound K t) wher
   unfolding treeStep calls.locate opening searched refusal
   step-lookup v lv x =
       let a : Search = servedBy v (K .effect) (shapeIn (stride K) t) (t .head .finger) (t .head .leaves) x (t .leaves) in
-      let b : Search = fromRoot v (K .effect) (shapeIn (stride K) t) (t .head .levels) (t .head .root .0) x (t .leaves) (t .inners) in
+      let b : Search = fromRoot v (K .effect) (shapeIn (stride K) t) (t .head .levels) (t .head .root .0) (t .head .leaves) x (t .leaves) (t .inners) in
       subst (λ (r : calls.Reply Located). Agrees K (moved (r .after) (locatedAnswer K (r .after) (r .answer))) (rowStep K (rowOf K t) (row.lookup v x)))
       (sym (passed (opening K t) (λ n. calls.reply t (located.Refused n)) (calls.byFinger t a b) (opens K t w [])))
       (by-search v lv x a b (servedBy-is (stride K) (K .effect) t w v (t .head .finger) (sound-of (stride K) t (K .effect) w .finger) x) (root-hit (stride K) (K .effect) t w v x) (root-miss (stride K) (K .effect) t w v x))

@@ -61,8 +61,8 @@ module _ (s ε : ℕ) (t : State) (w : SoundAt s t ε) (v : ℕ) where
           let h : sumBy (len u) (f k ++ cat f (i .after)) ≡ sumBy (len u) (f k) + sumBy (len u) (cat f (i .after)) = sumBy-append (len u) (f k) (cat f (i .after)) in
           omega (arith, body-of s t ε w .totals u, sum-slots u (used (leafIn s t k)))
 
-  leaf-ok : (k : ℕ) → k < t .head .leaves → (ltb k (shapeIn s t .nodes) && leb (leafIn s t k .len) (t .head .fan)) ≡ true
-  leaf-ok k lk = rw (lt-ltb k (shapeIn s t .nodes) (omega (arith, w .leaf-count)), le-leb (leafIn s t k .len) (t .head .fan) (w .leaf-filled k lk .high))
+  leaf-ok : (k : ℕ) → k < t .head .leaves → (ltb k (t .head .leaves) && leb (leafIn s t k .len) (t .head .fan)) ≡ true
+  leaf-ok k lk = rw (lt-ltb k (t .head .leaves) lk, le-leb (leafIn s t k .len) (t .head .fan) (w .leaf-filled k lk .high))
 
   used-size : (k : ℕ) → length (slotsOf (leafIn s t k)) ≡ length (used (leafIn s t k))
   used-size k = length-map (used (leafIn s t k)) slotOf
@@ -121,7 +121,7 @@ module _ (s ε : ℕ) (t : State) (w : SoundAt s t ε) (v : ℕ) where
 
   -- from the root
   unfoldable pub searched : ℕ → Search
-  searched x = fromRoot v ε (shapeIn s t) (t .head .levels) (t .head .root .0) x (t .leaves) (t .inners)
+  searched x = fromRoot v ε (shapeIn s t) (t .head .levels) (t .head .root .0) (t .head .leaves) x (t .leaves) (t .inners)
 
   pub root-hit : (x : ℕ) → x < sumBy (len v) (tree.row (treeOf s t)) → Got s ε t v x (searched x)
   unfolding searched fromRoot
@@ -131,7 +131,7 @@ module _ (s ε : ℕ) (t : State) (w : SoundAt s t ε) (v : ℕ) where
       low : Area
       low = treeOf s t .body .leaf
 
-      go : Arrived s t v ε (total (treeOf s t .body .leaf)) (t .head .root .0) (order (treeOf s t)) (t .head .levels) x → Got s ε t v x (fromRoot v ε (shapeIn s t) (t .head .levels) (t .head .root .0) x (t .leaves) (t .inners))
+      go : Arrived s t v ε (total (treeOf s t .body .leaf)) (t .head .root .0) (order (treeOf s t)) (t .head .levels) x → Got s ε t v x (fromRoot v ε (shapeIn s t) (t .head .levels) (t .head .root .0) (t .head .leaves) x (t .leaves) (t .inners))
       go q = there (find-hit v ε 0 (q .r) 0 (used (leafIn s t (q .c))) (let z = sum-slots v (used (leafIn s t (q .c))) in let y = q .inside in omega arith))
         where
           lc : q .c < t .head .leaves
@@ -140,7 +140,7 @@ module _ (s ε : ℕ) (t : State) (w : SoundAt s t ε) (v : ℕ) where
           cl : (u : ℕ) → climb u (treeOf s t .body .leaf) (treeOf s t .body .inner) (t .head .levels) (q .c) ≡ sumBy (λ c. total (treeOf s t .body .leaf) c u) (q .A)
           cl u = climb-at (treeOf s t) (q .A) (q .c) (q .B) (above (treeOf s t)) (subst (λ (C : List ℕ). BodyAt (treeOf s t) C (above (treeOf s t))) (q .row) (body-of s t ε w)) u ∙ sumBy-cat (len u) (treeOf s t .body .leaf .slots) (q .A)
 
-          there : Hit v ε 0 (q .r) 0 (used (leafIn s t (q .c))) → Got s ε t v x (fromRoot v ε (shapeIn s t) (t .head .levels) (t .head .root .0) x (t .leaves) (t .inners))
+          there : Hit v ε 0 (q .r) 0 (used (leafIn s t (q .c))) → Got s ε t v x (fromRoot v ε (shapeIn s t) (t .head .levels) (t .head .root .0) (t .head .leaves) x (t .leaves) (t .inners))
           there h =
               let xs : List (List ℕ) = used (leafIn s t (q .c)) in
               let j : ℕ = length (h .front) in
@@ -158,7 +158,7 @@ module _ (s ε : ℕ) (t : State) (w : SoundAt s t ε) (v : ℕ) where
               record {
                 finger = f;
                 offset = h .offset;
-                is = ap (leafOf v ε (shapeIn s t) x (t .leaves)) (q .got) ∙ rw (leaf-ok (q .c) lc, h .got) (ap₂ (λ (a b : ℕ). search.At (finger v (q .c) (x - q .r) a (0 + j) (q .r - h .offset) b) (h .offset)) ra re ∙ ap (λ (i : ℕ). search.At (finger v (q .c) (x - q .r) (q .a) i (q .r - h .offset) (node.total ε (h .front))) (h .offset)) (zero-add j));
+                is = ap (leafOf v ε (shapeIn s t) (t .head .leaves) x (t .leaves)) (q .got) ∙ rw (leaf-ok (q .c) lc, h .got) (ap₂ (λ (a b : ℕ). search.At (finger v (q .c) (x - q .r) a (0 + j) (q .r - h .offset) b) (h .offset)) ra re ∙ ap (λ (i : ℕ). search.At (finger v (q .c) (x - q .r) (q .a) i (q .r - h .offset) (node.total ε (h .front))) (h .offset)) (zero-add j));
                 view = refl;
                 looked = at-finger ε (treeOf s t) (body-of s t ε w) v x f (h .offset)
                     (record {
@@ -179,7 +179,7 @@ module _ (s ε : ℕ) (t : State) (w : SoundAt s t ε) (v : ℕ) where
       lr : t .head .root .0 < t .head .inners
       lr = body-of s t ε w .fit .root-in
 
-      go : (n : ℕ) → t .head .levels ≡ n → leafOf v ε (shapeIn s t) x (t .leaves) (descend v ε (shapeIn s t) descent.Nothing (t .head .levels) (t .head .root .0) x 0 (t .inners)) ≡ search.Nothing
+      go : (n : ℕ) → t .head .levels ≡ n → leafOf v ε (shapeIn s t) (t .head .leaves) x (t .leaves) (descend v ε (shapeIn s t) descent.Nothing (t .head .levels) (t .head .root .0) x 0 (t .inners)) ≡ search.Nothing
       go zero q = absurd (omega (arith, w .levels-least))
       go (suc n) q =
           let m : ℕ = node.total v (used (innerIn s t (t .head .root .0))) in

@@ -31,7 +31,7 @@ enum-told : tie.Need-enum-told
 enum-told c = search needs
 
 from-root-requires : tie.Need-from-root-requires
-from-root-requires c κs = let h = ready _ _ _ (c .before .before .before .before .before .before .before .«open» .ensures) (c .before .before .before .before .before .g .given .1) in (leaf-area _ _ h, inner-area _ _ h, view-in _ _ _ h (rw (c .before .before .before .number .ensures) (view-few (c .before .before .before .before .before .before .before .before .before .before .before .args .view))), view-in _ _ 1 h (omega arith), h .levels-most)
+from-root-requires c κs = let h = ready _ _ _ (c .before .before .before .before .before .before .before .«open» .ensures) (c .before .before .before .before .before .g .given .1) in (leaf-area _ _ h, inner-area _ _ h, view-in _ _ _ h (rw (c .before .before .before .number .ensures) (view-few (c .before .before .before .before .before .before .before .before .before .before .before .args .view))), view-in _ _ 1 h (omega arith), h .levels-most, h .leaves)
 
 by-search-requires : tie.Need-by-search-requires
 by-search-requires c κs = search needs

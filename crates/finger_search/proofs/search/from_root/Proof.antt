@@ -15,7 +15,7 @@ enum-known-way c = search needs
 search-leaf-requires : tie.Need-search-leaf-requires
 search-leaf-requires c κs =
     let s = c .before .before .before .before .before .before in
-    (s .pre .0, s .pre .2, s .pre .3, descend-rests _ _ (s .args .g) _ _ _ _ _ _ (nothing-rests _) .rest _ _ _ (sym (c .before .before .before .descend .ensures) ∙ c .before .way .given .1))
+    (s .pre .0, s .pre .2, s .pre .3, s .pre .5, descend-rests _ _ (s .args .g) _ _ _ _ _ _ (nothing-rests _) .rest _ _ _ (sym (c .before .before .before .descend .ensures) ∙ c .before .way .given .1))
 
 enum-told : tie.Need-enum-told
 enum-told c = search needs

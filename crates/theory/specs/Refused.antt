@@ -1,0 +1,449 @@
+-- What a call leaves where it is refused (document 01, demand 1), on any words, sound or not: a number other than 0 and 9 leaves the tree,
+-- 9 leaves the head, and every area is as long as it was in any case. Assumes nothing.
+use mathlib.Core.Path.{_≡_, refl, ap, _∙_}
+use mathlib.Core.Logic.{_≢_}
+use mathlib.Core.Bool.{Bool, true, false, cond, _&&_, _||_}
+use mathlib.Core.List.{List, [], _∷_, _++_}
+use Prim.Native.Nat.{ℕ, _+_, _-_, _*_, _^_, _≤_, _<_}
+use native.Mathlib.Omega.{arith}
+use lib.Dec.{ltb, leb, eqb}
+use lib.ListN.{length, drop, length-set}
+use borrow.Author.Tests.{ltb-true, ltb-false, leb-true, eqb-true, eqb-false, not-false, eq-eqb, lt-ltb, le-ltb}
+use Rattle.model.specs.Kind.{stride}
+use Rattle.model.specs.declared.shape.Kind.{Kind}
+use Rattle.model.specs.Lists.{Cause, cause, refusal, All}
+use Rattle.model.specs.Node.{none, child, lengths, used, findFrom, newNode, minus, wrap}
+use Rattle.model.specs.State.{State, state, headOf, shape, nodeAt}
+use Rattle.model.specs.Climb.{lastDown}
+use Rattle.model.specs.Locate.{back, movedTo, walked, served, servedBy, descend, setIn, leafOf, fromRoot, effectAt}
+use Rattle.model.specs.Place as place
+use Rattle.model.specs.Place.{Change}
+use Rattle.model.specs.Grow.{areas}
+use Rattle.model.specs.Answer.{outcomeAnswer, numberAnswer, namedAnswer, selectedAnswer, locatedAnswer, insertedAnswer, dividedAnswer}
+use Rattle.model.specs.Refuse.{shapeOf, opening, atCursor, tooMuch, past, full}
+use Rattle.model.specs.Row as row
+use Rattle.model.specs.Row.{Call, Answer, Moved, noEntry}
+use Rattle.model.specs.ById as byId
+use Rattle.model.specs.ById.{withCursor, withTarget, told, treeStep}
+use Rattle.model.specs.Calls as calls
+use Rattle.model.specs.Calls.{Reply}
+use Rattle.model.specs.declared.shape.Shape.{Shape}
+use Rattle.model.specs.declared.shape.Found.{Found}
+use Rattle.model.specs.declared.shape.Found.the-variants.{At, Nothing}
+use Rattle.model.specs.declared.head.Cursor.{Cursor}
+use Rattle.model.specs.declared.head.Finger.{Finger}
+use Rattle.model.specs.declared.head.Held.{Held}
+use Rattle.model.specs.declared.head.Held.the-variants as held
+use Rattle.model.specs.declared.way.Leaf.{Leaf}
+use Rattle.model.specs.declared.way.Leaf.the-variants as leaf
+use Rattle.model.specs.declared.way.Descent.{Descent}
+use Rattle.model.specs.declared.way.Descent.the-variants as descent
+use Rattle.model.specs.declared.way.Search.{Search}
+use Rattle.model.specs.declared.way.Search.the-variants as search
+use Rattle.model.specs.declared.answer.Target.{Target}
+use Rattle.model.specs.declared.answer.Target.the-variants as target
+use Rattle.model.specs.declared.answer.Standing.{Standing}
+use Rattle.model.specs.declared.answer.Standing.the-variants as standing
+use Rattle.model.specs.declared.answer.Outcome.the-variants as outcome
+use Rattle.model.specs.declared.answer.Number.the-variants as number
+use Rattle.model.specs.declared.answer.Named.{Named}
+use Rattle.model.specs.declared.answer.Named.the-variants as named
+use Rattle.model.specs.declared.answer.Located.{Located}
+use Rattle.model.specs.declared.answer.Located.the-variants as located
+use Rattle.model.specs.declared.answer.Inserted.the-variants as inserted
+use Rattle.model.specs.declared.answer.Divided.{Divided}
+use Rattle.model.specs.declared.answer.Divided.the-variants as divided
+use Rattle.laws.specs.Lists.{length-zip}
+use Rattle.laws.specs.Find.{used-ranged}
+use Rattle.laws.specs.Locate.{back-slot}
+use Rattle.laws.specs.Lens.{by-test, Roomy}
+use Rattle.laws.specs.Formed.{formed-new}
+use Rattle.theory.specs.Open.{passed}
+use Rattle.theory.specs.Make.{Words, Sizes, sizes-of, nodes-least}
+use Rattle.theory.specs.Step.{InWords}
+use Rattle.theory.specs.Spans.{Left, Holds, put-leaf, put-inner, place-left, divide-left, replace-left, climb-left, leaf-slot}
+
+-- a call on s that answers the number n leaves t
+pub record Leaves (n : ℕ) (s t : State) : Type 0 where
+  pub refused : n ≢ 0 → n ≢ 9 → t ≡ s
+  pub broken : n ≡ 9 → t .head ≡ s .head
+  pub leaves : length (t .leaves) ≡ length (s .leaves)
+  pub inners : length (t .inners) ≡ length (s .inners)
+  pub homes : length (t .homes) ≡ length (s .homes)
+
+unmoved : (n : ℕ) (s : State) → Leaves n s s
+unmoved n s = record { refused = λ a b. refl; broken = λ e. refl; leaves = refl; inners = refl; homes = refl }
+
+-- a call that is done
+finished : (n : ℕ) (s t : State) → n ≡ 0 → length (t .leaves) ≡ length (s .leaves) → length (t .inners) ≡ length (s .inners) → length (t .homes) ≡ length (s .homes) → Leaves n s t
+finished n s t z a b c = record { refused = λ d e. absurd (d z); broken = λ e. absurd (omega arith); leaves = a; inners = b; homes = c }
+
+-- what the causes leave -------------------------------------------------------------------------------------------------------------------
+
+clear : (n : ℕ) (b : Bool) (cs : List Cause) → n ≢ 0 → refusal (cause n b ∷ cs) ≡ 0 → (b ≡ false) × (refusal cs ≡ 0)
+unfolding refusal
+clear n true cs d e = absurd (d e)
+clear n false cs d e = (refl, e)
+
+none-more : (cs ds : List Cause) → refusal cs ≡ 0 → refusal ds ≡ 0 → refusal (cs ++ ds) ≡ 0
+unfolding refusal
+none-more [] ds e h = h
+none-more (a ∷ cs) ds e h = go (a .applies) e (none-more cs ds)
+  where
+    go : (b : Bool) → cond b (a .number) (refusal cs) ≡ 0 → (refusal cs ≡ 0 → refusal ds ≡ 0 → refusal (cs ++ ds) ≡ 0) → cond b (a .number) (refusal (cs ++ ds)) ≡ 0
+    go true q i = q
+    go false q i = i q h
+
+neither : (a b : Bool) → (a || b) ≡ false → (a ≡ false) × (b ≡ false)
+neither true b e = absurd (let z : _≡_ {A = ℕ} 0 1 = cc in omega arith)
+neither false b e = (refl, e)
+
+every : (a b : Bool) → (a && b) ≡ true → (a ≡ true) × (b ≡ true)
+every true b e = (refl, e)
+every false b e = absurd (let z : _≡_ {A = ℕ} 0 1 = cc in omega arith)
+
+module _ (K : Kind) (s : State) where
+  abbrev g : Shape
+  g = shapeOf K (s .head)
+
+  -- a call past its opening
+  opened : (cs : List Cause) → refusal (opening K s ++ cs) ≡ 0 → Holds (shapeOf K (s .head)) s × (refusal cs ≡ 0)
+  unfolding opening
+  opened cs e =
+      let h = s .head in
+      let a = clear 1 (ltb (h .fan) 4 || ltb 32 (h .fan) || ltb (h .limit) 1 || ltb 65536 (h .limit)) _ (λ z. omega arith) e in
+      let b = clear 2 (ltb (length (s .leaves)) (g .nodes * g .size) || ltb (length (s .inners)) (g .nodes * g .size) || ltb (length (s .homes)) (h .limit)) _ (λ z. omega arith) (a .1) in
+      let c = clear 9 (leb (g .nodes) (h .root .0) || ltb (h .levels) 1 || ltb 15 (h .levels) || ltb (g .nodes) (h .leaves) || ltb (g .nodes) (h .inners) || ltb (h .limit) (h .entries)) cs (λ z. omega arith) (b .1) in
+      let short = neither (ltb (length (s .leaves)) (g .nodes * g .size)) (ltb (length (s .inners)) (g .nodes * g .size)) (neither (ltb (length (s .leaves)) (g .nodes * g .size) || ltb (length (s .inners)) (g .nodes * g .size)) (ltb (length (s .homes)) (h .limit)) (b .0) .0) in
+      let far : Bool = leb (g .nodes) (h .root .0) || ltb (h .levels) 1 || ltb 15 (h .levels) in
+      let inner = neither (far || ltb (g .nodes) (h .leaves)) (ltb (g .nodes) (h .inners)) (neither (far || ltb (g .nodes) (h .leaves) || ltb (g .nodes) (h .inners)) (ltb (h .limit) (h .entries)) (c .0) .0) in (
+        record {
+          roomy = record { words = refl; columns = omega arith; slots = ltb-false (h .fan) 4 (neither (ltb (h .fan) 4) (ltb 32 (h .fan)) (neither (ltb (h .fan) 4 || ltb 32 (h .fan)) (ltb (h .limit) 1) (neither (ltb (h .fan) 4 || ltb 32 (h .fan) || ltb (h .limit) 1) (ltb 65536 (h .limit)) (a .0) .0) .0) .0); leaves = ltb-false (length (s .leaves)) (g .nodes * g .size) (short .0); inners = ltb-false (length (s .inners)) (g .nodes * g .size) (short .1) };
+          leaf-count = ltb-false (g .nodes) (h .leaves) (neither far (ltb (g .nodes) (h .leaves)) (inner .0) .1);
+          inner-count = ltb-false (g .nodes) (h .inners) (inner .1);
+        },
+        c .1,
+      )
+
+  -- and past its cursor
+  record Current (c : Cursor) : Type 0 where
+    leaf : c .leaf .0 < s .head .leaves
+    slot : c .slot < s .head .fan
+
+  current-of : (c : Cursor) (cs : List Cause) → refusal (atCursor K s c ++ cs) ≡ 0 → Current c
+  current-of c cs e =
+      let n = nodeAt g (c .leaf .0) (s .leaves) .len in
+      let a = clear 3 _ _ (λ z. omega arith) e in
+      let b = clear 9 (ltb (s .head .fan) n) cs (λ z. omega arith) (a .1) in
+      let t = every (eqb (c .stamp) (s .head .entries) && ltb (c .leaf .0) (s .head .leaves)) (ltb (c .slot) n) (not-false _ (a .0)) in
+      let u = every (eqb (c .stamp) (s .head .entries)) (ltb (c .leaf .0) (s .head .leaves)) (t .0) in
+      record { leaf = ltb-true (c .leaf .0) (s .head .leaves) (u .1); slot = (let x = ltb-true (c .slot) n (t .1) in let y = ltb-false (s .head .fan) n (b .0) in omega arith) }
+
+-- calls that change -----------------------------------------------------------------------------------------------------------------------
+
+module _ {A : Type 0} (f : A → Answer) (refuse : ℕ → A) (told : (n : ℕ) → f (refuse n) .number ≡ n) where
+  unless-leaves : (s : State) (cs : List Cause) (r : Reply A) → (refusal cs ≡ 0 → Leaves (f (r .answer) .number) s (r .after))
+      → Leaves (f (calls.unless cs (λ n. calls.reply s (refuse n)) r .answer) .number) s (calls.unless cs (λ n. calls.reply s (refuse n)) r .after)
+  unless-leaves s cs r h = go (eqb (refusal cs) 0) refl
+    where
+      go : (b : Bool) → eqb (refusal cs) 0 ≡ b → Leaves (f (calls.unless cs (λ n. calls.reply s (refuse n)) r .answer) .number) s (calls.unless cs (λ n. calls.reply s (refuse n)) r .after)
+      go true e = rw e (h (eqb-true _ _ e))
+      go false e = rw e (unmoved (f (refuse (refusal cs)) .number) s)
+
+  settled-leaves : (s : State) (r : Change) (a : A) → f a .number ≡ 0 → Left s (r .number) (r .state)
+      → Leaves (f (calls.settled s r refuse a .answer) .number) s (calls.settled s r refuse a .after)
+  settled-leaves s r a z o = go (eqb (r .number) 0) refl
+    where
+      go : (b : Bool) → eqb (r .number) 0 ≡ b → Leaves (f (calls.settled s r refuse a .answer) .number) s (calls.settled s r refuse a .after)
+      go true e = rw e (finished (f a .number) s (r .state) z (o .leaves) (o .inners) (o .homes))
+      go false e = rw e (record {
+        refused = λ d n. absurd (n (told (r .number) ∙ o .ends (eqb-false (r .number) 0 e)));
+        broken = λ q. refl;
+        leaves = o .leaves;
+        inners = o .inners;
+        homes = o .homes;
+      })
+
+-- make, and every call by cursor that leaves a tree: the others only read, and give none back
+module _ (K : Kind) (s : State) where
+  -- one leaf and one inner node are written
+  begun-spans : (fan limit : ℕ) (l ls xs hs : List ℕ) → Sizes K fan limit ls xs hs → Words K l
+      → (length (calls.begun K fan limit l ls xs hs .leaves) ≡ length ls) × (length (calls.begun K fan limit l ls xs hs .inners) ≡ length xs) × (length (calls.begun K fan limit l ls xs hs .homes) ≡ length hs)
+  unfolding calls.begun All
+  begun-spans fan limit l ls xs hs z w =
+      let r : Roomy (shape (stride K) fan limit) (areas ls xs) = record { words = refl; columns = omega arith; slots = z .fan-low; leaves = z .leaf-area; inners = z .inner-area } in
+      let n = nodes-least fan limit in
+      let e = w .long in (
+        put-leaf (shape (stride K) fan limit) (areas ls xs) 0 (newNode (stride K) fan 0 ((0 ∷ l) ∷ [])) r (omega arith) (formed-new (stride K) fan 0 ((0 ∷ l) ∷ []) (omega arith) (omega arith, tt) (let y = z .fan-low in omega arith)) .leaves,
+        put-inner (shape (stride K) fan limit) (areas ls xs) 0 (newNode (stride K) fan none ((0 ∷ l) ∷ [])) r (omega arith) (formed-new (stride K) fan none ((0 ∷ l) ∷ []) (omega arith) (omega arith, tt) (let y = z .fan-low in omega arith)) .inners,
+        length-set hs 0 0,
+      )
+
+  reset-leaves : (l : List ℕ) → Words K l → Leaves (outcomeAnswer (calls.reset K s l .answer) .number) s (calls.reset K s l .after)
+  unfolding calls.reset
+  reset-leaves l w =
+      let h = s .head in
+      unless-leaves outcomeAnswer outcome.Refused (λ n. refl) s (calls.makeCauses K (h .fan) (h .limit) (s .leaves) (s .inners) (s .homes)) (calls.reply (calls.begun K (h .fan) (h .limit) l (s .leaves) (s .inners) (s .homes)) outcome.Done)
+      (λ e. let b = begun-spans (h .fan) (h .limit) l (s .leaves) (s .inners) (s .homes) (sizes-of K (h .fan) (h .limit) (s .leaves) (s .inners) (s .homes) e) w in
+      finished 0 s (calls.begun K (h .fan) (h .limit) l (s .leaves) (s .inners) (s .homes)) refl (b .0) (b .1) (b .2))
+
+  end-left : (k : Leaf) → Left s (calls.endOf K s k .number) (calls.endOf K s k .state)
+  end-left (leaf.At k) = record { ends = λ z. absurd (z refl); leaves = refl; inners = refl; homes = refl }
+  end-left leaf.Nothing = record { ends = λ z. refl; leaves = refl; inners = refl; homes = refl }
+  end-left leaf.Broken = record { ends = λ z. refl; leaves = refl; inners = refl; homes = refl }
+
+  aim-left : (t : Target) → Left s (calls.aim K s t .number) (calls.aim K s t .state)
+  aim-left (target.Before c) = record { ends = λ z. absurd (z refl); leaves = refl; inners = refl; homes = refl }
+  aim-left target.End = end-left (lastDown (shapeOf K (s .head)) (s .head .levels) (s .head .root .0) (s .inners))
+
+  placed-left : (t : Target) (l : List ℕ) → Words K l → Holds (shapeOf K (s .head)) s → Left s (calls.placed K s t l .0 .number) (calls.placed K s t l .0 .state)
+  placed-left t l w h =
+      climb-left (shapeOf K (s .head)) s (K .effect) l (cond (eqb (calls.aim K s t .number) 0) (place.place (shapeOf K (s .head)) s (calls.aim K s t .leaf) (calls.aim K s t .slot) l) (calls.aim K s t)) h (let e = w .long in omega arith)
+      (aimed (calls.aim K s t) (aim-left t) (eqb (calls.aim K s t .number) 0))
+    where
+      aimed : (r : Change) → Left s (r .number) (r .state) → (b : Bool) → Left s (cond b (place.place (shapeOf K (s .head)) s (r .leaf) (r .slot) l) r .number) (cond b (place.place (shapeOf K (s .head)) s (r .leaf) (r .slot) l) r .state)
+      aimed r o true = place-left (shapeOf K (s .head)) s (r .leaf) (r .slot) l h (let e = w .long in omega arith)
+      aimed r o false = o
+
+  resized-left : (c : Cursor) (l : List ℕ) → Words K l → Holds (shapeOf K (s .head)) s → Current K s c → Left s (calls.resized K s c l .0 .number) (calls.resized K s c l .0 .state)
+  unfolding minus
+  resized-left c l w h o =
+      let e = w .long in
+      let hk : c .leaf .0 < (shapeOf K (s .head)) .nodes = (let x = o .leaf in let y = h .leaf-count in omega arith) in
+      let n : length (lengths (calls.slotAt K s c)) ≡ stride K - 1 = leaf-slot (shapeOf K (s .head)) s (c .leaf .0) (c .slot) h hk (o .slot) in
+      let z = length-zip (λ x y. wrap (x + (2 ^ 32 - y))) l (lengths (calls.slotAt K s c)) (omega arith) in
+      climb-left (shapeOf K (s .head)) s (K .effect) (minus l (lengths (calls.slotAt K s c))) (place.replace (shapeOf K (s .head)) s (c .leaf .0) (c .slot) l) h (omega arith)
+      (replace-left (shapeOf K (s .head)) s (c .leaf .0) (c .slot) l h (omega arith) hk)
+
+  insert-leaves : (t : Target) (l : List ℕ) → Words K l → Leaves (insertedAnswer (calls.insert K s t l .answer) .number) s (calls.insert K s t l .after)
+  unfolding calls.insert opening
+  insert-leaves t l w = let r = calls.placed K s t l in let a = inserted.At (calls.entryId (s .head .entries)) (r .1) in
+      unless-leaves insertedAnswer inserted.Refused (λ n. refl) s (calls.insertCauses K s t l) (calls.settled s (r .0) inserted.Refused a)
+      (λ e. settled-leaves insertedAnswer inserted.Refused (λ n. refl) s (r .0) a refl (placed-left t l w (opened K s (calls.targetCauses K s t ++ past K s [] l ∷ full s ∷ []) e .0)))
+
+  add-leaves : (t : Target) (l : List ℕ) → Words K l → Leaves (namedAnswer (calls.add K s t l .answer) .number) s (calls.add K s t l .after)
+  unfolding calls.add opening
+  add-leaves t l w = let r = calls.placed K s t l in let a = named.Entry (calls.entryId (s .head .entries)) in
+      unless-leaves namedAnswer named.Refused (λ n. refl) s (calls.insertCauses K s t l) (calls.settled s (r .0) named.Refused a)
+      (λ e. settled-leaves namedAnswer named.Refused (λ n. refl) s (r .0) a refl (placed-left t l w (opened K s (calls.targetCauses K s t ++ past K s [] l ∷ full s ∷ []) e .0)))
+
+  set-leaves : (c : Cursor) (l : List ℕ) → Words K l → Leaves (outcomeAnswer (calls.setLengths K s c l .answer) .number) s (calls.setLengths K s c l .after)
+  unfolding calls.setLengths opening
+  set-leaves c l w = let r = calls.resized K s c l in
+      unless-leaves outcomeAnswer outcome.Refused (λ n. refl) s (calls.resizeCauses K s c l) (calls.settled s (r .0) outcome.Refused outcome.Done)
+      (λ e. let o = opened K s (atCursor K s c ++ past K s (lengths (calls.slotAt K s c)) l ∷ []) e in settled-leaves outcomeAnswer outcome.Refused (λ n. refl) s (r .0) outcome.Done refl (resized-left c l w (o .0) (current-of K s c (past K s (lengths (calls.slotAt K s c)) l ∷ []) (o .1))))
+
+  update-leaves : (c : Cursor) (l : List ℕ) → Words K l → Leaves (numberAnswer (calls.update K s c l .answer) .number) s (calls.update K s c l .after)
+  unfolding calls.update opening
+  update-leaves c l w = let r = calls.resized K s c l in
+      unless-leaves numberAnswer number.Refused (λ n. refl) s (calls.resizeCauses K s c l) (calls.settled s (r .0) number.Refused (number.Is (r .1)))
+      (λ e. let o = opened K s (atCursor K s c ++ past K s (lengths (calls.slotAt K s c)) l ∷ []) e in settled-leaves numberAnswer number.Refused (λ n. refl) s (r .0) (number.Is (r .1)) refl (resized-left c l w (o .0) (current-of K s c (past K s (lengths (calls.slotAt K s c)) l ∷ []) (o .1))))
+
+  split-leaves : (c : Cursor) (l : List ℕ) (flag : Bool) → Words K l → Leaves (dividedAnswer (calls.splitEntry K s c l flag .answer) .number) s (calls.splitEntry K s c l flag .after)
+  unfolding calls.splitEntry opening
+  split-leaves c l flag w = let n = s .head .entries in let r = place.divide (shapeOf K (s .head)) flag s (c .leaf .0) (c .slot) l in
+      let a = divided.At (calls.entryId n) (calls.cursorAt (n + 1) (r .leaf) (r .slot)) (calls.cursorAt (n + 1) (r .leaf) (r .slot + 1)) in
+      unless-leaves dividedAnswer divided.Refused (λ m. refl) s (opening K s ++ atCursor K s c ++ tooMuch K l (lengths (calls.slotAt K s c)) ∷ full s ∷ []) (calls.settled s r divided.Refused a)
+      (λ e. settled-leaves dividedAnswer divided.Refused (λ m. refl) s r a refl (divide-left (shapeOf K (s .head)) flag s (c .leaf .0) (c .slot) l (opened K s (atCursor K s c ++ tooMuch K l (lengths (calls.slotAt K s c)) ∷ full s ∷ []) e .0) (let z = w .long in omega arith)))
+
+  -- a lookup writes no area, and keeps a finger only where it finds an entry
+  search-leaves : (b : Search) → Leaves (locatedAnswer (calls.bySearch s b .answer) .number) s (calls.bySearch s b .after)
+  search-leaves (search.At f offset) = finished 0 s (calls.hit s f offset .after) refl refl refl refl
+  search-leaves search.Nothing = unmoved 5 s
+  search-leaves search.Broken = unmoved 9 s
+
+  finger-leaves : (a b : Search) → Leaves (locatedAnswer (calls.byFinger s a b .answer) .number) s (calls.byFinger s a b .after)
+  finger-leaves (search.At f offset) b = finished 0 s (calls.hit s f offset .after) refl refl refl refl
+  finger-leaves search.Nothing b = search-leaves b
+  finger-leaves search.Broken b = unmoved 9 s
+
+  locate-leaves : (v x : ℕ) → Leaves (locatedAnswer (calls.locate K s v x .answer) .number) s (calls.locate K s v x .after)
+  unfolding calls.locate
+  locate-leaves v x =
+      let h = s .head in
+      unless-leaves locatedAnswer located.Refused (λ n. refl) s (opening K s) _
+      (λ e. finger-leaves (servedBy v (K .effect) (shapeOf K (s .head)) (h .finger) (h .leaves) x (s .leaves)) (fromRoot v (K .effect) (shapeOf K (s .head)) (h .levels) (h .root .0) (h .leaves) x (s .leaves) (s .inners)))
+
+  -- the number is the same without the effect position
+  less-number : (a : Located) → selectedAnswer (calls.lessEffect a) .number ≡ locatedAnswer a .number
+  less-number (located.At c offset position) = refl
+  less-number (located.Refused n) = refl
+
+  select-leaves : (v x : ℕ) → Leaves (selectedAnswer (calls.charIndexToEntry K s v x .answer) .number) s (calls.charIndexToEntry K s v x .after)
+  unfolding calls.charIndexToEntry
+  select-leaves v x = rw (less-number (calls.locate K s v x .answer)) (locate-leaves v x)
+
+  -- by id ---------------------------------------------------------------------------------------------------------------------------------
+
+  at-leaves : (c : Standing) (f : Cursor → Moved State) → ((c : Cursor) → Leaves (f c .answer .number) s (f c .after)) → Leaves (withCursor s c f .answer .number) s (withCursor s c f .after)
+  at-leaves (standing.At c) f h = h c
+  at-leaves (standing.Refused n) f h = unmoved n s
+
+  target-leaves : (i : ℕ) (f : Target → Moved State) → ((t : Target) → Leaves (f t .answer .number) s (f t .after)) → Leaves (withTarget K s i f .answer .number) s (withTarget K s i f .after)
+  target-leaves i f h = go (eqb i noEntry) refl
+    where
+      go : (b : Bool) → eqb i noEntry ≡ b → Leaves (withTarget K s i f .answer .number) s (withTarget K s i f .after)
+      go true e = rw e (h target.End)
+      go false e = rw e (at-leaves (calls.cursor K s i) (λ c. f (target.Before c)) (λ c. h (target.Before c)))
+
+  -- the new id alone
+  id-number : (a : Divided) → byId.dividedAnswer a .number ≡ dividedAnswer a .number
+  id-number (divided.At i a b) = refl
+  id-number (divided.Refused n) = refl
+
+  -- a lookup's id ---------------------------------------------------------------------------------------------------------------------------
+
+  -- the finger that a search finds stands at a slot in use of a leaf in use
+  record Seen (f : Finger) : Type 0 where
+    leaf : f .leaf < s .head .leaves
+    filled : nodeAt (shapeOf K (s .head)) (f .leaf) (s .leaves) .len ≤ s .head .fan
+    slot : f .slot < nodeAt (shapeOf K (s .head)) (f .leaf) (s .leaves) .len
+
+  abbrev Finds : Search → Type 0
+  Finds (search.At f offset) = Seen f
+  Finds search.Nothing = Unit {0}
+  Finds search.Broken = Unit {0}
+
+  module _ (v : ℕ) where
+    moved-finds : (f : Finger) (index : ℕ) (r : Found) → f .leaf < s .head .leaves → nodeAt (shapeOf K (s .head)) (f .leaf) (s .leaves) .len ≤ s .head .fan
+        → ((j o t : ℕ) → r ≡ At j o t → j < nodeAt (shapeOf K (s .head)) (f .leaf) (s .leaves) .len) → Finds (movedTo v (K .effect) f index r)
+    moved-finds f index (At j o t) a b c = record { leaf = a; filled = b; slot = c j o t refl }
+    moved-finds f index Nothing a b c = tt
+
+    walked-finds : (f : Finger) (index : ℕ) → f .leaf < s .head .leaves → nodeAt (shapeOf K (s .head)) (f .leaf) (s .leaves) .len ≤ s .head .fan → f .slot < nodeAt (shapeOf K (s .head)) (f .leaf) (s .leaves) .len
+        → Finds (walked v (K .effect) f index (used (nodeAt (shapeOf K (s .head)) (f .leaf) (s .leaves))))
+    unfolding walked
+    walked-finds f index a b c =
+        let slots = used (nodeAt (shapeOf K (s .head)) (f .leaf) (s .leaves)) in
+        let d = back v (K .effect) slots index (f .slot) (f .within) (f .«effect_within») in
+        let le : d .slot ≤ f .slot = back-slot v (K .effect) slots index (f .slot) (f .within) (f .«effect_within») in
+        by-test Finds (ltb index (d .within)) search.Broken (movedTo v (K .effect) f index (findFrom v (K .effect) (d .slot) (index - d .within) (d .effectWithin) (drop (d .slot) slots))) (λ _. tt)
+        (λ _. moved-finds f index (findFrom v (K .effect) (d .slot) (index - d .within) (d .effectWithin) (drop (d .slot) slots)) a b
+        (λ j o t q. let z = used-ranged (shapeOf K (s .head)) v (K .effect) (f .leaf) (d .slot) (index - d .within) (d .effectWithin) (s .leaves) b (omega arith) .slot j o t q in omega arith))
+
+    served-finds : (f : Finger) (x : ℕ) → Finds (served v (K .effect) (shapeOf K (s .head)) f (s .head .leaves) x (s .leaves))
+    unfolding served
+    served-finds f x =
+        let m = nodeAt (shapeOf K (s .head)) (f .leaf) (s .leaves) in
+        by-test Finds (eqb (f .view) v && leb (f .start) x) _ search.Nothing
+        (λ _. by-test Finds (ltb (f .leaf) (s .head .leaves) && leb (m .len) (s .head .fan) && ltb (f .slot) (m .len)) (walked v (K .effect) f (x - f .start) (used m)) search.Broken
+        (λ e. let t = every (ltb (f .leaf) (s .head .leaves) && leb (m .len) (s .head .fan)) (ltb (f .slot) (m .len)) e in
+        let u = every (ltb (f .leaf) (s .head .leaves)) (leb (m .len) (s .head .fan)) (t .0) in
+        walked-finds f (x - f .start) (ltb-true (f .leaf) (s .head .leaves) (u .0)) (leb-true (m .len) (s .head .fan) (u .1)) (ltb-true (f .slot) (m .len) (t .1)))
+        (λ _. tt))
+        (λ _. tt)
+
+    held-finds : (h : Held) (x : ℕ) → Finds (servedBy v (K .effect) (shapeOf K (s .head)) h (s .head .leaves) x (s .leaves))
+    held-finds held.Absent x = tt
+    held-finds (held.At f) x = served-finds f x
+
+    set-finds : (k index rest n : ℕ) (r : Found) → k < s .head .leaves → nodeAt (shapeOf K (s .head)) k (s .leaves) .len ≤ s .head .fan
+        → ((j o t : ℕ) → r ≡ At j o t → j < nodeAt (shapeOf K (s .head)) k (s .leaves) .len) → Finds (setIn v (K .effect) (shapeOf K (s .head)) k index rest n r)
+    set-finds k index rest n (At j o t) a b c = record { leaf = a; filled = b; slot = c j o t refl }
+    set-finds k index rest n Nothing a b c = tt
+
+    leaf-finds : (x : ℕ) (d : Descent) → Finds (leafOf v (K .effect) (shapeOf K (s .head)) (s .head .leaves) x (s .leaves) d)
+    leaf-finds x (descent.At k rest n) =
+        let m = nodeAt (shapeOf K (s .head)) (k .0) (s .leaves) in
+        by-test Finds (ltb (k .0) (s .head .leaves) && leb (m .len) (s .head .fan)) (setIn v (K .effect) (shapeOf K (s .head)) (k .0) x rest n (findFrom v (K .effect) 0 rest 0 (used m))) search.Broken
+        (λ e. let t = every (ltb (k .0) (s .head .leaves)) (leb (m .len) (s .head .fan)) e in
+        let b = leb-true (m .len) (s .head .fan) (t .1) in
+        set-finds (k .0) x rest n (findFrom v (K .effect) 0 rest 0 (used m)) (ltb-true (k .0) (s .head .leaves) (t .0)) b
+        (λ j o u q. let z = used-ranged (shapeOf K (s .head)) v (K .effect) (k .0) 0 rest 0 (s .leaves) b (omega arith) .slot j o u q in omega arith))
+        (λ _. tt)
+    leaf-finds x descent.Nothing = tt
+    leaf-finds x descent.Broken = tt
+
+    root-finds : (x : ℕ) → Finds (fromRoot v (K .effect) (shapeOf K (s .head)) (s .head .levels) (s .head .root .0) (s .head .leaves) x (s .leaves) (s .inners))
+    unfolding fromRoot
+    root-finds x = leaf-finds x (descend v (K .effect) (shapeOf K (s .head)) descent.Nothing (s .head .levels) (s .head .root .0) x 0 (s .inners))
+
+  -- so its id is read
+  id-read : (f : Finger) (offset : ℕ) (vs : List ℕ) → refusal (opening K s) ≡ 0 → Seen f
+      → byId.idAnswer (calls.id K (calls.hit s f offset .after) (calls.cursorAt (s .head .entries) (f .leaf) (f .slot))) vs .number ≡ 0
+  unfolding calls.id opening refusal
+  id-read f offset vs e h =
+      let t = calls.hit s f offset .after in
+      let c = calls.cursorAt (s .head .entries) (f .leaf) (f .slot) in
+      let n = nodeAt (shapeOf K (s .head)) (f .leaf) (s .leaves) .len in
+      let at : refusal (atCursor K t c) ≡ 0 = rw (eq-eqb (s .head .entries) (s .head .entries) refl, lt-ltb (f .leaf) (s .head .leaves) (h .leaf), lt-ltb (f .slot) n (h .slot), le-ltb (s .head .fan) n (h .filled)) in
+      ap (λ (a : Named). byId.idAnswer a vs .number) (passed (opening K t ++ atCursor K t c) named.Refused (named.Entry (calls.entryId (child (calls.slotAt K t c)))) (none-more (opening K t) (atCursor K t c) e at))
+
+  found-leaves : (a b : Search) → refusal (opening K s) ≡ 0 → Finds a → Finds b
+      → Leaves (byId.locatedAnswer K (calls.byFinger s a b .after) (calls.byFinger s a b .answer) .number) s (calls.byFinger s a b .after)
+  found-leaves (search.At f offset) b e h k = finished _ s (calls.hit s f offset .after) (id-read f offset (offset ∷ effectAt f ∷ []) e h) refl refl refl
+  found-leaves search.Nothing (search.At f offset) e h k = finished _ s (calls.hit s f offset .after) (id-read f offset (offset ∷ effectAt f ∷ []) e k) refl refl refl
+  found-leaves search.Nothing search.Nothing e h k = unmoved 5 s
+  found-leaves search.Nothing search.Broken e h k = unmoved 9 s
+  found-leaves search.Broken b e h k = unmoved 9 s
+
+  look-leaves : (v x : ℕ) → Leaves (treeStep K s (row.lookup v x) .answer .number) s (treeStep K s (row.lookup v x) .after)
+  unfolding treeStep calls.locate
+  look-leaves v x =
+      let h = s .head in
+      by-test (λ (r : Reply Located). Leaves (byId.locatedAnswer K (r .after) (r .answer) .number) s (r .after)) (eqb (refusal (opening K s)) 0) _ _
+      (λ e. found-leaves (servedBy v (K .effect) (shapeOf K h) (h .finger) (h .leaves) x (s .leaves)) (fromRoot v (K .effect) (shapeOf K h) (h .levels) (h .root .0) (h .leaves) x (s .leaves) (s .inners))
+      (eqb-true _ _ e) (held-finds v (h .finger) x) (root-finds v x))
+      (λ _. unmoved (refusal (opening K s)) s)
+
+  step-leaves : (c : Call) → InWords K c → Leaves (treeStep K s c .answer .number) s (treeStep K s c .after)
+  unfolding treeStep
+  step-leaves (row.reset l) k = reset-leaves l k
+  step-leaves (row.insert i l) k = target-leaves i (λ t. told (calls.insert K s t l) insertedAnswer) (λ t. insert-leaves t l (k .1))
+  step-leaves (row.add i l) k = target-leaves i (λ t. told (calls.add K s t l) namedAnswer) (λ t. add-leaves t l (k .1))
+  step-leaves (row.split flag i l) k = at-leaves (calls.cursor K s i) (λ c. told (calls.splitEntry K s c l flag) byId.dividedAnswer) (λ c. rw (id-number (calls.splitEntry K s c l flag .answer)) (split-leaves c l flag (k .1)))
+  step-leaves (row.setLengths i l) k = at-leaves (calls.cursor K s i) (λ c. told (calls.setLengths K s c l) outcomeAnswer) (λ c. set-leaves c l (k .1))
+  step-leaves (row.update i l) k = at-leaves (calls.cursor K s i) (λ c. told (calls.update K s c l) numberAnswer) (λ c. update-leaves c l (k .1))
+  step-leaves (row.lookup v x) k = look-leaves v x
+  step-leaves (row.rank v i) k = at-leaves (calls.cursor K s i) _ (λ c. unmoved _ s)
+  step-leaves (row.next i) k = at-leaves (calls.cursor K s i) _ (λ c. unmoved _ s)
+  step-leaves (row.compare i j) k = at-leaves (calls.cursor K s i) _ (λ a. at-leaves (calls.cursor K s j) _ (λ b. unmoved _ s))
+  step-leaves (row.lengths i) k = at-leaves (calls.cursor K s i) _ (λ c. unmoved _ s)
+  step-leaves row.count k = unmoved _ s
+  step-leaves row.first k = unmoved _ s
+  step-leaves row.malformed k = unmoved _ s
+
+-- all calls -------------------------------------------------------------------------------------------------------------------------------
+
+-- every call on a tree that gives one back, by cursor and by id; the others only read, and give none back
+pub record Refusals (K : Kind) (s : State) : Type 0 where
+  pub reset : (l : List ℕ) → Words K l → Leaves (outcomeAnswer (calls.reset K s l .answer) .number) s (calls.reset K s l .after)
+  pub insert : (t : Target) (l : List ℕ) → Words K l → Leaves (insertedAnswer (calls.insert K s t l .answer) .number) s (calls.insert K s t l .after)
+  pub add : (t : Target) (l : List ℕ) → Words K l → Leaves (namedAnswer (calls.add K s t l .answer) .number) s (calls.add K s t l .after)
+  pub split : (c : Cursor) (l : List ℕ) (flag : Bool) → Words K l → Leaves (dividedAnswer (calls.splitEntry K s c l flag .answer) .number) s (calls.splitEntry K s c l flag .after)
+  pub setLengths : (c : Cursor) (l : List ℕ) → Words K l → Leaves (outcomeAnswer (calls.setLengths K s c l .answer) .number) s (calls.setLengths K s c l .after)
+  pub update : (c : Cursor) (l : List ℕ) → Words K l → Leaves (numberAnswer (calls.update K s c l .answer) .number) s (calls.update K s c l .after)
+  pub locate : (v x : ℕ) → Leaves (locatedAnswer (calls.locate K s v x .answer) .number) s (calls.locate K s v x .after)
+  pub select : (v x : ℕ) → Leaves (selectedAnswer (calls.charIndexToEntry K s v x .answer) .number) s (calls.charIndexToEntry K s v x .after)
+  pub step : (c : Call) → InWords K c → Leaves (treeStep K s c .answer .number) s (treeStep K s c .after)
+
+pub refusals : (K : Kind) (s : State) → Refusals K s
+refusals K s =
+    record {
+      reset = reset-leaves K s;
+      insert = insert-leaves K s;
+      add = add-leaves K s;
+      split = split-leaves K s;
+      setLengths = set-leaves K s;
+      update = update-leaves K s;
+      locate = locate-leaves K s;
+      select = select-leaves K s;
+      step = step-leaves K s;
+    }
+
+-- make gives a head back, and a head of zeros without finger where it is refused
+pub record Made (K : Kind) (fan limit : ℕ) (l ls xs hs : List ℕ) : Type 0 where
+  pub refused : outcomeAnswer (calls.make K fan limit l ls xs hs .answer) .number ≢ 0 → calls.make K fan limit l ls xs hs .after ≡ state (headOf 0 0 0 0 0 0 0 held.Absent) ls xs hs
+  pub leaves : length (calls.make K fan limit l ls xs hs .after .leaves) ≡ length ls
+  pub inners : length (calls.make K fan limit l ls xs hs .after .inners) ≡ length xs
+  pub homes : length (calls.make K fan limit l ls xs hs .after .homes) ≡ length hs
+
+pub make-leaves : (K : Kind) (fan limit : ℕ) (l ls xs hs : List ℕ) → Words K l → Made K fan limit l ls xs hs
+unfolding calls.make
+make-leaves K fan limit l ls xs hs w = go (eqb (refusal (calls.makeCauses K fan limit ls xs hs)) 0) refl
+  where
+    go : (b : Bool) → eqb (refusal (calls.makeCauses K fan limit ls xs hs)) 0 ≡ b → Made K fan limit l ls xs hs
+    go true e =
+        let b = begun-spans K (state (headOf 0 0 0 0 0 0 0 held.Absent) ls xs hs) fan limit l ls xs hs (sizes-of K fan limit ls xs hs (eqb-true _ _ e)) w in
+        record { refused = rw e (λ d. absurd (d refl)); leaves = rw e (b .0); inners = rw e (b .1); homes = rw e (b .2) }
+    go false e = record { refused = rw e (λ d. refl); leaves = rw e refl; inners = rw e refl; homes = rw e refl }
