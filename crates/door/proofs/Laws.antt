@@ -11,10 +11,10 @@ use Rattle.model.specs.Lists.{All, refusal}
 use Rattle.model.specs.Row.{Row}
 use Rattle.model.specs.State.{State}
 use Rattle.model.specs.Calls.{Reply, reply, make}
+use Rattle.model.specs.Promise.{finally, Stands, Kept}
 use Rattle.model.specs.declared.answer.Outcome.{Outcome}
 use Rattle.model.specs.declared.answer.Outcome.the-variants as outcome
-use Rattle.theory.specs.Agree.{Stands}
-use Rattle.theory.specs.Whole.{Kept, finally, whole}
+use Rattle.theory.specs.Whole.{whole}
 use Rattle.row.specs.Run.{fit, Ran, ran, runOn, AsRow}
 use Rattle.door.specs.Door.{opened, firstLengths, doorRow, doorOn}
 

@@ -16,4 +16,5 @@ pub mod Record
 pub mod Sound
 pub mod Audit
 pub mod Table
+pub mod Promise
 pub mod Settled

@@ -9,7 +9,7 @@ use Rattle.model.specs.Kind.{base}
 use Rattle.model.specs.Row.{Row, Answer, rowStep}
 use Rattle.model.specs.State.{State}
 use Rattle.model.specs.ById.{treeStep}
-use Rattle.theory.specs.Agree.{Stands}
+use Rattle.model.specs.Promise.{Stands}
 use Rattle.theory.specs.Whole.{runs-alike, kept-of}
 use Rattle.row.specs.Run.{recordsOf, callsOf, written, left, fit, Ran, runOn, AsRow}
 use Rattle.row.proofs.Words.{Bytes, calls-words}

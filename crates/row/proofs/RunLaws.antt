@@ -15,9 +15,8 @@ use Rattle.model.specs.Row as row
 use Rattle.model.specs.Record.{fieldsOf, decode, encode}
 use Rattle.model.specs.State.{State}
 use Rattle.model.specs.ById.{treeStep}
+use Rattle.model.specs.Promise.{answers, finally, Stands}
 use Rattle.model.specs.declared.answer.Outcome.the-variants as outcome
-use Rattle.theory.specs.Agree.{Stands}
-use Rattle.theory.specs.Whole.{answers, finally}
 use Rattle.records.specs.Said.{plainFields, callOf, said, filled}
 use Rattle.records.specs.declared.fields.Fields.{Fields}
 use Rattle.records.specs.declared.call.Call.{Call}

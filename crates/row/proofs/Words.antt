@@ -15,8 +15,7 @@ use Rattle.model.specs.Lists.{All}
 use Rattle.model.specs.Row as row
 use Rattle.model.specs.Row.{Call}
 use Rattle.model.specs.Record.{Fields, fieldsOf, wordAt, kinds, only, plain, binary, noLengths, viewOf, decode, lengthsOf}
-use Rattle.theory.specs.Make.{Words}
-use Rattle.theory.specs.Step.{InWords, IsWord}
+use Rattle.model.specs.Promise.{Words, IsWord, InWords}
 use Rattle.row.specs.Run.{records, callsOf}
 
 -- every element is a byte

@@ -10,9 +10,9 @@ use Rattle.model.specs.Row.{Row, Call, Answer, Moved, rowStep}
 use Rattle.model.specs.Record.{fieldsOf, decode, encode}
 use Rattle.model.specs.State.{State}
 use Rattle.model.specs.ById.{treeStep}
+use Rattle.model.specs.Promise.{answers, finally, Kept}
 use Rattle.model.specs.declared.answer.Outcome.{Outcome}
 use Rattle.model.specs.declared.answer.Outcome.the-variants as outcome
-use Rattle.theory.specs.Whole.{answers, finally, Kept}
 
 -- the first n records of some bytes
 unfoldable pub records : ℕ → List ℕ → List (List ℕ)

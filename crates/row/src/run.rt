@@ -13,7 +13,7 @@ ghost use lib.ListN.{length};
 ghost use Rattle.model.specs.Kind.{base};
 ghost use Rattle.model.specs.Row.{Row};
 ghost use Rattle.model.specs.State.{state};
-ghost use Rattle.theory.specs.Agree.{Stands};
+ghost use Rattle.model.specs.Promise.{Stands};
 ghost use Rattle.row.specs.Run.{recordsOf, turned, turn, turns, fit, ran, runOn, AsRow};
 
 // One record and its answer record.

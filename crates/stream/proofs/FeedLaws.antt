@@ -10,11 +10,11 @@ use Rattle.model.specs.Lists.{part}
 use Rattle.model.specs.Row.{Call, Answer}
 use Rattle.model.specs.State.{State}
 use Rattle.model.specs.ById.{treeStep}
+use Rattle.model.specs.Promise.{answers}
 use Rattle.records.specs.Said.{answerOf}
 use Rattle.row.specs.Run.{records, recordsOf, callsOf}
 use Rattle.text.specs.Text.{line, put}
 use Rattle.text.proofs.TextLaws.{behind, line-short}
-use Rattle.theory.specs.Whole.{answers}
 use Rattle.stream.specs.Shown.{lines, Shown, shown, showFrom, Fed, fedOf, feed}
 
 pub front-room : (block : List ℕ) (have room : ℕ) → have ≤ length block → 44 * (have / 16) ≤ room → 44 * (length (take have block) / 16) ≤ room

@@ -10,13 +10,13 @@ use Rattle.model.specs.Row.{Call}
 use Rattle.model.specs.Record.{Fields, fieldsOf, decode}
 use Rattle.model.specs.State.{State}
 use Rattle.model.specs.ById.{treeStep}
+use Rattle.model.specs.Promise.{answers, finally}
 use Rattle.records.specs.Said.{said, answerOf}
 use Rattle.records.specs.declared.answer.Answer.{Answer}
 use Rattle.row.specs.Run.{records, callsOf}
 use Rattle.row_step.specs.Step.{Stepped, stepped, stepBy}
 use Rattle.text.specs.Text.{line, put}
 use Rattle.text.proofs.TextLaws.{behind, put-more, put-nil, line-short}
-use Rattle.theory.specs.Whole.{answers, finally}
 use Rattle.stream.specs.Shown.{lines, Shown, shown, showOne, showFrom}
 
 pub said-decode : (c : Call) (f : Fields) (bs : List ℕ) → c ≡ said f → f ≡ fieldsOf bs → c ≡ decode bs

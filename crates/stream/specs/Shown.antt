@@ -9,10 +9,10 @@ use Rattle.model.specs.Row.{Call, Answer, refused}
 use Rattle.model.specs.Lists.{part}
 use Rattle.model.specs.State.{State}
 use Rattle.model.specs.ById.{treeStep}
+use Rattle.model.specs.Promise.{answers, finally}
 use Rattle.records.specs.Said.{answerOf}
 use Rattle.row.specs.Run.{recordsOf, callsOf}
 use Rattle.text.specs.Text.{line, put}
-use Rattle.theory.specs.Whole.{answers, finally}
 
 -- a line for each answer
 unfoldable pub lines : List Answer → List ℕ

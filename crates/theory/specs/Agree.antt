@@ -16,6 +16,7 @@ use Rattle.model.specs.Row.{Row, Entry, Answer, refused, Moved, moved, noSuchId
 use Rattle.model.specs.Sound.{leafIn, Sound, entriesOf}
 use Rattle.model.specs.Calls as calls
 use Rattle.model.specs.ById.{withCursor}
+use Rattle.model.specs.Promise.{Stands}
 use Rattle.model.specs.declared.head.Cursor.{Cursor}
 use Rattle.laws.specs.Lists.{All-at}
 use Rattle.abstract_tree.specs.Lists.{cat}
@@ -30,12 +31,6 @@ use Rattle.theory.specs.Neat.{neat-of}
 use Rattle.theory.specs.Down.{body-of}
 use Rattle.theory.specs.Entries.{entryFrom, entries-row, total-entries, without-entries, split-entries}
 use Rattle.theory.specs.Open.{Seat, seat, no-seat}
-
--- a sound state and the row that it stands for
-pub record Stands (K : Kind) (t : State) (r : Row) : Type 0 where
-  pub sound : Sound K t
-  pub entries : entriesOf K t ≡ r .entries
-  pub limit : t .head .limit ≡ r .limit
 
 pub record Agrees (K : Kind) (m : Moved State) (n : Moved Row) : Type 0 where
   pub same : m .answer ≡ n .answer

@@ -14,12 +14,13 @@ use Rattle.model.specs.Lists.{refusal}
 use Rattle.model.specs.Node.{child}
 use Rattle.model.specs.State.{State}
 use Rattle.model.specs.Row as row
-use Rattle.model.specs.Row.{Row, Entry, lengthIn, Answer, done, refused, Moved, moved, unless, noEntry, after, firstId, found, rowStep}
+use Rattle.model.specs.Row.{Row, Entry, lengthIn, Answer, done, refused, Moved, moved, unless, after, firstId, found, rowStep}
 use Rattle.model.specs.Sound.{leafIn, Sound, entriesOf}
 use Rattle.model.specs.Refuse.{opening, overfull, atCursor, current}
 use Rattle.model.specs.Calls as calls
-use Rattle.model.specs.Calls.{cursorAt, entryId, slotAt}
+use Rattle.model.specs.Calls.{cursorAt, slotAt}
 use Rattle.model.specs.ById.{withCursor, idAnswer, standingAnswer, nextAnswer, locatedAnswer, treeStep}
+use Rattle.model.specs.Promise.{At, StandsAt, NextAt, LocatedAt, SelectedAt, DividedAt}
 use Rattle.model.specs.declared.head.Cursor.{Cursor}
 use Rattle.model.specs.declared.answer.Named.{Named}
 use Rattle.model.specs.declared.answer.Named.the-variants as named
@@ -29,10 +30,6 @@ use Rattle.model.specs.declared.answer.Next.{Next}
 use Rattle.model.specs.declared.answer.Next.the-variants as next
 use Rattle.model.specs.declared.answer.Located.{Located}
 use Rattle.model.specs.declared.answer.Located.the-variants as located
-use Rattle.model.specs.declared.answer.Selected.{Selected}
-use Rattle.model.specs.declared.answer.Selected.the-variants as selected
-use Rattle.model.specs.declared.answer.Divided.{Divided}
-use Rattle.model.specs.declared.answer.Divided.the-variants as divided
 use Rattle.abstract_tree.specs.Levels.{Slot}
 use Rattle.abstract_tree.specs.Calls as tree
 use Rattle.theory.specs.Tree.{treeOf}
@@ -42,34 +39,6 @@ use Rattle.theory.specs.Read.{id-at, step-first, step-next}
 use Rattle.theory.specs.Looks.{step-lookup}
 use Rattle.theory.specs.Splits.{TwoParts, split-by}
 use Rattle.theory.specs.Current.{not-current, current-is, is-current}
-
--- a cursor that is current and stands at the entry of that id
-pub record At (K : Kind) (s : State) (c : Cursor) (i : ℕ) : Type 0 where
-  pub current : current K s c ≡ true
-  pub id : calls.id K s c ≡ named.Entry (entryId i)
-
--- what an answer says; it is a refusal only where the row's is
-abbrev pub StandsAt : Kind → State → Standing → ℕ → Type 0
-StandsAt K s (standing.At c) i = At K s c i
-StandsAt K s (standing.Refused n) i = ⊥
-
-abbrev pub NextAt : Kind → State → Next → ℕ → Type 0
-NextAt K s (next.At c) i = At K s c i
-NextAt K s next.Nothing i = i ≡ noEntry
-NextAt K s (next.Refused n) i = ⊥
-
-abbrev pub LocatedAt : Kind → State → Located → Answer → Type 0
-LocatedAt K s (located.At c offset position) a = (i : ℕ) × (a ≡ done (i ∷ offset ∷ position ∷ [])) × At K s c i
-LocatedAt K s (located.Refused n) a = a ≡ refused n
-
-abbrev pub SelectedAt : Kind → State → Selected → Answer → Type 0
-SelectedAt K s (selected.At c offset) a = (i : ℕ) × (position : ℕ) × (a ≡ done (i ∷ offset ∷ position ∷ [])) × At K s c i
-SelectedAt K s (selected.Refused n) a = a ≡ refused n
-
--- the entry i divided: the new one has the id n and stands before it if so flagged, else after
-abbrev pub DividedAt : Kind → Bool → ℕ → ℕ → State → Divided → Answer → Type 0
-DividedAt K flag i n s (divided.At k c d) a = (a ≡ done (n ∷ [])) × (k ≡ entryId n) × At K s c (cond flag n i) × At K s d (cond flag i n)
-DividedAt K flag i n s (divided.Refused m) a = a ≡ refused m
 
 -- the cursor of an answer, and the first of an answer's values
 abbrev cursorOf : Cursor → Standing → Cursor

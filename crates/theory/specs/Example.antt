@@ -18,15 +18,14 @@ use Rattle.model.specs.ById.{treeStep}
 use Rattle.model.specs.Sound.{Sound}
 use Rattle.model.specs.Calls.{begun, make, cursor, locate}
 use Rattle.model.specs.Audit.{audit}
+use Rattle.model.specs.Promise.{Words, InWords, answers, finally, others, otherAnswers, StandsAt}
 use Rattle.model.specs.declared.head.Held.the-variants as held
 use Rattle.model.specs.declared.answer.Outcome.the-variants as outcome
 use Rattle.model.specs.declared.answer.Verdict.the-variants as verdict
-use Rattle.theory.specs.Make.{Words}
-use Rattle.theory.specs.Step.{InWords}
-use Rattle.theory.specs.Whole.{answers, finally, others, otherAnswers, whole, alike}
+use Rattle.theory.specs.Whole.{whole, alike}
 use Rattle.theory.specs.Audited.{audit-exactly}
 use Rattle.theory.specs.Steps.{steps, audit-steps}
-use Rattle.theory.specs.Cursors.{StandsAt, cursor-at}
+use Rattle.theory.specs.Cursors.{cursor-at}
 
 abbrev pair : ℕ → ℕ → List ℕ
 pair p e = p ∷ e ∷ []

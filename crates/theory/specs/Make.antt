@@ -22,6 +22,7 @@ use Rattle.model.specs.Calls as calls
 use Rattle.model.specs.Calls.{begun, makeCauses}
 use Rattle.model.specs.ById.{told, treeStep}
 use Rattle.model.specs.Answer.{outcomeAnswer}
+use Rattle.model.specs.Promise.{Words, Stands}
 use Rattle.model.specs.declared.shape.Shape.{Shape}
 use Rattle.model.specs.declared.answer.Outcome.{Outcome}
 use Rattle.model.specs.declared.answer.Outcome.the-variants as outcome
@@ -36,12 +37,7 @@ use Rattle.theory.specs.Put.{Keeps, put-next}
 use Rattle.theory.specs.Entries.{firsts, entryFrom, entry-is}
 use Rattle.theory.specs.Views.{each-small}
 use Rattle.theory.specs.Open.{passed, good-areas}
-use Rattle.theory.specs.Agree.{Stands, Agrees, rowOf, entries-are}
-
--- lengths that are words
-pub record Words (K : Kind) (l : List ℕ) : Type 0 where
-  pub long : length l ≡ K .views
-  pub small : All (λ x. x < 4294967296) l
+use Rattle.theory.specs.Agree.{Agrees, rowOf, entries-are}
 
 -- what the causes of a make leave
 pub record Sizes (K : Kind) (fan limit : ℕ) (ls xs hs : List ℕ) : Type 0 where

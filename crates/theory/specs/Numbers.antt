@@ -15,43 +15,9 @@ use Rattle.model.specs.State.{State}
 use Rattle.model.specs.Row as row
 use Rattle.model.specs.Row.{Row, Call, Entry, Answer, done, unless, found, rowStep}
 use Rattle.model.specs.ById.{treeStep}
+use Rattle.model.specs.Promise.{InWords, Stands, Adds, earlier, Numbers}
 use Rattle.abstract_tree.specs.Row.{found-past}
-use Rattle.theory.specs.Agree.{Stands}
-use Rattle.theory.specs.Step.{InWords, step}
-
--- a call that adds an entry where it isn't refused
-abbrev pub Adds : Call → Type 0
-Adds (row.insert i l) = Unit {0}
-Adds (row.add i l) = Unit {0}
-Adds (row.split flag i l) = Unit {0}
-Adds (row.reset l) = ⊥
-Adds (row.setLengths i l) = ⊥
-Adds (row.update i l) = ⊥
-Adds (row.lookup v x) = ⊥
-Adds (row.rank v i) = ⊥
-Adds (row.next i) = ⊥
-Adds (row.compare i j) = ⊥
-Adds (row.lengths i) = ⊥
-Adds row.count = ⊥
-Adds row.first = ⊥
-Adds row.malformed = ⊥
-
--- the row's refusal before the limit is asked: 0 where the earlier checks are passed
-abbrev pub earlier : Kind → Row → Call → ℕ
-earlier K r (row.insert i l) = refusal (row.noSuchPlace r i ∷ row.past K (row.inserted i (row.newEntry r l) (r .entries)) ∷ [])
-earlier K r (row.add i l) = refusal (row.noSuchPlace r i ∷ row.past K (row.inserted i (row.newEntry r l) (r .entries)) ∷ [])
-earlier K r (row.split flag i l) = refusal (row.noSuchId r i ∷ row.tooMuch K l (row.lengthsOf i (r .entries)) ∷ [])
-earlier K r (row.reset l) = 0
-earlier K r (row.setLengths i l) = 0
-earlier K r (row.update i l) = 0
-earlier K r (row.lookup v x) = 0
-earlier K r (row.rank v i) = 0
-earlier K r (row.next i) = 0
-earlier K r (row.compare i j) = 0
-earlier K r (row.lengths i) = 0
-earlier K r row.count = 0
-earlier K r row.first = 0
-earlier K r row.malformed = 0
+use Rattle.theory.specs.Step.{step}
 
 number-is : (r : Row) (cs : List Cause) (es : List Entry) (vs : List ℕ) → unless r cs es (done vs) .answer .number ≡ refusal cs
 unfolding unless
@@ -200,12 +166,6 @@ row-exactly K r row.first h z f = absurd h
 row-exactly K r row.malformed h z f = absurd h
 
 -- so it is on the tree
-pub record Numbers (K : Kind) (s : State) (r : Row) (c : Call) : Type 0 where
-  pub only : treeStep K s c .answer .number ≡ 8 → r .limit ≤ length (r .entries)
-  pub nine : treeStep K s c .answer .number ≢ 9
-  pub always : Adds c → r .limit ≤ length (r .entries) → treeStep K s c .answer .number ≢ 0
-  pub exactly : Adds c → earlier K r c ≡ 0 → r .limit ≤ length (r .entries) → treeStep K s c .answer .number ≡ 8
-
 pub numbers-are : (K : Kind) (ok : K .effect < K .views) (s : State) (r : Row) → Stands K s r → (c : Call) → InWords K c → Numbers K s r c
 numbers-are K ok s r h c k =
     let a : treeStep K s c .answer .number ≡ rowStep K r c .answer .number = ap (λ (x : Answer). x .number) (step K ok s r h c k .same) in

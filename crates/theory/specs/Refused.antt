@@ -27,6 +27,7 @@ use Rattle.model.specs.ById as byId
 use Rattle.model.specs.ById.{withCursor, withTarget, told, treeStep}
 use Rattle.model.specs.Calls as calls
 use Rattle.model.specs.Calls.{Reply}
+use Rattle.model.specs.Promise.{Words, InWords, Leaves, Refusals, Made}
 use Rattle.model.specs.declared.shape.Shape.{Shape}
 use Rattle.model.specs.declared.shape.Found.{Found}
 use Rattle.model.specs.declared.shape.Found.the-variants.{At, Nothing}
@@ -59,17 +60,8 @@ use Rattle.laws.specs.Locate.{back-slot}
 use Rattle.laws.specs.Lens.{by-test, Roomy}
 use Rattle.laws.specs.Formed.{formed-new}
 use Rattle.theory.specs.Open.{passed}
-use Rattle.theory.specs.Make.{Words, Sizes, sizes-of, nodes-least}
-use Rattle.theory.specs.Step.{InWords}
+use Rattle.theory.specs.Make.{Sizes, sizes-of, nodes-least}
 use Rattle.theory.specs.Spans.{Left, Holds, put-leaf, put-inner, place-left, divide-left, replace-left, climb-left, leaf-slot}
-
--- a call on s that answers the number n leaves t
-pub record Leaves (n : ℕ) (s t : State) : Type 0 where
-  pub refused : n ≢ 0 → n ≢ 9 → t ≡ s
-  pub broken : n ≡ 9 → t .head ≡ s .head
-  pub leaves : length (t .leaves) ≡ length (s .leaves)
-  pub inners : length (t .inners) ≡ length (s .inners)
-  pub homes : length (t .homes) ≡ length (s .homes)
 
 unmoved : (n : ℕ) (s : State) → Leaves n s s
 unmoved n s = record { refused = λ a b. refl; broken = λ e. refl; leaves = refl; inners = refl; homes = refl }
@@ -405,18 +397,6 @@ module _ (K : Kind) (s : State) where
 
 -- all calls -------------------------------------------------------------------------------------------------------------------------------
 
--- every call on a tree that gives one back, by cursor and by id; the others only read, and give none back
-pub record Refusals (K : Kind) (s : State) : Type 0 where
-  pub reset : (l : List ℕ) → Words K l → Leaves (outcomeAnswer (calls.reset K s l .answer) .number) s (calls.reset K s l .after)
-  pub insert : (t : Target) (l : List ℕ) → Words K l → Leaves (insertedAnswer (calls.insert K s t l .answer) .number) s (calls.insert K s t l .after)
-  pub add : (t : Target) (l : List ℕ) → Words K l → Leaves (namedAnswer (calls.add K s t l .answer) .number) s (calls.add K s t l .after)
-  pub split : (c : Cursor) (l : List ℕ) (flag : Bool) → Words K l → Leaves (dividedAnswer (calls.splitEntry K s c l flag .answer) .number) s (calls.splitEntry K s c l flag .after)
-  pub setLengths : (c : Cursor) (l : List ℕ) → Words K l → Leaves (outcomeAnswer (calls.setLengths K s c l .answer) .number) s (calls.setLengths K s c l .after)
-  pub update : (c : Cursor) (l : List ℕ) → Words K l → Leaves (numberAnswer (calls.update K s c l .answer) .number) s (calls.update K s c l .after)
-  pub locate : (v x : ℕ) → Leaves (locatedAnswer (calls.locate K s v x .answer) .number) s (calls.locate K s v x .after)
-  pub select : (v x : ℕ) → Leaves (selectedAnswer (calls.charIndexToEntry K s v x .answer) .number) s (calls.charIndexToEntry K s v x .after)
-  pub step : (c : Call) → InWords K c → Leaves (treeStep K s c .answer .number) s (treeStep K s c .after)
-
 pub refusals : (K : Kind) (s : State) → Refusals K s
 refusals K s =
     record {
@@ -430,13 +410,6 @@ refusals K s =
       select = select-leaves K s;
       step = step-leaves K s;
     }
-
--- make gives a head back, and a head of zeros without finger where it is refused
-pub record Made (K : Kind) (fan limit : ℕ) (l ls xs hs : List ℕ) : Type 0 where
-  pub refused : outcomeAnswer (calls.make K fan limit l ls xs hs .answer) .number ≢ 0 → calls.make K fan limit l ls xs hs .after ≡ state (headOf 0 0 0 0 0 0 0 held.Absent) ls xs hs
-  pub leaves : length (calls.make K fan limit l ls xs hs .after .leaves) ≡ length ls
-  pub inners : length (calls.make K fan limit l ls xs hs .after .inners) ≡ length xs
-  pub homes : length (calls.make K fan limit l ls xs hs .after .homes) ≡ length hs
 
 pub make-leaves : (K : Kind) (fan limit : ℕ) (l ls xs hs : List ℕ) → Words K l → Made K fan limit l ls xs hs
 unfolding calls.make

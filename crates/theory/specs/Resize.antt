@@ -26,6 +26,7 @@ use Rattle.model.specs.Calls as calls
 use Rattle.model.specs.Calls.{cursorAt, resized, resizeCauses}
 use Rattle.model.specs.ById.{told, treeStep}
 use Rattle.model.specs.Answer.{outcomeAnswer, numberAnswer}
+use Rattle.model.specs.Promise.{Stands}
 use Rattle.model.specs.declared.head.Held.{Held}
 use Rattle.model.specs.declared.head.Held.the-variants as held
 use Rattle.model.specs.declared.way.Sum.{Sum}
@@ -57,7 +58,7 @@ use Rattle.theory.specs.Way.{way}
 use Rattle.theory.specs.Put.{Keeps, leaf-keeps, inner-keeps, put-same, put-slots}
 use Rattle.theory.specs.Carry.{minus-at, lengths-at, lengths-tidy, lengths-slots, Up, up-of, added, Carried, climb-up}
 use Rattle.theory.specs.Read.{front-small, rank-is}
-use Rattle.theory.specs.Agree.{Stands, Agrees, rowOf, row-passed, row-stopped, own, entries-are, by-id, before-is, from-is, slot-is, total-before}
+use Rattle.theory.specs.Agree.{Agrees, rowOf, row-passed, row-stopped, own, entries-are, by-id, before-is, from-is, slot-is, total-before}
 
 pub viewed-changing : (s k j : ℕ) (h : Held) → Viewed s h → Viewed s (changing k j h)
 viewed-changing s k j held.Absent v = tt

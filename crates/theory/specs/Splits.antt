@@ -26,6 +26,7 @@ use Rattle.model.specs.Refuse as refuse′
 use Rattle.model.specs.Calls as calls
 use Rattle.model.specs.Calls.{cursorAt, entryId}
 use Rattle.model.specs.ById.{told, treeStep, dividedAnswer}
+use Rattle.model.specs.Promise.{Stands}
 use Rattle.model.specs.declared.answer.Divided.{Divided}
 use Rattle.model.specs.declared.answer.Divided.the-variants as division
 use Rattle.abstract_tree.specs.Lists.{cat, sumBy-append, map-append}
@@ -53,7 +54,7 @@ use Rattle.theory.specs.Room.{Roomed}
 use Rattle.theory.specs.Gap.{opened, leafWith, Gap, gap}
 use Rattle.theory.specs.Enter.{entered, entered-read, entered-neat, entered-tree}
 use Rattle.theory.specs.Halved.{halved-tidy, halved-parent, halved-at, halved-slots}
-use Rattle.theory.specs.Agree.{Stands, Agrees, rowOf, row-passed, row-stopped, own, entries-are, count-is, by-id, before-is, from-is, slot-is}
+use Rattle.theory.specs.Agree.{Agrees, rowOf, row-passed, row-stopped, own, entries-are, count-is, by-id, before-is, from-is, slot-is}
 
 -- the children of a divided entry's two parts
 first-part : (flag : Bool) (e : Slot) (u : ℕ → ℕ) (n : ℕ) (S : List Slot) → getD (ops.divided flag e u n S) 0 noSlot .child ≡ cond flag n (e .child)

@@ -7,34 +7,15 @@ use Rattle.model.specs.Row as row
 use Rattle.model.specs.Row.{Row, Call, rowStep}
 use Rattle.model.specs.ById.{treeStep}
 use Rattle.model.specs.Sound.{Sound}
-use Rattle.theory.specs.Agree.{Stands, Agrees, rowOf, own}
-use Rattle.theory.specs.Make.{Words, step-reset}
+use Rattle.model.specs.Promise.{InWords, Stands}
+use Rattle.theory.specs.Agree.{Agrees, rowOf, own}
+use Rattle.theory.specs.Make.{step-reset}
 use Rattle.theory.specs.Read.{step-count, step-lengths, step-rank, step-first, step-next}
 use Rattle.theory.specs.Compare.{step-compare}
 use Rattle.theory.specs.Looks.{step-lookup}
 use Rattle.theory.specs.Resize.{step-set, step-update}
 use Rattle.theory.specs.Inserts.{step-insert, step-add}
 use Rattle.theory.specs.Splits.{step-split}
-
--- a call whose numbers are words
-abbrev pub IsWord : ℕ → Type 0
-IsWord n = n < 4294967296
-
-abbrev pub InWords : Kind → Call → Type 0
-InWords K (row.reset l) = Words K l
-InWords K (row.insert i l) = IsWord i × Words K l
-InWords K (row.add i l) = IsWord i × Words K l
-InWords K (row.split flag i l) = IsWord i × Words K l
-InWords K (row.setLengths i l) = IsWord i × Words K l
-InWords K (row.update i l) = IsWord i × Words K l
-InWords K (row.lookup v x) = (v < K .views) × IsWord x
-InWords K (row.rank v i) = (v < K .views) × IsWord i
-InWords K (row.next i) = IsWord i
-InWords K (row.compare i j) = IsWord i × IsWord j
-InWords K (row.lengths i) = IsWord i
-InWords K row.count = Unit {0}
-InWords K row.first = Unit {0}
-InWords K row.malformed = Unit {0}
 
 own-step : (K : Kind) (ok : K .effect < K .views) (t : State) → Sound K t → (c : Call) → InWords K c → Agrees K (treeStep K t c) (rowStep K (rowOf K t) c)
 unfolding treeStep rowStep

@@ -3,20 +3,19 @@
 use mathlib.Core.Path.{_≡_, refl, sym, ap, ap₂, _∙_, subst}
 use mathlib.Core.Bool.{Bool, true, false, cond}
 use mathlib.Core.List.{List, [], _∷_}
-use Prim.Native.Nat.{ℕ, zero, suc, _*_, _^_, _≤_, _<_}
+use Prim.Native.Nat.{ℕ, zero, suc, _<_}
 use native.Mathlib.Omega.{arith}
 use lib.ListN.{length}
 use Rattle.model.specs.Kind.{stride}
 use Rattle.model.specs.declared.shape.Kind.{Kind}
 use Rattle.model.specs.Lists.{All, refusal}
-use Rattle.model.specs.Node.{half}
 use Rattle.model.specs.State.{State, state, headOf}
 use Rattle.model.specs.Row as row
-use Rattle.model.specs.Row.{Row, Call, Answer, Moved, madeRow, rowStep}
+use Rattle.model.specs.Row.{Row, Call, madeRow, rowStep}
 use Rattle.model.specs.ById.{treeStep}
-use Rattle.model.specs.Sound.{Sound, entriesOf}
 use Rattle.model.specs.Calls as calls
 use Rattle.model.specs.Calls.{make, begun, makeCauses}
+use Rattle.model.specs.Promise.{Words, InWords, answers, finally, isLookup, others, otherAnswers, Stands, Kept, Along, Demand3}
 use Rattle.model.specs.declared.head.Held.the-variants as held
 use Rattle.model.specs.declared.answer.Outcome.{Outcome}
 use Rattle.model.specs.declared.answer.Outcome.the-variants as outcome
@@ -24,58 +23,11 @@ use Rattle.abstract_tree.specs.Follows.{levels-most, entry-floor}
 use Rattle.theory.specs.Tree.{treeOf}
 use Rattle.theory.specs.Down.{body-of}
 use Rattle.theory.specs.Open.{passed, stopped}
-use Rattle.theory.specs.Agree.{Stands, Agrees, count-is}
-use Rattle.theory.specs.Make.{Words, sizes-of, begun-stands}
-use Rattle.theory.specs.Step.{InWords, step}
-use Rattle.theory.specs.Numbers.{Numbers, numbers-are}
+use Rattle.theory.specs.Agree.{Agrees, count-is}
+use Rattle.theory.specs.Make.{sizes-of, begun-stands}
+use Rattle.theory.specs.Step.{step}
+use Rattle.theory.specs.Numbers.{five, numbers-are}
 use Rattle.theory.specs.Fixed.{step-fixed}
-
--- the answers to a list of calls, each on what the one before left, and what the last leaves
-module _ {S : Type 0} (move : S → Call → Moved S) where
-  unfoldable pub answers : S → List Call → List Answer
-  answers s [] = []
-  answers s (c ∷ cs) = move s c .answer ∷ answers (move s c .after) cs
-
-  unfoldable pub finally : S → List Call → S
-  finally s [] = s
-  finally s (c ∷ cs) = finally (move s c .after) cs
-
--- a lookup, and the calls of a list that aren't
-abbrev pub isLookup : Call → Bool
-isLookup (row.lookup v x) = true
-isLookup (row.reset l) = false
-isLookup (row.insert i l) = false
-isLookup (row.add i l) = false
-isLookup (row.split flag i l) = false
-isLookup (row.setLengths i l) = false
-isLookup (row.update i l) = false
-isLookup (row.rank v i) = false
-isLookup (row.next i) = false
-isLookup (row.compare i j) = false
-isLookup (row.lengths i) = false
-isLookup row.count = false
-isLookup row.first = false
-isLookup row.malformed = false
-
-unfoldable pub others : List Call → List Call
-others [] = []
-others (c ∷ cs) = cond (isLookup c) (others cs) (c ∷ others cs)
-
--- the answers that calls other than lookups get
-unfoldable pub otherAnswers : {S : Type 0} → (S → Call → Moved S) → S → List Call → List Answer
-otherAnswers move s [] = []
-otherAnswers move s (c ∷ cs) = let rest = otherAnswers move (move s c .after) cs in cond (isLookup c) rest (move s c .answer ∷ rest)
-
--- what holds of a state that stands for the row r
-pub record Kept (K : Kind) (s : State) (r : Row) : Type 0 where
-  pub sound : Sound K s
-  pub entries : entriesOf K s ≡ r .entries
-  pub limit : s .head .limit ≡ r .limit
-  pub count : s .head .entries ≡ length (r .entries)
-  pub within : length (r .entries) ≤ r .limit
-  pub levels : s .head .levels ≤ 15
-  pub floor : 2 ≤ s .head .levels → 2 * half (s .head .fan) ^ s .head .levels ≤ length (r .entries)
-  pub numbers : (c : Call) → InWords K c → Numbers K s r c
 
 pub kept-of : (K : Kind) (ok : K .effect < K .views) (s : State) (r : Row) → Stands K s r → Kept K s r
 kept-of K ok s r h =
@@ -120,11 +72,6 @@ runs-alike K ok s r (c ∷ cs) h k =
     let a : Agrees K (treeStep K s c) (rowStep K r c) = step K ok s r h c (k .0) in
     let i = runs-alike K ok (treeStep K s c .after) (rowStep K r c .after) cs (a .kept) (k .1) in
     (ap₂ _∷_ (a .same) (i .0), i .1)
-
--- every call of a list gets the row's answer, and before and after each of them the state stands for the row
-unfoldable pub Along : Kind → State → Row → List Call → Type 0
-Along K s r [] = Kept K s r
-Along K s r (c ∷ cs) = Kept K s r × (treeStep K s c .answer ≡ rowStep K r c .answer) × Along K (treeStep K s c .after) (rowStep K r c .after) cs
 
 along : (K : Kind) (ok : K .effect < K .views) (s : State) (r : Row) (cs : List Call) → Stands K s r → All (InWords K) cs → Along K s r cs
 unfolding Along All
@@ -191,3 +138,15 @@ pub alike : (K : Kind) (ok : K .effect < K .views) (limit : ℕ) (l : List ℕ) 
 alike K ok limit l small fan ls xs hs given fan′ ls′ xs′ hs′ given′ cs ds k m e =
     others-alike K ok (make K fan limit l ls xs hs .after) (madeRow limit l) cs (made K ok fan limit l ls xs hs small given) k ∙ ap (answers (rowStep K) (madeRow limit l)) e
     ∙ sym (others-alike K ok (make K fan′ limit l ls′ xs′ hs′ .after) (madeRow limit l) ds (made K ok fan′ limit l ls′ xs′ hs′ small given′) m)
+
+-- demand 3 whole
+pub demand3 : (K : Kind) → K .effect < K .views → (fan limit : ℕ) (l ls xs hs : List ℕ) → Words K l → make K fan limit l ls xs hs .answer ≡ outcome.Done → Demand3 K fan limit l ls xs hs
+demand3 K ok fan limit l ls xs hs small given =
+    record {
+      answered = λ cs k. whole K ok fan limit l ls xs hs small given cs k .0;
+      kept = λ cs k. whole K ok fan limit l ls xs hs small given cs k .1;
+      each = each K ok fan limit l ls xs hs small given;
+      kept-fan = λ cs. fan-kept K (make K fan limit l ls xs hs .after) cs ∙ fan-made K ok fan limit l ls xs hs small given;
+      alike = λ fan′ ls′ xs′ hs′ given′. alike K ok limit l small fan ls xs hs given fan′ ls′ xs′ hs′ given′;
+      five = five K;
+    }

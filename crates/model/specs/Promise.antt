@@ -1,0 +1,236 @@
+-- What is promised of all calls together (document 01, demands 1 and 3): what a refused call leaves, and what every list of calls answers.
+-- The theorems are theory's. Assumes nothing.
+use mathlib.Core.Path.{_≡_}
+use mathlib.Core.Logic.{_≢_}
+use mathlib.Core.Bool.{Bool, true, false, cond}
+use mathlib.Core.List.{List, [], _∷_}
+use Prim.Native.Nat.{ℕ, _*_, _^_, _≤_, _<_}
+use lib.ListN.{length}
+use Rattle.model.specs.Lists.{All, refusal}
+use Rattle.model.specs.declared.shape.Kind.{Kind}
+use Rattle.model.specs.Node.{half}
+use Rattle.model.specs.State.{State, state, headOf}
+use Rattle.model.specs.Row as row
+use Rattle.model.specs.Row.{Row, Call, Answer, done, refused, Moved, noEntry, madeRow, rowStep}
+use Rattle.model.specs.Answer.{outcomeAnswer, numberAnswer, namedAnswer, selectedAnswer, locatedAnswer, insertedAnswer, dividedAnswer}
+use Rattle.model.specs.Refuse.{current}
+use Rattle.model.specs.Calls as calls
+use Rattle.model.specs.Calls.{entryId}
+use Rattle.model.specs.ById.{treeStep}
+use Rattle.model.specs.Sound.{Sound, entriesOf}
+use Rattle.model.specs.declared.head.Cursor.{Cursor}
+use Rattle.model.specs.declared.head.Held.the-variants as held
+use Rattle.model.specs.declared.answer.Target.{Target}
+use Rattle.model.specs.declared.answer.Outcome.the-variants as outcome
+use Rattle.model.specs.declared.answer.Named.the-variants as named
+use Rattle.model.specs.declared.answer.Standing.{Standing}
+use Rattle.model.specs.declared.answer.Standing.the-variants as standing
+use Rattle.model.specs.declared.answer.Next.{Next}
+use Rattle.model.specs.declared.answer.Next.the-variants as next
+use Rattle.model.specs.declared.answer.Located.{Located}
+use Rattle.model.specs.declared.answer.Located.the-variants as located
+use Rattle.model.specs.declared.answer.Selected.{Selected}
+use Rattle.model.specs.declared.answer.Selected.the-variants as selected
+use Rattle.model.specs.declared.answer.Divided.{Divided}
+use Rattle.model.specs.declared.answer.Divided.the-variants as divided
+
+-- calls in words --------------------------------------------------------------------------------------------------------------------------
+
+-- lengths that are words
+pub record Words (K : Kind) (l : List ℕ) : Type 0 where
+  pub long : length l ≡ K .views
+  pub small : All (λ x. x < 4294967296) l
+
+-- a call whose numbers are words
+abbrev pub IsWord : ℕ → Type 0
+IsWord n = n < 4294967296
+
+abbrev pub InWords : Kind → Call → Type 0
+InWords K (row.reset l) = Words K l
+InWords K (row.insert i l) = IsWord i × Words K l
+InWords K (row.add i l) = IsWord i × Words K l
+InWords K (row.split flag i l) = IsWord i × Words K l
+InWords K (row.setLengths i l) = IsWord i × Words K l
+InWords K (row.update i l) = IsWord i × Words K l
+InWords K (row.lookup v x) = (v < K .views) × IsWord x
+InWords K (row.rank v i) = (v < K .views) × IsWord i
+InWords K (row.next i) = IsWord i
+InWords K (row.compare i j) = IsWord i × IsWord j
+InWords K (row.lengths i) = IsWord i
+InWords K row.count = Unit {0}
+InWords K row.first = Unit {0}
+InWords K row.malformed = Unit {0}
+
+-- what a refused call leaves --------------------------------------------------------------------------------------------------------------
+
+-- a call on s that answers the number n leaves t
+pub record Leaves (n : ℕ) (s t : State) : Type 0 where
+  pub refused : n ≢ 0 → n ≢ 9 → t ≡ s
+  pub broken : n ≡ 9 → t .head ≡ s .head
+  pub leaves : length (t .leaves) ≡ length (s .leaves)
+  pub inners : length (t .inners) ≡ length (s .inners)
+  pub homes : length (t .homes) ≡ length (s .homes)
+
+-- every call on a tree that gives one back, by cursor and by id; the others only read, and give none back
+pub record Refusals (K : Kind) (s : State) : Type 0 where
+  pub reset : (l : List ℕ) → Words K l → Leaves (outcomeAnswer (calls.reset K s l .answer) .number) s (calls.reset K s l .after)
+  pub insert : (t : Target) (l : List ℕ) → Words K l → Leaves (insertedAnswer (calls.insert K s t l .answer) .number) s (calls.insert K s t l .after)
+  pub add : (t : Target) (l : List ℕ) → Words K l → Leaves (namedAnswer (calls.add K s t l .answer) .number) s (calls.add K s t l .after)
+  pub split : (c : Cursor) (l : List ℕ) (flag : Bool) → Words K l → Leaves (dividedAnswer (calls.splitEntry K s c l flag .answer) .number) s (calls.splitEntry K s c l flag .after)
+  pub setLengths : (c : Cursor) (l : List ℕ) → Words K l → Leaves (outcomeAnswer (calls.setLengths K s c l .answer) .number) s (calls.setLengths K s c l .after)
+  pub update : (c : Cursor) (l : List ℕ) → Words K l → Leaves (numberAnswer (calls.update K s c l .answer) .number) s (calls.update K s c l .after)
+  pub locate : (v x : ℕ) → Leaves (locatedAnswer (calls.locate K s v x .answer) .number) s (calls.locate K s v x .after)
+  pub select : (v x : ℕ) → Leaves (selectedAnswer (calls.charIndexToEntry K s v x .answer) .number) s (calls.charIndexToEntry K s v x .after)
+  pub step : (c : Call) → InWords K c → Leaves (treeStep K s c .answer .number) s (treeStep K s c .after)
+
+-- make gives a head back, and a head of zeros without finger where it is refused
+pub record Made (K : Kind) (fan limit : ℕ) (l ls xs hs : List ℕ) : Type 0 where
+  pub refused : outcomeAnswer (calls.make K fan limit l ls xs hs .answer) .number ≢ 0 → calls.make K fan limit l ls xs hs .after ≡ state (headOf 0 0 0 0 0 0 0 held.Absent) ls xs hs
+  pub leaves : length (calls.make K fan limit l ls xs hs .after .leaves) ≡ length ls
+  pub inners : length (calls.make K fan limit l ls xs hs .after .inners) ≡ length xs
+  pub homes : length (calls.make K fan limit l ls xs hs .after .homes) ≡ length hs
+
+-- lists of calls --------------------------------------------------------------------------------------------------------------------------
+
+-- the answers to a list of calls, each on what the one before left, and what the last leaves
+module _ {S : Type 0} (move : S → Call → Moved S) where
+  unfoldable pub answers : S → List Call → List Answer
+  answers s [] = []
+  answers s (c ∷ cs) = move s c .answer ∷ answers (move s c .after) cs
+
+  unfoldable pub finally : S → List Call → S
+  finally s [] = s
+  finally s (c ∷ cs) = finally (move s c .after) cs
+
+-- a lookup, and the calls of a list that aren't
+abbrev pub isLookup : Call → Bool
+isLookup (row.lookup v x) = true
+isLookup (row.reset l) = false
+isLookup (row.insert i l) = false
+isLookup (row.add i l) = false
+isLookup (row.split flag i l) = false
+isLookup (row.setLengths i l) = false
+isLookup (row.update i l) = false
+isLookup (row.rank v i) = false
+isLookup (row.next i) = false
+isLookup (row.compare i j) = false
+isLookup (row.lengths i) = false
+isLookup row.count = false
+isLookup row.first = false
+isLookup row.malformed = false
+
+unfoldable pub others : List Call → List Call
+others [] = []
+others (c ∷ cs) = cond (isLookup c) (others cs) (c ∷ others cs)
+
+-- the answers that calls other than lookups get
+unfoldable pub otherAnswers : {S : Type 0} → (S → Call → Moved S) → S → List Call → List Answer
+otherAnswers move s [] = []
+otherAnswers move s (c ∷ cs) = let rest = otherAnswers move (move s c .after) cs in cond (isLookup c) rest (move s c .answer ∷ rest)
+
+-- a sound state and the row that it stands for
+pub record Stands (K : Kind) (t : State) (r : Row) : Type 0 where
+  pub sound : Sound K t
+  pub entries : entriesOf K t ≡ r .entries
+  pub limit : t .head .limit ≡ r .limit
+
+-- a call that adds an entry where it isn't refused
+abbrev pub Adds : Call → Type 0
+Adds (row.insert i l) = Unit {0}
+Adds (row.add i l) = Unit {0}
+Adds (row.split flag i l) = Unit {0}
+Adds (row.reset l) = ⊥
+Adds (row.setLengths i l) = ⊥
+Adds (row.update i l) = ⊥
+Adds (row.lookup v x) = ⊥
+Adds (row.rank v i) = ⊥
+Adds (row.next i) = ⊥
+Adds (row.compare i j) = ⊥
+Adds (row.lengths i) = ⊥
+Adds row.count = ⊥
+Adds row.first = ⊥
+Adds row.malformed = ⊥
+
+-- the row's refusal before the limit is asked: 0 where the earlier checks are passed
+abbrev pub earlier : Kind → Row → Call → ℕ
+earlier K r (row.insert i l) = refusal (row.noSuchPlace r i ∷ row.past K (row.inserted i (row.newEntry r l) (r .entries)) ∷ [])
+earlier K r (row.add i l) = refusal (row.noSuchPlace r i ∷ row.past K (row.inserted i (row.newEntry r l) (r .entries)) ∷ [])
+earlier K r (row.split flag i l) = refusal (row.noSuchId r i ∷ row.tooMuch K l (row.lengthsOf i (r .entries)) ∷ [])
+earlier K r (row.reset l) = 0
+earlier K r (row.setLengths i l) = 0
+earlier K r (row.update i l) = 0
+earlier K r (row.lookup v x) = 0
+earlier K r (row.rank v i) = 0
+earlier K r (row.next i) = 0
+earlier K r (row.compare i j) = 0
+earlier K r (row.lengths i) = 0
+earlier K r row.count = 0
+earlier K r row.first = 0
+earlier K r row.malformed = 0
+
+-- the numbers 8 and 9 on a tree that stands for the row r
+pub record Numbers (K : Kind) (s : State) (r : Row) (c : Call) : Type 0 where
+  pub only : treeStep K s c .answer .number ≡ 8 → r .limit ≤ length (r .entries)
+  pub nine : treeStep K s c .answer .number ≢ 9
+  pub always : Adds c → r .limit ≤ length (r .entries) → treeStep K s c .answer .number ≢ 0
+  pub exactly : Adds c → earlier K r c ≡ 0 → r .limit ≤ length (r .entries) → treeStep K s c .answer .number ≡ 8
+
+-- what holds of a state that stands for the row r
+pub record Kept (K : Kind) (s : State) (r : Row) : Type 0 where
+  pub sound : Sound K s
+  pub entries : entriesOf K s ≡ r .entries
+  pub limit : s .head .limit ≡ r .limit
+  pub count : s .head .entries ≡ length (r .entries)
+  pub within : length (r .entries) ≤ r .limit
+  pub levels : s .head .levels ≤ 15
+  pub floor : 2 ≤ s .head .levels → 2 * half (s .head .fan) ^ s .head .levels ≤ length (r .entries)
+  pub numbers : (c : Call) → InWords K c → Numbers K s r c
+
+-- every call of a list gets the row's answer, and before and after each of them the state stands for the row
+unfoldable pub Along : Kind → State → Row → List Call → Type 0
+Along K s r [] = Kept K s r
+Along K s r (c ∷ cs) = Kept K s r × (treeStep K s c .answer ≡ rowStep K r c .answer) × Along K (treeStep K s c .after) (rowStep K r c .after) cs
+
+-- demand 3, of the tree that a make leaves
+pub record Demand3 (K : Kind) (fan limit : ℕ) (l ls xs hs : List ℕ) : Type 0 where
+  -- every list of calls in words: the row's answers, and a state that stands for the row before and after each of them
+  pub answered : (cs : List Call) → All (InWords K) cs → answers (treeStep K) (calls.make K fan limit l ls xs hs .after) cs ≡ answers (rowStep K) (madeRow limit l) cs
+  pub kept : (cs : List Call) → All (InWords K) cs → Kept K (finally (treeStep K) (calls.make K fan limit l ls xs hs .after) cs) (finally (rowStep K) (madeRow limit l) cs)
+  pub each : (cs : List Call) → All (InWords K) cs → Along K (calls.make K fan limit l ls xs hs .after) (madeRow limit l) cs
+  pub kept-fan : (cs : List Call) → finally (treeStep K) (calls.make K fan limit l ls xs hs .after) cs .head .fan ≡ fan
+  -- two lists alike but for lookups, from areas that held anything and at any two fans: the other calls get the same answers
+  pub alike : (fan′ : ℕ) (ls′ xs′ hs′ : List ℕ) → calls.make K fan′ limit l ls′ xs′ hs′ .answer ≡ outcome.Done
+      → (cs ds : List Call) → All (InWords K) cs → All (InWords K) ds → others cs ≡ others ds
+      → otherAnswers (treeStep K) (calls.make K fan limit l ls xs hs .after) cs ≡ otherAnswers (treeStep K) (calls.make K fan′ limit l ls′ xs′ hs′ .after) ds
+  -- the row's 5 is exactly a position at or past the view's total
+  pub five : (r : Row) (v x : ℕ) → (rowStep K r (row.lookup v x) .answer .number ≡ 5 → row.total v (r .entries) ≤ x) × (row.total v (r .entries) ≤ x → rowStep K r (row.lookup v x) .answer ≡ refused 5)
+
+-- the cursors that calls answer -----------------------------------------------------------------------------------------------------------
+
+-- a cursor that is current and stands at the entry of that id
+pub record At (K : Kind) (s : State) (c : Cursor) (i : ℕ) : Type 0 where
+  pub current : current K s c ≡ true
+  pub id : calls.id K s c ≡ named.Entry (entryId i)
+
+-- what an answer says; it is a refusal only where the row's is
+abbrev pub StandsAt : Kind → State → Standing → ℕ → Type 0
+StandsAt K s (standing.At c) i = At K s c i
+StandsAt K s (standing.Refused n) i = ⊥
+
+abbrev pub NextAt : Kind → State → Next → ℕ → Type 0
+NextAt K s (next.At c) i = At K s c i
+NextAt K s next.Nothing i = i ≡ noEntry
+NextAt K s (next.Refused n) i = ⊥
+
+abbrev pub LocatedAt : Kind → State → Located → Answer → Type 0
+LocatedAt K s (located.At c offset position) a = (i : ℕ) × (a ≡ done (i ∷ offset ∷ position ∷ [])) × At K s c i
+LocatedAt K s (located.Refused n) a = a ≡ refused n
+
+abbrev pub SelectedAt : Kind → State → Selected → Answer → Type 0
+SelectedAt K s (selected.At c offset) a = (i : ℕ) × (position : ℕ) × (a ≡ done (i ∷ offset ∷ position ∷ [])) × At K s c i
+SelectedAt K s (selected.Refused n) a = a ≡ refused n
+
+-- the entry i divided: the new one has the id n and stands before it if so flagged, else after
+abbrev pub DividedAt : Kind → Bool → ℕ → ℕ → State → Divided → Answer → Type 0
+DividedAt K flag i n s (divided.At k c d) a = (a ≡ done (n ∷ [])) × (k ≡ entryId n) × At K s c (cond flag n i) × At K s d (cond flag i n)
+DividedAt K flag i n s (divided.Refused m) a = a ≡ refused m
