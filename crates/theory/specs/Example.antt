@@ -3,7 +3,7 @@
 use mathlib.Core.Path.{_≡_, refl}
 use mathlib.Core.Bool.{true}
 use mathlib.Core.List.{List, [], _∷_, _++_}
-use Prim.Native.Nat.{ℕ, _*_, _≤_, _<_}
+use Prim.Native.Nat.{ℕ, _+_, _*_, _≤_, _<_}
 use native.Mathlib.Omega.{arith}
 use lib.ListN.{replicate}
 use Rattle.model.specs.Kind.{base}
@@ -87,9 +87,9 @@ pub audited-start : audit base start ≡ verdict.Yes
 audited-start = audit-exactly base start .1 sound-start
 
 -- one leaf, one inner node, fan 4 and one level
-pub steps-start : steps start ≤ 22 * (2 * 4 * 1)
+pub steps-start : steps base start ≤ 22 * (2 * 4 * 1) + 2 * 4
 unfolding make begun refusal
-steps-start = audit-steps start (omega arith) (omega arith) (omega arith) (omega arith)
+steps-start = audit-steps base start (omega arith) (omega arith) (omega arith) (omega arith)
 
 -- and its entry has a cursor, at which next and split_entry can start
 pub cursor-start : StandsAt base start (cursor base start 0) 0

@@ -52,3 +52,4 @@ pub mod Steps
 pub mod Current
 pub mod Cursors
 pub mod Example
+pub mod Widths

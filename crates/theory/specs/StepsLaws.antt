@@ -104,12 +104,14 @@ grown x f l hf hl =
     let c : 4 * (x * l) ≤ x * f * l = (let z = mul-le-mul-left (x * l) hf in omega arith) in
     (omega arith, c, b)
 
--- inner nodes, leaves and the rest together; f the fan, l the levels, m inner nodes, n leaves
-pub all-most : (f l m n a b : ℕ) → 4 ≤ f → 1 ≤ l → 1 ≤ m → a ≤ m * (l + 2 * f + 3) + (n + m) * (2 * f) → b ≤ n * (l + 18 * f + 3) → a + b + n + 2 * f + 2 * (f + 1) * (l + 1) ≤ 22 * ((n + m) * f * l)
-all-most f l m n a b hf hl hm ha hb =
+-- inner nodes, leaves and the rest together; f the fan, l the levels, m inner nodes, n leaves, w the views
+pub all-most : (w f l m n a b : ℕ) → 4 ≤ f → 1 ≤ l → 1 ≤ m → a ≤ m * (l + 2 * f + 3) + (n + m) * (w * f) → b ≤ n * (l + 18 * f + 3)
+    → a + b + n + w * f + 2 * (f + 1) * (l + 1) ≤ (20 + w) * ((n + m) * f * l) + w * f
+all-most w f l m n a b hf hl hm ha hb =
     let x = grown m f l hf hl in
     let y = grown n f l hf hl in
     let z : f ≤ f * l = (let u = mul-le-mul-left f hl in omega arith) in
     let v : 4 * l ≤ f * l = mul-le-mul-right l hf in
-    let w : f * l ≤ m * f * l = (let u = mul-le-mul-right (f * l) hm in omega arith) in
+    let d : f * l ≤ m * f * l = (let u = mul-le-mul-right (f * l) hm in omega arith) in
+    let e : w * ((n + m) * f) ≤ w * ((n + m) * f * l) = mul-le-mul-left w (let u = mul-le-mul-left ((n + m) * f) hl in omega arith) in
     omega arith
