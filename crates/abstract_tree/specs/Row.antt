@@ -7,7 +7,7 @@ use native.Mathlib.Omega.{arith}
 use borrow.Author.Tests.{eq-eqb, ne-eqb, lt-ltb, le-ltb, le-leb}
 use Rattle.model.specs.Lists.{sumBy, All}
 use Rattle.model.specs.declared.shape.Kind.{Kind}
-use Rattle.model.specs.Row.{Entry, before, from, found, lengthIn, total, done, refused}
+use Rattle.model.specs.Row.{Entry, before, from, found, lengthIn, total}
 
 abbrev pub Without : ℕ → List Entry → Type 0
 Without i l = All (λ x. x .id ≢ i) l
@@ -37,7 +37,7 @@ module _ (i : ℕ) where
 module _ (K : Kind) (v index : ℕ) where
   -- the entry that holds the index
   pub found-at : (s f : ℕ) (l : List Entry) (e : Entry) (m : List Entry) (offset : ℕ) → s + total v l + offset ≡ index → offset < lengthIn v e
-      → found K v index s f (l ++ e ∷ m) ≡ done (e .id ∷ offset ∷ (f + total (K .effect) l) ∷ [])
+      → found K v index s f (l ++ e ∷ m) ≡ e .id ∷ offset ∷ (f + total (K .effect) l) ∷ []
   unfolding found sumBy
   found-at s f [] e m offset q lt =
       let a : index - s ≡ offset = omega arith in
@@ -46,9 +46,3 @@ module _ (K : Kind) (v index : ℕ) where
   found-at s f (x ∷ l) e m offset q lt =
       let a : f + lengthIn (K .effect) x + sumBy (lengthIn (K .effect)) l ≡ f + (lengthIn (K .effect) x + sumBy (lengthIn (K .effect)) l) = omega arith in
       rw (le-leb s index (omega arith), le-ltb index (s + lengthIn v x) (omega arith), ← a) (found-at (s + lengthIn v x) (f + lengthIn (K .effect) x) l e m offset (omega arith) lt)
-
-  -- no entry holds it
-  pub found-past : (s f : ℕ) (l : List Entry) → s + total v l ≤ index → found K v index s f l ≡ refused 5
-  unfolding found sumBy
-  found-past s f [] h = refl
-  found-past s f (x ∷ l) h = rw (le-leb s index (omega arith), le-ltb index (s + lengthIn v x) (omega arith)) (found-past (s + lengthIn v x) (f + lengthIn (K .effect) x) l (omega arith))

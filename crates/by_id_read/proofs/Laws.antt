@@ -8,13 +8,16 @@ use Rattle.model.specs.Row as row
 use Rattle.model.specs.Row.{Answer, Moved, moved, done, refused, noEntry}
 use Rattle.model.specs.Answer.{numberAnswer, namedAnswer, comparedAnswer}
 use Rattle.model.specs.State.{State, state}
+use Rattle.model.specs.Refuse.{shapeOf}
 use Rattle.model.specs.Calls as calls
 use Rattle.model.specs.Calls.{Reply, reply}
 use Rattle.model.specs.ById.{withCursor, told, idAnswer, standingAnswer, nextAnswer, locatedAnswer, treeStep}
 use Rattle.model.specs.declared.length.View.{View}
+use Rattle.model.specs.declared.shape.Shape.{Shape}
 use Rattle.model.specs.declared.head.Cursor.{Cursor}
 use Rattle.model.specs.declared.number.EntryId.{EntryId}
 use Rattle.model.specs.declared.answer.Number.{Number}
+use Rattle.model.specs.declared.answer.Number.the-variants as number
 use Rattle.model.specs.declared.answer.Named.{Named}
 use Rattle.model.specs.declared.answer.Named.the-variants as named
 use Rattle.model.specs.declared.answer.Compared.{Compared}
@@ -24,6 +27,10 @@ use Rattle.model.specs.declared.answer.Next.{Next}
 use Rattle.model.specs.declared.answer.Next.the-variants as next
 use Rattle.model.specs.declared.answer.Located.{Located}
 use Rattle.model.specs.declared.answer.Located.the-variants as located
+use Rattle.open.proofs.Causes.{call-refused, call-good}
+use Rattle.open.specs.Open.{openedBy}
+use Rattle.open.specs.declared.open.Opened.{Opened}
+use Rattle.open.specs.declared.open.Opened.the-variants.{Good, Refused}
 
 -- what `cursor` gave decides how a call goes on
 module _ (s : State) (i : ℕ) (t : Standing) (e : t ≡ calls.cursor base s i) (f : Cursor → Moved State) where
@@ -38,9 +45,14 @@ pub told-by : {A : Type 0} (f : A → Answer) (t : State) (a : A) (r : Reply A) 
 told-by f t a r e = ap (λ x. told x f) e
 
 module _ (s : State) where
-  pub count-is : (r : Number) → r ≡ calls.len (s .head) → moved s (numberAnswer r) ≡ treeStep base s row.count
-  unfolding treeStep
-  count-is r e = ap (λ (x : Number). moved s (numberAnswer x)) e
+  module _ (o : Opened) (e : o ≡ openedBy (calls.makeCauses base (s .head .fan) (s .head .limit) (s .leaves) (s .inners) (s .homes)) (shapeOf base (s .head))) where
+    pub count-refused : (n : ℕ) → o ≡ Refused n → moved s (numberAnswer (number.Refused n)) ≡ treeStep base s row.count
+    unfolding treeStep
+    count-refused n d = ap (λ (x : Number). moved s (numberAnswer x)) (call-refused number.Refused (λ (g : Shape). calls.len (s .head)) _ _ o e n d)
+
+    pub count-good : (g : Shape) → o ≡ Good g → (r : Number) → r ≡ calls.len (s .head) → moved s (numberAnswer r) ≡ treeStep base s row.count
+    unfolding treeStep
+    count-good g d r q = ap (λ (x : Number). moved s (numberAnswer x)) (call-good number.Refused (λ (y : Shape). calls.len (s .head)) _ _ o e g d r q)
 
   module _ (i : ℕ) (t : Standing) (e : t ≡ calls.cursor base s i) where
     pub lengths-stops : (n : ℕ) → t ≡ standing.Refused n → moved s (refused n) ≡ treeStep base s (row.lengths i)
@@ -56,7 +68,8 @@ module _ (s : State) where
     unfolding treeStep
     rank-stops v n d = cursor-stops s i t e (λ c. moved s (numberAnswer (calls.entryToCharIndex base s (viewNumber v) c))) n d
 
-    pub rank-goes : (v : View) (c : Cursor) → t ≡ standing.At c → (r : Number) → r ≡ calls.entryToCharIndex base s (viewNumber v) c → moved s (numberAnswer r) ≡ treeStep base s (row.rank (viewNumber v) i)
+    pub rank-goes : (v : View) (c : Cursor) → t ≡ standing.At c → (r : Number) → r ≡ calls.entryToCharIndex base s (viewNumber v) c
+        → moved s (numberAnswer r) ≡ treeStep base s (row.rank (viewNumber v) i)
     unfolding treeStep
     rank-goes v c d r q =
         cursor-goes s i t e (λ c. moved s (numberAnswer (calls.entryToCharIndex base s (viewNumber v) c))) c d _ (ap (λ (x : Number). moved s (numberAnswer x)) q)

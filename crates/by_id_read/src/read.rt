@@ -6,6 +6,8 @@ use model::answer::Standing;
 use model::head::Head;
 use model::length::View;
 use model::number::EntryId;
+use open::open::Opened;
+use open::open::open_areas;
 ghost use mathlib.Core.Path.{_≡_};
 ghost use Rattle.model.specs.Length.{viewNumber};
 ghost use Rattle.model.specs.Kind.{base};
@@ -19,7 +21,12 @@ ghost use Rattle.model.specs.ById.{treeStep};
 pub fn len(head: Head, leaves: &[u32], inners: &[u32], homes: &[u32]) -> Number
     ensures { λ r. ⌜ moved (state head (now (leaves .entry)) (now (inners .entry)) (now (homes .entry))) (numberAnswer r) ≡ treeStep base (state head (now (leaves .entry)) (now (inners .entry)) (now (homes .entry))) row.count ⌝ }
 {
-    calls_read::read::len(head)
+    let fan = head.fan;
+    let limit = head.limit;
+    match open_areas(fan, limit, leaves, inners, homes) {
+        Opened::Refused(n) => Number::Refused(n),
+        Opened::Good(_) => calls_read::read::len(head),
+    }
 }
 
 // An entry's lengths.

@@ -1,16 +1,15 @@
 -- One node of an area: its words are the area's from word k * size on. Assumes nothing.
-use mathlib.Core.Path.{_≡_, ap, _∙_}
-use mathlib.Core.List.{List, [], _∷_}
+use mathlib.Core.Path.{_≡_}
+use mathlib.Core.List.{List, []}
 use Prim.Native.Nat.{ℕ, _+_, _*_, _<_, _≤_}
 use native.Mathlib.Omega.{arith}
-use native.Mathlib.Nat.{add-zero}
 use lib.ListN.{length, getD}
 use lib.Seq.{length-take-le}
 use Rattle.model.specs.Lists.{part}
-use Rattle.model.specs.Node.{nodeOf, child, used, slotsFrom}
+use Rattle.model.specs.Node.{nodeOf, used, slotsFrom}
 use Rattle.model.specs.State.{nodeAt}
 use Rattle.model.specs.declared.shape.Shape.{Shape}
-use Rattle.laws.specs.Lists.{in-row, row-end}
+use Rattle.laws.specs.Lists.{row-end}
 use Rattle.laws.specs.Words.{length-part}
 use Rattle.laws.specs.Slots.{column, slots-length}
 
@@ -26,15 +25,6 @@ pub column-word : (g : Shape) (k i c : ℕ) (xs : List ℕ) → i < g .fan → c
     → getD (getD (nodeAt g k xs .slots) i []) c 0 ≡ getD (part (k * g .size) (g .size) xs) (3 + i * g .stride + c) 0
 unfolding nodeOf
 column-word g k i c xs h hc = column (g .stride) (g .fan) i 3 c (part (k * g .size) (g .size) xs) h hc
-
--- the child in slot i is the slot's first word
-pub child-word : (g : Shape) (k i : ℕ) (xs : List ℕ) → i < g .fan → 0 < g .stride
-    → child (getD (nodeAt g k xs .slots) i []) ≡ getD (part (k * g .size) (g .size) xs) (3 + i * g .stride) 0
-child-word g k i xs h hs = column-word g k i 0 xs h hs ∙ ap (λ (j : ℕ). getD (part (k * g .size) (g .size) xs) j 0) (add-zero (3 + i * g .stride))
-
--- and lies in it
-pub column-in : (g : Shape) (i c : ℕ) → g .size ≡ 3 + g .fan * g .stride → i < g .fan → c < g .stride → 3 + i * g .stride + c < g .size
-column-in g i c e h hc = omega (arith, in-row i (g .fan) (g .stride) c h hc)
 
 -- the slots in use are as many as the node says, where it says no more than it has
 pub used-length : (g : Shape) (k : ℕ) (xs : List ℕ) → nodeAt g k xs .len ≤ g .fan → length (used (nodeAt g k xs)) ≡ nodeAt g k xs .len

@@ -11,9 +11,9 @@ use Rattle.model.specs.Node.{Node, nodeOf, wordsOf, slotsFrom, half, lowerHalf,
 use Rattle.model.specs.State.{nodeAt, putNode}
 use Rattle.model.specs.declared.shape.Shape.{Shape}
 use Rattle.laws.specs.Lists.{All-drop, rows-between, in-row, row-end}
-use Rattle.laws.specs.Words.{length-part, length-put, getD-part, part-part, part-end, part-same, part-before, part-after, part-inside, put-same, put-put, put-over}
+use Rattle.laws.specs.Words.{length-part, length-put, getD-part, part-part, part-end, part-same, part-before, part-after, part-inside, put-put, put-over}
 use Rattle.laws.specs.Slots.{Long, Wide, flat, column, slots-length, slots-wide, length-flat}
-use Rattle.laws.specs.Nodes.{Formed, formed, length-words, node-words, words-node, words-drop}
+use Rattle.laws.specs.Nodes.{Formed, formed, length-words, node-words, words-drop}
 use Rattle.laws.specs.Formed.{kept, formed-upper}
 use Rattle.laws.specs.Changes.{new-node}
 
@@ -50,9 +50,6 @@ module _ (g : Shape) (k : ℕ) (area : List ℕ) (e : g .size ≡ 3 + g .fan * g
 
   pub formed-at : Formed (g .stride) (g .fan) (nodeAt g k area)
   formed-at = formed (g .stride) (g .fan) (part (k * g .size) (g .size) area) length-node
-
-  pub put-own : putNode g k (nodeAt g k area) area ≡ area
-  put-own = ap (λ (ws : List ℕ). putAt (k * g .size) ws area) (words-node (g .stride) (g .fan) (part (k * g .size) (g .size) area) length-node) ∙ put-same (k * g .size) (g .size) area h
 
   module _ (n : Node) (f : Formed (g .stride) (g .fan) n) where
     pub length-is : length (wordsOf n) ≡ g .size

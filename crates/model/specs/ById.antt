@@ -1,6 +1,6 @@
 -- The calls of a list on a tree (document 01, "The plain row"): each is `cursor(id)` and then the call of lib.rs named there. Assumes nothing.
-use mathlib.Core.Bool.{Bool, true, false, cond}
-use mathlib.Core.List.{List, [], _∷_, _++_}
+use mathlib.Core.Bool.{cond}
+use mathlib.Core.List.{List, [], _∷_}
 use Prim.Native.Nat.{ℕ}
 use lib.Dec.{eqb}
 use Rattle.model.specs.Row.{Call, reset, insert, add, split, setLengths, update, lookup, rank, next, compare, lengths, count, first, malformed, Answer, done, refused, Moved, moved, noEntry}
@@ -13,6 +13,7 @@ use Rattle.model.specs.declared.answer.Target.{Target}
 use Rattle.model.specs.declared.answer.Target.the-variants as target
 use Rattle.model.specs.declared.answer.Standing.{Standing}
 use Rattle.model.specs.declared.answer.Standing.the-variants as standing
+use Rattle.model.specs.declared.answer.Number.the-variants as number
 use Rattle.model.specs.declared.answer.Next.{Next}
 use Rattle.model.specs.declared.answer.Next.the-variants as next′
 use Rattle.model.specs.declared.answer.Named.{Named}
@@ -69,6 +70,6 @@ treeStep K s (rank v i) = withCursor s (calls.cursor K s i) (λ c. moved s (numb
 treeStep K s (next i) = withCursor s (calls.cursor K s i) (λ c. moved s (nextAnswer K s (calls.nextAfter K s c)))
 treeStep K s (compare i j) = withCursor s (calls.cursor K s i) (λ a. withCursor s (calls.cursor K s j) (λ b. moved s (comparedAnswer (calls.cmp K s a b))))
 treeStep K s (lengths i) = withCursor s (calls.cursor K s i) (λ c. moved s (calls.lengthsOf K s c))
-treeStep K s count = moved s (numberAnswer (calls.len (s .head)))
+treeStep K s count = let h = s .head in moved s (numberAnswer (calls.unless (calls.makeCauses K (h .fan) (h .limit) (s .leaves) (s .inners) (s .homes)) number.Refused (calls.len h)))
 treeStep K s first = moved s (standingAnswer K s (calls.first K s))
 treeStep K s malformed = moved s (refused 10)

@@ -1,9 +1,9 @@
 -- Every public call of lib.rs as one definition on a tree's words: the refusals in document 01's order, then what the call does.
 -- A refusal leaves head and areas as they were; 9 leaves the head. Assumes nothing.
-use mathlib.Core.Bool.{Bool, true, false, cond, _&&_}
+use mathlib.Core.Bool.{Bool, cond, _&&_}
 use mathlib.Core.List.{List, [], _∷_, _++_}
-use Prim.Native.Nat.{ℕ, zero, suc, _+_, _-_, _%_, _^_}
-use lib.ListN.{length, getD, set}
+use Prim.Native.Nat.{ℕ, _+_}
+use lib.ListN.{getD, set}
 use lib.Dec.{ltb, leb, eqb}
 use Rattle.model.specs.Lists.{Cause, refusal}
 use Rattle.model.specs.Kind.{stride}
@@ -13,7 +13,7 @@ use Rattle.model.specs.Node.{Node, none, child, lengths, used, start, in
 use Rattle.model.specs.State.{State, state, headOf, shape, nodeAt, putNode}
 use Rattle.model.specs.Climb.{leafNo, rankUp, stepsUp, firstDown, lastDown, nextUp}
 use Rattle.model.specs.Locate.{servedBy, fromRoot, effectAt}
-use Rattle.model.specs.Place.{Change, change, withFinger, place, divide, replace, climb, lengthsIn}
+use Rattle.model.specs.Place.{Change, change, withFinger, place, divide, replace, climb}
 use Rattle.model.specs.Refuse.{shapeOf, badSize, tooShort, opening, stale, atCursor, noSuchId, tooMuch, past, full}
 use Rattle.model.specs.declared.shape.Place.{Place}
 use Rattle.model.specs.declared.shape.Place.the-variants as slot
@@ -196,7 +196,7 @@ abbrev pub hit : State → Finger → ℕ → Reply Located
 hit s f offset =
     reply (state (withFinger (held.At f) (s .head)) (s .leaves) (s .inners) (s .homes)) (located.At (cursorAt (s .head .entries) (f .leaf) (f .slot)) offset (effectAt f))
 
--- 5: position at or past K the view's total, which the root then doesn't hold
+-- 5: position at or past the view's total, which the root then doesn't hold
 abbrev pub bySearch : State → Search → Reply Located
 bySearch s (search.At f offset) = hit s f offset
 bySearch s search.Nothing = reply s (located.Refused 5)

@@ -1,11 +1,11 @@
 -- Following links: up from a leaf to the root, and down an edge (document 01, "Rank, order"). Each walk takes as many steps as the head has
 -- levels; a link outside the area or a place outside the node is Broken, number 9, before it is used. Assumes nothing.
-use mathlib.Core.Bool.{Bool, true, false, cond, _&&_}
-use mathlib.Core.List.{List, [], _∷_, _++_}
+use mathlib.Core.Bool.{Bool, cond, _&&_}
+use mathlib.Core.List.{List, [], _∷_}
 use Prim.Native.Nat.{ℕ, zero, suc, _+_, _-_}
 use lib.ListN.{getD}
 use lib.Dec.{ltb, leb}
-use Rattle.model.specs.Node.{Node, child, start, plus, lengthsAt, withLengths}
+use Rattle.model.specs.Node.{child, start, plus, lengthsAt, withLengths}
 use Rattle.model.specs.State.{nodeAt, putNode}
 use Rattle.model.specs.declared.shape.Shape.{Shape}
 use Rattle.model.specs.declared.number.LeafNo.{LeafNo}

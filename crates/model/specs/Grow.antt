@@ -1,7 +1,7 @@
 -- A new child for an inner node, with every split that it needs above (document 01, "Insert and split"). Level 1 is that of the inner nodes
 -- whose children are leaves; 9 comes where a link or a place leads outside, and what was written by then stays. Assumes nothing.
-use mathlib.Core.Bool.{Bool, true, false, cond, _&&_}
-use mathlib.Core.List.{List, [], _∷_, _++_}
+use mathlib.Core.Bool.{false, cond, _&&_}
+use mathlib.Core.List.{List, [], _∷_}
 use Prim.Native.Nat.{ℕ, zero, suc, _+_, _-_}
 use lib.ListN.{getD}
 use lib.Dec.{ltb, leb, eqb}

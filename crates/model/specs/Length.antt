@@ -1,5 +1,7 @@
 use Prim.Native.Nat.{ℕ}
+use mathlib.Core.Path.{_≡_, refl}
 use mathlib.Core.List.{List, [], _∷_}
+use lib.ListN.{getD}
 use Rattle.model.specs.declared.length.View.{View}
 use Rattle.model.specs.declared.length.View.the-variants.{Prepare, Effect}
 use Rattle.model.specs.declared.length.Lengths.{Lengths}
@@ -19,3 +21,8 @@ slotOf c l = record { child = c; «prepare_len» = l .prepare; «effect_len» = 
 -- one length a view
 abbrev pub listOf : Lengths → List ℕ
 listOf l = l .prepare ∷ l .effect ∷ []
+
+-- the length in a view stands at the view's number
+pub by-view : (l : Lengths) (v : View) → getD (listOf l) (viewNumber v) 0 ≡ lengthsOf l v
+by-view l Prepare = refl
+by-view l Effect = refl

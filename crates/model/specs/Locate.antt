@@ -1,7 +1,7 @@
 -- The lookup and its finger (document 01, "Lookup"). v is the view searched, e the effect view. Assumes nothing.
-use mathlib.Core.Bool.{Bool, true, false, cond, _&&_}
-use mathlib.Core.List.{List, [], _∷_, _++_}
-use Prim.Native.Nat.{ℕ, zero, suc, _+_, _-_, _%_, _^_}
+use mathlib.Core.Bool.{cond, _&&_}
+use mathlib.Core.List.{List, []}
+use Prim.Native.Nat.{ℕ, zero, suc, _+_, _-_, _^_}
 use lib.ListN.{getD, drop}
 use lib.Dec.{ltb, leb, eqb}
 use Rattle.model.specs.Node.{Node, child, used, lengthIn, findFrom, wrap}

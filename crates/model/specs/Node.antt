@@ -1,11 +1,11 @@
 -- One node: three words and then as many slots as the fan, each a child and its lengths (document 01, "Lengths, slots, nodes").
 -- A slot is `stride` words wide: column 0 is the child, column v + 1 the length in view v. Assumes nothing.
-use mathlib.Core.Bool.{Bool, true, false, cond, not}
+use mathlib.Core.Bool.{Bool, cond}
 use mathlib.Core.List.{List, [], _∷_, _++_, flatMap, zipWith}
-use Prim.Native.Nat.{ℕ, zero, suc, _+_, _-_, _*_, _%_, _^_, _/_}
+use Prim.Native.Nat.{ℕ, zero, suc, _+_, _-_, _%_, _^_, _/_}
 use lib.ListN.{length, getD, take, drop, set, replicate}
 use lib.Dec.{ltb, eqb}
-use Rattle.model.specs.Lists.{part, sumBy, range}
+use Rattle.model.specs.Lists.{part, sumBy}
 use Rattle.model.specs.declared.shape.Found.{Found}
 use Rattle.model.specs.declared.shape.Found.the-variants.{At, Nothing}
 use Rattle.model.specs.declared.shape.Place.{Place}

@@ -1,15 +1,15 @@
 -- The changes of a tree at a slot of a leaf: other lengths, one entry more, one entry divided (document 01, "Insert and split").
 -- e is the effect view; a list of lengths has one for each view of the stride. Assumes nothing.
-use mathlib.Core.Bool.{Bool, true, false, cond, _&&_}
-use mathlib.Core.List.{List, [], _∷_, _++_}
-use Prim.Native.Nat.{ℕ, zero, suc, _+_, _-_}
-use lib.ListN.{getD, set}
+use mathlib.Core.Bool.{Bool, cond, _&&_}
+use mathlib.Core.List.{List, [], _∷_}
+use Prim.Native.Nat.{ℕ, _+_, _-_}
+use lib.ListN.{set}
 use lib.Dec.{ltb, leb, eqb}
-use Rattle.model.specs.Node.{Node, child, used, start, half, minus, lengthsAt, withLengths, inserted, childSplit, lowerHalf, upperHalf, wrap}
+use Rattle.model.specs.Node.{Node, child, used, start, half, withLengths, inserted, childSplit, lowerHalf, upperHalf, wrap}
 use Rattle.model.specs.State.{State, state, headOf, nodeAt, putNode}
 use Rattle.model.specs.Climb.{climbUp}
 use Rattle.model.specs.Locate.{changing}
-use Rattle.model.specs.Grow.{Areas, areas, Top, top, Grown, addChild}
+use Rattle.model.specs.Grow.{areas, Top, top, addChild}
 use Rattle.model.specs.declared.shape.Shape.{Shape}
 use Rattle.model.specs.declared.head.Head.{Head}
 use Rattle.model.specs.declared.head.Held.{Held}
@@ -89,10 +89,7 @@ module _ (g : Shape) where
   unfoldable pub divide : Bool → State → ℕ → ℕ → List ℕ → Change
   divide flag s k i ls = entering (λ j. childSplit flag j (s .head .entries ∷ ls)) 1 (makeRoom s k i)
 
-  -- the lengths that slot i of leaf k has, and `replace`: others for them
-  abbrev pub lengthsIn : State → ℕ → ℕ → List ℕ
-  lengthsIn s k i = lengthsAt i (nodeAt g k (s .leaves) .slots)
-
+  -- other lengths for slot i of leaf k
   unfoldable pub replace : State → ℕ → ℕ → List ℕ → Change
   replace s k i ls =
       change 0 (state (withFinger (changing k i (s .head .finger)) (s .head)) (putNode g k (withLengths i ls (nodeAt g k (s .leaves))) (s .leaves)) (s .inners) (s .homes)) k i

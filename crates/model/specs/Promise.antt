@@ -12,7 +12,7 @@ use Rattle.model.specs.Node.{half}
 use Rattle.model.specs.State.{State, state, headOf}
 use Rattle.model.specs.Row as row
 use Rattle.model.specs.Row.{Row, Call, Answer, done, refused, Moved, noEntry, madeRow, rowStep}
-use Rattle.model.specs.Answer.{outcomeAnswer, numberAnswer, namedAnswer, selectedAnswer, locatedAnswer, insertedAnswer, dividedAnswer}
+use Rattle.model.specs.Answer.{outcomeAnswer, numberAnswer, verdictAnswer, standingAnswer, nextAnswer, namedAnswer, measuredAnswer, comparedAnswer, selectedAnswer, locatedAnswer, insertedAnswer, dividedAnswer}
 use Rattle.model.specs.Refuse.{current}
 use Rattle.model.specs.Calls as calls
 use Rattle.model.specs.Calls.{entryId}
@@ -21,7 +21,14 @@ use Rattle.model.specs.Sound.{Sound, entriesOf}
 use Rattle.model.specs.declared.head.Cursor.{Cursor}
 use Rattle.model.specs.declared.head.Held.the-variants as held
 use Rattle.model.specs.declared.answer.Target.{Target}
+use Rattle.model.specs.declared.answer.Outcome.{Outcome}
 use Rattle.model.specs.declared.answer.Outcome.the-variants as outcome
+use Rattle.model.specs.declared.answer.Number.{Number}
+use Rattle.model.specs.declared.answer.Verdict.{Verdict}
+use Rattle.model.specs.declared.answer.Named.{Named}
+use Rattle.model.specs.declared.answer.Measured.{Measured}
+use Rattle.model.specs.declared.answer.Compared.{Compared}
+use Rattle.model.specs.declared.answer.Inserted.{Inserted}
 use Rattle.model.specs.declared.answer.Named.the-variants as named
 use Rattle.model.specs.declared.answer.Standing.{Standing}
 use Rattle.model.specs.declared.answer.Standing.the-variants as standing
@@ -71,7 +78,7 @@ pub record Leaves (n : ℕ) (s t : State) : Type 0 where
   pub inners : length (t .inners) ≡ length (s .inners)
   pub homes : length (t .homes) ≡ length (s .homes)
 
--- every call on a tree that gives one back, by cursor and by id; the others only read, and give none back
+-- every call that gives a tree back, by cursor and by id; the others only read
 pub record Refusals (K : Kind) (s : State) : Type 0 where
   pub reset : (l : List ℕ) → Words K l → Leaves (outcomeAnswer (calls.reset K s l .answer) .number) s (calls.reset K s l .after)
   pub insert : (t : Target) (l : List ℕ) → Words K l → Leaves (insertedAnswer (calls.insert K s t l .answer) .number) s (calls.insert K s t l .after)
@@ -83,12 +90,56 @@ pub record Refusals (K : Kind) (s : State) : Type 0 where
   pub select : (v x : ℕ) → Leaves (selectedAnswer (calls.charIndexToEntry K s v x .answer) .number) s (calls.charIndexToEntry K s v x .after)
   pub step : (c : Call) → InWords K c → Leaves (treeStep K s c .answer .number) s (treeStep K s c .after)
 
+-- t has the fan and the limit of s
+pub record Fixed (s t : State) : Type 0 where
+  pub fan : t .head .fan ≡ s .head .fan
+  pub limit : t .head .limit ≡ s .head .limit
+
+-- the same calls keep both
+pub record Fixes (K : Kind) (s : State) : Type 0 where
+  pub reset : (l : List ℕ) → Fixed s (calls.reset K s l .after)
+  pub insert : (t : Target) (l : List ℕ) → Fixed s (calls.insert K s t l .after)
+  pub add : (t : Target) (l : List ℕ) → Fixed s (calls.add K s t l .after)
+  pub split : (c : Cursor) (l : List ℕ) (flag : Bool) → Fixed s (calls.splitEntry K s c l flag .after)
+  pub setLengths : (c : Cursor) (l : List ℕ) → Fixed s (calls.setLengths K s c l .after)
+  pub update : (c : Cursor) (l : List ℕ) → Fixed s (calls.update K s c l .after)
+  pub locate : (v x : ℕ) → Fixed s (calls.locate K s v x .after)
+  pub select : (v x : ℕ) → Fixed s (calls.charIndexToEntry K s v x .after)
+  pub step : (c : Call) → Fixed s (treeStep K s c .after)
+
+-- a refusal has no values: an answer of a fixed size holds zeros there
+abbrev pub Bare : Answer → Type 0
+Bare a = a .number ≢ 0 → a .values ≡ []
+
+-- every answer of a call, by cursor and by id
+pub record Bares : Type 0 where
+  pub outcome : (a : Outcome) → Bare (outcomeAnswer a)
+  pub number : (a : Number) → Bare (numberAnswer a)
+  pub verdict : (a : Verdict) → Bare (verdictAnswer a)
+  pub standing : (a : Standing) → Bare (standingAnswer a)
+  pub next : (a : Next) → Bare (nextAnswer a)
+  pub named : (a : Named) → Bare (namedAnswer a)
+  pub measured : (a : Measured) → Bare (measuredAnswer a)
+  pub compared : (a : Compared) → Bare (comparedAnswer a)
+  pub selected : (a : Selected) → Bare (selectedAnswer a)
+  pub located : (a : Located) → Bare (locatedAnswer a)
+  pub inserted : (a : Inserted) → Bare (insertedAnswer a)
+  pub divided : (a : Divided) → Bare (dividedAnswer a)
+  pub step : (K : Kind) (s : State) (c : Call) → Bare (treeStep K s c .answer)
+
 -- make gives a head back, and a head of zeros without finger where it is refused
 pub record Made (K : Kind) (fan limit : ℕ) (l ls xs hs : List ℕ) : Type 0 where
   pub refused : outcomeAnswer (calls.make K fan limit l ls xs hs .answer) .number ≢ 0 → calls.make K fan limit l ls xs hs .after ≡ state (headOf 0 0 0 0 0 0 0 held.Absent) ls xs hs
   pub leaves : length (calls.make K fan limit l ls xs hs .after .leaves) ≡ length ls
   pub inners : length (calls.make K fan limit l ls xs hs .after .inners) ≡ length xs
   pub homes : length (calls.make K fan limit l ls xs hs .after .homes) ≡ length hs
+
+-- demand 1, of every call on any words, sound or not
+pub record Demand1 (K : Kind) : Type 0 where
+  pub made : (fan limit : ℕ) (l ls xs hs : List ℕ) → Words K l → Made K fan limit l ls xs hs
+  pub refused : (s : State) → Refusals K s
+  pub fixed : (s : State) → Fixes K s
+  pub bare : Bares
 
 -- lists of calls --------------------------------------------------------------------------------------------------------------------------
 
@@ -168,42 +219,41 @@ earlier K r row.count = 0
 earlier K r row.first = 0
 earlier K r row.malformed = 0
 
--- the numbers 8 and 9 on a tree that stands for the row r
+-- the numbers 8 and 9 on a tree that stands for the row r: where a call adds an entry and passes the earlier checks, 8 comes exactly if the row holds
+-- its limit
 pub record Numbers (K : Kind) (s : State) (r : Row) (c : Call) : Type 0 where
-  pub only : treeStep K s c .answer .number ≡ 8 → r .limit ≤ length (r .entries)
-  pub nine : treeStep K s c .answer .number ≢ 9
-  pub always : Adds c → r .limit ≤ length (r .entries) → treeStep K s c .answer .number ≢ 0
   pub exactly : Adds c → earlier K r c ≡ 0 → r .limit ≤ length (r .entries) → treeStep K s c .answer .number ≡ 8
+  pub only : treeStep K s c .answer .number ≡ 8 → r .limit ≤ length (r .entries)
+  pub always : Adds c → r .limit ≤ length (r .entries) → treeStep K s c .answer .number ≢ 0
+  pub nine : treeStep K s c .answer .number ≢ 9
 
--- what holds of a state that stands for the row r
-pub record Kept (K : Kind) (s : State) (r : Row) : Type 0 where
+-- what holds of a state of that fan that stands for the row r
+pub record Kept (K : Kind) (fan : ℕ) (s : State) (r : Row) : Type 0 where
   pub sound : Sound K s
   pub entries : entriesOf K s ≡ r .entries
+  pub fan-is : s .head .fan ≡ fan
   pub limit : s .head .limit ≡ r .limit
   pub count : s .head .entries ≡ length (r .entries)
   pub within : length (r .entries) ≤ r .limit
   pub levels : s .head .levels ≤ 15
-  pub floor : 2 ≤ s .head .levels → 2 * half (s .head .fan) ^ s .head .levels ≤ length (r .entries)
+  pub floor : 2 ≤ s .head .levels → 2 * half fan ^ s .head .levels ≤ length (r .entries)
   pub numbers : (c : Call) → InWords K c → Numbers K s r c
 
--- every call of a list gets the row's answer, and before and after each of them the state stands for the row
-unfoldable pub Along : Kind → State → Row → List Call → Type 0
-Along K s r [] = Kept K s r
-Along K s r (c ∷ cs) = Kept K s r × (treeStep K s c .answer ≡ rowStep K r c .answer) × Along K (treeStep K s c .after) (rowStep K r c .after) cs
+-- each call of a list gets the row's answer, and the state before it and after the last one is kept
+unfoldable pub Along : Kind → ℕ → State → Row → List Call → Type 0
+Along K fan s r [] = Kept K fan s r
+Along K fan s r (c ∷ cs) = Kept K fan s r × (treeStep K s c .answer ≡ rowStep K r c .answer) × Along K fan (treeStep K s c .after) (rowStep K r c .after) cs
 
--- demand 3, of the tree that a make leaves
+-- demand 3, of the tree that a make leaves, whatever the areas held before
 pub record Demand3 (K : Kind) (fan limit : ℕ) (l ls xs hs : List ℕ) : Type 0 where
-  -- every list of calls in words: the row's answers, and a state that stands for the row before and after each of them
+  -- the answers to every list of calls are the row's
   pub answered : (cs : List Call) → All (InWords K) cs → answers (treeStep K) (calls.make K fan limit l ls xs hs .after) cs ≡ answers (rowStep K) (madeRow limit l) cs
-  pub kept : (cs : List Call) → All (InWords K) cs → Kept K (finally (treeStep K) (calls.make K fan limit l ls xs hs .after) cs) (finally (rowStep K) (madeRow limit l) cs)
-  pub each : (cs : List Call) → All (InWords K) cs → Along K (calls.make K fan limit l ls xs hs .after) (madeRow limit l) cs
-  pub kept-fan : (cs : List Call) → finally (treeStep K) (calls.make K fan limit l ls xs hs .after) cs .head .fan ≡ fan
-  -- two lists alike but for lookups, from areas that held anything and at any two fans: the other calls get the same answers
+  -- and after each call the state is sound, its entries the row's, its fan and limit make's; 8 exactly, never 9; levels and floor
+  pub each : (cs : List Call) → All (InWords K) cs → Along K fan (calls.make K fan limit l ls xs hs .after) (madeRow limit l) cs
+  -- two lists alike but for lookups give their other calls the same answers, from other areas and at another fan too
   pub alike : (fan′ : ℕ) (ls′ xs′ hs′ : List ℕ) → calls.make K fan′ limit l ls′ xs′ hs′ .answer ≡ outcome.Done
       → (cs ds : List Call) → All (InWords K) cs → All (InWords K) ds → others cs ≡ others ds
       → otherAnswers (treeStep K) (calls.make K fan limit l ls xs hs .after) cs ≡ otherAnswers (treeStep K) (calls.make K fan′ limit l ls′ xs′ hs′ .after) ds
-  -- the row's 5 is exactly a position at or past the view's total
-  pub five : (r : Row) (v x : ℕ) → (rowStep K r (row.lookup v x) .answer .number ≡ 5 → row.total v (r .entries) ≤ x) × (row.total v (r .entries) ≤ x → rowStep K r (row.lookup v x) .answer ≡ refused 5)
 
 -- the cursors that calls answer -----------------------------------------------------------------------------------------------------------
 

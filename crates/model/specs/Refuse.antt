@@ -1,13 +1,13 @@
 -- The causes of a refusal on a tree (document 01, "When a call cannot be done"), in the order in which a call tests them. Assumes nothing.
-use mathlib.Core.Bool.{Bool, true, false, cond, _&&_, _||_, not}
-use mathlib.Core.List.{List, [], _∷_, _++_}
+use mathlib.Core.Bool.{Bool, _&&_, _||_, not}
+use mathlib.Core.List.{List, [], _∷_}
 use Prim.Native.Nat.{ℕ, _+_, _*_}
 use lib.ListN.{length, getD}
 use lib.Dec.{ltb, leb, eqb}
 use Rattle.model.specs.Lists.{Cause, cause, some}
 use Rattle.model.specs.Kind.{stride, viewsOf}
 use Rattle.model.specs.declared.shape.Kind.{Kind}
-use Rattle.model.specs.Node.{Node, total, used}
+use Rattle.model.specs.Node.{total, used}
 use Rattle.model.specs.State.{State, shape, nodeAt}
 use Rattle.model.specs.declared.shape.Shape.{Shape}
 use Rattle.model.specs.declared.head.Head.{Head}

@@ -1,7 +1,7 @@
 -- The plain row (document 01, "The plain row"): what every list of calls must answer. Assumes nothing.
-use mathlib.Core.Bool.{Bool, true, false, cond, _&&_, not}
+use mathlib.Core.Bool.{Bool, cond, _&&_, not}
 use mathlib.Core.List.{List, [], _∷_, _++_, zipWith}
-use Prim.Native.Nat.{ℕ, zero, suc, _+_, _-_}
+use Prim.Native.Nat.{ℕ, _+_, _-_}
 use lib.ListN.{length, getD, drop}
 use lib.Dec.{ltb, leb, eqb}
 use Rattle.model.specs.Lists.{sumBy, some, Cause, cause, refusal}
@@ -103,11 +103,11 @@ divided flag i e es =
 abbrev pub changed : ℕ → List ℕ → List Entry → List Entry
 changed i ls es = before i es ++ entry i ls ∷ after i es
 
--- the one entry whose sum s of view lengths before it has s ≤ index < s + its length; f is the sum of effect lengths before it
-unfoldable pub found : Kind → ℕ → ℕ → ℕ → ℕ → List Entry → Answer
-found K v index s f [] = refused 5
+-- the one entry whose sum s of view lengths before it has s ≤ index < s + its length: its id, index - s and f, the sum of effect lengths before it
+unfoldable pub found : Kind → ℕ → ℕ → ℕ → ℕ → List Entry → List ℕ
+found K v index s f [] = []
 found K v index s f (e ∷ es) =
-    cond (leb s index && ltb index (s + lengthIn v e)) (done (e .id ∷ (index - s) ∷ f ∷ [])) (found K v index (s + lengthIn v e) (f + lengthIn (K .effect) e) es)
+    cond (leb s index && ltb index (s + lengthIn v e)) (e .id ∷ (index - s) ∷ f ∷ []) (found K v index (s + lengthIn v e) (f + lengthIn (K .effect) e) es)
 
 -- 0, 1, 2: the first named stands before, is, or stands after the second
 unfoldable pub ordered : ℕ → ℕ → List Entry → ℕ
@@ -122,6 +122,9 @@ noSuchId r i = cause 4 (leb (length (r .entries)) i)
 
 abbrev pub noSuchPlace : Row → ℕ → Cause
 noSuchPlace r i = cause 4 (leb (length (r .entries)) i && not (eqb i noEntry))
+
+abbrev pub noSuchPosition : Row → ℕ → ℕ → Cause
+noSuchPosition r v index = cause 5 (leb (total v (r .entries)) index)
 
 abbrev pub tooMuch : Kind → List ℕ → List ℕ → Cause
 tooMuch K given ls = cause 6 (some (λ v. ltb (getD ls v 0) (getD given v 0)) (viewsOf K))
@@ -160,7 +163,7 @@ rowStep K r (setLengths i l) =
 rowStep K r (update i l) =
     let es = changed i l (r .entries) in
     unless r (noSuchId r i ∷ past K es ∷ []) es (done (total (K .effect) (before i (r .entries)) ∷ []))
-rowStep K r (lookup v index) = moved r (found K v index 0 0 (r .entries))
+rowStep K r (lookup v index) = unless r (noSuchPosition r v index ∷ []) (r .entries) (done (found K v index 0 0 (r .entries)))
 rowStep K r (rank v i) = unless r (noSuchId r i ∷ []) (r .entries) (done (total v (before i (r .entries)) ∷ []))
 rowStep K r (next i) = unless r (noSuchId r i ∷ []) (r .entries) (done (firstId (after i (r .entries)) ∷ []))
 rowStep K r (compare i j) = unless r (noSuchId r i ∷ noSuchId r j ∷ []) (r .entries) (done (ordered i j (r .entries) ∷ []))

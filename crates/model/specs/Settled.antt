@@ -1,9 +1,8 @@
 -- The table played on a tree's words and on the plain row, each from nothing, and one theorem: both see what the table says.
 use mathlib.Core.Path.{_≡_, refl}
-use mathlib.Core.List.{List, [], _∷_, _++_, map, flatMap, zipWith}
-use mathlib.Core.Bool.{Bool, true, false}
+use mathlib.Core.List.{List, [], _∷_, map, flatMap, zipWith}
 use Prim.Native.Nat.{ℕ, _-_}
-use lib.ListN.{length, replicate}
+use lib.ListN.{take, replicate}
 use Rattle.model.specs.Lists.{part, putAt, sumBy, some, range, refusal}
 use Rattle.model.specs.Node as node
 use Rattle.model.specs.Kind.{base}
@@ -27,6 +26,8 @@ use Rattle.model.specs.declared.answer.Verdict.the-variants as verdict
 use Rattle.model.specs.declared.answer.Standing.{Standing}
 use Rattle.model.specs.declared.answer.Standing.the-variants as standing
 use Rattle.model.specs.Table.{Play, made, called, Case, table}
+use Rattle.model.specs.Spelling as spelling
+use Rattle.model.specs.Promise.{answers}
 
 pub record Seen : Type 0 where
   pub answer : Answer
@@ -86,3 +87,18 @@ unfolding treePlay newestIn treeSeen treeRun rowPlay rowSeen rowRun
     treeStep entriesOf level
     check.every check.depth check.isFilled check.isHeld check.isChild check.isInner check.isEntry check.isLeaf check.isFinger check.isSound audit
 settled = (refl, refl)
+
+-- the number of a make with areas of these lengths
+unfoldable pub makeNumber : ℕ → ℕ → ℕ → ℕ → ℕ → ℕ
+makeNumber fan limit leaves inners homes = outcomeAnswer (calls.make base fan limit (3 ∷ 3 ∷ []) (replicate leaves 7) (replicate inners 7) (replicate homes 7) .answer) .number
+
+-- document 01's fans and limits that are refused, next to those that aren't, and areas one word too short
+pub sizes : (map (λ fan. makeNumber fan 1 99 99 1) (3 ∷ 4 ∷ 32 ∷ 33 ∷ []) ≡ 1 ∷ 0 ∷ 0 ∷ 1 ∷ []) × (map (λ limit. makeNumber 4 limit 30 30 5) (0 ∷ 1 ∷ 5 ∷ 65536 ∷ 65537 ∷ []) ≡ 1 ∷ 0 ∷ 0 ∷ 2 ∷ 1 ∷ [])
+    × (makeNumber 4 5 29 30 5 ≡ 2) × (makeNumber 4 5 30 29 5 ≡ 2) × (makeNumber 4 5 30 30 4 ≡ 2)
+unfolding makeNumber calls.make refusal
+sizes = (refl, refl, refl, refl, refl)
+
+-- document 01's run, on a row like the door's
+pub run : answers (rowStep base) (madeRow 512 (0 ∷ 0 ∷ [])) (take 6 spelling.calls) ≡ map (λ g. g .answer) (take 6 spelling.given)
+unfolding answers sumBy some range refusal row.before row.from row.found row.unless row.rowStep
+run = refl

@@ -1,15 +1,13 @@
 -- A tree as words: its head and the three areas that the caller lends (document 01, "Lengths, slots, nodes"). Assumes nothing.
-use mathlib.Core.Bool.{Bool, true, false, cond, _&&_, _||_, not}
-use mathlib.Core.List.{List, [], _∷_, _++_, map, flatMap}
-use Prim.Native.Nat.{ℕ, zero, suc, _+_, _*_, _/_}
-use lib.ListN.{length}
-use lib.Dec.{ltb, leb}
-use Rattle.model.specs.Lists.{part, putAt, range}
-use Rattle.model.specs.Node.{Node, nodeOf, wordsOf, half, child, used}
+use mathlib.Core.Bool.{cond}
+use mathlib.Core.List.{List}
+use Prim.Native.Nat.{ℕ, _+_, _*_, _/_}
+use lib.Dec.{ltb}
+use Rattle.model.specs.Lists.{part, putAt}
+use Rattle.model.specs.Node.{Node, nodeOf, wordsOf, half}
 use Rattle.model.specs.declared.shape.Shape.{Shape}
 use Rattle.model.specs.declared.head.Head.{Head}
 use Rattle.model.specs.declared.head.Held.{Held}
-use Rattle.model.specs.declared.head.Held.the-variants.{Absent}
 
 pub record State : Type 0 where
   pub head : Head

@@ -1,6 +1,6 @@
 -- Document 01, "A sheet of five entries": the cases P1 to P12, fan 4, limit 5. Assumes nothing.
-use mathlib.Core.List.{List, [], _∷_, _++_}
-use mathlib.Core.Bool.{Bool, true, false}
+use mathlib.Core.List.{List, [], _∷_}
+use mathlib.Core.Bool.{true, false}
 use Prim.Native.Nat.{ℕ}
 use Rattle.model.specs.Row.{Call, insert, split, lookup, next, Answer, done, refused, noEntry}
 

@@ -14,7 +14,7 @@ use Rattle.model.specs.Lists.{refusal}
 use Rattle.model.specs.Node.{child}
 use Rattle.model.specs.State.{State}
 use Rattle.model.specs.Row as row
-use Rattle.model.specs.Row.{Row, Entry, lengthIn, Answer, done, refused, Moved, moved, unless, after, firstId, found, rowStep}
+use Rattle.model.specs.Row.{Row, Entry, lengthIn, Answer, done, refused, Moved, moved, unless, after, firstId, rowStep}
 use Rattle.model.specs.Sound.{leafIn, Sound, entriesOf}
 use Rattle.model.specs.Refuse.{opening, overfull, atCursor, current}
 use Rattle.model.specs.Calls as calls
@@ -34,6 +34,7 @@ use Rattle.abstract_tree.specs.Levels.{Slot}
 use Rattle.abstract_tree.specs.Calls as tree
 use Rattle.theory.specs.Tree.{treeOf}
 use Rattle.theory.specs.Open.{passed, stopped, opens, fresh-at, seat}
+use Rattle.theory.specs.Numbers.{number-is, one-cause}
 use Rattle.theory.specs.Agree.{rowOf, row-known, row-passed, count-is}
 use Rattle.theory.specs.Read.{id-at, step-first, step-next}
 use Rattle.theory.specs.Looks.{step-lookup}
@@ -52,14 +53,9 @@ no-refusal : (n i : ℕ) (ws : List ℕ) → refused n ≡ done (i ∷ ws) → �
 no-refusal n i ws e = (let z = ap (λ (a : Answer). length (a .values)) e in omega arith)
 
 -- the row's lookup refuses by 5 alone
-found-not-stale : (K : Kind) (v x m f : ℕ) (es : List Entry) → found K v x m f es .number ≡ 3 → ⊥
-unfolding found
-found-not-stale K v x m f [] e = omega arith
-found-not-stale K v x m f (y ∷ es) e = go (leb m x && ltb x (m + lengthIn v y)) refl (found-not-stale K v x (m + lengthIn v y) (f + lengthIn (K .effect) y) es)
-  where
-    go : (b : Bool) → (leb m x && ltb x (m + lengthIn v y)) ≡ b → (found K v x (m + lengthIn v y) (f + lengthIn (K .effect) y) es .number ≡ 3 → ⊥) → ⊥
-    go true q h = (let z : _≡_ {A = ℕ} 0 3 = rw q at e in omega arith)
-    go false q h = h (rw q at e)
+looked-not-stale : (K : Kind) (r : Row) (v x : ℕ) → rowStep K r (row.lookup v x) .answer .number ≡ 3 → ⊥
+unfolding rowStep
+looked-not-stale K r v x e = one-cause 3 5 _ (λ z. omega arith) (λ z. omega arith) (sym (number-is r _ _ _) ∙ e)
 
 module _ (K : Kind) (s : State) (w : Sound K s) where
   at-slot : (k j : ℕ) → k < s .head .leaves → j < leafIn (stride K) s k .len → At K s (cursorAt (s .head .entries) k j) (tree.slotAt (treeOf (stride K) s) k j .child)
@@ -123,19 +119,19 @@ module _ (K : Kind) (ok : K .effect < K .views) (s : State) (w : Sound K s) wher
       go next.Nothing e = sym (ap value e)
       go (next.Refused m) e = no-refusal m n [] e
 
-  pub locate-at : (v : ℕ) (lv : v < K .views) (x : ℕ) → (let r = calls.locate K s v x in LocatedAt K (r .after) (r .answer) (found K v x 0 0 (entriesOf K s)))
-  unfolding treeStep rowStep
+  pub locate-at : (v : ℕ) (lv : v < K .views) (x : ℕ) → (let r = calls.locate K s v x in LocatedAt K (r .after) (r .answer) (rowStep K (rowOf K s) (row.lookup v x) .answer))
+  unfolding treeStep
   locate-at v lv x = go (calls.locate K s v x .answer) (step-lookup K ok s w v lv x .same)
     where
-      go : (a : Located) → locatedAnswer K (calls.locate K s v x .after) a ≡ found K v x 0 0 (entriesOf K s) → LocatedAt K (calls.locate K s v x .after) a (found K v x 0 0 (entriesOf K s))
-      go (located.At c offset position) e = answered-at K (calls.locate K s v x .after) (step-lookup K ok s w v lv x .kept .sound) c (offset ∷ position ∷ []) (found K v x 0 0 (entriesOf K s)) (found-not-stale K v x 0 0 (entriesOf K s)) e
+      go : (a : Located) → locatedAnswer K (calls.locate K s v x .after) a ≡ rowStep K (rowOf K s) (row.lookup v x) .answer → LocatedAt K (calls.locate K s v x .after) a (rowStep K (rowOf K s) (row.lookup v x) .answer)
+      go (located.At c offset position) e = answered-at K (calls.locate K s v x .after) (step-lookup K ok s w v lv x .kept .sound) c (offset ∷ position ∷ []) (rowStep K (rowOf K s) (row.lookup v x) .answer) (looked-not-stale K (rowOf K s) v x) e
       go (located.Refused n) e = sym e
 
-  pub select-at : (v : ℕ) (lv : v < K .views) (x : ℕ) → (let r = calls.charIndexToEntry K s v x in SelectedAt K (r .after) (r .answer) (found K v x 0 0 (entriesOf K s)))
+  pub select-at : (v : ℕ) (lv : v < K .views) (x : ℕ) → (let r = calls.charIndexToEntry K s v x in SelectedAt K (r .after) (r .answer) (rowStep K (rowOf K s) (row.lookup v x) .answer))
   unfolding calls.charIndexToEntry
   select-at v lv x = go (calls.locate K s v x .answer) (locate-at v lv x)
     where
-      go : (a : Located) → LocatedAt K (calls.locate K s v x .after) a (found K v x 0 0 (entriesOf K s)) → SelectedAt K (calls.locate K s v x .after) (calls.lessEffect a) (found K v x 0 0 (entriesOf K s))
+      go : (a : Located) → LocatedAt K (calls.locate K s v x .after) a (rowStep K (rowOf K s) (row.lookup v x) .answer) → SelectedAt K (calls.locate K s v x .after) (calls.lessEffect a) (rowStep K (rowOf K s) (row.lookup v x) .answer)
       go (located.At c offset position) h = (h .0, position, h .1, h .2)
       go (located.Refused n) h = h
 

@@ -26,7 +26,7 @@ use Rattle.model.specs.declared.way.Sum.the-variants as sum
 use Rattle.laws.specs.Nodes.{Formed}
 use Rattle.theory.specs.Tests.{both, join, every-at, every-of, FilledBy, filled-by, filled-test}
 
--- both views
+-- each of n views
 views-at : (n : ℕ) (q : ℕ → Bool) → every q 0 n ≡ true → (v : ℕ) → v < n → q v ≡ true
 views-at n q e v lv = every-at q 0 n e v (omega arith) (omega arith)
 

@@ -19,6 +19,7 @@ use Rattle.model.specs.Row.{Call, Moved, noEntry}
 use Rattle.model.specs.ById.{withCursor, withTarget, dividedAnswer, told, treeStep}
 use Rattle.model.specs.Calls as calls
 use Rattle.model.specs.Calls.{Reply}
+use Rattle.model.specs.Promise.{Fixed, Fixes}
 use Rattle.model.specs.declared.shape.Shape.{Shape}
 use Rattle.model.specs.declared.head.Cursor.{Cursor}
 use Rattle.model.specs.declared.way.Sum.{Sum}
@@ -37,11 +38,6 @@ use Rattle.model.specs.declared.answer.Named.the-variants as named
 use Rattle.model.specs.declared.answer.Located.the-variants as located
 use Rattle.model.specs.declared.answer.Inserted.the-variants as inserted′
 use Rattle.model.specs.declared.answer.Divided.the-variants as divided
-
--- t has the fan and the limit of s
-pub record Fixed (s t : State) : Type 0 where
-  pub fan : t .head .fan ≡ s .head .fan
-  pub limit : t .head .limit ≡ s .head .limit
 
 abbrev same : (s : State) → Fixed s s
 same s = record { fan = refl; limit = refl }
@@ -230,3 +226,19 @@ module _ (K : Kind) (s : State) where
   step-fixed row.count = same s
   step-fixed row.first = same s
   step-fixed row.malformed = same s
+
+-- all calls
+pub fixes : (K : Kind) (s : State) → Fixes K s
+unfolding calls.charIndexToEntry
+fixes K s =
+    record {
+      reset = reset-fixed K s;
+      insert = insert-fixed K s;
+      add = add-fixed K s;
+      split = split-entry-fixed K s;
+      setLengths = set-fixed K s;
+      update = update-fixed K s;
+      locate = locate-fixed K s;
+      select = λ v x. (let f = locate-fixed K s v x in record { fan = f .fan; limit = f .limit });
+      step = step-fixed K s;
+    }

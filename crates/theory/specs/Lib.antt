@@ -40,6 +40,7 @@ pub mod Step
 pub mod Numbers
 pub mod Fixed
 pub mod Spans
+pub mod Bare
 pub mod Refused
 pub mod Whole
 pub mod Tests

@@ -1,10 +1,11 @@
 -- The call `lookup` on a sound state answers what the row answers; the finger that it leaves is right.
 use mathlib.Core.Path.{_≡_, refl, sym, ap, _∙_, subst}
 use mathlib.Core.Logic.{_⊎_, inl, inr}
-use mathlib.Core.List.{[], _∷_, _++_, map}
+use mathlib.Core.List.{List, [], _∷_, _++_, map}
 use Prim.Native.Nat.{ℕ, suc, _+_, _%_, _^_, _≤_, _<_}
 use native.Mathlib.Decide.{decLt}
 use native.Mathlib.Omega.{arith}
+use borrow.Author.Tests.{lt-leb, le-leb}
 use Rattle.model.specs.Kind.{stride}
 use Rattle.model.specs.declared.shape.Kind.{Kind}
 use Rattle.model.specs.Lists.{sumBy, refusal}
@@ -13,7 +14,7 @@ use Rattle.model.specs.State.{State, state}
 use Rattle.model.specs.Locate.{finger, effectAt, servedBy, fromRoot}
 use Rattle.model.specs.Place.{withFinger}
 use Rattle.model.specs.Row as row
-use Rattle.model.specs.Row.{done, refused, moved, found, rowStep}
+use Rattle.model.specs.Row.{Entry, done, refused, moved, found, rowStep}
 use Rattle.model.specs.Sound.{leafIn, shapeIn, Sound, entriesOf}
 use Rattle.model.specs.Refuse.{opening}
 use Rattle.model.specs.Calls as calls
@@ -30,7 +31,7 @@ use Rattle.abstract_tree.specs.Lists.{sumBy-append}
 use Rattle.abstract_tree.specs.Levels.{Slot, total, len}
 use Rattle.abstract_tree.specs.Tree as tree
 use Rattle.abstract_tree.specs.Tree.{Tree, Body}
-use Rattle.abstract_tree.specs.Row.{found-at, found-past}
+use Rattle.abstract_tree.specs.Row.{found-at}
 use Rattle.abstract_tree.specs.Calls.{slotAt}
 use Rattle.abstract_tree.specs.Look.{Looked}
 use Rattle.theory.specs.Tree.{treeOf}
@@ -40,7 +41,7 @@ use Rattle.theory.specs.Up.{sound-up}
 use Rattle.theory.specs.Entries.{getD-firsts, entryFrom, total-entries, split-entries}
 use Rattle.theory.specs.Open.{passed, opens}
 use Rattle.theory.specs.Read.{id-at}
-use Rattle.theory.specs.Agree.{Agrees, rowOf, own, entries-are}
+use Rattle.theory.specs.Agree.{Agrees, rowOf, own, entries-are, row-passed, row-stopped}
 use Rattle.theory.specs.Lookup.{Got, servedBy-is, searched, root-hit, root-miss}
 
 -- the state with another finger
@@ -96,10 +97,20 @@ module _ (K : Kind) (ok : K .effect < K .views) (t : State) (w : Sound K t) wher
         finger = record { leaf-in = r .leaf-in; slot-in = r .slot-in; start = r .start; effect = r .effect; within = r .within; effectWithin = r .effectWithin };
       })
 
+  total-is : (v : ℕ) → v < K .views → row.total v (entriesOf K t) ≡ sumBy (len v) (tree.row (treeOf (stride K) t))
+  total-is v lv = ap (row.total v) (entries-are K t w) ∙ total-entries (K .views) v (tree.row (treeOf (stride K) t)) lv
+
+  below-total : (v : ℕ) (lv : v < K .views) (x : ℕ) (f : Finger) (offset : ℕ) → Looked (K .effect) (treeOf (stride K) t) v x f offset → x < row.total v (entriesOf K t)
+  unfolding sumBy
+  below-total v lv x f offset k =
+      let e : Slot = slotAt (treeOf (stride K) t) (f .leaf) (f .slot) in
+      let all : sumBy (len v) (tree.row (treeOf (stride K) t)) ≡ sumBy (len v) (k .front) + (e .lens v + sumBy (len v) (k .behind)) = ap (sumBy (len v)) (k .row) ∙ sumBy-append (len v) (k .front) (e ∷ k .behind) in
+      omega (arith, total-is v lv, k .sums, k .inside)
+
   -- a lookup that found an entry
   found-step : (v : ℕ) (lv : v < K .views) (x : ℕ) (f : Finger) (offset : ℕ) → f .view ≡ v → Looked (K .effect) (treeOf (stride K) t) v x f offset
       → Agrees K (let r = calls.hit t f offset in moved (r .after) (locatedAnswer K (r .after) (r .answer))) (rowStep K (rowOf K t) (row.lookup v x))
-  unfolding rowStep
+  unfolding rowStep refusal
   found-step v lv x f offset vw k =
       let T : Tree = treeOf (stride K) t in
       let t′ : State = fingered t f in
@@ -111,20 +122,20 @@ module _ (K : Kind) (ok : K .effect < K .views) (t : State) (w : Sound K t) wher
       let pos : (f .effect + f .«effect_within») % 2 ^ 32 ≡ sumBy (len (K .effect)) (k .front) = omega (arith, k .effect, body-of (stride K) t (K .effect) w .totals (K .effect)) in
       let tv : row.total v (map (entryFrom (K .views)) (k .front)) ≡ sumBy (len v) (k .front) = total-entries (K .views) v (k .front) lv in
       let te : row.total (K .effect) (map (entryFrom (K .views)) (k .front)) ≡ sumBy (len (K .effect)) (k .front) = total-entries (K .views) (K .effect) (k .front) (ok) in
-      record {
+      rw (row-passed (rowOf K t) (row.noSuchPosition (rowOf K t) v x ∷ []) (entriesOf K t) (done (found K v x 0 0 (entriesOf K t))) (rw (lt-leb (row.total v (entriesOf K t)) x (below-total v lv x f offset k)))) (record {
         same = ap (λ (n : Named). idAnswer n (offset ∷ effectAt f ∷ [])) (id-at K t′ w′ (f .leaf) (f .slot) (k .right .leaf-in) lf)
             ∙ ap (λ (p : ℕ). done (e .child ∷ offset ∷ p ∷ [])) (pos ∙ (let z : sumBy (len (K .effect)) (k .front) ≡ 0 + row.total (K .effect) (map (entryFrom (K .views)) (k .front)) = omega arith in z))
-            ∙ sym (ap (found K v x 0 0) es ∙ found-at K v x 0 0 (map (entryFrom (K .views)) (k .front)) (entryFrom (K .views) e) (map (entryFrom (K .views)) (k .behind)) offset (omega (arith, k .sums))
-            (subst (λ (n : ℕ). offset < n) (sym (getD-firsts (K .views) (e .lens) v lv)) (k .inside)));
+            ∙ sym (ap (λ (l : List Entry). done (found K v x 0 0 l)) es ∙ ap done (found-at K v x 0 0 (map (entryFrom (K .views)) (k .front)) (entryFrom (K .views) e) (map (entryFrom (K .views)) (k .behind)) offset (omega (arith, k .sums))
+            (subst (λ (n : ℕ). offset < n) (sym (getD-firsts (K .views) (e .lens) v lv)) (k .inside))));
         kept = record { sound = w′; entries = entries-are K t′ w′ ∙ sym (entries-are K t w); limit = refl };
-      }
+      })
 
   -- a lookup past the total
   lost-step : (v : ℕ) (lv : v < K .views) (x : ℕ) → sumBy (len v) (tree.row (treeOf (stride K) t)) ≤ x → Agrees K (moved t (refused 5)) (rowStep K (rowOf K t) (row.lookup v x))
-  unfolding rowStep
+  unfolding rowStep refusal
   lost-step v lv x le =
-      let tv : row.total v (entriesOf K t) ≡ sumBy (len v) (tree.row (treeOf (stride K) t)) = ap (row.total v) (entries-are K t w) ∙ total-entries (K .views) v (tree.row (treeOf (stride K) t)) lv in
-      record { same = sym (found-past K v x 0 0 (entriesOf K t) (omega arith)); kept = own K t w }
+      rw (row-stopped (rowOf K t) (row.noSuchPosition (rowOf K t) v x ∷ []) (entriesOf K t) (done (found K v x 0 0 (entriesOf K t))) 4 (rw (le-leb (row.total v (entriesOf K t)) x (omega (arith, total-is v lv, le)))))
+      (record { same = refl; kept = own K t w })
 
   by-search : (v : ℕ) (lv : v < K .views) (x : ℕ) (a b : Search) → (Got (stride K) (K .effect) t v x a) ⊎ (a ≡ search.Nothing)
       → (x < sumBy (len v) (tree.row (treeOf (stride K) t)) → Got (stride K) (K .effect) t v x b) → (sumBy (len v) (tree.row (treeOf (stride K) t)) ≤ x → b ≡ search.Nothing)

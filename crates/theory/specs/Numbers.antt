@@ -10,16 +10,15 @@ use lib.Dec.{eqb, leb, ltb}
 use lib.ListN.{length}
 use borrow.Author.Tests.{eq-eqb, ne-eqb, leb-true, le-leb, ltb-false}
 use Rattle.model.specs.declared.shape.Kind.{Kind}
-use Rattle.model.specs.Lists.{sumBy, Cause, cause, refusal}
+use Rattle.model.specs.Lists.{Cause, cause, refusal}
 use Rattle.model.specs.State.{State}
 use Rattle.model.specs.Row as row
-use Rattle.model.specs.Row.{Row, Call, Entry, Answer, done, unless, found, rowStep}
+use Rattle.model.specs.Row.{Row, Call, Entry, Answer, done, unless, rowStep}
 use Rattle.model.specs.ById.{treeStep}
 use Rattle.model.specs.Promise.{InWords, Stands, Adds, earlier, Numbers}
-use Rattle.abstract_tree.specs.Row.{found-past}
 use Rattle.theory.specs.Step.{step}
 
-number-is : (r : Row) (cs : List Cause) (es : List Entry) (vs : List ℕ) → unless r cs es (done vs) .answer .number ≡ refusal cs
+pub number-is : (r : Row) (cs : List Cause) (es : List Entry) (vs : List ℕ) → unless r cs es (done vs) .answer .number ≡ refusal cs
 unfolding unless
 number-is r cs es vs = go (ℕ-discrete (refusal cs) 0)
   where
@@ -50,7 +49,7 @@ never-done m n false false true p q e z = absurd (omega arith)
 never-done m n false false false p q e z = absurd (let u : _≡_ {A = ℕ} 0 1 = cc in omega arith)
 
 -- a number that is none of the causes' and not 0
-one-cause : (x m : ℕ) (a : Bool) → x ≢ 0 → m ≢ x → refusal (cause m a ∷ []) ≢ x
+pub one-cause : (x m : ℕ) (a : Bool) → x ≢ 0 → m ≢ x → refusal (cause m a ∷ []) ≢ x
 unfolding refusal
 one-cause x m true o p e = p e
 one-cause x m false o p e = o (sym e)
@@ -68,34 +67,6 @@ three-causes x m n k false true c o p q r e = q e
 three-causes x m n k false false true o p q r e = r e
 three-causes x m n k false false false o p q r e = o (sym e)
 
-found-number : (K : Kind) (n : ℕ) → n ≢ 0 → n ≢ 5 → (v x s f : ℕ) (es : List Entry) → found K v x s f es .number ≢ n
-unfolding found
-found-number K n o p v x s f [] e = p (sym e)
-found-number K n o p v x s f (y ∷ es) e = go (leb s x && ltb x (s + row.lengthIn v y)) refl (found-number K n o p v x (s + row.lengthIn v y) (f + row.lengthIn (K .effect) y) es)
-  where
-    go : (b : Bool) → (leb s x && ltb x (s + row.lengthIn v y)) ≡ b → (found K v x (s + row.lengthIn v y) (f + row.lengthIn (K .effect) y) es .number ≢ n) → ⊥
-    go true q ih = o (sym (rw q at e))
-    go false q ih = ih (rw q at e)
-
--- 5: the row finds no entry exactly where the position is at or past the view's total
-found-five : (K : Kind) (v x s f : ℕ) (es : List Entry) → s ≤ x → found K v x s f es .number ≡ 5 → s + row.total v es ≤ x
-unfolding found sumBy
-found-five K v x s f [] le e = omega arith
-found-five K v x s f (y ∷ es) le e = go (leb s x && ltb x (s + row.lengthIn v y)) refl (found-five K v x (s + row.lengthIn v y) (f + row.lengthIn (K .effect) y) es)
-  where
-    go : (b : Bool) → (leb s x && ltb x (s + row.lengthIn v y)) ≡ b → (s + row.lengthIn v y ≤ x → found K v x (s + row.lengthIn v y) (f + row.lengthIn (K .effect) y) es .number ≡ 5 → s + row.lengthIn v y + row.total v es ≤ x)
-        → s + row.total v (y ∷ es) ≤ x
-    go true q ih = absurd (let z : _≡_ {A = ℕ} 0 5 = rw q at e in omega arith)
-    go false q ih =
-        let low : s + row.lengthIn v y ≤ x = ltb-false x (s + row.lengthIn v y) (rw (le-leb s x le) at q) in
-        let z = ih low (rw q at e) in
-        omega arith
-
-pub five : (K : Kind) (r : Row) (v x : ℕ)
-    → (rowStep K r (row.lookup v x) .answer .number ≡ 5 → row.total v (r .entries) ≤ x) × (row.total v (r .entries) ≤ x → rowStep K r (row.lookup v x) .answer ≡ row.refused 5)
-unfolding rowStep
-five K r v x = (λ e. (let z = found-five K v x 0 0 (r .entries) (omega arith) e in omega arith), λ le. found-past K v x 0 0 (r .entries) (omega arith))
-
 row-eight : (K : Kind) (r : Row) (c : Call) → rowStep K r c .answer .number ≡ 8 → r .limit ≤ length (r .entries)
 unfolding rowStep
 row-eight K r (row.reset l) e = absurd (omega arith)
@@ -104,7 +75,7 @@ row-eight K r (row.add i l) e = leb-true (r .limit) (length (r .entries)) (eight
 row-eight K r (row.split flag i l) e = leb-true (r .limit) (length (r .entries)) (eight-last 4 6 _ _ (leb (r .limit) (length (r .entries))) (λ z. omega arith) (λ z. omega arith) (sym (number-is r _ _ _) ∙ e))
 row-eight K r (row.setLengths i l) e = absurd (two-causes 8 4 7 _ _ (λ z. omega arith) (λ z. omega arith) (λ z. omega arith) (sym (number-is r _ _ _) ∙ e))
 row-eight K r (row.update i l) e = absurd (two-causes 8 4 7 _ _ (λ z. omega arith) (λ z. omega arith) (λ z. omega arith) (sym (number-is r _ _ _) ∙ e))
-row-eight K r (row.lookup v x) e = absurd (found-number K 8 (λ z. omega arith) (λ z. omega arith) _ x 0 0 (r .entries) e)
+row-eight K r (row.lookup v x) e = absurd (one-cause 8 5 _ (λ z. omega arith) (λ z. omega arith) (sym (number-is r _ _ _) ∙ e))
 row-eight K r (row.rank v i) e = absurd (one-cause 8 4 _ (λ z. omega arith) (λ z. omega arith) (sym (number-is r _ _ _) ∙ e))
 row-eight K r (row.next i) e = absurd (one-cause 8 4 _ (λ z. omega arith) (λ z. omega arith) (sym (number-is r _ _ _) ∙ e))
 row-eight K r (row.compare i j) e = absurd (two-causes 8 4 4 _ _ (λ z. omega arith) (λ z. omega arith) (λ z. omega arith) (sym (number-is r _ _ _) ∙ e))
@@ -122,7 +93,7 @@ row-nine K r (row.add i l) e = three-causes 9 4 7 8 _ _ _ (λ z. omega arith) (�
 row-nine K r (row.split flag i l) e = three-causes 9 4 6 8 _ _ _ (λ z. omega arith) (λ z. omega arith) (λ z. omega arith) (λ z. omega arith) (sym (number-is r _ _ _) ∙ e)
 row-nine K r (row.setLengths i l) e = two-causes 9 4 7 _ _ (λ z. omega arith) (λ z. omega arith) (λ z. omega arith) (sym (number-is r _ _ _) ∙ e)
 row-nine K r (row.update i l) e = two-causes 9 4 7 _ _ (λ z. omega arith) (λ z. omega arith) (λ z. omega arith) (sym (number-is r _ _ _) ∙ e)
-row-nine K r (row.lookup v x) e = found-number K 9 (λ z. omega arith) (λ z. omega arith) _ x 0 0 (r .entries) e
+row-nine K r (row.lookup v x) e = one-cause 9 5 _ (λ z. omega arith) (λ z. omega arith) (sym (number-is r _ _ _) ∙ e)
 row-nine K r (row.rank v i) e = one-cause 9 4 _ (λ z. omega arith) (λ z. omega arith) (sym (number-is r _ _ _) ∙ e)
 row-nine K r (row.next i) e = one-cause 9 4 _ (λ z. omega arith) (λ z. omega arith) (sym (number-is r _ _ _) ∙ e)
 row-nine K r (row.lengths i) e = one-cause 9 4 _ (λ z. omega arith) (λ z. omega arith) (sym (number-is r _ _ _) ∙ e)

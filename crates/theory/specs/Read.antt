@@ -20,7 +20,7 @@ use Rattle.model.specs.Row.{Entry, entry, done, refused, moved, before, after, 
 use Rattle.model.specs.Sound.{leafIn, shapeIn, Sound, entriesOf}
 use Rattle.model.specs.Refuse.{opening, stale, overfull, badSize}
 use Rattle.model.specs.Calls as calls
-use Rattle.model.specs.Calls.{cursorAt, entryId}
+use Rattle.model.specs.Calls.{makeCauses, cursorAt, entryId}
 use Rattle.model.specs.ById.{idAnswer, standingAnswer, nextAnswer, treeStep}
 use Rattle.model.specs.Answer.{numberAnswer, measuredAnswer}
 use Rattle.model.specs.declared.way.Sum.the-variants as sum
@@ -46,7 +46,7 @@ use Rattle.theory.specs.Marked.{getD-slot}
 use Rattle.theory.specs.Neat.{size-is, neat-of}
 use Rattle.theory.specs.Down.{body-of}
 use Rattle.theory.specs.Entries.{firsts, entryFrom, entry-is}
-use Rattle.theory.specs.Open.{good-size, passed, opens, fresh-at, Seat}
+use Rattle.theory.specs.Open.{good-size, good-areas, passed, opens, fresh-at, Seat}
 use Rattle.theory.specs.Way.{Way, way, start-leaf, rank-up}
 use Rattle.theory.specs.Edge.{first-top, first-down, leafHead, next-leaf}
 use Rattle.theory.specs.Agree.{Agrees, rowOf, row-passed, own, entries-are, count-is, by-id, from-is, slot-is, slot-long, total-before}
@@ -80,8 +80,8 @@ module _ (K : Kind) (t : State) (w : Sound K t) where
   pub step-count : Agrees K (treeStep K t row.count) (rowStep K (rowOf K t) row.count)
   unfolding treeStep rowStep calls.len refusal
   step-count = record {
-    same = ap numberAnswer (passed (badSize (t .head .fan) (t .head .limit) ∷ []) number.Refused (number.Is (t .head .entries))
-        (good-size K t w []))
+    same = ap numberAnswer (passed (makeCauses K (t .head .fan) (t .head .limit) (t .leaves) (t .inners) (t .homes)) number.Refused _ (good-areas K t w [])
+        ∙ passed (badSize (t .head .fan) (t .head .limit) ∷ []) number.Refused (number.Is (t .head .entries)) (good-size K t w []))
         ∙ ap (λ (n : ℕ). done (n ∷ [])) (sym (count-is K t w));
     kept = own K t w;
   }

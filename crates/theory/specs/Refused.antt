@@ -27,7 +27,7 @@ use Rattle.model.specs.ById as byId
 use Rattle.model.specs.ById.{withCursor, withTarget, told, treeStep}
 use Rattle.model.specs.Calls as calls
 use Rattle.model.specs.Calls.{Reply}
-use Rattle.model.specs.Promise.{Words, InWords, Leaves, Refusals, Made}
+use Rattle.model.specs.Promise.{Words, InWords, Leaves, Refusals, Made, Demand1}
 use Rattle.model.specs.declared.shape.Shape.{Shape}
 use Rattle.model.specs.declared.shape.Found.{Found}
 use Rattle.model.specs.declared.shape.Found.the-variants.{At, Nothing}
@@ -61,6 +61,8 @@ use Rattle.laws.specs.Lens.{by-test, Roomy}
 use Rattle.laws.specs.Formed.{formed-new}
 use Rattle.theory.specs.Open.{passed}
 use Rattle.theory.specs.Make.{Sizes, sizes-of, nodes-least}
+use Rattle.theory.specs.Fixed.{fixes}
+use Rattle.theory.specs.Bare.{bares}
 use Rattle.theory.specs.Spans.{Left, Holds, put-leaf, put-inner, place-left, divide-left, replace-left, climb-left, leaf-slot}
 
 unmoved : (n : ℕ) (s : State) → Leaves n s s
@@ -420,3 +422,7 @@ make-leaves K fan limit l ls xs hs w = go (eqb (refusal (calls.makeCauses K fan 
         let b = begun-spans K (state (headOf 0 0 0 0 0 0 0 held.Absent) ls xs hs) fan limit l ls xs hs (sizes-of K fan limit ls xs hs (eqb-true _ _ e)) w in
         record { refused = rw e (λ d. absurd (d refl)); leaves = rw e (b .0); inners = rw e (b .1); homes = rw e (b .2) }
     go false e = record { refused = rw e (λ d. refl); leaves = rw e refl; inners = rw e refl; homes = rw e refl }
+
+-- demand 1 whole
+pub demand1 : (K : Kind) → Demand1 K
+demand1 K = record { made = make-leaves K; refused = refusals K; fixed = fixes K; bare = bares }

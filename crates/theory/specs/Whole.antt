@@ -3,15 +3,17 @@
 use mathlib.Core.Path.{_≡_, refl, sym, ap, ap₂, _∙_, subst}
 use mathlib.Core.Bool.{Bool, true, false, cond}
 use mathlib.Core.List.{List, [], _∷_}
-use Prim.Native.Nat.{ℕ, zero, suc, _<_}
+use Prim.Native.Nat.{ℕ, zero, suc, _*_, _^_, _≤_, _<_}
 use native.Mathlib.Omega.{arith}
 use lib.ListN.{length}
+use lib.Dec.{eqb}
 use Rattle.model.specs.Kind.{stride}
 use Rattle.model.specs.declared.shape.Kind.{Kind}
-use Rattle.model.specs.Lists.{All, refusal}
+use Rattle.model.specs.Lists.{All, Cause, refusal}
+use Rattle.model.specs.Node.{half}
 use Rattle.model.specs.State.{State, state, headOf}
 use Rattle.model.specs.Row as row
-use Rattle.model.specs.Row.{Row, Call, madeRow, rowStep}
+use Rattle.model.specs.Row.{Row, Call, Answer, done, refused, moved, unless, madeRow, rowStep}
 use Rattle.model.specs.ById.{treeStep}
 use Rattle.model.specs.Calls as calls
 use Rattle.model.specs.Calls.{make, begun, makeCauses}
@@ -26,21 +28,22 @@ use Rattle.theory.specs.Open.{passed, stopped}
 use Rattle.theory.specs.Agree.{Agrees, count-is}
 use Rattle.theory.specs.Make.{sizes-of, begun-stands}
 use Rattle.theory.specs.Step.{step}
-use Rattle.theory.specs.Numbers.{five, numbers-are}
+use Rattle.theory.specs.Numbers.{numbers-are}
 use Rattle.theory.specs.Fixed.{step-fixed}
 
-pub kept-of : (K : Kind) (ok : K .effect < K .views) (s : State) (r : Row) → Stands K s r → Kept K s r
-kept-of K ok s r h =
+pub kept-of : (K : Kind) (ok : K .effect < K .views) (fan : ℕ) (s : State) (r : Row) → Stands K s r → s .head .fan ≡ fan → Kept K fan s r
+kept-of K ok fan s r h f =
     let n : s .head .entries ≡ length (r .entries) = sym (count-is K s (h .sound)) ∙ ap length (h .entries) in
     let b = body-of (stride K) s (K .effect) (h .sound) in
     record {
       sound = h .sound;
       entries = h .entries;
+      fan-is = f;
       limit = h .limit;
       count = n;
       within = (let z = h .sound .entry-count in let y = h .limit in omega arith);
       levels = levels-most (treeOf (stride K) s) b;
-      floor = λ two. (let z = entry-floor (treeOf (stride K) s) b two in omega arith);
+      floor = λ two. subst (λ (m : ℕ). 2 * half m ^ s .head .levels ≤ length (r .entries)) f (let z = entry-floor (treeOf (stride K) s) b two in omega arith);
       numbers = numbers-are K ok s r h;
     }
 
@@ -48,9 +51,17 @@ never : false ≡ true → ⊥
 never e = let z : _≡_ {A = ℕ} 0 1 = cc in omega arith
 
 -- a lookup leaves the row as it was
+unless-keeps : (r : Row) (cs : List Cause) (a : Answer) → unless r cs (r .entries) a .after ≡ r
+unfolding unless
+unless-keeps r cs a = go (eqb (refusal cs) 0)
+  where
+    go : (b : Bool) → cond b (moved (row.row (r .limit) (r .entries)) a) (moved r (refused (refusal cs))) .after ≡ r
+    go true = refl
+    go false = refl
+
 lookup-keeps : (K : Kind) (r : Row) (c : Call) → isLookup c ≡ true → rowStep K r c .after ≡ r
 unfolding rowStep
-lookup-keeps K r (row.lookup v x) e = refl
+lookup-keeps K r (row.lookup v x) e = unless-keeps r (row.noSuchPosition r v x ∷ []) (done (row.found K v x 0 0 (r .entries)))
 lookup-keeps K r (row.reset l) e = absurd (never e)
 lookup-keeps K r (row.insert i l) e = absurd (never e)
 lookup-keeps K r (row.add i l) e = absurd (never e)
@@ -73,12 +84,12 @@ runs-alike K ok s r (c ∷ cs) h k =
     let i = runs-alike K ok (treeStep K s c .after) (rowStep K r c .after) cs (a .kept) (k .1) in
     (ap₂ _∷_ (a .same) (i .0), i .1)
 
-along : (K : Kind) (ok : K .effect < K .views) (s : State) (r : Row) (cs : List Call) → Stands K s r → All (InWords K) cs → Along K s r cs
+along : (K : Kind) (ok : K .effect < K .views) (fan : ℕ) (s : State) (r : Row) (cs : List Call) → Stands K s r → s .head .fan ≡ fan → All (InWords K) cs → Along K fan s r cs
 unfolding Along All
-along K ok s r [] h k = kept-of K ok s r h
-along K ok s r (c ∷ cs) h k =
+along K ok fan s r [] h f k = kept-of K ok fan s r h f
+along K ok fan s r (c ∷ cs) h f k =
     let a : Agrees K (treeStep K s c) (rowStep K r c) = step K ok s r h c (k .0) in
-    (kept-of K ok s r h, a .same, along K ok (treeStep K s c .after) (rowStep K r c .after) cs (a .kept) (k .1))
+    (kept-of K ok fan s r h f, a .same, along K ok fan (treeStep K s c .after) (rowStep K r c .after) cs (a .kept) (step-fixed K s c .fan ∙ f) (k .1))
 
 others-alike : (K : Kind) (ok : K .effect < K .views) (s : State) (r : Row) (cs : List Call) → Stands K s r → All (InWords K) cs → otherAnswers (treeStep K) s cs ≡ answers (rowStep K) r (others cs)
 unfolding answers otherAnswers others All
@@ -93,7 +104,7 @@ others-alike K ok s r (c ∷ cs) h k =
     other false q e i = rw q (ap₂ _∷_ e i)
 
 -- no call changes the fan
-fan-kept : (K : Kind) (s : State) (cs : List Call) → finally (treeStep K) s cs .head .fan ≡ s .head .fan
+pub fan-kept : (K : Kind) (s : State) (cs : List Call) → finally (treeStep K) s cs .head .fan ≡ s .head .fan
 unfolding finally
 fan-kept K s [] = refl
 fan-kept K s (c ∷ cs) = fan-kept K (treeStep K s c .after) cs ∙ step-fixed K s c .fan
@@ -118,16 +129,18 @@ module _ (K : Kind) (ok : K .effect < K .views) (fan limit : ℕ) (l : List ℕ)
   unfolding make begun
   fan-made = ap (λ (r : calls.Reply Outcome). r .after .head .fan) (passed (makeCauses K fan limit ls xs hs) (λ n. calls.reply (state (headOf 0 0 0 0 0 0 0 held.Absent) ls xs hs) (outcome.Refused n)) (calls.reply (begun K fan limit l ls xs hs) outcome.Done) not-refused)
 
-  -- every list of calls: the answers are the row's, the state stands for the row, and its fan is make's
+  -- every list of calls: the answers are the row's, and the state left is kept
   pub whole : (cs : List Call) → All (InWords K) cs
       → (answers (treeStep K) (make K fan limit l ls xs hs .after) cs ≡ answers (rowStep K) (madeRow limit l) cs)
-      × Kept K (finally (treeStep K) (make K fan limit l ls xs hs .after) cs) (finally (rowStep K) (madeRow limit l) cs)
-      × (finally (treeStep K) (make K fan limit l ls xs hs .after) cs .head .fan ≡ fan)
-  whole cs k = let r = runs-alike K ok (make K fan limit l ls xs hs .after) (madeRow limit l) cs made k in (r .0, kept-of K ok (finally (treeStep K) (make K fan limit l ls xs hs .after) cs) (finally (rowStep K) (madeRow limit l) cs) (r .1), fan-kept K (make K fan limit l ls xs hs .after) cs ∙ fan-made)
+      × Kept K fan (finally (treeStep K) (make K fan limit l ls xs hs .after) cs) (finally (rowStep K) (madeRow limit l) cs)
+  whole cs k =
+      let s = make K fan limit l ls xs hs .after in
+      let r = runs-alike K ok s (madeRow limit l) cs made k in
+      (r .0, kept-of K ok fan (finally (treeStep K) s cs) (finally (rowStep K) (madeRow limit l) cs) (r .1) (fan-kept K s cs ∙ fan-made))
 
   -- the same after each call
-  pub each : (cs : List Call) → All (InWords K) cs → Along K (make K fan limit l ls xs hs .after) (madeRow limit l) cs
-  each cs k = along K ok (make K fan limit l ls xs hs .after) (madeRow limit l) cs made k
+  pub each : (cs : List Call) → All (InWords K) cs → Along K fan (make K fan limit l ls xs hs .after) (madeRow limit l) cs
+  each cs k = along K ok fan (make K fan limit l ls xs hs .after) (madeRow limit l) cs made fan-made k
 
 -- two lists alike but for lookups, from areas that held anything and at any two fans
 pub alike : (K : Kind) (ok : K .effect < K .views) (limit : ℕ) (l : List ℕ) → Words K l
@@ -144,9 +157,6 @@ pub demand3 : (K : Kind) → K .effect < K .views → (fan limit : ℕ) (l ls xs
 demand3 K ok fan limit l ls xs hs small given =
     record {
       answered = λ cs k. whole K ok fan limit l ls xs hs small given cs k .0;
-      kept = λ cs k. whole K ok fan limit l ls xs hs small given cs k .1;
       each = each K ok fan limit l ls xs hs small given;
-      kept-fan = λ cs. fan-kept K (make K fan limit l ls xs hs .after) cs ∙ fan-made K ok fan limit l ls xs hs small given;
       alike = λ fan′ ls′ xs′ hs′ given′. alike K ok limit l small fan ls xs hs given fan′ ls′ xs′ hs′ given′;
-      five = five K;
     }

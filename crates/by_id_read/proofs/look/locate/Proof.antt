@@ -23,13 +23,26 @@ enum-known-i : tie.Need-enum-known-i
 enum-known-i c = search needs
 
 returns : tie.Need-returns
-returns c = lookup-refused _ _ (c .before .before .before .before .before .before .before .before .args .view) _ _ (c .before .before .before .before .locate .ensures) _ (c .before .answer .given .1)
+returns c =
+    let args = c .before .before .before .before .before .before .before .before .args in
+    let the-locate = c .before .before .before .before .locate in
+    lookup-refused _ _ (args .view) _ _ (the-locate .ensures) _ (c .before .answer .given .1)
 
 returns-2 : tie.Need-returns-2
-returns-2 c = lookup-at _ _ (c .before .before .before .before .before .before .before .before .before .before .before .before .args .view) _ _ (c .before .before .before .before .before .before .before .before .locate .ensures) _ _ _ (c .before .before .before .before .before .answer2 .given .1) _ _ (c .before .before .before .id .ensures) (c .before .n .given .1)
+returns-2 c =
+    let args = c .before .before .before .before .before .before .before .before .before .before .before .before .args in
+    let the-locate = c .before .before .before .before .before .before .before .before .locate in
+    let answer2 = c .before .before .before .before .before .answer2 in
+    let id = c .before .before .before .id in
+    lookup-at _ _ (args .view) _ _ (the-locate .ensures) _ _ _ (answer2 .given .1) _ _ (id .ensures) (c .before .n .given .1)
 
 returns-3 : tie.Need-returns-3
-returns-3 c = lookup-at _ _ (c .before .before .before .before .before .before .before .before .before .before .before .before .args .view) _ _ (c .before .before .before .before .before .before .before .before .locate .ensures) _ _ _ (c .before .before .before .before .before .answer2 .given .1) _ _ (c .before .before .before .id .ensures) (c .before .i .given .1)
+returns-3 c =
+    let args = c .before .before .before .before .before .before .before .before .before .before .before .before .args in
+    let the-locate = c .before .before .before .before .before .before .before .before .locate in
+    let answer2 = c .before .before .before .before .before .answer2 in
+    let id = c .before .before .before .id in
+    lookup-at _ _ (args .view) _ _ (the-locate .ensures) _ _ _ (answer2 .given .1) _ _ (id .ensures) (c .before .i .given .1)
 
 pub locate-spec : {M : Type 1} → statement M
 locate-spec =

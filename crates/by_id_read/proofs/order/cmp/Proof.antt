@@ -26,13 +26,26 @@ cmp-requires : tie.Need-cmp-requires
 cmp-requires c κs = search needs
 
 returns : tie.Need-returns
-returns c = cmp-stops _ (c .before .before .before .before .before .before .before .args .a .0) (c .before .before .before .before .before .before .before .args .b .0) _ (c .before .before .before .cursor .ensures) _ (c .before .n .given .1)
+returns c =
+    let args = c .before .before .before .before .before .before .before .args in
+    let cursor = c .before .before .before .cursor in
+    cmp-stops _ (args .a .0) (args .b .0) _ (cursor .ensures) _ (c .before .n .given .1)
 
 returns-2 : tie.Need-returns-2
-returns-2 c = cmp-second _ (c .before .before .before .before .before .before .before .before .before .before .before .args .a .0) (c .before .before .before .before .before .before .before .before .before .before .before .args .b .0) _ (c .before .before .before .before .before .before .before .cursor .ensures) _ (c .before .before .before .before .before .x .given .1) _ (c .before .before .before .cursor2 .ensures) _ (c .before .n2 .given .1)
+returns-2 c =
+    let args = c .before .before .before .before .before .before .before .before .before .before .before .args in
+    let cursor = c .before .before .before .before .before .before .before .cursor in
+    let x = c .before .before .before .before .before .x in
+    let cursor2 = c .before .before .before .cursor2 in
+    cmp-second _ (args .a .0) (args .b .0) _ (cursor .ensures) _ (x .given .1) _ (cursor2 .ensures) _ (c .before .n2 .given .1)
 
 returns-3 : tie.Need-returns-3
-returns-3 c = cmp-both _ (c .before .before .before .before .before .before .before .before .before .before .before .before .args .a .0) (c .before .before .before .before .before .before .before .before .before .before .before .before .args .b .0) _ (c .before .before .before .before .before .before .before .before .cursor .ensures) _ (c .before .before .before .before .before .before .x .given .1) _ (c .before .before .before .before .cursor2 .ensures) _ (c .before .before .y .given .1) _ (c .cmp .ensures)
+returns-3 c =
+    let args = c .before .before .before .before .before .before .before .before .before .before .before .before .args in
+    let cursor = c .before .before .before .before .before .before .before .before .cursor in
+    let x = c .before .before .before .before .before .before .x in
+    let cursor2 = c .before .before .before .before .cursor2 in
+    cmp-both _ (args .a .0) (args .b .0) _ (cursor .ensures) _ (x .given .1) _ (cursor2 .ensures) _ (c .before .before .y .given .1) _ (c .cmp .ensures)
 
 pub cmp-spec : {M : Type 1} → statement M
 cmp-spec =

@@ -17,10 +17,14 @@ id-requires : tie.Need-id-requires
 id-requires c κs = search needs
 
 returns : tie.Need-returns
-returns c = first-stops _ _ (c .before .before .before .first .ensures) _ (c .before .n .given .1)
+returns c =
+    let the-first = c .before .before .before .first in
+    first-stops _ _ (the-first .ensures) _ (c .before .n .given .1)
 
 returns-2 : tie.Need-returns-2
-returns-2 c = first-goes _ _ (c .before .before .before .before .first .ensures) _ (c .before .before .c .given .1) _ (c .id .ensures)
+returns-2 c =
+    let the-first = c .before .before .before .before .first in
+    first-goes _ _ (the-first .ensures) _ (c .before .before .c .given .1) _ (c .id .ensures)
 
 pub first-spec : {M : Type 1} → statement M
 first-spec =

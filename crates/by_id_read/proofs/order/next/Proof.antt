@@ -35,19 +35,40 @@ enum-known-i : tie.Need-enum-known-i
 enum-known-i c = search needs
 
 returns : tie.Need-returns
-returns c = next-stops _ _ _ (c .before .before .before .cursor .ensures) _ (c .before .n .given .1)
+returns c =
+    let cursor = c .before .before .before .cursor in
+    next-stops _ _ _ (cursor .ensures) _ (c .before .n .given .1)
 
 returns-2 : tie.Need-returns-2
-returns-2 c = next-refused _ _ _ (c .before .before .before .before .before .before .before .cursor .ensures) _ (c .before .before .before .before .before .c .given .1) _ (c .before .before .before .next .ensures) _ (c .before .n2 .given .1)
+returns-2 c =
+    let cursor = c .before .before .before .before .before .before .before .cursor in
+    let the-c = c .before .before .before .before .before .c in
+    let the-next = c .before .before .before .next in
+    next-refused _ _ _ (cursor .ensures) _ (the-c .given .1) _ (the-next .ensures) _ (c .before .n2 .given .1)
 
 returns-3 : tie.Need-returns-3
-returns-3 c = next-none _ _ _ (c .before .before .before .before .before .before .cursor .ensures) _ (c .before .before .before .before .c .given .1) _ (c .before .before .next .ensures) (c .enum-told .given .1)
+returns-3 c =
+    let cursor = c .before .before .before .before .before .before .cursor in
+    let the-c = c .before .before .before .before .c in
+    next-none _ _ _ (cursor .ensures) _ (the-c .given .1) _ (c .before .before .next .ensures) (c .enum-told .given .1)
 
 returns-4 : tie.Need-returns-4
-returns-4 c = next-at _ _ _ (c .before .before .before .before .before .before .before .before .before .before .before .cursor .ensures) _ (c .before .before .before .before .before .before .before .before .before .c .given .1) _ (c .before .before .before .before .before .before .before .next .ensures) _ (c .before .before .before .before .before .d .given .1) _ _ (c .before .before .before .id .ensures) (c .before .n3 .given .1)
+returns-4 c =
+    let cursor = c .before .before .before .before .before .before .before .before .before .before .before .cursor in
+    let the-c = c .before .before .before .before .before .before .before .before .before .c in
+    let the-next = c .before .before .before .before .before .before .before .next in
+    let d = c .before .before .before .before .before .d in
+    let id = c .before .before .before .id in
+    next-at _ _ _ (cursor .ensures) _ (the-c .given .1) _ (the-next .ensures) _ (d .given .1) _ _ (id .ensures) (c .before .n3 .given .1)
 
 returns-5 : tie.Need-returns-5
-returns-5 c = next-at _ _ _ (c .before .before .before .before .before .before .before .before .before .before .before .cursor .ensures) _ (c .before .before .before .before .before .before .before .before .before .c .given .1) _ (c .before .before .before .before .before .before .before .next .ensures) _ (c .before .before .before .before .before .d .given .1) _ _ (c .before .before .before .id .ensures) (c .before .i .given .1)
+returns-5 c =
+    let cursor = c .before .before .before .before .before .before .before .before .before .before .before .cursor in
+    let the-c = c .before .before .before .before .before .before .before .before .before .c in
+    let the-next = c .before .before .before .before .before .before .before .next in
+    let d = c .before .before .before .before .before .d in
+    let id = c .before .before .before .id in
+    next-at _ _ _ (cursor .ensures) _ (the-c .given .1) _ (the-next .ensures) _ (d .given .1) _ _ (id .ensures) (c .before .i .given .1)
 
 pub next-spec : {M : Type 1} → statement M
 next-spec =

@@ -17,10 +17,16 @@ entry-to-char-index-requires : tie.Need-entry-to-char-index-requires
 entry-to-char-index-requires c κs = search needs
 
 returns : tie.Need-returns
-returns c = rank-stops _ _ _ (c .before .before .before .cursor .ensures) (c .before .before .before .before .before .before .before .args .view) _ (c .before .n .given .1)
+returns c =
+    let cursor = c .before .before .before .cursor in
+    let args = c .before .before .before .before .before .before .before .args in
+    rank-stops _ _ _ (cursor .ensures) (args .view) _ (c .before .n .given .1)
 
 returns-2 : tie.Need-returns-2
-returns-2 c = rank-goes _ _ _ (c .before .before .before .before .cursor .ensures) (c .before .before .before .before .before .before .before .before .args .view) _ (c .before .before .c .given .1) _ (c .entry-to-char-index .ensures)
+returns-2 c =
+    let cursor = c .before .before .before .before .cursor in
+    let args = c .before .before .before .before .before .before .before .before .args in
+    rank-goes _ _ _ (cursor .ensures) (args .view) _ (c .before .before .c .given .1) _ (c .entry-to-char-index .ensures)
 
 pub entry-to-char-index-spec : {M : Type 1} → statement M
 entry-to-char-index-spec =

@@ -17,10 +17,14 @@ lengths-requires : tie.Need-lengths-requires
 lengths-requires c κs = search needs
 
 returns : tie.Need-returns
-returns c = lengths-stops _ _ _ (c .before .before .before .cursor .ensures) _ (c .before .n .given .1)
+returns c =
+    let cursor = c .before .before .before .cursor in
+    lengths-stops _ _ _ (cursor .ensures) _ (c .before .n .given .1)
 
 returns-2 : tie.Need-returns-2
-returns-2 c = lengths-goes _ _ _ (c .before .before .before .before .cursor .ensures) _ (c .before .before .c .given .1) _ (c .lengths .ensures)
+returns-2 c =
+    let cursor = c .before .before .before .before .cursor in
+    lengths-goes _ _ _ (cursor .ensures) _ (c .before .before .c .given .1) _ (c .lengths .ensures)
 
 pub lengths-spec : {M : Type 1} → statement M
 lengths-spec =
