@@ -16,5 +16,7 @@ pub mod Record
 pub mod Sound
 pub mod Audit
 pub mod Table
+pub mod Spelling
 pub mod Promise
 pub mod Settled
+pub mod Spelled

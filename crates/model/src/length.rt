@@ -1,4 +1,5 @@
 // Views, lengths and slots.
+use crate::number::NONE;
 ghost use mathlib.Core.Path.{_≡_};
 ghost use Rattle.model.specs.Length.{viewNumber, lengthsOf, slotOf};
 
@@ -47,7 +48,7 @@ pub struct Slot {
 impl Slot {
     // What an unused slot holds; its child also marks the root's missing parent.
     pub const EMPTY: Slot = Slot {
-        child: 4294967295,
+        child: NONE,
         prepare_len: 0,
         effect_len: 0,
     };

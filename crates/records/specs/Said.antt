@@ -1,6 +1,5 @@
 -- The code's fields, calls and answers in the row's own form. Assumes nothing.
-use mathlib.Core.List.{List, [], _∷_}
-use Prim.Native.Nat.{ℕ}
+use mathlib.Core.List.{[], _∷_}
 use lib.ListN.{getD}
 use lib.Dec.{eqb}
 use Rattle.model.specs.Length.{listOf, viewNumber}

@@ -1,3 +1,4 @@
 pub mod Changes
+pub mod Heads
 pub mod Reads
 pub mod Shared

@@ -82,51 +82,93 @@ only-requires-13 : tie.Need-only-requires-13
 only-requires-13 c κs = search needs
 
 returns : tie.Need-returns
-returns c = reset-kind (plainFields (c .before .before .before .before .before .before .before .before .args .f)) _ _ (c .before .before .match .keys1) (c .only .ensures) (c .before .both2 .ensures)
+returns c =
+    let args = c .before .before .before .before .before .before .before .before .args in
+    reset-kind (plainFields (args .f)) _ _ (c .before .before .match .keys1) (c .only .ensures) (c .before .both2 .ensures)
 
 returns-2 : tie.Need-returns-2
 unfolding kinds
-returns-2 c = at-kind (plainFields (c .before .before .before .before .before .before .before .args .f)) 2 (c .before .match .keys2) _ (c .only2 .ensures)
+returns-2 c =
+    let args = c .before .before .before .before .before .before .before .args in
+    at-kind (plainFields (args .f)) 2 (c .before .match .keys2) _ (c .only2 .ensures)
 
 returns-3 : tie.Need-returns-3
 unfolding kinds
-returns-3 c = at-kind (plainFields (c .before .before .before .before .before .before .before .args .f)) 3 (c .before .match .keys3) _ (c .only3 .ensures)
+returns-3 c =
+    let args = c .before .before .before .before .before .before .before .args in
+    at-kind (plainFields (args .f)) 3 (c .before .match .keys3) _ (c .only3 .ensures)
 
 returns-4 : tie.Need-returns-4
 unfolding kinds
-returns-4 c = at-kind (plainFields (c .before .before .before .before .before .before .before .args .f)) 4 (c .before .match .keys4) _ (c .only4 .ensures)
+returns-4 c =
+    let args = c .before .before .before .before .before .before .before .args in
+    at-kind (plainFields (args .f)) 4 (c .before .match .keys4) _ (c .only4 .ensures)
 
 returns-5 : tie.Need-returns-5
 unfolding kinds
-returns-5 c = at-kind (plainFields (c .before .before .before .before .before .before .before .args .f)) 5 (c .before .match .keys5) _ (c .only5 .ensures)
+returns-5 c =
+    let args = c .before .before .before .before .before .before .before .args in
+    at-kind (plainFields (args .f)) 5 (c .before .match .keys5) _ (c .only5 .ensures)
 
 returns-6 : tie.Need-returns-6
 unfolding kinds
-returns-6 c = at-kind (plainFields (c .before .before .before .before .before .before .before .args .f)) 6 (c .before .match .keys6) _ (c .only6 .ensures)
+returns-6 c =
+    let args = c .before .before .before .before .before .before .before .args in
+    at-kind (plainFields (args .f)) 6 (c .before .match .keys6) _ (c .only6 .ensures)
 
 returns-7 : tie.Need-returns-7
-returns-7 c = lookup-kind (plainFields (c .before .before .before .before .before .before .before .before .args .f)) _ _ _ (c .before .before .before .both .ensures) _ (c .before .before .before .before .before .before .before .view-of .ensures) (c .before .before .match .keys7) (c .only7 .ensures) (c .before .both3 .ensures)
+returns-7 c =
+    let args = c .before .before .before .before .before .before .before .before .args in
+    let both = c .before .before .before .both in
+    let view-of = c .before .before .before .before .before .before .before .view-of in
+    lookup-kind (plainFields (args .f)) _ _ _ (both .ensures) _ (view-of .ensures) (c .before .before .match .keys7) (c .only7 .ensures) (c .before .both3 .ensures)
 
 returns-8 : tie.Need-returns-8
-returns-8 c = rank-kind (plainFields (c .before .before .before .before .before .before .before .before .args .f)) _ _ _ (c .before .before .before .both .ensures) _ (c .before .before .before .before .before .before .before .view-of .ensures) (c .before .before .match .keys8) (c .only8 .ensures) (c .before .both4 .ensures)
+returns-8 c =
+    let args = c .before .before .before .before .before .before .before .before .args in
+    let both = c .before .before .before .both in
+    let view-of = c .before .before .before .before .before .before .before .view-of in
+    rank-kind (plainFields (args .f)) _ _ _ (both .ensures) _ (view-of .ensures) (c .before .before .match .keys8) (c .only8 .ensures) (c .before .both4 .ensures)
 
 returns-9 : tie.Need-returns-9
-returns-9 c = next-kind (plainFields (c .before .before .before .before .before .before .before .before .args .f)) _ _ _ (c .before .before .before .both .ensures) (c .before .before .match .keys9) (c .only9 .ensures) (c .before .both5 .ensures)
+returns-9 c =
+    let args = c .before .before .before .before .before .before .before .before .args in
+    let both = c .before .before .before .both in
+    next-kind (plainFields (args .f)) _ _ _ (both .ensures) (c .before .before .match .keys9) (c .only9 .ensures) (c .before .both5 .ensures)
 
 returns-10 : tie.Need-returns-10
-returns-10 c = compare-kind (plainFields (c .before .before .before .before .before .before .before .before .before .args .f)) _ _ (c .before .before .before .match .keys10) (c .only10 .ensures) (c .before .both6 .ensures)
+returns-10 c =
+    let args = c .before .before .before .before .before .before .before .before .before .args in
+    let the-match = c .before .before .before .match in
+    compare-kind (plainFields (args .f)) _ _ (the-match .keys10) (c .only10 .ensures) (c .before .both6 .ensures)
 
 returns-11 : tie.Need-returns-11
-returns-11 c = lengths-kind (plainFields (c .before .before .before .before .before .before .before .before .args .f)) _ _ _ (c .before .before .before .both .ensures) (c .before .before .match .keys11) (c .only11 .ensures) (c .before .both7 .ensures)
+returns-11 c =
+    let args = c .before .before .before .before .before .before .before .before .args in
+    let both = c .before .before .before .both in
+    lengths-kind (plainFields (args .f)) _ _ _ (both .ensures) (c .before .before .match .keys11) (c .only11 .ensures) (c .before .both7 .ensures)
 
 returns-12 : tie.Need-returns-12
-returns-12 c = count-kind (plainFields (c .before .before .before .before .before .before .before .before .before .args .f)) _ _ _ (c .before .before .before .before .both .ensures) _ (c .before .before .both8 .ensures) (c .before .before .before .match .keys12) (c .only12 .ensures) (c .before .both9 .ensures)
+returns-12 c =
+    let args = c .before .before .before .before .before .before .before .before .before .args in
+    let both = c .before .before .before .before .both in
+    let the-match = c .before .before .before .match in
+    count-kind (plainFields (args .f)) _ _ _ (both .ensures) _ (c .before .before .both8 .ensures) (the-match .keys12) (c .only12 .ensures) (c .before .both9 .ensures)
 
 returns-13 : tie.Need-returns-13
-returns-13 c = first-kind (plainFields (c .before .before .before .before .before .before .before .before .before .args .f)) _ _ _ (c .before .before .before .before .both .ensures) _ (c .before .before .both10 .ensures) (c .before .before .before .match .keys13) (c .only13 .ensures) (c .before .both11 .ensures)
+returns-13 c =
+    let args = c .before .before .before .before .before .before .before .before .before .args in
+    let both = c .before .before .before .before .both in
+    let the-match = c .before .before .before .match in
+    first-kind (plainFields (args .f)) _ _ _ (both .ensures) _ (c .before .before .both10 .ensures) (the-match .keys13) (c .only13 .ensures) (c .before .both11 .ensures)
 
 returns-14 : tie.Need-returns-14
-returns-14 c = no-kind (plainFields (c .before .before .before .before .before .before .args .f)) _ (c .match .rest .0 .0 .0 .0 .0 .0 .0 .0 .0 .0 .0 .0 .1) (c .match .rest .0 .0 .0 .0 .0 .0 .0 .0 .0 .0 .0 .1) (c .match .rest .0 .0 .0 .0 .0 .0 .0 .0 .0 .0 .1) (c .match .rest .0 .0 .0 .0 .0 .0 .0 .0 .0 .1) (c .match .rest .0 .0 .0 .0 .0 .0 .0 .0 .1) (c .match .rest .0 .0 .0 .0 .0 .0 .0 .1) (c .match .rest .0 .0 .0 .0 .0 .0 .1) (c .match .rest .0 .0 .0 .0 .0 .1) (c .match .rest .0 .0 .0 .0 .1) (c .match .rest .0 .0 .0 .1) (c .match .rest .0 .0 .1) (c .match .rest .0 .1) (c .match .rest .1)
+returns-14 c =
+    let args = c .before .before .before .before .before .before .args in
+    no-kind (plainFields (args .f)) _ (c .match .rest .0 .0 .0 .0 .0 .0 .0 .0 .0 .0 .0 .0 .1) (c .match .rest .0 .0 .0 .0 .0 .0 .0 .0 .0 .0 .0 .1)
+    (c .match .rest .0 .0 .0 .0 .0 .0 .0 .0 .0 .0 .1) (c .match .rest .0 .0 .0 .0 .0 .0 .0 .0 .0 .1) (c .match .rest .0 .0 .0 .0 .0 .0 .0 .0 .1)
+    (c .match .rest .0 .0 .0 .0 .0 .0 .0 .1) (c .match .rest .0 .0 .0 .0 .0 .0 .1) (c .match .rest .0 .0 .0 .0 .0 .1) (c .match .rest .0 .0 .0 .0 .1) (c .match .rest .0 .0 .0 .1)
+    (c .match .rest .0 .0 .1) (c .match .rest .0 .1) (c .match .rest .1)
 
 pub by-kind-spec : {M : Type 1} → statement M
 by-kind-spec =

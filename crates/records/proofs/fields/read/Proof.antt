@@ -11,19 +11,25 @@ wide-requires : tie.Need-wide-requires
 wide-requires c κs = tt
 
 shared-slice-read-wide-2 : tie.Need-shared-slice-read-wide-2
-shared-slice-read-wide-2 c = reach _ _ (c .before .before .before .before .pre) tt
+shared-slice-read-wide-2 c =
+    let pre = c .before .before .before .before .pre in
+    reach _ _ pre tt
 
 wide-requires-2 : tie.Need-wide-requires-2
 wide-requires-2 c κs = tt
 
 shared-slice-read-wide-3 : tie.Need-shared-slice-read-wide-3
-shared-slice-read-wide-3 c = reach _ _ (c .before .before .before .before .before .before .pre) tt
+shared-slice-read-wide-3 c =
+    let pre = c .before .before .before .before .before .before .pre in
+    reach _ _ pre tt
 
 wide-requires-3 : tie.Need-wide-requires-3
 wide-requires-3 c κs = tt
 
 shared-slice-read-wide-4 : tie.Need-shared-slice-read-wide-4
-shared-slice-read-wide-4 c = reach _ _ (c .before .before .before .before .before .before .before .before .pre) tt
+shared-slice-read-wide-4 c =
+    let pre = c .before .before .before .before .before .before .before .before .pre in
+    reach _ _ pre tt
 
 wide-requires-4 : tie.Need-wide-requires-4
 wide-requires-4 c κs = tt
@@ -32,17 +38,28 @@ add-t14 : tie.Need-add-t14
 add-t14 c = sum-fits _ _ (c .before .before .wide3 .ensures .1) (c .wide4 .ensures .1)
 
 word-at-requires : tie.Need-word-at-requires
-word-at-requires c κs = reach _ _ (c .before .before .before .before .before .before .before .before .before .pre) tt
+word-at-requires c κs =
+    let pre = c .before .before .before .before .before .before .before .before .before .pre in
+    reach _ _ pre tt
 
 word-at-requires-2 : tie.Need-word-at-requires-2
-word-at-requires-2 c κs = reach _ _ (c .before .before .before .before .before .before .before .before .before .before .pre) tt
+word-at-requires-2 c κs =
+    let pre = c .before .before .before .before .before .before .before .before .before .before .pre in
+    reach _ _ pre tt
 
 word-at-requires-3 : tie.Need-word-at-requires-3
-word-at-requires-3 c κs = reach _ _ (c .before .before .before .before .before .before .before .before .before .before .before .pre) tt
+word-at-requires-3 c κs =
+    let pre = c .before .before .before .before .before .before .before .before .before .before .before .pre in
+    reach _ _ pre tt
 
 returns : tie.Need-returns
 unfolding fieldsOf
-returns c = rw (c .before .before .before .before .before .before .before .before .before .wide .ensures .0, c .before .before .before .before .before .before .before .wide2 .ensures .0, c .before .before .before .before .before .wide3 .ensures .0, c .before .before .before .wide4 .ensures .0, c .before .before .word-at .ensures, c .before .word-at2 .ensures, c .word-at3 .ensures)
+returns c =
+    let wide = c .before .before .before .before .before .before .before .before .before .wide in
+    let wide2 = c .before .before .before .before .before .before .before .wide2 in
+    let wide3 = c .before .before .before .before .before .wide3 in
+    let wide4 = c .before .before .before .wide4 in
+    rw (wide .ensures .0, wide2 .ensures .0, wide3 .ensures .0, wide4 .ensures .0, c .before .before .word-at .ensures, c .before .word-at2 .ensures, c .word-at3 .ensures)
 
 pub read-spec : {M : Type 1} → statement M
 read-spec =

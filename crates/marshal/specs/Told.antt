@@ -1,0 +1,133 @@
+-- What a host reads in each answer, by the names of its fields; and what it was given and hands over again is the same. Assumes nothing.
+use mathlib.Core.Path.{_≡_, refl, ap}
+use mathlib.Core.Bool.{false}
+use Prim.Native.Nat.{ℕ}
+use Rattle.model.specs.State.{headOf}
+use Rattle.model.specs.Answer.{outcomeAnswer, numberAnswer, verdictAnswer, standingAnswer, nextAnswer, namedAnswer, measuredAnswer, comparedAnswer, selectedAnswer, locatedAnswer, insertedAnswer, dividedAnswer}
+use Rattle.model.specs.declared.number.EntryId.{EntryId}
+use Rattle.model.specs.declared.head.Cursor.{Cursor}
+use Rattle.model.specs.declared.head.Head.{Head}
+use Rattle.model.specs.declared.head.Held.{Held}
+use Rattle.model.specs.declared.head.Held.the-variants as held
+use Rattle.model.specs.declared.length.Lengths.{Lengths}
+use Rattle.model.specs.declared.length.View.the-variants as view
+use Rattle.model.specs.declared.answer.Target.the-variants as target
+use Rattle.model.specs.declared.answer.Outcome.the-variants as outcome
+use Rattle.model.specs.declared.answer.Number.the-variants as number
+use Rattle.model.specs.declared.answer.Verdict.the-variants as verdict
+use Rattle.model.specs.declared.answer.Standing.the-variants as standing
+use Rattle.model.specs.declared.answer.Next.the-variants as following
+use Rattle.model.specs.declared.answer.Named.the-variants as named
+use Rattle.model.specs.declared.answer.Measured.the-variants as measured
+use Rattle.model.specs.declared.answer.Compared.the-variants as compared
+use Rattle.model.specs.declared.answer.Selected.the-variants as selected
+use Rattle.model.specs.declared.answer.Located.the-variants as located
+use Rattle.model.specs.declared.answer.Inserted.the-variants as inserted
+use Rattle.model.specs.declared.answer.Divided.the-variants as divided
+use Rattle.marshal.specs.Flat.{headFrom, heldFrom, headWords, wordsWith, presentOf, fingerOf, badHead, cursorFrom, viewFrom, targetFrom, numberOf, measuredOf, standingOf, selectedOf, locatedOf, insertedOf, dividedOf}
+use Rattle.marshal.specs.declared.flat.FlatCursor.{FlatCursor}
+
+-- answers ---------------------------------------------------------------------------------------------------------------------------------
+
+-- number 0 and the values; audit's yes is 1, and after the last entry the leaf is 4,294,967,295
+pub record Reads (c d : Cursor) (i : EntryId) (l : Lengths) (n offset position : ℕ) : Type 0 where
+  pub reset : outcomeAnswer outcome.Done .number ≡ 0
+  pub len : numberOf (numberAnswer (number.Is n)) ≡ record { number = 0; value = n }
+  pub id : numberOf (namedAnswer (named.Entry i)) ≡ record { number = 0; value = i .0 }
+  pub yes : numberOf (verdictAnswer verdict.Yes) ≡ record { number = 0; value = 1 }
+  pub no : numberOf (verdictAnswer verdict.No) ≡ record { number = 0; value = 0 }
+  pub before : numberOf (comparedAnswer compared.Before) ≡ record { number = 0; value = 0 }
+  pub same : numberOf (comparedAnswer compared.Same) ≡ record { number = 0; value = 1 }
+  pub after : numberOf (comparedAnswer compared.After) ≡ record { number = 0; value = 2 }
+  pub lengths : measuredOf (measuredAnswer (measured.Are l)) ≡ record { number = 0; prepare = l .prepare; effect = l .effect }
+  pub cursor : standingOf (standingAnswer (standing.At c)) ≡ record { number = 0; leaf = c .leaf .0; slot = c .slot; stamp = c .stamp }
+  pub next : standingOf (nextAnswer (following.At c)) ≡ record { number = 0; leaf = c .leaf .0; slot = c .slot; stamp = c .stamp }
+  pub last : standingOf (nextAnswer following.Nothing) ≡ record { number = 0; leaf = 4294967295; slot = 0; stamp = 0 }
+  pub select : selectedOf (selectedAnswer (selected.At c offset)) ≡ record { number = 0; leaf = c .leaf .0; slot = c .slot; stamp = c .stamp; offset = offset }
+  pub locate : locatedOf (locatedAnswer (located.At c offset position)) ≡ record { number = 0; leaf = c .leaf .0; slot = c .slot; stamp = c .stamp; offset = offset; position = position }
+  pub insert : insertedOf (insertedAnswer (inserted.At i position)) ≡ record { number = 0; id = i .0; position = position }
+  pub split : dividedOf (dividedAnswer (divided.At i c d)) ≡ record { number = 0; id = i .0; leaf = c .leaf .0; slot = c .slot; stamp = c .stamp; «next_leaf» = d .leaf .0; «next_slot» = d .slot; «next_stamp» = d .stamp }
+
+pub reads : (c d : Cursor) (i : EntryId) (l : Lengths) (n offset position : ℕ) → Reads c d i l n offset position
+reads c d i l n offset position = record {
+  reset = refl;
+  len = refl;
+  id = refl;
+  yes = refl;
+  no = refl;
+  before = refl;
+  same = refl;
+  after = refl;
+  lengths = refl;
+  cursor = refl;
+  next = refl;
+  last = refl;
+  select = refl;
+  locate = refl;
+  insert = refl;
+  split = refl;
+}
+
+-- a refusal's number, and zeros
+pub record Refused (n : ℕ) : Type 0 where
+  pub reset : outcomeAnswer (outcome.Refused n) .number ≡ n
+  pub len : numberOf (numberAnswer (number.Refused n)) ≡ record { number = n; value = 0 }
+  pub id : numberOf (namedAnswer (named.Refused n)) ≡ record { number = n; value = 0 }
+  pub audit : numberOf (verdictAnswer (verdict.Refused n)) ≡ record { number = n; value = 0 }
+  pub cmp : numberOf (comparedAnswer (compared.Refused n)) ≡ record { number = n; value = 0 }
+  pub lengths : measuredOf (measuredAnswer (measured.Refused n)) ≡ record { number = n; prepare = 0; effect = 0 }
+  pub cursor : standingOf (standingAnswer (standing.Refused n)) ≡ record { number = n; leaf = 0; slot = 0; stamp = 0 }
+  pub next : standingOf (nextAnswer (following.Refused n)) ≡ record { number = n; leaf = 0; slot = 0; stamp = 0 }
+  pub select : selectedOf (selectedAnswer (selected.Refused n)) ≡ record { number = n; leaf = 0; slot = 0; stamp = 0; offset = 0 }
+  pub locate : locatedOf (locatedAnswer (located.Refused n)) ≡ record { number = n; leaf = 0; slot = 0; stamp = 0; offset = 0; position = 0 }
+  pub insert : insertedOf (insertedAnswer (inserted.Refused n)) ≡ record { number = n; id = 0; position = 0 }
+  pub split : dividedOf (dividedAnswer (divided.Refused n)) ≡ record { number = n; id = 0; leaf = 0; slot = 0; stamp = 0; «next_leaf» = 0; «next_slot» = 0; «next_stamp» = 0 }
+
+pub refuses : (n : ℕ) → Refused n
+refuses n = record {
+  reset = refl;
+  len = refl;
+  id = refl;
+  audit = refl;
+  cmp = refl;
+  lengths = refl;
+  cursor = refl;
+  next = refl;
+  select = refl;
+  locate = refl;
+  insert = refl;
+  split = refl;
+}
+
+-- handed over again -----------------------------------------------------------------------------------------------------------------------
+
+pub cursor-back : (c : Cursor) → (let r = standingOf (standingAnswer (standing.At c)) in cursorFrom (record { leaf = r .leaf; slot = r .slot; stamp = r .stamp }) ≡ c)
+cursor-back c = refl
+
+held-back : (h : Head) (f : Held) → heldFrom (wordsWith h (presentOf f) (fingerOf f)) ≡ f
+unfolding heldFrom
+held-back h held.Absent = refl
+held-back h (held.At f) = refl
+
+-- the head's words are never refused, and are read as that head
+pub head-back : (h : Head) → headFrom (headWords h) ≡ h
+unfolding headFrom headWords
+head-back h = ap (headOf (h .fan) (h .limit) (h .root .0) (h .levels) (h .leaves) (h .inners) (h .entries)) (held-back h (h .finger))
+
+good-words : (h : Head) (f : Held) → badHead (wordsWith h (presentOf f) (fingerOf f)) ≡ false
+unfolding badHead
+good-words h held.Absent = refl
+good-words h (held.At f) = refl
+
+pub head-good : (h : Head) → badHead (headWords h) ≡ false
+unfolding headWords
+head-good h = good-words h (h .finger)
+
+-- 0 is prepare, 1 is effect, 1 is at the end
+pub views : (viewFrom 0 ≡ view.Prepare) × (viewFrom 1 ≡ view.Effect)
+unfolding viewFrom
+views = (refl, refl)
+
+pub targets : (c : FlatCursor) → (targetFrom 0 c ≡ target.Before (cursorFrom c)) × (targetFrom 1 c ≡ target.End)
+unfolding targetFrom
+targets c = (refl, refl)

@@ -1,0 +1,159 @@
+-- A record says a call exactly if it has that call's fields, and one with other fields is malformed; document 01's run is read and written so.
+-- Assumes nothing.
+use mathlib.Core.Path.{_≡_, refl, sym, ap, subst, _∙_}
+use mathlib.Core.Logic.{_≢_, _↔_}
+use mathlib.Core.List.{List, [], _∷_, map}
+use mathlib.Core.Bool.{Bool, true, false, cond, _&&_}
+use Prim.Native.Nat.{ℕ, zero, suc, _<_}
+use native.Mathlib.Omega.{arith}
+use lib.ListN.{length, getD}
+use lib.Dec.{eqb}
+use borrow.Author.Tests.{lt-ltb, eqb-true, ltb-true}
+use Rattle.model.specs.Length.{viewNumber, listOf}
+use Rattle.model.specs.Row.{Call, reset, insert, add, split, setLengths, update, lookup, rank, next, compare, lengths, count, first, malformed}
+use Rattle.model.specs.Record.{Fields, fieldsOf, viewOf, lengthsOf, only, plain, binary, noLengths, kinds, decode, encode}
+use Rattle.model.specs.Spelling.{fields, fieldsFor, Sayable, records, calls, given, written}
+
+-- what some fields say
+abbrev saying : Fields → Call
+saying f = only (eqb (f .rest) 0) (getD (kinds f) (f .kind) malformed)
+
+two : (l : List ℕ) → length l ≡ 2 → getD l 0 0 ∷ getD l 1 0 ∷ [] ≡ l
+two [] e = absurd (omega arith)
+two (x ∷ []) e = absurd (omega arith)
+two (x ∷ y ∷ []) e = refl
+two (x ∷ y ∷ z ∷ l) e = absurd (omega arith)
+
+view-said : (v : ℕ) → v < 2 → viewNumber (viewOf v) ≡ v
+view-said zero h = refl
+view-said (suc zero) h = refl
+view-said (suc (suc v)) h = absurd (omega arith)
+
+-- a call's fields say it
+said : (c : Call) → Sayable c → saying (fieldsFor c) ≡ c
+unfolding kinds
+said (reset l) h = ap reset (two l h)
+said (insert i l) h = ap (insert i) (two l h)
+said (add i l) h = ap (add i) (two l h)
+said (split true i l) h = ap (split true i) (two l h)
+said (split false i l) h = ap (split false i) (two l h)
+said (setLengths i l) h = ap (setLengths i) (two l h)
+said (update i l) h = ap (update i) (two l h)
+said (lookup v x) h = rw (lt-ltb v 2 h) (ap (λ w. lookup w x) (view-said v h))
+said (rank v i) h = rw (lt-ltb v 2 h) (ap (λ w. rank w i) (view-said v h))
+said (next i) h = refl
+said (compare i j) h = refl
+said (lengths i) h = refl
+said count h = refl
+said first h = refl
+
+both : (a b : Bool) → (a && b) ≡ true → (a ≡ true) × (b ≡ true)
+both true b e = (refl, e)
+both false true e = (e, refl)
+both false false e = (e, e)
+
+flag-said : (v : ℕ) → v < 2 → v ≡ cond (eqb v 1) 1 0
+flag-said zero h = refl
+flag-said (suc zero) h = refl
+flag-said (suc (suc v)) h = absurd (omega arith)
+
+-- and only those fields do
+module _ (f : Fields) (zeros : f .rest ≡ 0) where
+  -- the fields of f, by their values
+  alike : (kind flag a b c : ℕ) → f .kind ≡ kind → f .flag ≡ flag → f .a ≡ a → f .b ≡ b → f .c ≡ c → f ≡ fields kind flag a b c
+  alike kind flag a b c p q r s t =
+      ap (λ x. record { kind = x; flag = f .flag; rest = f .rest; a = f .a; b = f .b; c = f .c }) p
+      ∙ ap (λ x. record { kind = kind; flag = x; rest = f .rest; a = f .a; b = f .b; c = f .c }) q
+      ∙ ap (λ x. record { kind = kind; flag = flag; rest = x; a = f .a; b = f .b; c = f .c }) zeros
+      ∙ ap (λ x. fields kind flag x (f .b) (f .c)) r
+      ∙ ap (λ x. fields kind flag a x (f .c)) s
+      ∙ ap (fields kind flag a b) t
+
+  abbrev Fits : Call → Type 0
+  Fits c = (f ≡ fieldsFor c) × Sayable c
+
+  fits : (b : Bool) (c : Call) → (b ≡ true → Fits c) → only b c ≢ malformed → Fits (only b c)
+  fits true c h n = h refl
+  fits false c h n = absurd (n refl)
+
+  none-used : noLengths f ≡ true → (f .b ≡ 0) × (f .c ≡ 0)
+  none-used t = let h = both (eqb (f .b) 0) (eqb (f .c) 0) t in (eqb-true (f .b) 0 (h .0), eqb-true (f .c) 0 (h .1))
+
+  flagged : binary f ≡ true → f .flag ≡ cond (eqb (f .flag) 1) 1 0
+  flagged t = flag-said (f .flag) (ltb-true (f .flag) 2 t)
+
+  seen : binary f ≡ true → f .flag ≡ viewNumber (viewOf (f .flag))
+  seen t = sym (view-said (f .flag) (ltb-true (f .flag) 2 t))
+
+  in-view : binary f ≡ true → viewNumber (viewOf (f .flag)) < 2
+  in-view t = subst (λ v. v < 2) (seen t) (ltb-true (f .flag) 2 t)
+
+  -- a call that gives lengths, one in a view, one of an id alone, one without
+  changing : (k : ℕ) → f .kind ≡ k → plain f ≡ true → f ≡ fields k 0 (f .a) (f .b) (f .c)
+  changing k e t = alike k 0 (f .a) (f .b) (f .c) e (eqb-true (f .flag) 0 t) refl refl refl
+
+  viewing : (k : ℕ) → f .kind ≡ k → binary f ≡ true → noLengths f ≡ true → f ≡ fields k (viewNumber (viewOf (f .flag))) (f .a) 0 0
+  viewing k e t u = let h = none-used u in alike k (viewNumber (viewOf (f .flag))) (f .a) 0 0 e (seen t) refl (h .0) (h .1)
+
+  naming : (k : ℕ) → f .kind ≡ k → (plain f && noLengths f) ≡ true → f ≡ fields k 0 (f .a) 0 0
+  naming k e t =
+      let h = both (plain f) (noLengths f) t in
+      let u = none-used (h .1) in
+      alike k 0 (f .a) 0 0 e (eqb-true (f .flag) 0 (h .0)) refl (u .0) (u .1)
+
+  asking : (k : ℕ) → f .kind ≡ k → (plain f && eqb (f .a) 0 && noLengths f) ≡ true → f ≡ fields k 0 0 0 0
+  asking k e t =
+      let h = both (plain f && eqb (f .a) 0) (noLengths f) t in
+      let g = both (plain f) (eqb (f .a) 0) (h .0) in
+      let u = none-used (h .1) in
+      alike k 0 0 0 0 e (eqb-true (f .flag) 0 (g .0)) (eqb-true (f .a) 0 (g .1)) (u .0) (u .1)
+
+  -- by the kind
+  of-kind : (k : ℕ) → f .kind ≡ k → getD (kinds f) k malformed ≢ malformed → Fits (getD (kinds f) k malformed)
+  unfolding kinds
+  of-kind zero e n = absurd (n refl)
+  of-kind (suc zero) e n =
+      fits (plain f && eqb (f .a) 0) (reset (listOf (lengthsOf f)))
+      (λ t. let h = both (plain f) (eqb (f .a) 0) t in (alike 1 0 0 (f .b) (f .c) e (eqb-true (f .flag) 0 (h .0)) (eqb-true (f .a) 0 (h .1)) refl refl, refl)) n
+  of-kind (suc (suc zero)) e n = fits (plain f) (insert (f .a) (listOf (lengthsOf f))) (λ t. (changing 2 e t, refl)) n
+  of-kind (suc (suc (suc zero))) e n = fits (plain f) (add (f .a) (listOf (lengthsOf f))) (λ t. (changing 3 e t, refl)) n
+  of-kind (suc (suc (suc (suc zero)))) e n =
+      fits (binary f) (split (eqb (f .flag) 1) (f .a) (listOf (lengthsOf f))) (λ t. (alike 4 (cond (eqb (f .flag) 1) 1 0) (f .a) (f .b) (f .c) e (flagged t) refl refl refl, refl)) n
+  of-kind (suc (suc (suc (suc (suc zero))))) e n = fits (plain f) (setLengths (f .a) (listOf (lengthsOf f))) (λ t. (changing 5 e t, refl)) n
+  of-kind (suc (suc (suc (suc (suc (suc zero)))))) e n = fits (plain f) (update (f .a) (listOf (lengthsOf f))) (λ t. (changing 6 e t, refl)) n
+  of-kind (suc (suc (suc (suc (suc (suc (suc zero))))))) e n =
+      fits (binary f && noLengths f) (lookup (viewNumber (viewOf (f .flag))) (f .a)) (λ t. let h = both (binary f) (noLengths f) t in (viewing 7 e (h .0) (h .1), in-view (h .0))) n
+  of-kind (suc (suc (suc (suc (suc (suc (suc (suc zero)))))))) e n =
+      fits (binary f && noLengths f) (rank (viewNumber (viewOf (f .flag))) (f .a)) (λ t. let h = both (binary f) (noLengths f) t in (viewing 8 e (h .0) (h .1), in-view (h .0))) n
+  of-kind (suc (suc (suc (suc (suc (suc (suc (suc (suc zero))))))))) e n = fits (plain f && noLengths f) (next (f .a)) (λ t. (naming 9 e t, tt)) n
+  of-kind (suc (suc (suc (suc (suc (suc (suc (suc (suc (suc zero)))))))))) e n =
+      fits (plain f && eqb (f .c) 0) (compare (f .a) (f .b))
+      (λ t. let h = both (plain f) (eqb (f .c) 0) t in (alike 10 0 (f .a) (f .b) 0 e (eqb-true (f .flag) 0 (h .0)) refl refl (eqb-true (f .c) 0 (h .1)), tt)) n
+  of-kind (suc (suc (suc (suc (suc (suc (suc (suc (suc (suc (suc zero))))))))))) e n = fits (plain f && noLengths f) (lengths (f .a)) (λ t. (naming 11 e t, tt)) n
+  of-kind (suc (suc (suc (suc (suc (suc (suc (suc (suc (suc (suc (suc zero)))))))))))) e n = fits (plain f && eqb (f .a) 0 && noLengths f) count (λ t. (asking 12 e t, tt)) n
+  of-kind (suc (suc (suc (suc (suc (suc (suc (suc (suc (suc (suc (suc (suc zero))))))))))))) e n = fits (plain f && eqb (f .a) 0 && noLengths f) first (λ t. (asking 13 e t, tt)) n
+  of-kind (suc (suc (suc (suc (suc (suc (suc (suc (suc (suc (suc (suc (suc (suc k)))))))))))))) e n = absurd (n refl)
+
+-- fields that say anything are those of what they say
+own : (f : Fields) → saying f ≢ malformed → (f ≡ fieldsFor (saying f)) × Sayable (saying f)
+own f = go (eqb (f .rest) 0) refl
+  where
+    go : (b : Bool) → eqb (f .rest) 0 ≡ b → only b (getD (kinds f) (f .kind) malformed) ≢ malformed
+        → (f ≡ fieldsFor (only b (getD (kinds f) (f .kind) malformed))) × Sayable (only b (getD (kinds f) (f .kind) malformed))
+    go true e n = of-kind f (eqb-true (f .rest) 0 e) (f .kind) refl n
+    go false e n = absurd (n refl)
+
+-- a record says a call exactly if it has that call's fields
+pub says : (bs : List ℕ) (c : Call) → Sayable c → (decode bs ≡ c) ↔ (fieldsOf bs ≡ fieldsFor c)
+unfolding decode
+says bs c h = (λ e. own (fieldsOf bs) (λ n. subst Sayable (sym e ∙ n) h) .0 ∙ ap fieldsFor e, λ e. ap saying e ∙ said c h)
+
+-- and what it says, if it isn't malformed, is such a call
+pub nothing-else : (bs : List ℕ) → decode bs ≢ malformed → Sayable (decode bs)
+unfolding decode
+nothing-else bs n = own (fieldsOf bs) n .1
+
+-- document 01's run, and a few records more
+pub spelled : (map decode records ≡ calls) × (map (λ g. encode (g .kind) (g .answer)) given ≡ written)
+unfolding fieldsOf kinds decode encode
+spelled = (refl, refl)
