@@ -41,17 +41,6 @@ pub fn split_child(area: &mut [u32], g: Shape, k: u32, before: bool, i: usize, x
     node_write::write::split_child(&mut area[a..e], g, before, i, x);
 }
 
-// Node k made anew with the slot x alone.
-pub fn new_one(area: &mut [u32], g: Shape, k: u32, parent: u32, x: &[u32])
-    requires { ⌜ Area g (length (now area)) × (k < g .nodes) × (length (now x) ≡ g .stride) ⌝ }
-    ensures { λ _. ⌜ now (area .exit) ≡ putNode g k (newNode (g .stride) (g .fan) parent (now (x .entry) ∷ [])) (now (area .entry)) ⌝ }
-{
-    let size = g.size;
-    let a = k as usize * size;
-    let e = a + size;
-    node_write::split::new_one(&mut area[a..e], g, parent, x);
-}
-
 // Node k made anew with the slots x and y.
 pub fn new_two(area: &mut [u32], g: Shape, k: u32, parent: u32, x: &[u32], y: &[u32])
     requires { ⌜ Area g (length (now area)) × (k < g .nodes) × (length (now x) ≡ g .stride) × (length (now y) ≡ g .stride) ⌝ }

@@ -74,7 +74,8 @@ module _ (h : Head) (g : Shape) (e : countsBy h g ≡ true) where
   few-entries n f = le-trans (leb-true (h .entries) (h .limit) (and-true first (leb (h .leaves) (g .nodes)) to-second .0)) f
 
   pub root-in : h .root .0 < g .nodes
-  root-in = lt-of-lt-of-le (ltb-true (h .root .0) (h .inners) (and-true fifth (ltb (h .root .0) (h .inners)) e .1)) (leb-true (h .inners) (g .nodes) (and-true second (leb (h .inners) (g .nodes)) to-third .1))
+  root-in = lt-of-lt-of-le (ltb-true (h .root .0) (h .inners) (and-true fifth (ltb (h .root .0) (h .inners)) e .1))
+      (leb-true (h .inners) (g .nodes) (and-true second (leb (h .inners) (g .nodes)) to-third .1))
 
 -- homes play no part in the tests of inner nodes and finger
 module _ (h : Head) (ls xs hs : List ℕ) where

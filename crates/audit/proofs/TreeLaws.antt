@@ -83,8 +83,29 @@ module _ (h : Head) (ls xs hs : List ℕ) (f : Finger) where
             module _ (nc : not c ≡ false) (w : ℕ) (ew : w ≡ start (f .view) (f .slot) (nodeAt g (f .leaf) ls)) where
               pub finger-within : (f .within ≡ w → ⊥) → false ≡ isFinger base (state h ls xs hs) f
               finger-within n =
-                  sym (rw (lt-ltb (f .view) 2 hv, lt-ltb (f .leaf) (h .leaves) hl, ← el, lt-ltb (f .slot) len hs′, sym started ∙ not-false b nb, sym effected ∙ not-false c nc, ← ew, ne-eqb (f .within) w n) at finger-by)
+                  sym (rw (
+                    lt-ltb (f .view) 2 hv,
+                    lt-ltb (f .leaf) (h .leaves) hl,
+                    ← el,
+                    lt-ltb (f .slot) len hs′,
+                    sym started ∙ not-false b nb,
+                    sym effected
+                        ∙ not-false c nc,
+                    ← ew,
+                    ne-eqb (f .within) w n,
+                  ) at finger-by)
 
               pub finger-last : f .within ≡ w → (x : ℕ) → x ≡ start 1 (f .slot) (nodeAt g (f .leaf) ls) → eqb (f .«effect_within») x ≡ isFinger base (state h ls xs hs) f
               finger-last n x ex =
-                  sym (rw (lt-ltb (f .view) 2 hv, lt-ltb (f .leaf) (h .leaves) hl, ← el, lt-ltb (f .slot) len hs′, sym started ∙ not-false b nb, sym effected ∙ not-false c nc, ← ew, eq-eqb (f .within) w n, ← ex) at finger-by)
+                  sym (rw (
+                    lt-ltb (f .view) 2 hv,
+                    lt-ltb (f .leaf) (h .leaves) hl,
+                    ← el,
+                    lt-ltb (f .slot) len hs′,
+                    sym started ∙ not-false b nb,
+                    sym effected
+                        ∙ not-false c nc,
+                    ← ew,
+                    eq-eqb (f .within) w n,
+                    ← ex,
+                  ) at finger-by)

@@ -45,7 +45,8 @@ module _ (h : Head) (ls xs hs : List ℕ) where
   innerBy g d k = leb 1 d && leb d (h .levels) && filledPart g k && rootBy g h xs k && cond (eqb d (h .levels)) (leavesPart g k) (innersPart g k)
 
   swap : (k : ℕ) (b : Bool) → cond b (leavesPart (shapeOf base h) k) (innersPart (shapeOf base h) k)
-      ≡ every (λ i. isChild base (state h ls xs hs) (cond b (leafIn (stride base) (state h ls xs hs)) (innerIn (stride base) (state h ls xs hs))) (cond b (h .leaves) (h .inners)) k i (getD (nodeAt (shapeOf base h) k xs .slots) i [])) 0 (nodeAt (shapeOf base h) k xs .len)
+      ≡ every (λ i. isChild base (state h ls xs hs) (cond b (leafIn (stride base) (state h ls xs hs)) (innerIn (stride base) (state h ls xs hs)))
+      (cond b (h .leaves) (h .inners)) k i (getD (nodeAt (shapeOf base h) k xs .slots) i [])) 0 (nodeAt (shapeOf base h) k xs .len)
   unfolding childBy isChild
   swap k true = refl
   swap k false = refl

@@ -54,7 +54,8 @@ module _ (h : Head) (ls xs hs : List ℕ) where
   unfolding isLeaf isFilled heldBy isHeld entryBy isEntry
   whole k d e = rw (← e)
 
-  module _ (g : Shape) (e : g ≡ shapeOf base h) (k : ℕ) (least : ℕ) (el : least ≡ leastLeaf (stride base) (state h [] [] [])) (f : Bool) (ef : f ≡ isFilled base (state h [] [] []) least (nodeAt g k ls)) where
+  module _ (g : Shape) (e : g ≡ shapeOf base h) (k : ℕ) (least : ℕ) (el : least ≡ leastLeaf (stride base) (state h [] [] [])) (f : Bool)
+      (ef : f ≡ isFilled base (state h [] [] []) least (nodeAt g k ls)) where
     filled : f ≡ filledPart g k
     filled = ef ∙ ap (λ (m : ℕ). isFilled base (state h [] [] []) m (nodeAt g k ls)) el
 

@@ -7,6 +7,7 @@ use area::word::parent_of;
 use audit_node::nodes::is_filled;
 use audit_node::nodes::total_in;
 use model::head::Head;
+use model::length::Slot;
 use model::shape::Shape;
 ghost use mathlib.Core.Path.{_≡_};
 ghost use mathlib.Core.List.{[]};
@@ -25,11 +26,13 @@ pub fn depth(inners: &[u32], g: Shape, used: u32, levels: u32, k: u32) -> u32
     requires { ⌜ Area g (length (now inners)) × (used ≤ g .nodes) × (levels ≤ 15) ⌝ }
     ensures { λ r. ⌜ r ≡ depthBy g used (now (inners .entry)) levels k ⌝ }
 {
+    let empty = Slot::EMPTY;
+    let none = empty.child;
     let mut n = levels;
     let mut passed: u32 = 0;
     let mut node = k;
     while 0 < n {
-        if node == 4294967295 {
+        if node == none {
             return passed;
         }
         if node >= used {
@@ -39,7 +42,7 @@ pub fn depth(inners: &[u32], g: Shape, used: u32, levels: u32, k: u32) -> u32
         passed += 1;
         n -= 1;
     }
-    if node == 4294967295 {
+    if node == none {
         return passed;
     }
     passed + 1
@@ -121,12 +124,13 @@ fn is_below(head: Head, inners: &[u32], g: Shape, k: u32) -> bool
     requires { ⌜ Area g (length (now inners)) × (head .inners ≤ g .nodes) × (k < g .nodes) ⌝ }
     ensures { λ r. ⌜ r ≡ rootBy g head (now (inners .entry)) k ⌝ }
 {
+    let empty = Slot::EMPTY;
     let parent = parent_of(inners, g, k);
     let at = at_of(inners, g, k);
     if k != head.root.0 {
         return is_held(inners, g, head.inners, k, parent, at);
     }
-    if parent != 4294967295 {
+    if parent != empty.child {
         return false;
     }
     at == 0

@@ -4,6 +4,7 @@ use area::word::len_of;
 use area::word::length_of;
 use area::word::start_in;
 use model::head::Head;
+use model::length::Slot;
 use model::shape::Shape;
 ghost use mathlib.Core.Path.{_≡_};
 ghost use mathlib.Core.List.{[]};
@@ -43,13 +44,14 @@ fn is_empty_slot(area: &[u32], g: Shape, k: u32, i: usize) -> bool
     requires { ⌜ Area g (length (now area)) × (k < g .nodes) × (i < g .fan) × (g .stride ≡ 3) ⌝ }
     ensures { λ r. ⌜ r ≡ isEmptySlot base (getD (nodeAt g k (now (area .entry)) .slots) i []) ⌝ }
 {
-    if child_of(area, g, k, i) != 4294967295 {
+    let empty = Slot::EMPTY;
+    if child_of(area, g, k, i) != empty.child {
         return false;
     }
-    if length_of(area, g, 0, k, i) != 0 {
+    if length_of(area, g, 0, k, i) != empty.prepare_len {
         return false;
     }
-    if length_of(area, g, 1, k, i) != 0 {
+    if length_of(area, g, 1, k, i) != empty.effect_len {
         return false;
     }
     true

@@ -42,7 +42,8 @@ module _ (s : State) (i : ℕ) where
   before-same (standing.At c) f = refl
   before-same (standing.Refused n) f = refl
 
-  lead-same : (b : Bool) (f : Target → Moved State) → onward (cond b (aim.At target.End) (before (calls.cursor base s i))) f ≡ cond b (f target.End) (withCursor s (calls.cursor base s i) (λ c. f (target.Before c)))
+  lead-same : (b : Bool) (f : Target → Moved State)
+      → onward (cond b (aim.At target.End) (before (calls.cursor base s i))) f ≡ cond b (f target.End) (withCursor s (calls.cursor base s i) (λ c. f (target.Before c)))
   lead-same true f = refl
   lead-same false f = before-same (calls.cursor base s i) f
 

@@ -9,6 +9,7 @@ use model::answer::Target;
 use model::head::Head;
 use model::length::Lengths;
 use model::number::EntryId;
+use model::number::NONE;
 ghost use mathlib.Core.Path.{_≡_};
 ghost use Rattle.model.specs.Length.{listOf};
 ghost use Rattle.model.specs.Kind.{base};
@@ -30,7 +31,7 @@ fn lead(head: Head, leaves: &[u32], inners: &[u32], homes: &[u32], id: EntryId) 
     ensures { λ r. ⌜ r ≡ leadOf (state head (now (leaves .entry)) (now (inners .entry)) (now (homes .entry))) (id .0) ⌝ }
 {
     let i = id.0;
-    if i == 4294967295 {
+    if i == NONE {
         return Aim::At(Target::End);
     }
     match cursor(head, leaves, inners, homes, id) {

@@ -96,7 +96,8 @@ module _ (fan limit : ℕ) (ls xs hs : List ℕ) (o : Opened) (e : o ≡ openedB
   pub make-good : (l : Lengths) (g : Shape) → o ≡ Good g → (s : State) → s ≡ begun base fan limit (listOf l) ls xs hs → reply s outcome.Done ≡ make base fan limit (listOf l) ls xs hs
   unfolding make
   make-good l g d s q =
-      call-good (λ (m : ℕ). reply (state (headOf 0 0 0 0 0 0 0 held.Absent) ls xs hs) (outcome.Refused m)) (λ (y : Shape). reply (begun base fan limit (listOf l) ls xs hs) outcome.Done) _ _ o e g d _ (ap (λ (t : State). reply t outcome.Done) q)
+      call-good (λ (m : ℕ). reply (state (headOf 0 0 0 0 0 0 0 held.Absent) ls xs hs) (outcome.Refused m))
+      (λ (y : Shape). reply (begun base fan limit (listOf l) ls xs hs) outcome.Done) _ _ o e g d _ (ap (λ (t : State). reply t outcome.Done) q)
 
 -- reset
 module _ (s : State) (o : Opened) (e : o ≡ openedBy (areasOf s) (shapeOf base (s .head))) where

@@ -47,8 +47,9 @@ fn begin(
 {
     let slot = Slot::new(0, lengths);
     let x: [u32; 3] = [slot.child, slot.prepare_len, slot.effect_len];
+    let empty = Slot::EMPTY;
     write_first(leaves, g, 0, &x);
-    write_first(inners, g, 4294967295, &x);
+    write_first(inners, g, empty.child, &x);
     homes[0] = 0;
     Head {
         fan: fan,

@@ -17,6 +17,7 @@ use model::answer::Outcome;
 use model::answer::Standing;
 use model::answer::Verdict;
 use model::head::Cursor;
+use model::number::NONE;
 ghost use mathlib.Core.Path.{_≡_};
 ghost use Rattle.model.specs.Answer.{outcomeAnswer, numberAnswer, verdictAnswer, standingAnswer, nextAnswer, namedAnswer, measuredAnswer, comparedAnswer, locatedAnswer, insertedAnswer, dividedAnswer, cursorValues};
 ghost use Rattle.model.specs.Row.{refused, done};
@@ -162,7 +163,7 @@ pub fn standing_of_next(a: Next) -> FlatStanding
         Next::At(c) => standing_at(c),
         Next::Nothing => FlatStanding {
             number: 0,
-            leaf: 4294967295,
+            leaf: NONE,
             slot: 0,
             stamp: 0,
         },

@@ -1,22 +1,13 @@
-// How one node changes: its links, a slot's lengths, a slot put in, a slot divided.
+// How one node changes: a slot's lengths, a slot put in, a slot divided.
 use model::shape::Shape;
 use words::run::change_each;
 use words::run::put;
 use words::run::shift;
 ghost use mathlib.Core.Path.{_≡_};
 ghost use Prim.Native.Nat.{_+_, _<_, _≤_};
-ghost use lib.ListN.{length, getD, set};
+ghost use lib.ListN.{length, getD};
 ghost use Rattle.model.specs.Node.{nodeOf, wordsOf, plus, lengthsAt, withLengths, inserted, childSplit};
 ghost use Rattle.node.specs.Shaped.{Shaped};
-
-// Another parent and another place there.
-pub fn adopt(node: &mut [u32], parent: u32, at: u32)
-    requires { ⌜ 3 ≤ length (now node) ⌝ }
-    ensures { λ _. ⌜ now (node .exit) ≡ set (set (now (node .entry)) 1 parent) 2 at ⌝ }
-{
-    node[1] = parent;
-    node[2] = at;
-}
 
 // Other lengths in slot i (Slot::set_lengths).
 pub fn set_lengths(node: &mut [u32], g: Shape, i: usize, ls: &[u32])

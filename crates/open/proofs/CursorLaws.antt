@@ -1,18 +1,18 @@
 -- What the tests of a cursor answer, and what is known where they give no number. Assumes nothing.
-use mathlib.Core.Path.{_≡_, refl, sym, ap, _∙_}
+use mathlib.Core.Path.{_≡_, sym, ap, _∙_}
 use mathlib.Core.Bool.{Bool, true, false, not, _&&_}
 use mathlib.Core.List.{List, [], _∷_, _++_}
-use Prim.Native.Nat.{ℕ, _+_, _≤_, _<_}
+use Prim.Native.Nat.{ℕ, _≤_, _<_}
 use native.Mathlib.Omega.{arith}
 use native.Mathlib.Nat.{lt-of-lt-of-le}
 use lib.ListN.{length, getD}
 use lib.Dec.{eqb, ltb}
-use borrow.Author.Tests.{lt-ltb, le-ltb, eq-eqb, ltb-true, ltb-false, not-true, not-false}
+use borrow.Author.Tests.{lt-ltb, le-ltb, eq-eqb, ltb-true, ltb-false, not-false}
 use Rattle.model.specs.Kind.{base}
-use Rattle.model.specs.Lists.{Cause, All}
+use Rattle.model.specs.Lists.{All}
 use Rattle.model.specs.Node.{lengths}
 use Rattle.model.specs.State.{State, nodeAt}
-use Rattle.model.specs.Refuse.{shapeOf, opening, current, atCursor, stale, overfull}
+use Rattle.model.specs.Refuse.{shapeOf, opening, current, atCursor, overfull}
 use Rattle.model.specs.Calls.{slotAt}
 use Rattle.model.specs.declared.shape.Shape.{Shape}
 use Rattle.model.specs.declared.head.Cursor.{Cursor}
@@ -20,9 +20,9 @@ use Rattle.area.specs.Area.{Area}
 use Rattle.open.proofs.Bools.{and-true}
 use Rattle.open.proofs.Causes.{opened-first, opened-next, opened-none, opened-stop, opened-more, good-number, good-shape, none-applies, Numbered}
 use Rattle.open.proofs.OpenLaws.{opening-numbered}
-use Rattle.open.proofs.ReadyLaws.{ready, ready-here, leaf-area, view-in}
+use Rattle.open.proofs.ReadyLaws.{ready, ready-here, leaf-area}
 use Rattle.open.specs.Open.{openedBy}
-use Rattle.open.specs.Ready.{Ready, Stands}
+use Rattle.open.specs.Ready.{Stands}
 use Rattle.open.specs.declared.open.Opened.{Opened}
 use Rattle.open.specs.declared.open.Opened.the-variants.{Good, Refused}
 
@@ -97,10 +97,6 @@ pub slot-in : (s : State) (c : Cursor) (g : Shape) → Stands s c g → Area g (
 slot-in s c g h = (leaf-area s g (h .ready), lt-of-lt-of-le (h .leaf) (h .ready .leaves), lt-of-lt-of-le (h .slot) (h .few))
 
 -- and so can its lengths
-pub lengths-in : (s : State) (c : Cursor) (g : Shape) (v : ℕ) → v < 2 → Stands s c g
-    → Area g (length (s .leaves)) × (v + 1 < g .stride) × (c .leaf .0 < g .nodes) × (c .slot < g .fan)
-lengths-in s c g v hv h = let i = slot-in s c g h in (i .0, view-in s g v (h .ready) hv, i .1, i .2)
-
 pub both-in : (s : State) (c : Cursor) (g : Shape) → Stands s c g → Area g (length (s .leaves)) × (g .stride ≡ 3) × (c .leaf .0 < g .nodes) × (c .slot < g .fan)
 both-in s c g h = let i = slot-in s c g h in (i .0, ap (λ (x : Shape). x .stride) (h .ready .same), i .1, i .2)
 

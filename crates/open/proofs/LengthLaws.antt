@@ -7,7 +7,7 @@ use native.Mathlib.Omega.{arith}
 use lib.ListN.{length, getD, take, drop}
 use lib.Seq.{take-all}
 use lib.Dec.{ltb}
-use borrow.Author.Tests.{lt-ltb, le-ltb, ltb-true, ltb-false}
+use borrow.Author.Tests.{ltb-true, ltb-false}
 use Rattle.model.specs.Kind.{base}
 use Rattle.model.specs.Lists.{some, part, range}
 use Rattle.model.specs.Length.{listOf}
@@ -50,13 +50,14 @@ last true = refl
 last false = refl
 
 module _ (given ls : Lengths) where
-  pub more-first : ls .prepare < given .prepare → true ≡ tooMuch base (listOf given) (listOf ls) .applies
+  pub more-first : (b : Bool) → b ≡ ltb (ls .prepare) (given .prepare) → b ≡ true → true ≡ tooMuch base (listOf given) (listOf ls) .applies
   unfolding some range
-  more-first h = rw (lt-ltb (ls .prepare) (given .prepare) h)
+  more-first b e t = rw (sym e ∙ t)
 
-  pub more-second : given .prepare ≤ ls .prepare → ltb (ls .effect) (given .effect) ≡ tooMuch base (listOf given) (listOf ls) .applies
+  pub more-second : (b : Bool) → b ≡ ltb (ls .prepare) (given .prepare) → b ≡ false → (r : Bool) → r ≡ ltb (ls .effect) (given .effect)
+      → r ≡ tooMuch base (listOf given) (listOf ls) .applies
   unfolding some range
-  more-second h = rw (le-ltb (ls .prepare) (given .prepare) h) (last (ltb (ls .effect) (given .effect)))
+  more-second b e f r q = rw (sym e ∙ f) (q ∙ last (ltb (ls .effect) (given .effect)))
 
 -- the slots in use are the first k, which are as many as len or, where that is past the fan, as the fan
 pub in-use : (s fan n k : ℕ) (ws : List ℕ) → n ≡ cond (ltb (getD ws 0 0) fan) (getD ws 0 0) fan → k ≤ n → n ≤ k → slotsFrom s k 3 ws ≡ used (nodeOf s fan ws)
@@ -81,4 +82,5 @@ module _ (h : Head) (xs : List ℕ) (g : Shape) (old new : Lengths) (b : Bool) (
   pub past-second : b ≡ false → (c : Bool) → c ≡ ltb (4294967295 + old .effect) (total 1 (used (nodeAt g (h .root .0) xs)) + new .effect)
       → c ≡ past base (state h [] xs []) (listOf old) (listOf new) .applies
   unfolding some range
-  past-second e c ec = rw (sym (own 0 (old .prepare) (new .prepare)) ∙ sym eb ∙ e) (ec ∙ own 1 (old .effect) (new .effect) ∙ last (ltb (4294967295 + old .effect) (total 1 (used (nodeAt (shapeOf base h) (h .root .0) xs)) + new .effect)))
+  past-second e c ec = rw (sym (own 0 (old .prepare) (new .prepare)) ∙ sym eb ∙ e)
+      (ec ∙ own 1 (old .effect) (new .effect) ∙ last (ltb (4294967295 + old .effect) (total 1 (used (nodeAt (shapeOf base h) (h .root .0) xs)) + new .effect)))

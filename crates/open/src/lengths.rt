@@ -2,6 +2,7 @@
 use area::word::length_of;
 use model::head::Head;
 use model::length::Lengths;
+use model::length::View;
 use model::shape::Shape;
 ghost use mathlib.Core.Path.{_≡_};
 ghost use mathlib.Core.Bool.{cond};
@@ -10,7 +11,7 @@ ghost use Prim.Native.Nat.{_+_, _<_, _≤_};
 ghost use lib.Dec.{ltb};
 ghost use lib.ListN.{length, getD};
 ghost use Rattle.model.specs.Kind.{base};
-ghost use Rattle.model.specs.Length.{listOf};
+ghost use Rattle.model.specs.Length.{listOf, lengthsOf};
 ghost use Rattle.model.specs.Node.{lengths, total, used, nodeOf};
 ghost use Rattle.model.specs.State.{state, nodeAt};
 ghost use Rattle.model.specs.Refuse.{shapeOf, tooMuch, past};
@@ -30,14 +31,21 @@ pub fn lengths_at(leaves: &[u32], g: Shape, k: u32, i: u32) -> Lengths
     }
 }
 
-// Whether lengths are more than an entry has, in either view.
+// Whether lengths are more than an entry has in a view.
+fn more_in(given: Lengths, own: Lengths, view: View) -> bool
+    ensures { λ r. ⌜ r ≡ ltb (lengthsOf own view) (lengthsOf given view) ⌝ }
+{
+    own.of(view) < given.of(view)
+}
+
+// The same in either view.
 pub fn too_much(given: Lengths, own: Lengths) -> bool
     ensures { λ r. ⌜ r ≡ tooMuch base (listOf given) (listOf own) .applies ⌝ }
 {
-    if own.prepare < given.prepare {
+    if more_in(given, own, View::Prepare) {
         return true;
     }
-    own.effect < given.effect
+    more_in(given, own, View::Effect)
 }
 
 // The lengths of all slots in use of a node, in both views.
@@ -90,13 +98,13 @@ fn totals_in(area: &[u32], g: Shape, k: u32) -> Totals
     used_totals(&area[a..e], g)
 }
 
-// Whether a total would pass u32 with new for old.
-fn past_by(sum: u64, old: u32, new: u32) -> bool
+// Whether the total in a view would pass u32 with new for old.
+fn past_in(sum: u64, old: Lengths, new: Lengths, view: View) -> bool
     requires { ⌜ sum ≤ 137438953440 ⌝ }
-    ensures { λ r. ⌜ r ≡ ltb (4294967295 + old) (sum + new) ⌝ }
+    ensures { λ r. ⌜ r ≡ ltb (4294967295 + lengthsOf old view) (sum + lengthsOf new view) ⌝ }
 {
-    let most = 4294967295 + (old as u64);
-    most < sum + (new as u64)
+    let most = 4294967295 + (old.of(view) as u64);
+    most < sum + (new.of(view) as u64)
 }
 
 // Whether either of the root's totals would.
@@ -106,8 +114,8 @@ pub fn past(head: Head, inners: &[u32], g: Shape, old: Lengths, new: Lengths) ->
 {
     let root = head.root.0;
     let t = totals_in(inners, g, root);
-    if past_by(t.prepare, old.prepare, new.prepare) {
+    if past_in(t.prepare, old, new, View::Prepare) {
         return true;
     }
-    past_by(t.effect, old.effect, new.effect)
+    past_in(t.effect, old, new, View::Effect)
 }

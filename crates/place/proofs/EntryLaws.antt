@@ -62,7 +62,8 @@ module _ (g : Shape) (f : ℕ → Node → Node) (w : ℕ) (r : Room) (entries :
 
   module _ (z : r .number ≡ 0) (b : Bool) (ls′ : List ℕ)
       (e : (b ≡ roomyIn g (r .leaf .0) (r .slot) w ls) × (ls′ ≡ cond b (putNode g (r .leaf .0) (f (r .slot) (nodeAt g (r .leaf .0) ls)) ls) ls)) where
-    wrote : ls′ ≡ cond b (putNode g (r .leaf .0) (f (r .slot) (nodeAt g (r .leaf .0) ls)) ls) ls → (y : Bool) → b ≡ y → ls′ ≡ cond y (putNode g (r .leaf .0) (f (r .slot) (nodeAt g (r .leaf .0) ls)) ls) ls
+    wrote : ls′ ≡ cond b (putNode g (r .leaf .0) (f (r .slot) (nodeAt g (r .leaf .0) ls)) ls) ls → (y : Bool) → b ≡ y
+        → ls′ ≡ cond y (putNode g (r .leaf .0) (f (r .slot) (nodeAt g (r .leaf .0) ls)) ls) ls
     wrote q y d = rw (← d) q
 
     came : enter g (f (r .slot)) w (state (headIn r entries h) ls xs hs) (r .leaf .0) (r .slot) ≡ entering g f w m
@@ -77,7 +78,8 @@ module _ (g : Shape) (f : ℕ → Node → Node) (w : ℕ) (r : Room) (entries :
 
     pub entered-done : b ≡ true → change (r .number) (state (headEntered r entries h) ls′ xs (set hs entries (r .leaf .0))) (r .leaf .0) (r .slot) ≡ entering g f w m
     entered-done d =
-        ap (λ (n : ℕ). change n (state (cond (eqb n 0) (withEntry (changing (r .leaf .0) (r .slot) (h .finger)) (headIn r entries h)) (headIn r entries h)) ls′ xs (set hs entries (r .leaf .0))) (r .leaf .0) (r .slot)) z
+        ap (λ (n : ℕ). change n (state (cond (eqb n 0) (withEntry (changing (r .leaf .0) (r .slot) (h .finger)) (headIn r entries h)) (headIn r entries h)) ls′ xs
+        (set hs entries (r .leaf .0))) (r .leaf .0) (r .slot)) z
         ∙ enter-done g (f (r .slot)) w (r .leaf .0) (r .slot) (headIn r entries h) ls xs hs b (e .0) d ls′ _ _ (wrote (e .1) true d) refl refl
         ∙ came
 
@@ -90,7 +92,8 @@ module _ (r : Room) (h after : Head) (ea : after ≡ headIn r (h .entries) h) wh
   head-done z fin h′ ef eh = eh ∙ ap (λ (f : Held). withEntry f after) ef ∙ ap (λ (y : Head). withEntry (changing (r .leaf .0) (r .slot) (y .finger)) y) ea ∙ sym (rw (eq-eqb _ _ z))
 
 -- a change field by field
-pub by-field : {n n′ i i′ : ℕ} {a b : Head} {k k′ : LeafNo} (ls xs hs : List ℕ) → (n ≡ n′) × (a ≡ b) × (k ≡ k′) × (i ≡ i′) → change n (state a ls xs hs) (k .0) i ≡ change n′ (state b ls xs hs) (k′ .0) i′
+pub by-field : {n n′ i i′ : ℕ} {a b : Head} {k k′ : LeafNo} (ls xs hs : List ℕ) → (n ≡ n′) × (a ≡ b) × (k ≡ k′) × (i ≡ i′)
+    → change n (state a ls xs hs) (k .0) i ≡ change n′ (state b ls xs hs) (k′ .0) i′
 by-field ls xs hs (p, q, r, s) = rw (p, q, r, s)
 
 -- a head's own counts

@@ -12,6 +12,7 @@ use area::write::split_child;
 use links::top::Top;
 use model::head::Head;
 use model::length::Lengths;
+use model::length::Slot;
 use model::shape::Shape;
 ghost use mathlib.Core.Path.{_≡_};
 ghost use mathlib.Core.Bool.{cond};
@@ -121,7 +122,8 @@ fn enter(
     requires { ⌜ Fits g (length (now leaves)) (length (now inners)) × (used ≤ g .nodes) × (t .inners ≤ g .nodes) × (1 ≤ t .levels) × (t .levels ≤ 15) × (entries < length (now homes)) × (g .stride ≡ 3) ⌝ }
     ensures { λ r. ⌜ ((h : Head) → change (r .number) (state (headEntered r entries h) (now (leaves .exit)) (now (inners .exit)) (now (homes .exit))) (r .leaf .0) (r .slot) ≡ entering g (λ j. putBy split before j (entries ∷ listOf lengths)) (least split) (makeRoom g (state (counted used (topOf t) entries h) (now (leaves .entry)) (now (inners .entry)) (now (homes .entry))) k i)) ⌝ }
 {
-    let x: [u32; 3] = [entries, lengths.prepare, lengths.effect];
+    let slot = Slot::new(entries, lengths);
+    let x: [u32; 3] = [slot.child, slot.prepare_len, slot.effect_len];
     let s = fixed(g);
     enter_slot(
         leaves,

@@ -15,6 +15,7 @@ use model::answer::NumberReply;
 use model::answer::Outcome;
 use model::answer::OutcomeReply;
 use model::head::Head;
+use model::number::NONE;
 use records::answer::Answer;
 ghost use mathlib.Core.Path.{_≡_};
 ghost use mathlib.Core.List.{[], _∷_};
@@ -145,7 +146,7 @@ pub fn following(head: Head, answer: Following) -> Step
 {
     match answer {
         Following::Entry(i) => done(head, i.0, 0, 0),
-        Following::Nothing => done(head, 4294967295, 0, 0),
+        Following::Nothing => done(head, NONE, 0, 0),
         Following::Refused(n) => refuse(head, n),
     }
 }

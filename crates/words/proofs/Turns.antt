@@ -53,7 +53,14 @@ shift-turn s w q ws h hw hq =
     let l : length (part w (q - w) ws) ≡ q - w = length-part w (q - w) ws (omega arith) in
     let e : q - (w - 1) ≡ q - w + 1 = omega arith in
     let f : w - 1 + 1 ≡ w = omega arith in
-    rw (getD-before (w + s) (w - 1) (part w (q - w) ws) ws (omega arith) (omega arith), put-back (w + s) (w - 1 + s) (getD ws (w - 1) 0) (part w (q - w) ws) ws (omega arith) (omega arith), e, part-front (w - 1) (q - w) ws (omega arith), f)
+    rw (
+      getD-before (w + s) (w - 1) (part w (q - w) ws) ws (omega arith) (omega arith),
+      put-back (w + s) (w - 1 + s) (getD ws (w - 1) 0) (part w (q - w) ws) ws (omega arith)
+          (omega arith),
+      e,
+      part-front (w - 1) (q - w) ws (omega arith),
+      f,
+    )
 
 -- a filled run of words: one word more, and an empty slot made of one
 pub fill-turn : (p w a : ℕ) (now ws : List ℕ) → p ≤ w → w < length ws → now ≡ putAt p (replicate (w - p) a) ws → set now w a ≡ putAt p (replicate (w + 1 - p) a) ws

@@ -34,7 +34,7 @@ part-add-lengths-end c = omega (arith, inside (c .before .before))
 add-lengths-requires : tie.Need-add-lengths-requires
 add-lengths-requires c κs =
     let s = c .before .before .before in
-    (s .pre .0 .shaped, rw lent (length-part _ _ _ (inside (c .before .before .before))), s .pre .2, s .pre .3)
+    (s .pre .0 .shaped, rw lent (length-part _ _ _ (inside (c .before .before .before))), omega (arith, s .pre .2), s .pre .3)
 
 same-length : tie.Need-same-length
 same-length c = search needs
@@ -42,7 +42,8 @@ same-length c = search needs
 returns : tie.Need-returns
 returns c =
     let s = c .before .before .before .before .before .before in
-    lent-back (s .args .k * s .args .g .size) (s .args .g .size) (s .args .area .now) (c .before .before .add-lengths .last .0) (inside (c .before .before .before .before .before .before)) (c .before .before .add-lengths .kept .0) ∙ rw (c .before .before .add-lengths .ensures, lent)
+    lent-back (s .args .k * s .args .g .size) (s .args .g .size) (s .args .area .now) (c .before .before .add-lengths .last .0)
+    (inside (c .before .before .before .before .before .before)) (c .before .before .add-lengths .kept .0) ∙ rw (c .before .before .add-lengths .ensures, lent)
 
 pub raise-in-spec : {M : Type 1} → statement M
 raise-in-spec =

@@ -30,7 +30,7 @@ part-start-end : tie.Need-part-start-end
 part-start-end c = omega (arith, inside c)
 
 start-requires : tie.Need-start-requires
-start-requires c κs = (c .before .before .pre .0 .shaped, rw lent (length-part _ _ _ (inside (c .before))), c .before .before .pre .2, omega (arith, c .before .before .pre .3))
+start-requires c κs = (c .before .before .pre .0 .shaped, rw lent (length-part _ _ _ (inside (c .before))), omega (arith, c .before .before .pre .2), omega (arith, c .before .before .pre .3))
 
 returns : tie.Need-returns
 returns c = rw lent at (c .start .ensures)

@@ -26,13 +26,19 @@ part-set-lengths-end : tie.Need-part-set-lengths-end
 part-set-lengths-end c = ends (c .before .before .args .k) (c .before .before .pre .0) (c .before .before .pre .1)
 
 set-lengths-requires : tie.Need-set-lengths-requires
-set-lengths-requires c κs = rw lent (c .before .before .before .pre .0 .shaped, whole (c .before .before .before .args .k) _ (c .before .before .before .pre .0) (c .before .before .before .pre .1), c .before .before .before .pre .2, c .before .before .before .pre .3)
+set-lengths-requires c κs =
+    let pre = c .before .before .before .pre in
+    let args = c .before .before .before .args in
+    rw lent (pre .0 .shaped, whole (args .k) _ (pre .0) (pre .1), omega (arith, pre .2), pre .3)
 
 same-length : tie.Need-same-length
 same-length c = search needs
 
 returns : tie.Need-returns
-returns c = back (c .before .before .before .before .before .before .args .k) _ _ (withLengths (c .before .before .before .before .before .before .args .i) (c .before .before .before .before .before .before .args .ls .now)) (c .before .before .before .before .before .before .pre .0) (c .before .before .before .before .before .before .pre .1) (c .before .before .set-lengths .kept .0) (c .before .before .set-lengths .ensures)
+returns c =
+    let args = c .before .before .before .before .before .before .args in
+    let pre = c .before .before .before .before .before .before .pre in
+    back (args .k) _ _ (withLengths (args .i) (args .ls .now)) (pre .0) (pre .1) (c .before .before .set-lengths .kept .0) (c .before .before .set-lengths .ensures)
 
 pub set-lengths-spec : {M : Type 1} → statement M
 set-lengths-spec =

@@ -17,16 +17,31 @@ enum-known-g : tie.Need-enum-known-g
 enum-known-g c = search needs
 
 is-sound-requires : tie.Need-is-sound-requires
-is-sound-requires c κs = let r = room _ _ (now (c .before .before .before .before .before .before .before .args .leaves)) (now (c .before .before .before .before .before .before .before .args .inners)) (now (c .before .before .before .before .before .before .before .args .homes)) _ (c .before .before .before .open-areas .ensures) _ (c .before .g .given .1) in (r .same, record { shaped = r .shaped; room = r .leaf-area }, record { shaped = r .shaped; room = r .inner-area }, r .home-area)
+is-sound-requires c κs =
+    let args = c .before .before .before .before .before .before .before .args in
+    let open-areas = c .before .before .before .open-areas in
+    let r = room _ _ (now (args .leaves)) (now (args .inners)) (now (args .homes)) _ (open-areas .ensures) _ (c .before .g .given .1) in
+    (r .same, record { shaped = r .shaped; room = r .leaf-area }, record { shaped = r .shaped; room = r .inner-area }, r .home-area)
 
 returns : tie.Need-returns
-returns c = audit-good (state (c .before .before .before .before .before .before .before .before .before .args .head) (now (c .before .before .before .before .before .before .before .before .before .args .leaves)) (now (c .before .before .before .before .before .before .before .before .before .args .inners)) (now (c .before .before .before .before .before .before .before .before .before .args .homes))) _ (c .before .before .before .before .before .open-areas .ensures) _ (c .before .before .before .g .given .1) _ (c .before .is-sound .ensures) _ (c .if1 .taken)
+returns c =
+    let args = c .before .before .before .before .before .before .before .before .before .args in
+    let open-areas = c .before .before .before .before .before .open-areas in
+    let g = c .before .before .before .g in
+    audit-good (state (args .head) (now (args .leaves)) (now (args .inners)) (now (args .homes))) _ (open-areas .ensures) _ (g .given .1) _ (c .before .is-sound .ensures) _ (c .if1 .taken)
 
 returns-2 : tie.Need-returns-2
-returns-2 c = audit-refused (state (c .before .before .before .before .before .before .before .args .head) (now (c .before .before .before .before .before .before .before .args .leaves)) (now (c .before .before .before .before .before .before .before .args .inners)) (now (c .before .before .before .before .before .before .before .args .homes))) _ (c .before .before .before .open-areas .ensures) _ (c .before .n .given .1)
+returns-2 c =
+    let args = c .before .before .before .before .before .before .before .args in
+    let open-areas = c .before .before .before .open-areas in
+    audit-refused (state (args .head) (now (args .leaves)) (now (args .inners)) (now (args .homes))) _ (open-areas .ensures) _ (c .before .n .given .1)
 
 returns-3 : tie.Need-returns-3
-returns-3 c = audit-good (state (c .before .before .before .before .before .before .before .before .before .args .head) (now (c .before .before .before .before .before .before .before .before .before .args .leaves)) (now (c .before .before .before .before .before .before .before .before .before .args .inners)) (now (c .before .before .before .before .before .before .before .before .before .args .homes))) _ (c .before .before .before .before .before .open-areas .ensures) _ (c .before .before .before .g .given .1) _ (c .before .is-sound .ensures) _ (c .if1 .left)
+returns-3 c =
+    let args = c .before .before .before .before .before .before .before .before .before .args in
+    let open-areas = c .before .before .before .before .before .open-areas in
+    let g = c .before .before .before .g in
+    audit-good (state (args .head) (now (args .leaves)) (now (args .inners)) (now (args .homes))) _ (open-areas .ensures) _ (g .given .1) _ (c .before .is-sound .ensures) _ (c .if1 .left)
 
 pub audit-spec : {M : Type 1} → statement M
 audit-spec =

@@ -23,10 +23,16 @@ loop-holds : tie.Need-loop-holds Inv-loop μ-loop
 loop-holds c = every-all (isInner base (state (c .before .before .args .head) (now (c .before .before .args .leaves)) (now (c .before .before .args .inners)) [])) _
 
 is-inner-requires : tie.Need-is-inner-requires Inv-loop μ-loop
-is-inner-requires c κs = (c .before .before .before .before .pre .0, lt-of-lt-of-le (c .loop-test .taken) (c .before .before .before .before .pre .1))
+is-inner-requires c κs =
+    let pre = c .before .before .before .before .pre in
+    (pre .0, lt-of-lt-of-le (c .loop-test .taken) (pre .1))
 
 returns : tie.Need-returns Inv-loop μ-loop
-returns c = sym (every-stop (isInner base (state (c .before .before .before .before .before .before .args .head) (now (c .before .before .before .before .before .before .args .leaves)) (now (c .before .before .before .before .before .before .args .inners)) [])) _ _ (c .before .before .loop-test .taken) (sym (c .before .is-inner .ensures) ∙ not-true _ (c .if1 .taken))) ∙ c .before .before .before .loop .inv
+returns c =
+    let args = c .before .before .before .before .before .before .args in
+    let the-loop = c .before .before .before .loop in
+    sym (every-stop (isInner base (state (args .head) (now (args .leaves)) (now (args .inners)) [])) _ _ (c .before .before .loop-test .taken)
+    (sym (c .before .is-inner .ensures) ∙ not-true _ (c .if1 .taken))) ∙ the-loop .inv
 
 add-k : tie.Need-add-k Inv-loop μ-loop
 add-k c = omega arith
@@ -35,10 +41,16 @@ loop-less : tie.Need-loop-less Inv-loop μ-loop
 loop-less c = omega arith
 
 loop-again : tie.Need-loop-again Inv-loop μ-loop
-loop-again c = sym (every-on (isInner base (state (c .before .before .before .before .before .before .args .head) (now (c .before .before .before .before .before .before .args .leaves)) (now (c .before .before .before .before .before .before .args .inners)) [])) _ _ (c .before .before .loop-test .taken) (sym (c .before .is-inner .ensures) ∙ not-false _ (c .if1 .left))) ∙ c .before .before .before .loop .inv
+loop-again c =
+    let args = c .before .before .before .before .before .before .args in
+    let the-loop = c .before .before .before .loop in
+    sym (every-on (isInner base (state (args .head) (now (args .leaves)) (now (args .inners)) [])) _ _ (c .before .before .loop-test .taken)
+    (sym (c .before .is-inner .ensures) ∙ not-false _ (c .if1 .left))) ∙ the-loop .inv
 
 returns-2 : tie.Need-returns-2 Inv-loop μ-loop
-returns-2 c = sym (every-end (isInner base (state (c .before .before .before .before .args .head) (now (c .before .before .before .before .args .leaves)) (now (c .before .before .before .before .args .inners)) [])) _ _ (c .loop-test .left)) ∙ c .before .loop .inv
+returns-2 c =
+    let args = c .before .before .before .before .args in
+    sym (every-end (isInner base (state (args .head) (now (args .leaves)) (now (args .inners)) [])) _ _ (c .loop-test .left)) ∙ c .before .loop .inv
 
 pub every-inner-spec : {M : Type 1} → statement M
 every-inner-spec =

@@ -20,13 +20,21 @@ abbrev μ-loop : tie.MeasureT-loop
 μ-loop head leaves inners homes g count k₀ k = count - k
 
 loop-holds : tie.Need-loop-holds Inv-loop μ-loop
-loop-holds c = every-all (isLeaf base (state (c .before .before .before .args .head) (now (c .before .before .before .args .leaves)) (now (c .before .before .before .args .inners)) (now (c .before .before .before .args .homes)))) _
+loop-holds c =
+    let args = c .before .before .before .args in
+    every-all (isLeaf base (state (args .head) (now (args .leaves)) (now (args .inners)) (now (args .homes)))) _
 
 is-leaf-requires : tie.Need-is-leaf-requires Inv-loop μ-loop
-is-leaf-requires c κs = (c .before .before .before .before .before .pre .0, c .before .before .before .before .before .pre .1, lt-of-lt-of-le (c .loop-test .taken) (c .before .before .before .before .before .pre .2))
+is-leaf-requires c κs =
+    let pre = c .before .before .before .before .before .pre in
+    (pre .0, pre .1, lt-of-lt-of-le (c .loop-test .taken) (pre .2))
 
 returns : tie.Need-returns Inv-loop μ-loop
-returns c = sym (every-stop (isLeaf base (state (c .before .before .before .before .before .before .before .args .head) (now (c .before .before .before .before .before .before .before .args .leaves)) (now (c .before .before .before .before .before .before .before .args .inners)) (now (c .before .before .before .before .before .before .before .args .homes)))) _ _ (c .before .before .loop-test .taken) (sym (c .before .is-leaf .ensures) ∙ not-true _ (c .if1 .taken))) ∙ c .before .before .before .loop .inv
+returns c =
+    let args = c .before .before .before .before .before .before .before .args in
+    let the-loop = c .before .before .before .loop in
+    sym (every-stop (isLeaf base (state (args .head) (now (args .leaves)) (now (args .inners)) (now (args .homes)))) _ _ (c .before .before .loop-test .taken)
+    (sym (c .before .is-leaf .ensures) ∙ not-true _ (c .if1 .taken))) ∙ the-loop .inv
 
 add-k : tie.Need-add-k Inv-loop μ-loop
 add-k c = omega arith
@@ -35,10 +43,16 @@ loop-less : tie.Need-loop-less Inv-loop μ-loop
 loop-less c = omega arith
 
 loop-again : tie.Need-loop-again Inv-loop μ-loop
-loop-again c = sym (every-on (isLeaf base (state (c .before .before .before .before .before .before .before .args .head) (now (c .before .before .before .before .before .before .before .args .leaves)) (now (c .before .before .before .before .before .before .before .args .inners)) (now (c .before .before .before .before .before .before .before .args .homes)))) _ _ (c .before .before .loop-test .taken) (sym (c .before .is-leaf .ensures) ∙ not-false _ (c .if1 .left))) ∙ c .before .before .before .loop .inv
+loop-again c =
+    let args = c .before .before .before .before .before .before .before .args in
+    let the-loop = c .before .before .before .loop in
+    sym (every-on (isLeaf base (state (args .head) (now (args .leaves)) (now (args .inners)) (now (args .homes)))) _ _ (c .before .before .loop-test .taken)
+    (sym (c .before .is-leaf .ensures) ∙ not-false _ (c .if1 .left))) ∙ the-loop .inv
 
 returns-2 : tie.Need-returns-2 Inv-loop μ-loop
-returns-2 c = sym (every-end (isLeaf base (state (c .before .before .before .before .before .args .head) (now (c .before .before .before .before .before .args .leaves)) (now (c .before .before .before .before .before .args .inners)) (now (c .before .before .before .before .before .args .homes)))) _ _ (c .loop-test .left)) ∙ c .before .loop .inv
+returns-2 c =
+    let args = c .before .before .before .before .before .args in
+    sym (every-end (isLeaf base (state (args .head) (now (args .leaves)) (now (args .inners)) (now (args .homes)))) _ _ (c .loop-test .left)) ∙ c .before .loop .inv
 
 pub every-leaf-spec : {M : Type 1} → statement M
 every-leaf-spec =

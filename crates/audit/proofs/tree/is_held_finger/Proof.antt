@@ -19,10 +19,14 @@ is-finger-requires : tie.Need-is-finger-requires
 is-finger-requires c κs = search needs
 
 returns : tie.Need-returns
-returns c = ap (isHeldFinger base (state (c .before .before .before .before .args .head) (now (c .before .before .before .before .args .leaves)) (now (c .before .before .before .before .args .inners)) [])) (sym (c .enum-told .given .1))
+returns c =
+    let args = c .before .before .before .before .args in
+    ap (isHeldFinger base (state (args .head) (now (args .leaves)) (now (args .inners)) [])) (sym (c .enum-told .given .1))
 
 returns-2 : tie.Need-returns-2
-returns-2 c = c .is-finger .ensures ∙ ap (isHeldFinger base (state (c .before .before .before .before .before .before .args .head) (now (c .before .before .before .before .before .before .args .leaves)) (now (c .before .before .before .before .before .before .args .inners)) [])) (sym (c .before .before .held .given .1))
+returns-2 c =
+    let args = c .before .before .before .before .before .before .args in
+    c .is-finger .ensures ∙ ap (isHeldFinger base (state (args .head) (now (args .leaves)) (now (args .inners)) [])) (sym (c .before .before .held .given .1))
 
 pub is-held-finger-spec : {M : Type 1} → statement M
 is-held-finger-spec =

@@ -12,7 +12,9 @@ enum-told : tie.Need-enum-told
 enum-told c = search needs
 
 returns : tie.Need-returns
-returns c = ap (isSum (c .before .before .before .args .n)) (sym (c .before .s .given .1))
+returns c =
+    let args = c .before .before .before .args in
+    ap (isSum (args .n)) (sym (c .before .s .given .1))
 
 returns-2 : tie.Need-returns-2
 returns-2 c = search needs

@@ -22,13 +22,17 @@ loop-holds : tie.Need-loop-holds Inv-loop μ-loop
 loop-holds c = (omega arith, omega (arith, sum-all (λ j. nodeAt (c .before .args .g) j (now (c .before .args .leaves)) .len) (c .before .args .count)))
 
 len-of-requires : tie.Need-len-of-requires Inv-loop μ-loop
-len-of-requires c κs = (c .before .before .before .pre .0, lt-of-lt-of-le (c .loop-test .taken) (c .before .before .before .pre .1))
+len-of-requires c κs =
+    let pre = c .before .before .before .pre in
+    (pre .0, lt-of-lt-of-le (c .loop-test .taken) (pre .1))
 
 cast-sum : tie.Need-cast-sum Inv-loop μ-loop
 cast-sum c = search needs
 
 add-sum : tie.Need-add-sum Inv-loop μ-loop
-add-sum c = omega (arith, c .before .before .loop .inv .0, c .before .before .before .before .pre .0 .shaped .areas, c .before .before .before .before .pre .1)
+add-sum c =
+    let pre = c .before .before .before .before .pre in
+    omega (arith, c .before .before .loop .inv .0, pre .0 .shaped .areas, pre .1)
 
 add-k : tie.Need-add-k Inv-loop μ-loop
 add-k c = omega arith
@@ -37,10 +41,17 @@ loop-less : tie.Need-loop-less Inv-loop μ-loop
 loop-less c = omega arith
 
 loop-again : tie.Need-loop-again Inv-loop μ-loop
-loop-again c = (omega (arith, c .before .before .loop .inv .0), rw (c .len-of .ensures) (omega (arith, c .before .before .loop .inv .1, sum-on (λ j. nodeAt (c .before .before .before .before .args .g) j (now (c .before .before .before .before .args .leaves)) .len) (c .before .before .loop .k) (c .before .before .before .before .args .count) (c .before .loop-test .taken))))
+loop-again c =
+    let args = c .before .before .before .before .args in (
+      omega (arith, c .before .before .loop .inv .0),
+      rw (c .len-of .ensures)
+          (omega (arith, c .before .before .loop .inv .1, sum-on (λ j. nodeAt (args .g) j (now (args .leaves)) .len) (c .before .before .loop .k) (args .count) (c .before .loop-test .taken))),
+    )
 
 returns : tie.Need-returns Inv-loop μ-loop
-returns c = omega (arith, c .before .loop .inv .1, sum-end (λ j. nodeAt (c .before .before .before .args .g) j (now (c .before .before .before .args .leaves)) .len) (c .before .loop .k) (c .before .before .before .args .count) (c .loop-test .left))
+returns c =
+    let args = c .before .before .before .args in
+    omega (arith, c .before .loop .inv .1, sum-end (λ j. nodeAt (args .g) j (now (args .leaves)) .len) (c .before .loop .k) (args .count) (c .loop-test .left))
 
 pub slots-used-spec : {M : Type 1} → statement M
 slots-used-spec =

@@ -17,11 +17,15 @@ total-in-requires-2 c κs = search needs
 
 returns-2 : tie.Need-returns-2
 unfolding every
-returns-2 c = rw (← c .before .before .before .total-in .ensures, le-leb _ _ (c .before .before .if1 .left), ← c .before .total-in2 .ensures, lt-leb _ _ (c .if2 .taken))
+returns-2 c =
+    let total-in = c .before .before .before .total-in in
+    rw (← total-in .ensures, le-leb _ _ (c .before .before .if1 .left), ← c .before .total-in2 .ensures, lt-leb _ _ (c .if2 .taken))
 
 returns-3 : tie.Need-returns-3
 unfolding every
-returns-3 c = rw (← c .before .before .before .total-in .ensures, le-leb _ _ (c .before .before .if1 .left), ← c .before .total-in2 .ensures, le-leb _ _ (c .if2 .left))
+returns-3 c =
+    let total-in = c .before .before .before .total-in in
+    rw (← total-in .ensures, le-leb _ _ (c .before .before .if1 .left), ← c .before .total-in2 .ensures, le-leb _ _ (c .if2 .left))
 
 pub totals-spec : {M : Type 1} → statement M
 totals-spec =

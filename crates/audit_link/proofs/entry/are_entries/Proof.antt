@@ -18,13 +18,20 @@ abbrev μ-loop : tie.MeasureT-loop
 μ-loop leaves homes g entries k len i₀ i = len - i
 
 loop-holds : tie.Need-loop-holds Inv-loop μ-loop
-loop-holds c = every-all (entryBy (c .before .before .args .g) (c .before .before .args .entries) (now (c .before .before .args .leaves)) (now (c .before .before .args .homes)) (c .before .before .args .k)) _
+loop-holds c = every-all (entryBy (c .before .before .args .g) (c .before .before .args .entries) (now (c .before .before .args .leaves)) (now (c .before .before .args .homes))
+    (c .before .before .args .k)) _
 
 is-entry-requires : tie.Need-is-entry-requires Inv-loop μ-loop
-is-entry-requires c κs = (c .before .before .before .before .pre .0, c .before .before .before .before .pre .1, c .before .before .before .before .pre .2, lt-of-lt-of-le (c .loop-test .taken) (c .before .before .before .before .pre .3))
+is-entry-requires c κs =
+    let pre = c .before .before .before .before .pre in
+    (pre .0, pre .1, pre .2, lt-of-lt-of-le (c .loop-test .taken) (pre .3))
 
 returns : tie.Need-returns Inv-loop μ-loop
-returns c = sym (every-stop (entryBy (c .before .before .before .before .before .before .args .g) (c .before .before .before .before .before .before .args .entries) (now (c .before .before .before .before .before .before .args .leaves)) (now (c .before .before .before .before .before .before .args .homes)) (c .before .before .before .before .before .before .args .k)) _ _ (c .before .before .loop-test .taken) (sym (c .before .is-entry .ensures) ∙ not-true _ (c .if1 .taken))) ∙ c .before .before .before .loop .inv
+returns c =
+    let args = c .before .before .before .before .before .before .args in
+    let the-loop = c .before .before .before .loop in
+    sym (every-stop (entryBy (args .g) (args .entries) (now (args .leaves)) (now (args .homes)) (args .k)) _ _ (c .before .before .loop-test .taken)
+    (sym (c .before .is-entry .ensures) ∙ not-true _ (c .if1 .taken))) ∙ the-loop .inv
 
 add-i : tie.Need-add-i Inv-loop μ-loop
 add-i c = omega arith
@@ -33,10 +40,16 @@ loop-less : tie.Need-loop-less Inv-loop μ-loop
 loop-less c = omega arith
 
 loop-again : tie.Need-loop-again Inv-loop μ-loop
-loop-again c = sym (every-on (entryBy (c .before .before .before .before .before .before .args .g) (c .before .before .before .before .before .before .args .entries) (now (c .before .before .before .before .before .before .args .leaves)) (now (c .before .before .before .before .before .before .args .homes)) (c .before .before .before .before .before .before .args .k)) _ _ (c .before .before .loop-test .taken) (sym (c .before .is-entry .ensures) ∙ not-false _ (c .if1 .left))) ∙ c .before .before .before .loop .inv
+loop-again c =
+    let args = c .before .before .before .before .before .before .args in
+    let the-loop = c .before .before .before .loop in
+    sym (every-on (entryBy (args .g) (args .entries) (now (args .leaves)) (now (args .homes)) (args .k)) _ _ (c .before .before .loop-test .taken)
+    (sym (c .before .is-entry .ensures) ∙ not-false _ (c .if1 .left))) ∙ the-loop .inv
 
 returns-2 : tie.Need-returns-2 Inv-loop μ-loop
-returns-2 c = sym (every-end (entryBy (c .before .before .before .before .args .g) (c .before .before .before .before .args .entries) (now (c .before .before .before .before .args .leaves)) (now (c .before .before .before .before .args .homes)) (c .before .before .before .before .args .k)) _ _ (c .loop-test .left)) ∙ c .before .loop .inv
+returns-2 c =
+    let args = c .before .before .before .before .args in
+    sym (every-end (entryBy (args .g) (args .entries) (now (args .leaves)) (now (args .homes)) (args .k)) _ _ (c .loop-test .left)) ∙ c .before .loop .inv
 
 pub are-entries-spec : {M : Type 1} → statement M
 are-entries-spec =

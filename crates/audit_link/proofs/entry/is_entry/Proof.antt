@@ -9,7 +9,9 @@ child-of-requires : tie.Need-child-of-requires
 child-of-requires c κs = search needs
 
 returns : tie.Need-returns
-returns c = entry-out (c .before .before .before .before .args .g) _ (now (c .before .before .before .before .args .leaves)) (now (c .before .before .before .before .args .homes)) _ _ _ (c .before .child-of .ensures) (c .if1 .taken)
+returns c =
+    let args = c .before .before .before .before .args in
+    entry-out (args .g) _ (now (args .leaves)) (now (args .homes)) _ _ _ (c .before .child-of .ensures) (c .if1 .taken)
 
 cast-if2 : tie.Need-cast-if2
 cast-if2 c = search needs
@@ -21,13 +23,22 @@ shared-slice-read-if2 : tie.Need-shared-slice-read-if2
 shared-slice-read-if2 c = search needs
 
 returns-2 : tie.Need-returns-2
-returns-2 c = entry-away (c .before .before .before .before .before .before .args .g) _ (now (c .before .before .before .before .before .before .args .leaves)) (now (c .before .before .before .before .before .before .args .homes)) _ _ _ (c .before .before .before .child-of .ensures) (c .before .before .if1 .left) (c .if2 .taken)
+returns-2 c =
+    let args = c .before .before .before .before .before .before .args in
+    let child-of = c .before .before .before .child-of in
+    entry-away (args .g) _ (now (args .leaves)) (now (args .homes)) _ _ _ (child-of .ensures) (c .before .before .if1 .left) (c .if2 .taken)
 
 is-new-requires : tie.Need-is-new-requires
-is-new-requires c κs = (c .before .before .before .before .before .before .pre .0, c .before .before .before .before .before .before .pre .2, c .before .before .before .before .before .before .pre .3)
+is-new-requires c κs =
+    let pre = c .before .before .before .before .before .before .pre in
+    (pre .0, pre .2, pre .3)
 
 returns-3 : tie.Need-returns-3
-returns-3 c = entry-last (c .before .before .before .before .before .before .before .args .g) _ (now (c .before .before .before .before .before .before .before .args .leaves)) (now (c .before .before .before .before .before .before .before .args .homes)) _ _ _ (c .before .before .before .before .child-of .ensures) (c .before .before .before .if1 .left) (c .before .if2 .left) _ (c .is-new .ensures)
+returns-3 c =
+    let args = c .before .before .before .before .before .before .before .args in
+    let child-of = c .before .before .before .before .child-of in
+    let if1 = c .before .before .before .if1 in
+    entry-last (args .g) _ (now (args .leaves)) (now (args .homes)) _ _ _ (child-of .ensures) (if1 .left) (c .before .if2 .left) _ (c .is-new .ensures)
 
 pub is-entry-spec : {M : Type 1} → statement M
 is-entry-spec =

@@ -13,7 +13,11 @@ is-filled-requires : tie.Need-is-filled-requires
 is-filled-requires c κs = search needs
 
 returns : tie.Need-returns
-returns c = leaf-unfilled (c .before .before .before .before .before .before .args .head) (now (c .before .before .before .before .before .before .args .leaves)) (now (c .before .before .before .before .before .before .args .inners)) (now (c .before .before .before .before .before .before .args .homes)) _ (c .before .before .before .before .before .before .pre .0 .same) _ _ (c .before .before .least-leaf .ensures) _ (c .before .is-filled .ensures) (c .if1 .taken)
+returns c =
+    let args = c .before .before .before .before .before .before .args in
+    let pre = c .before .before .before .before .before .before .pre in
+    leaf-unfilled (args .head) (now (args .leaves)) (now (args .inners)) (now (args .homes)) _ (pre .0 .same) _ _ (c .before .before .least-leaf .ensures) _
+    (c .before .is-filled .ensures) (c .if1 .taken)
 
 parent-of-requires : tie.Need-parent-of-requires
 parent-of-requires c κs = search needs
@@ -25,22 +29,63 @@ is-held-requires : tie.Need-is-held-requires
 is-held-requires c κs = search needs
 
 returns-2 : tie.Need-returns-2
-returns-2 c = leaf-unheld (c .before .before .before .before .before .before .before .before .before .before .args .head) (now (c .before .before .before .before .before .before .before .before .before .before .args .leaves)) (now (c .before .before .before .before .before .before .before .before .before .before .args .inners)) (now (c .before .before .before .before .before .before .before .before .before .before .args .homes)) _ (c .before .before .before .before .before .before .before .before .before .before .pre .0 .same) _ _ (c .before .before .before .before .before .before .least-leaf .ensures) _ (c .before .before .before .before .before .is-filled .ensures) (c .before .before .before .before .if1 .left) _ _ (c .before .before .before .parent-of .ensures) (c .before .before .at-of .ensures) _ (c .before .is-held .ensures) (c .if2 .taken)
+returns-2 c =
+    let args = c .before .before .before .before .before .before .before .before .before .before .args in
+    let pre = c .before .before .before .before .before .before .before .before .before .before .pre in
+    let least-leaf = c .before .before .before .before .before .before .least-leaf in
+    let is-filled = c .before .before .before .before .before .is-filled in
+    let if1 = c .before .before .before .before .if1 in
+    let parent-of = c .before .before .before .parent-of in
+    leaf-unheld (args .head) (now (args .leaves)) (now (args .inners)) (now (args .homes)) _ (pre .0 .same) _ _ (least-leaf .ensures) _ (is-filled .ensures) (if1 .left) _ _
+    (parent-of .ensures) (c .before .before .at-of .ensures) _ (c .before .is-held .ensures) (c .if2 .taken)
 
 depth-requires : tie.Need-depth-requires
 depth-requires c κs = search needs
 
 returns-3 : tie.Need-returns-3
-returns-3 c = leaf-uneven (c .before .before .before .before .before .before .before .before .before .before .before .before .args .head) (now (c .before .before .before .before .before .before .before .before .before .before .before .before .args .leaves)) (now (c .before .before .before .before .before .before .before .before .before .before .before .before .args .inners)) (now (c .before .before .before .before .before .before .before .before .before .before .before .before .args .homes)) _ (c .before .before .before .before .before .before .before .before .before .before .before .before .pre .0 .same) _ _ (c .before .before .before .before .before .before .before .before .least-leaf .ensures) _ (c .before .before .before .before .before .before .before .is-filled .ensures) (c .before .before .before .before .before .before .if1 .left) _ _ (c .before .before .before .before .before .parent-of .ensures) (c .before .before .before .before .at-of .ensures) _ (c .before .before .before .is-held .ensures) (c .before .before .if2 .left) _ (c .before .depth .ensures) (c .if3 .taken)
+returns-3 c =
+    let args = c .before .before .before .before .before .before .before .before .before .before .before .before .args in
+    let pre = c .before .before .before .before .before .before .before .before .before .before .before .before .pre in
+    let least-leaf = c .before .before .before .before .before .before .before .before .least-leaf in
+    let is-filled = c .before .before .before .before .before .before .before .is-filled in
+    let if1 = c .before .before .before .before .before .before .if1 in
+    let parent-of = c .before .before .before .before .before .parent-of in
+    let at-of = c .before .before .before .before .at-of in
+    let is-held = c .before .before .before .is-held in
+    leaf-uneven (args .head) (now (args .leaves)) (now (args .inners)) (now (args .homes)) _ (pre .0 .same) _ _ (least-leaf .ensures) _ (is-filled .ensures) (if1 .left) _ _
+    (parent-of .ensures) (at-of .ensures) _ (is-held .ensures) (c .before .before .if2 .left) _ (c .before .depth .ensures) (c .if3 .taken)
 
 len-of-requires : tie.Need-len-of-requires
 len-of-requires c κs = search needs
 
 are-entries-requires : tie.Need-are-entries-requires
-are-entries-requires c κs = (c .before .before .before .before .before .before .before .before .before .before .before .before .before .pre .0 .leaf-area, c .before .before .before .before .before .before .before .before .before .before .before .before .before .pre .1, lt-of-lt-of-le (c .before .before .before .before .before .before .before .before .before .before .before .before .before .pre .2) (c .before .before .before .before .before .before .before .before .before .before .before .before .before .pre .0 .leaves), rw (c .len-of .ensures) (leaf-few (c .before .before .before .before .before .before .before .before .before .before .before .before .before .args .head) (now (c .before .before .before .before .before .before .before .before .before .before .before .before .before .args .leaves)) (now (c .before .before .before .before .before .before .before .before .before .before .before .before .before .args .inners)) (now (c .before .before .before .before .before .before .before .before .before .before .before .before .before .args .homes)) _ (c .before .before .before .before .before .before .before .before .before .before .before .before .before .pre .0 .same) _ _ (c .before .before .before .before .before .before .before .before .before .least-leaf .ensures) _ (c .before .before .before .before .before .before .before .before .is-filled .ensures) (c .before .before .before .before .before .before .before .if1 .left)))
+are-entries-requires c κs =
+    let pre = c .before .before .before .before .before .before .before .before .before .before .before .before .before .pre in
+    let args = c .before .before .before .before .before .before .before .before .before .before .before .before .before .args in
+    let least-leaf = c .before .before .before .before .before .before .before .before .before .least-leaf in
+    let is-filled = c .before .before .before .before .before .before .before .before .is-filled in
+    let if1 = c .before .before .before .before .before .before .before .if1 in (
+      pre .0 .leaf-area,
+      pre .1,
+      lt-of-lt-of-le (pre .2) (pre .0 .leaves),
+      rw (c .len-of .ensures)
+          (leaf-few (args .head) (now (args .leaves)) (now (args .inners)) (now (args .homes)) _ (pre .0 .same) _ _ (least-leaf .ensures) _ (is-filled .ensures) (if1 .left)),
+    )
 
 returns-4 : tie.Need-returns-4
-returns-4 c = leaf-last (c .before .before .before .before .before .before .before .before .before .before .before .before .before .before .args .head) (now (c .before .before .before .before .before .before .before .before .before .before .before .before .before .before .args .leaves)) (now (c .before .before .before .before .before .before .before .before .before .before .before .before .before .before .args .inners)) (now (c .before .before .before .before .before .before .before .before .before .before .before .before .before .before .args .homes)) _ (c .before .before .before .before .before .before .before .before .before .before .before .before .before .before .pre .0 .same) _ _ (c .before .before .before .before .before .before .before .before .before .before .least-leaf .ensures) _ (c .before .before .before .before .before .before .before .before .before .is-filled .ensures) (c .before .before .before .before .before .before .before .before .if1 .left) _ _ (c .before .before .before .before .before .before .before .parent-of .ensures) (c .before .before .before .before .before .before .at-of .ensures) _ (c .before .before .before .before .before .is-held .ensures) (c .before .before .before .before .if2 .left) _ (c .before .before .before .depth .ensures) (c .before .before .if3 .left) _ (c .before .len-of .ensures) _ (c .are-entries .ensures)
+returns-4 c =
+    let args = c .before .before .before .before .before .before .before .before .before .before .before .before .before .before .args in
+    let pre = c .before .before .before .before .before .before .before .before .before .before .before .before .before .before .pre in
+    let least-leaf = c .before .before .before .before .before .before .before .before .before .before .least-leaf in
+    let is-filled = c .before .before .before .before .before .before .before .before .before .is-filled in
+    let if1 = c .before .before .before .before .before .before .before .before .if1 in
+    let parent-of = c .before .before .before .before .before .before .before .parent-of in
+    let at-of = c .before .before .before .before .before .before .at-of in
+    let is-held = c .before .before .before .before .before .is-held in
+    let if2 = c .before .before .before .before .if2 in
+    let depth = c .before .before .before .depth in
+    leaf-last (args .head) (now (args .leaves)) (now (args .inners)) (now (args .homes)) _ (pre .0 .same) _ _ (least-leaf .ensures) _ (is-filled .ensures) (if1 .left) _ _
+    (parent-of .ensures) (at-of .ensures) _ (is-held .ensures) (if2 .left) _ (depth .ensures) (c .before .before .if3 .left) _ (c .before .len-of .ensures) _ (c .are-entries .ensures)
 
 pub is-leaf-spec : {M : Type 1} → statement M
 is-leaf-spec =

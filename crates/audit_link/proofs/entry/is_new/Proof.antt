@@ -25,10 +25,16 @@ cast-child-of : tie.Need-cast-child-of Inv-loop μ-loop
 cast-child-of c = search needs
 
 child-of-requires : tie.Need-child-of-requires Inv-loop μ-loop
-child-of-requires c κs = (c .before .before .before .pre .0, c .before .before .before .pre .1, lt-trans (c .loop-test .taken) (c .before .before .before .pre .2))
+child-of-requires c κs =
+    let pre = c .before .before .before .pre in
+    (pre .0, pre .1, lt-trans (c .loop-test .taken) (pre .2))
 
 returns : tie.Need-returns Inv-loop μ-loop
-returns c = sym (every-stop (isOther (nodeAt (c .before .before .before .before .before .args .g) (c .before .before .before .before .before .args .k) (now (c .before .before .before .before .before .args .leaves))) (c .before .before .before .before .before .args .id)) _ _ (c .before .before .loop-test .taken) (other-met (nodeAt (c .before .before .before .before .before .args .g) (c .before .before .before .before .before .args .k) (now (c .before .before .before .before .before .args .leaves))) (c .before .before .before .before .before .args .id) (c .before .before .before .loop .j) _ (c .before .child-of .ensures) (c .if1 .taken))) ∙ c .before .before .before .loop .inv
+returns c =
+    let args = c .before .before .before .before .before .args in
+    let the-loop = c .before .before .before .loop in
+    sym (every-stop (isOther (nodeAt (args .g) (args .k) (now (args .leaves))) (args .id)) _ _ (c .before .before .loop-test .taken)
+    (other-met (nodeAt (args .g) (args .k) (now (args .leaves))) (args .id) (the-loop .j) _ (c .before .child-of .ensures) (c .if1 .taken))) ∙ the-loop .inv
 
 add-j : tie.Need-add-j Inv-loop μ-loop
 add-j c = omega arith
@@ -37,10 +43,16 @@ loop-less : tie.Need-loop-less Inv-loop μ-loop
 loop-less c = omega arith
 
 loop-again : tie.Need-loop-again Inv-loop μ-loop
-loop-again c = sym (every-on (isOther (nodeAt (c .before .before .before .before .before .args .g) (c .before .before .before .before .before .args .k) (now (c .before .before .before .before .before .args .leaves))) (c .before .before .before .before .before .args .id)) _ _ (c .before .before .loop-test .taken) (other-passed (nodeAt (c .before .before .before .before .before .args .g) (c .before .before .before .before .before .args .k) (now (c .before .before .before .before .before .args .leaves))) (c .before .before .before .before .before .args .id) (c .before .before .before .loop .j) _ (c .before .child-of .ensures) (c .if1 .left))) ∙ c .before .before .before .loop .inv
+loop-again c =
+    let args = c .before .before .before .before .before .args in
+    let the-loop = c .before .before .before .loop in
+    sym (every-on (isOther (nodeAt (args .g) (args .k) (now (args .leaves))) (args .id)) _ _ (c .before .before .loop-test .taken)
+    (other-passed (nodeAt (args .g) (args .k) (now (args .leaves))) (args .id) (the-loop .j) _ (c .before .child-of .ensures) (c .if1 .left))) ∙ the-loop .inv
 
 returns-2 : tie.Need-returns-2 Inv-loop μ-loop
-returns-2 c = sym (every-end (isOther (nodeAt (c .before .before .before .args .g) (c .before .before .before .args .k) (now (c .before .before .before .args .leaves))) (c .before .before .before .args .id)) _ _ (c .loop-test .left)) ∙ c .before .loop .inv
+returns-2 c =
+    let args = c .before .before .before .args in
+    sym (every-end (isOther (nodeAt (args .g) (args .k) (now (args .leaves))) (args .id)) _ _ (c .loop-test .left)) ∙ c .before .loop .inv
 
 pub is-new-spec : {M : Type 1} → statement M
 is-new-spec =

@@ -18,13 +18,20 @@ abbrev μ-loop : tie.MeasureT-loop
 μ-loop inners low g used k len i₀ i = len - i
 
 loop-holds : tie.Need-loop-holds Inv-loop μ-loop
-loop-holds c = every-all (childBy (c .before .before .args .g) (c .before .before .args .used) (now (c .before .before .args .low)) (now (c .before .before .args .inners)) (c .before .before .args .k)) _
+loop-holds c = every-all (childBy (c .before .before .args .g) (c .before .before .args .used) (now (c .before .before .args .low)) (now (c .before .before .args .inners))
+    (c .before .before .args .k)) _
 
 is-child-requires : tie.Need-is-child-requires Inv-loop μ-loop
-is-child-requires c κs = (c .before .before .before .before .pre .0, c .before .before .before .before .pre .1, c .before .before .before .before .pre .2, c .before .before .before .before .pre .3, lt-of-lt-of-le (c .loop-test .taken) (c .before .before .before .before .pre .4), c .before .before .before .before .pre .5)
+is-child-requires c κs =
+    let pre = c .before .before .before .before .pre in
+    (pre .0, pre .1, pre .2, pre .3, lt-of-lt-of-le (c .loop-test .taken) (pre .4), pre .5)
 
 returns : tie.Need-returns Inv-loop μ-loop
-returns c = sym (every-stop (childBy (c .before .before .before .before .before .before .args .g) (c .before .before .before .before .before .before .args .used) (now (c .before .before .before .before .before .before .args .low)) (now (c .before .before .before .before .before .before .args .inners)) (c .before .before .before .before .before .before .args .k)) _ _ (c .before .before .loop-test .taken) (sym (c .before .is-child .ensures) ∙ not-true _ (c .if1 .taken))) ∙ c .before .before .before .loop .inv
+returns c =
+    let args = c .before .before .before .before .before .before .args in
+    let the-loop = c .before .before .before .loop in
+    sym (every-stop (childBy (args .g) (args .used) (now (args .low)) (now (args .inners)) (args .k)) _ _ (c .before .before .loop-test .taken)
+    (sym (c .before .is-child .ensures) ∙ not-true _ (c .if1 .taken))) ∙ the-loop .inv
 
 add-i : tie.Need-add-i Inv-loop μ-loop
 add-i c = omega arith
@@ -33,10 +40,16 @@ loop-less : tie.Need-loop-less Inv-loop μ-loop
 loop-less c = omega arith
 
 loop-again : tie.Need-loop-again Inv-loop μ-loop
-loop-again c = sym (every-on (childBy (c .before .before .before .before .before .before .args .g) (c .before .before .before .before .before .before .args .used) (now (c .before .before .before .before .before .before .args .low)) (now (c .before .before .before .before .before .before .args .inners)) (c .before .before .before .before .before .before .args .k)) _ _ (c .before .before .loop-test .taken) (sym (c .before .is-child .ensures) ∙ not-false _ (c .if1 .left))) ∙ c .before .before .before .loop .inv
+loop-again c =
+    let args = c .before .before .before .before .before .before .args in
+    let the-loop = c .before .before .before .loop in
+    sym (every-on (childBy (args .g) (args .used) (now (args .low)) (now (args .inners)) (args .k)) _ _ (c .before .before .loop-test .taken)
+    (sym (c .before .is-child .ensures) ∙ not-false _ (c .if1 .left))) ∙ the-loop .inv
 
 returns-2 : tie.Need-returns-2 Inv-loop μ-loop
-returns-2 c = sym (every-end (childBy (c .before .before .before .before .args .g) (c .before .before .before .before .args .used) (now (c .before .before .before .before .args .low)) (now (c .before .before .before .before .args .inners)) (c .before .before .before .before .args .k)) _ _ (c .loop-test .left)) ∙ c .before .loop .inv
+returns-2 c =
+    let args = c .before .before .before .before .args in
+    sym (every-end (childBy (args .g) (args .used) (now (args .low)) (now (args .inners)) (args .k)) _ _ (c .loop-test .left)) ∙ c .before .loop .inv
 
 pub are-children-spec : {M : Type 1} → statement M
 are-children-spec =

@@ -13,10 +13,16 @@ depth-requires : tie.Need-depth-requires
 depth-requires c κs = search needs
 
 returns : tie.Need-returns
-returns c = inner-low (c .before .before .before .before .args .head) (now (c .before .before .before .before .args .leaves)) (now (c .before .before .before .before .args .inners)) [] _ (c .before .before .before .before .pre .0 .same) _ _ (c .before .depth .ensures) (c .if1 .taken)
+returns c =
+    let args = c .before .before .before .before .args in
+    let pre = c .before .before .before .before .pre in
+    inner-low (args .head) (now (args .leaves)) (now (args .inners)) [] _ (pre .0 .same) _ _ (c .before .depth .ensures) (c .if1 .taken)
 
 returns-2 : tie.Need-returns-2
-returns-2 c = inner-deep (c .before .before .before .before .before .args .head) (now (c .before .before .before .before .before .args .leaves)) (now (c .before .before .before .before .before .args .inners)) [] _ (c .before .before .before .before .before .pre .0 .same) _ _ (c .before .before .depth .ensures) (c .before .if1 .left) (c .if2 .taken)
+returns-2 c =
+    let args = c .before .before .before .before .before .args in
+    let pre = c .before .before .before .before .before .pre in
+    inner-deep (args .head) (now (args .leaves)) (now (args .inners)) [] _ (pre .0 .same) _ _ (c .before .before .depth .ensures) (c .before .if1 .left) (c .if2 .taken)
 
 least-inner-requires : tie.Need-least-inner-requires
 least-inner-requires c κs = search needs
@@ -25,28 +31,104 @@ is-filled-requires : tie.Need-is-filled-requires
 is-filled-requires c κs = search needs
 
 returns-3 : tie.Need-returns-3
-returns-3 c = inner-unfilled (c .before .before .before .before .before .before .before .before .args .head) (now (c .before .before .before .before .before .before .before .before .args .leaves)) (now (c .before .before .before .before .before .before .before .before .args .inners)) [] _ (c .before .before .before .before .before .before .before .before .pre .0 .same) _ _ (c .before .before .before .before .before .depth .ensures) (c .before .before .before .before .if1 .left) (c .before .before .before .if2 .left) _ (c .before .before .least-inner .ensures) _ (c .before .is-filled .ensures) (c .if3 .taken)
+returns-3 c =
+    let args = c .before .before .before .before .before .before .before .before .args in
+    let pre = c .before .before .before .before .before .before .before .before .pre in
+    let depth = c .before .before .before .before .before .depth in
+    let if1 = c .before .before .before .before .if1 in
+    let if2 = c .before .before .before .if2 in
+    inner-unfilled (args .head) (now (args .leaves)) (now (args .inners)) [] _ (pre .0 .same) _ _ (depth .ensures) (if1 .left) (if2 .left) _
+    (c .before .before .least-inner .ensures) _ (c .before .is-filled .ensures) (c .if3 .taken)
 
 is-below-requires : tie.Need-is-below-requires
 is-below-requires c κs = search needs
 
 returns-4 : tie.Need-returns-4
-returns-4 c = inner-misplaced (c .before .before .before .before .before .before .before .before .before .before .args .head) (now (c .before .before .before .before .before .before .before .before .before .before .args .leaves)) (now (c .before .before .before .before .before .before .before .before .before .before .args .inners)) [] _ (c .before .before .before .before .before .before .before .before .before .before .pre .0 .same) _ _ (c .before .before .before .before .before .before .before .depth .ensures) (c .before .before .before .before .before .before .if1 .left) (c .before .before .before .before .before .if2 .left) _ (c .before .before .before .before .least-inner .ensures) _ (c .before .before .before .is-filled .ensures) (c .before .before .if3 .left) _ (c .before .is-below .ensures) (c .if4 .taken)
+returns-4 c =
+    let args = c .before .before .before .before .before .before .before .before .before .before .args in
+    let pre = c .before .before .before .before .before .before .before .before .before .before .pre in
+    let depth = c .before .before .before .before .before .before .before .depth in
+    let if1 = c .before .before .before .before .before .before .if1 in
+    let if2 = c .before .before .before .before .before .if2 in
+    let least-inner = c .before .before .before .before .least-inner in
+    let is-filled = c .before .before .before .is-filled in
+    inner-misplaced (args .head) (now (args .leaves)) (now (args .inners)) [] _ (pre .0 .same) _ _ (depth .ensures) (if1 .left) (if2 .left) _ (least-inner .ensures) _
+    (is-filled .ensures) (c .before .before .if3 .left) _ (c .before .is-below .ensures) (c .if4 .taken)
 
 len-of-requires : tie.Need-len-of-requires
 len-of-requires c κs = search needs
 
 are-children-requires : tie.Need-are-children-requires
-are-children-requires c κs = (c .before .before .before .before .before .before .before .before .before .before .before .before .pre .0 .inner-area, c .before .before .before .before .before .before .before .before .before .before .before .before .pre .0 .leaf-area, c .before .before .before .before .before .before .before .before .before .before .before .before .pre .0 .leaves, lt-of-lt-of-le (c .before .before .before .before .before .before .before .before .before .before .before .before .pre .1) (c .before .before .before .before .before .before .before .before .before .before .before .before .pre .0 .inners), rw (c .before .len-of .ensures) (inner-few (c .before .before .before .before .before .before .before .before .before .before .before .before .args .head) (now (c .before .before .before .before .before .before .before .before .before .before .before .before .args .leaves)) (now (c .before .before .before .before .before .before .before .before .before .before .before .before .args .inners)) [] _ (c .before .before .before .before .before .before .before .before .before .before .before .before .pre .0 .same) _ _ (c .before .before .before .before .before .before .before .before .before .depth .ensures) (c .before .before .before .before .before .before .before .before .if1 .left) (c .before .before .before .before .before .before .before .if2 .left) _ (c .before .before .before .before .before .before .least-inner .ensures) _ (c .before .before .before .before .before .is-filled .ensures) (c .before .before .before .before .if3 .left) _ (c .before .before .before .is-below .ensures)), ap (λ (x : Shape). x .stride) (c .before .before .before .before .before .before .before .before .before .before .before .before .pre .0 .same))
+are-children-requires c κs =
+    let pre = c .before .before .before .before .before .before .before .before .before .before .before .before .pre in
+    let args = c .before .before .before .before .before .before .before .before .before .before .before .before .args in
+    let depth = c .before .before .before .before .before .before .before .before .before .depth in
+    let if1 = c .before .before .before .before .before .before .before .before .if1 in
+    let if2 = c .before .before .before .before .before .before .before .if2 in
+    let least-inner = c .before .before .before .before .before .before .least-inner in
+    let is-filled = c .before .before .before .before .before .is-filled in
+    let if3 = c .before .before .before .before .if3 in
+    let is-below = c .before .before .before .is-below in (
+      pre .0 .inner-area,
+      pre .0 .leaf-area,
+      pre .0 .leaves,
+      lt-of-lt-of-le (pre .1) (pre .0 .inners),
+      rw (c .before .len-of .ensures)
+          (inner-few (args .head) (now (args .leaves)) (now (args .inners)) [] _ (pre .0 .same) _ _ (depth .ensures) (if1 .left) (if2 .left) _ (least-inner .ensures) _
+          (is-filled .ensures) (if3 .left) _ (is-below .ensures)),
+      ap (λ (x : Shape). x .stride) (pre .0 .same),
+    )
 
 returns-5 : tie.Need-returns-5
-returns-5 c = inner-lowest (c .before .before .before .before .before .before .before .before .before .before .before .before .before .args .head) (now (c .before .before .before .before .before .before .before .before .before .before .before .before .before .args .leaves)) (now (c .before .before .before .before .before .before .before .before .before .before .before .before .before .args .inners)) [] _ (c .before .before .before .before .before .before .before .before .before .before .before .before .before .pre .0 .same) _ _ (c .before .before .before .before .before .before .before .before .before .before .depth .ensures) (c .before .before .before .before .before .before .before .before .before .if1 .left) (c .before .before .before .before .before .before .before .before .if2 .left) _ (c .before .before .before .before .before .before .before .least-inner .ensures) _ (c .before .before .before .before .before .before .is-filled .ensures) (c .before .before .before .before .before .if3 .left) _ (c .before .before .before .before .is-below .ensures) (c .before .before .before .if4 .left) _ (c .before .before .len-of .ensures) _ (c .before .if5 .taken) (c .are-children .ensures)
+returns-5 c =
+    let args = c .before .before .before .before .before .before .before .before .before .before .before .before .before .args in
+    let pre = c .before .before .before .before .before .before .before .before .before .before .before .before .before .pre in
+    let depth = c .before .before .before .before .before .before .before .before .before .before .depth in
+    let if1 = c .before .before .before .before .before .before .before .before .before .if1 in
+    let if2 = c .before .before .before .before .before .before .before .before .if2 in
+    let least-inner = c .before .before .before .before .before .before .before .least-inner in
+    let is-filled = c .before .before .before .before .before .before .is-filled in
+    let if3 = c .before .before .before .before .before .if3 in
+    let is-below = c .before .before .before .before .is-below in
+    let if4 = c .before .before .before .if4 in
+    inner-lowest (args .head) (now (args .leaves)) (now (args .inners)) [] _ (pre .0 .same) _ _ (depth .ensures) (if1 .left) (if2 .left) _ (least-inner .ensures) _
+    (is-filled .ensures) (if3 .left) _ (is-below .ensures) (if4 .left) _ (c .before .before .len-of .ensures) _ (c .before .if5 .taken) (c .are-children .ensures)
 
 are-children-requires-2 : tie.Need-are-children-requires-2
-are-children-requires-2 c κs = (c .before .before .before .before .before .before .before .before .before .before .before .before .pre .0 .inner-area, c .before .before .before .before .before .before .before .before .before .before .before .before .pre .0 .inner-area, c .before .before .before .before .before .before .before .before .before .before .before .before .pre .0 .inners, lt-of-lt-of-le (c .before .before .before .before .before .before .before .before .before .before .before .before .pre .1) (c .before .before .before .before .before .before .before .before .before .before .before .before .pre .0 .inners), rw (c .before .len-of .ensures) (inner-few (c .before .before .before .before .before .before .before .before .before .before .before .before .args .head) (now (c .before .before .before .before .before .before .before .before .before .before .before .before .args .leaves)) (now (c .before .before .before .before .before .before .before .before .before .before .before .before .args .inners)) [] _ (c .before .before .before .before .before .before .before .before .before .before .before .before .pre .0 .same) _ _ (c .before .before .before .before .before .before .before .before .before .depth .ensures) (c .before .before .before .before .before .before .before .before .if1 .left) (c .before .before .before .before .before .before .before .if2 .left) _ (c .before .before .before .before .before .before .least-inner .ensures) _ (c .before .before .before .before .before .is-filled .ensures) (c .before .before .before .before .if3 .left) _ (c .before .before .before .is-below .ensures)), ap (λ (x : Shape). x .stride) (c .before .before .before .before .before .before .before .before .before .before .before .before .pre .0 .same))
+are-children-requires-2 c κs =
+    let pre = c .before .before .before .before .before .before .before .before .before .before .before .before .pre in
+    let args = c .before .before .before .before .before .before .before .before .before .before .before .before .args in
+    let depth = c .before .before .before .before .before .before .before .before .before .depth in
+    let if1 = c .before .before .before .before .before .before .before .before .if1 in
+    let if2 = c .before .before .before .before .before .before .before .if2 in
+    let least-inner = c .before .before .before .before .before .before .least-inner in
+    let is-filled = c .before .before .before .before .before .is-filled in
+    let if3 = c .before .before .before .before .if3 in
+    let is-below = c .before .before .before .is-below in (
+      pre .0 .inner-area,
+      pre .0 .inner-area,
+      pre .0 .inners,
+      lt-of-lt-of-le (pre .1) (pre .0 .inners),
+      rw (c .before .len-of .ensures)
+          (inner-few (args .head) (now (args .leaves)) (now (args .inners)) [] _ (pre .0 .same) _ _ (depth .ensures) (if1 .left) (if2 .left) _ (least-inner .ensures) _
+          (is-filled .ensures) (if3 .left) _ (is-below .ensures)),
+      ap (λ (x : Shape). x .stride) (pre .0 .same),
+    )
 
 returns-6 : tie.Need-returns-6
-returns-6 c = inner-higher (c .before .before .before .before .before .before .before .before .before .before .before .before .before .args .head) (now (c .before .before .before .before .before .before .before .before .before .before .before .before .before .args .leaves)) (now (c .before .before .before .before .before .before .before .before .before .before .before .before .before .args .inners)) [] _ (c .before .before .before .before .before .before .before .before .before .before .before .before .before .pre .0 .same) _ _ (c .before .before .before .before .before .before .before .before .before .before .depth .ensures) (c .before .before .before .before .before .before .before .before .before .if1 .left) (c .before .before .before .before .before .before .before .before .if2 .left) _ (c .before .before .before .before .before .before .before .least-inner .ensures) _ (c .before .before .before .before .before .before .is-filled .ensures) (c .before .before .before .before .before .if3 .left) _ (c .before .before .before .before .is-below .ensures) (c .before .before .before .if4 .left) _ (c .before .before .len-of .ensures) _ (c .before .if5 .left) (c .are-children2 .ensures)
+returns-6 c =
+    let args = c .before .before .before .before .before .before .before .before .before .before .before .before .before .args in
+    let pre = c .before .before .before .before .before .before .before .before .before .before .before .before .before .pre in
+    let depth = c .before .before .before .before .before .before .before .before .before .before .depth in
+    let if1 = c .before .before .before .before .before .before .before .before .before .if1 in
+    let if2 = c .before .before .before .before .before .before .before .before .if2 in
+    let least-inner = c .before .before .before .before .before .before .before .least-inner in
+    let is-filled = c .before .before .before .before .before .before .is-filled in
+    let if3 = c .before .before .before .before .before .if3 in
+    let is-below = c .before .before .before .before .is-below in
+    let if4 = c .before .before .before .if4 in
+    inner-higher (args .head) (now (args .leaves)) (now (args .inners)) [] _ (pre .0 .same) _ _ (depth .ensures) (if1 .left) (if2 .left) _ (least-inner .ensures) _
+    (is-filled .ensures) (if3 .left) _ (is-below .ensures) (if4 .left) _ (c .before .before .len-of .ensures) _ (c .before .if5 .left) (c .are-children2 .ensures)
 
 pub is-inner-spec : {M : Type 1} → statement M
 is-inner-spec =

@@ -24,22 +24,36 @@ loop-holds : tie.Need-loop-holds Inv-loop μ-loop
 loop-holds c = refl
 
 is-empty-slot-requires : tie.Need-is-empty-slot-requires Inv-loop μ-loop
-is-empty-slot-requires c κs = (c .before .before .before .pre .0, c .before .before .before .pre .1, c .loop-test .taken, c .before .before .before .pre .2)
+is-empty-slot-requires c κs =
+    let pre = c .before .before .before .pre in
+    (pre .0, pre .1, c .loop-test .taken, pre .2)
 
 returns : tie.Need-returns Inv-loop μ-loop
-returns c = sym (every-stop (λ j. isEmptySlot base (getD (nodeAt (c .before .before .before .before .before .args .g) (c .before .before .before .before .before .args .k) (now (c .before .before .before .before .before .args .area)) .slots) j [])) _ _ (c .before .before .loop-test .taken) (sym (c .before .is-empty-slot .ensures) ∙ not-true _ (c .if1 .taken))) ∙ c .before .before .before .loop .inv
+returns c =
+    let args = c .before .before .before .before .before .args in
+    let the-loop = c .before .before .before .loop in
+    sym (every-stop (λ j. isEmptySlot base (getD (nodeAt (args .g) (args .k) (now (args .area)) .slots) j [])) _ _ (c .before .before .loop-test .taken)
+    (sym (c .before .is-empty-slot .ensures) ∙ not-true _ (c .if1 .taken))) ∙ the-loop .inv
 
 add-i : tie.Need-add-i Inv-loop μ-loop
-add-i c = omega (arith, c .before .before .before .before .before .pre .0 .shaped .few)
+add-i c =
+    let pre = c .before .before .before .before .before .pre in
+    omega (arith, pre .0 .shaped .few)
 
 loop-less : tie.Need-loop-less Inv-loop μ-loop
 loop-less c = omega arith
 
 loop-again : tie.Need-loop-again Inv-loop μ-loop
-loop-again c = sym (every-on (λ j. isEmptySlot base (getD (nodeAt (c .before .before .before .before .before .args .g) (c .before .before .before .before .before .args .k) (now (c .before .before .before .before .before .args .area)) .slots) j [])) _ _ (c .before .before .loop-test .taken) (sym (c .before .is-empty-slot .ensures) ∙ not-false _ (c .if1 .left))) ∙ c .before .before .before .loop .inv
+loop-again c =
+    let args = c .before .before .before .before .before .args in
+    let the-loop = c .before .before .before .loop in
+    sym (every-on (λ j. isEmptySlot base (getD (nodeAt (args .g) (args .k) (now (args .area)) .slots) j [])) _ _ (c .before .before .loop-test .taken)
+    (sym (c .before .is-empty-slot .ensures) ∙ not-false _ (c .if1 .left))) ∙ the-loop .inv
 
 returns-2 : tie.Need-returns-2 Inv-loop μ-loop
-returns-2 c = sym (every-end (λ j. isEmptySlot base (getD (nodeAt (c .before .before .before .args .g) (c .before .before .before .args .k) (now (c .before .before .before .args .area)) .slots) j [])) _ _ (c .loop-test .left)) ∙ c .before .loop .inv
+returns-2 c =
+    let args = c .before .before .before .args in
+    sym (every-end (λ j. isEmptySlot base (getD (nodeAt (args .g) (args .k) (now (args .area)) .slots) j [])) _ _ (c .loop-test .left)) ∙ c .before .loop .inv
 
 pub is-empty-from-spec : {M : Type 1} → statement M
 is-empty-from-spec =

@@ -18,7 +18,9 @@ start-in-requires-2 : tie.Need-start-in-requires-2
 start-in-requires-2 c κs = (c .before .before .pre .0, c .before .before .pre .1, c .before .before .pre .2, omega arith)
 
 returns-2 : tie.Need-returns-2
-returns-2 c = c .start-in2 .ensures .0 ∙ start-over (c .before .before .before .args .g) _ _ _ _ (c .before .if1 .left)
+returns-2 c =
+    let args = c .before .before .before .args in
+    c .start-in2 .ensures .0 ∙ start-over (args .g) _ _ _ _ (c .before .if1 .left)
 
 pub start-any-spec : {M : Type 1} → statement M
 start-any-spec = tie.close (tie.spec start-in-requires returns cast-start-in start-in-requires-2 returns-2)

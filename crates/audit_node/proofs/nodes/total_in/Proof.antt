@@ -1,5 +1,4 @@
 -- `audit_node::nodes::total_in`: the part that is lent holds the node's words.
-use borrow.Author.Needs.{needs}
 use Prim.Native.Nat.{_+_, _*_, _≤_}
 use native.Mathlib.Omega.{arith}
 use lib.ListN.{length}
@@ -31,7 +30,12 @@ part-used-total-end : tie.Need-part-used-total-end
 part-used-total-end c = omega (arith, inside c)
 
 used-total-requires : tie.Need-used-total-requires
-used-total-requires c κs = (c .before .before .pre .0 .shaped, rw lent (node-length (c .before .before .args .g) _ _ (c .before .before .pre .1) (c .before .before .pre .0 .room)), c .before .before .pre .2)
+used-total-requires c κs = (
+  c .before .before .pre .0 .shaped,
+  rw lent
+      (node-length (c .before .before .args .g) _ _ (c .before .before .pre .1) (c .before .before .pre .0 .room)),
+  omega (arith, c .before .before .pre .2),
+)
 
 returns : tie.Need-returns
 returns c = rw lent at (c .used-total .ensures .0)

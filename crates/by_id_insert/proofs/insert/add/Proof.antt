@@ -27,19 +27,31 @@ same-length-3 : tie.Need-same-length-3
 same-length-3 c = refl
 
 returns : tie.Need-returns
-returns c = add-stops _ _ _ _ (c .before .before .before .lead .ensures) _ (c .before .n .given .1)
+returns c =
+    let lead = c .before .before .before .lead in
+    add-stops _ _ _ _ (lead .ensures) _ (c .before .n .given .1)
 
 same-length-4 : tie.Need-same-length-4
-same-length-4 c = c .before .before .before .before .before .before .add .kept .1 .0
+same-length-4 c =
+    let the-add = c .before .before .before .before .before .before .add in
+    the-add .kept .1 .0
 
 same-length-5 : tie.Need-same-length-5
-same-length-5 c = c .before .before .before .before .before .before .add .kept .1 .1 .0
+same-length-5 c =
+    let the-add = c .before .before .before .before .before .before .add in
+    the-add .kept .1 .1 .0
 
 same-length-6 : tie.Need-same-length-6
-same-length-6 c = c .before .before .before .before .before .before .add .kept .1 .1 .1 .0
+same-length-6 c =
+    let the-add = c .before .before .before .before .before .before .add in
+    the-add .kept .1 .1 .1 .0
 
 returns-2 : tie.Need-returns-2
-returns-2 c = add-goes _ _ _ _ (c .before .before .before .before .before .before .before .before .before .before .before .before .before .lead .ensures) _ (c .before .before .before .before .before .before .before .before .before .before .before .t .given .1) _ _ (c .before .before .before .before .before .before .add .ensures)
+returns-2 c =
+    let lead = c .before .before .before .before .before .before .before .before .before .before .before .before .before .lead in
+    let t = c .before .before .before .before .before .before .before .before .before .before .before .t in
+    let the-add = c .before .before .before .before .before .before .add in
+    add-goes _ _ _ _ (lead .ensures) _ (t .given .1) _ _ (the-add .ensures)
 
 pub add-spec : {M : Type 1} → statement M
 add-spec =

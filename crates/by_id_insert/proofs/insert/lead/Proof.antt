@@ -17,10 +17,16 @@ enum-known-c : tie.Need-enum-known-c
 enum-known-c c = search needs
 
 returns-2 : tie.Need-returns-2
-returns-2 c = lead-by _ _ (c .before .before .before .before .if1 .left) _ _ (c .before .before .before .cursor .ensures) (c .before .n .given .1)
+returns-2 c =
+    let if1 = c .before .before .before .before .if1 in
+    let cursor = c .before .before .before .cursor in
+    lead-by _ _ (if1 .left) _ _ (cursor .ensures) (c .before .n .given .1)
 
 returns-3 : tie.Need-returns-3
-returns-3 c = lead-by _ _ (c .before .before .before .before .if1 .left) _ _ (c .before .before .before .cursor .ensures) (c .before .c .given .1)
+returns-3 c =
+    let if1 = c .before .before .before .before .if1 in
+    let cursor = c .before .before .before .cursor in
+    lead-by _ _ (if1 .left) _ _ (cursor .ensures) (c .before .c .given .1)
 
 pub lead-spec : {M : Type 1} → statement M
 lead-spec =

@@ -19,7 +19,9 @@ slice-aggregate-write-first-2 : tie.Need-slice-aggregate-write-first-2
 slice-aggregate-write-first-2 c = search needs
 
 write-first-requires-2 : tie.Need-write-first-requires-2
-write-first-requires-2 c κs = (c .before .before .before .before .before .before .before .before .before .before .before .pre .1, c .before .before .before .before .before .before .before .before .before .before .before .pre .3, ap (λ (x : Shape). x .stride) (sym (c .before .before .before .before .before .before .before .before .before .before .before .pre .0)))
+write-first-requires-2 c κs =
+    let pre = c .before .before .before .before .before .before .before .before .before .before .before .pre in
+    (pre .1, pre .3, ap (λ (x : Shape). x .stride) (sym (pre .0)))
 
 slice-write-homes : tie.Need-slice-write-homes
 slice-write-homes c = search needs
@@ -34,7 +36,12 @@ same-length-3 : tie.Need-same-length-3
 same-length-3 c = search needs
 
 returns : tie.Need-returns
-returns c = begin-words _ _ (c .before .before .before .before .before .before .before .before .before .before .before .before .before .before .args .lengths) _ (c .before .before .before .before .before .before .before .before .before .before .before .before .before .before .pre .0) _ (c .before .before .before .before .before .before .before .before .before .before .new .ensures) _ _ _ _ _ (c .before .before .before .before .before .before .before .write-first .ensures) (c .before .before .write-first2 .ensures)
+returns c =
+    let args = c .before .before .before .before .before .before .before .before .before .before .before .before .before .before .args in
+    let pre = c .before .before .before .before .before .before .before .before .before .before .before .before .before .before .pre in
+    let new = c .before .before .before .before .before .before .before .before .before .before .new in
+    let write-first = c .before .before .before .before .before .before .before .write-first in
+    begin-words _ _ (args .lengths) _ (pre .0) _ (new .ensures) _ _ _ _ _ (write-first .ensures) (c .before .before .write-first2 .ensures)
 
 pub begin-spec : {M : Type 1} → statement M
 begin-spec =

@@ -24,7 +24,10 @@ same-length : tie.Need-same-length
 same-length c = search needs
 
 returns : tie.Need-returns
-returns c = first-node (c .before .before .before .before .before .before .args .g) (c .before .before .before .before .before .before .args .area .now) (c .before .before .new-one .last .0) (c .before .before .before .before .before .before .pre .1) (c .before .before .new-one .kept .0) ∙ rw (c .before .before .new-one .ensures)
+returns c =
+    let args = c .before .before .before .before .before .before .args in
+    let pre = c .before .before .before .before .before .before .pre in
+    first-node (args .g) (args .area .now) (c .before .before .new-one .last .0) (pre .1) (c .before .before .new-one .kept .0) ∙ rw (c .before .before .new-one .ensures)
 
 pub write-first-spec : {M : Type 1} → statement M
 write-first-spec =

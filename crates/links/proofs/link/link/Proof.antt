@@ -12,10 +12,15 @@ use Rattle.links.proofs.link.link.Statement.{statement}
 use Rattle.links.proofs.link.link.Tie as tie
 
 cast-k : tie.Need-cast-k
-cast-k c = omega (arith, c .before .before .before .good)
+cast-k c =
+    let good = c .before .before .before .good in
+    omega (arith, good)
 
 word-requires : tie.Need-word-requires
-word-requires c κs = (omega (arith, c .before .before .before .before .pre .0 .shaped .words), node-end (c .before .before .before .before .args .g) (c .before .before .before .before .args .p .0) (length (c .before .before .before .before .args .inners .now)) (c .before .before .before .before .pre .1) (c .before .before .before .before .pre .0 .inners))
+word-requires c κs =
+    let pre = c .before .before .before .before .pre in
+    let args = c .before .before .before .before .args in
+    (omega (arith, pre .0 .shaped .words), node-end (args .g) (args .p .0) (length (args .inners .now)) (pre .1) (pre .0 .inners))
 
 cast-len : tie.Need-cast-len
 cast-len c = omega (arith, c .word .ok)
@@ -27,10 +32,15 @@ part-x-start : tie.Need-part-x-start
 part-x-start c = zero-le
 
 part-x-end : tie.Need-part-x-end
-part-x-end c = c .before .before .before .before .before .before .before .pre .0 .shaped .narrow
+part-x-end c =
+    let pre = c .before .before .before .before .before .before .before .pre in
+    pre .0 .shaped .narrow
 
 slot-of-requires : tie.Need-slot-of-requires
-slot-of-requires c κs = (c .before .before .before .before .before .before .before .before .pre .0, c .before .before .before .before .before .before .before .before .pre .2, front-length (c .before .before .before .before .before .before .before .before .args .g .stride) (0 ∷ 0 ∷ 0 ∷ 0 ∷ []) (c .before .before .before .before .before .before .before .before .pre .0 .shaped .narrow))
+slot-of-requires c κs =
+    let pre = c .before .before .before .before .before .before .before .before .pre in
+    let args = c .before .before .before .before .before .before .before .before .args in
+    (pre .0, pre .2, front-length (args .g .stride) (0 ∷ 0 ∷ 0 ∷ 0 ∷ []) (pre .0 .shaped .narrow))
 
 sub-split-child : tie.Need-sub-split-child
 sub-split-child c = zero-le
@@ -39,29 +49,64 @@ part-split-child-start : tie.Need-part-split-child-start
 part-split-child-start c = zero-le
 
 part-split-child-end : tie.Need-part-split-child-end
-part-split-child-end c = front-in (c .before .before .before .before .before .before .before .before .before .before .before .before .args .g .stride) (c .before .before .before .slot-of .last .1 .1 .1 .1 .1 .0) _ (0 ∷ 0 ∷ 0 ∷ 0 ∷ []) (c .before .before .before .slot-of .kept .1 .1 .1 .1 .1 .0) (c .before .before .before .before .before .before .before .before .before .before .before .before .pre .0 .shaped .narrow)
+part-split-child-end c =
+    let args = c .before .before .before .before .before .before .before .before .before .before .before .before .args in
+    let slot-of = c .before .before .before .slot-of in
+    let pre = c .before .before .before .before .before .before .before .before .before .before .before .before .pre in
+    front-in (args .g .stride) (slot-of .last .1 .1 .1 .1 .1 .0) _ (0 ∷ 0 ∷ 0 ∷ 0 ∷ []) (slot-of .kept .1 .1 .1 .1 .1 .0) (pre .0 .shaped .narrow)
 
 split-child-requires : tie.Need-split-child-requires
-split-child-requires c κs = (record { shaped = c .before .before .before .before .before .before .before .before .before .before .before .before .before .pre .0 .shaped; room = c .before .before .before .before .before .before .before .before .before .before .before .before .before .pre .0 .inners }, c .before .before .before .before .before .before .before .before .before .before .before .before .before .pre .1, c .before .before .before .before .before .before .before .before .before .before .before .before .before .pre .3 .place, c .before .before .before .before .before .before .before .before .before .before .before .before .before .pre .3 .space, front-again (c .before .before .before .before .before .before .before .before .before .before .before .before .before .args .g .stride) (c .before .before .before .before .slot-of .last .1 .1 .1 .1 .1 .0) _ (0 ∷ 0 ∷ 0 ∷ 0 ∷ []) (c .before .before .before .before .slot-of .kept .1 .1 .1 .1 .1 .0) (c .before .before .before .before .before .before .before .before .before .before .before .before .before .pre .0 .shaped .narrow))
+split-child-requires c κs =
+    let pre = c .before .before .before .before .before .before .before .before .before .before .before .before .before .pre in
+    let args = c .before .before .before .before .before .before .before .before .before .before .before .before .before .args in
+    let slot-of = c .before .before .before .before .slot-of in (
+      record { shaped = pre .0 .shaped; room = pre .0 .inners },
+      pre .1,
+      pre .3 .place,
+      pre .3 .space,
+      front-again (args .g .stride) (slot-of .last .1 .1 .1 .1 .1 .0) _
+          (0 ∷ 0 ∷ 0 ∷ 0 ∷ []) (slot-of .kept .1 .1 .1 .1 .1 .0) (pre .0 .shaped .narrow),
+    )
 
 add-adopt-all : tie.Need-add-adopt-all
-add-adopt-all c = omega (arith, c .before .before .before .before .before .before .before .before .before .before .before .before .before .before .before .before .before .before .pre .0 .shaped .few, c .before .before .before .before .before .before .before .before .before .before .before .before .before .before .before .before .before .before .pre .3)
+add-adopt-all c =
+    let pre = c .before .before .before .before .before .before .before .before .before .before .before .before .before .before .before .before .before .before .pre in
+    omega (arith, pre .0 .shaped .few, pre .3)
 
 add-adopt-all-2 : tie.Need-add-adopt-all-2
-add-adopt-all-2 c = omega (arith, c .before .before .before .before .before .before .before .before .before .before .before .before .before .word .ok)
+add-adopt-all-2 c =
+    let word = c .before .before .before .before .before .before .before .before .before .before .before .before .before .word in
+    omega (arith, word .ok)
 
 adopt-all-requires : tie.Need-adopt-all-requires
 unfolding nodeOf
-adopt-all-requires c κs = (rw (c .before .before .before .before .split-child .kept .0) (c .before .before .before .before .before .before .before .before .before .before .before .before .before .before .before .before .before .before .pre .0), c .before .before .before .before .before .before .before .before .before .before .before .before .before .before .before .before .before .before .pre .1, omega (arith, c .before .before .before .before .before .before .before .before .before .before .before .before .before .word .ensures, c .before .before .before .before .before .before .before .before .before .before .before .before .before .before .before .before .before .before .pre .3 .space))
+adopt-all-requires c κs =
+    let split-child = c .before .before .before .before .split-child in
+    let pre = c .before .before .before .before .before .before .before .before .before .before .before .before .before .before .before .before .before .before .pre in
+    let word = c .before .before .before .before .before .before .before .before .before .before .before .before .before .word in
+    (rw (split-child .kept .0) (pre .0), pre .1, omega (arith, word .ensures, pre .3 .space))
 
 same-length : tie.Need-same-length
-same-length c = c .before .before .before .before .adopt-all .kept .0
+same-length c =
+    let adopt-all = c .before .before .before .before .adopt-all in
+    adopt-all .kept .0
 
 same-length-2 : tie.Need-same-length-2
-same-length-2 c = c .before .before .before .before .adopt-all .kept .1 .0 ∙ c .before .before .before .before .before .before .before .before .before .split-child .kept .0
+same-length-2 c =
+    let adopt-all = c .before .before .before .before .adopt-all in
+    let split-child = c .before .before .before .before .before .before .before .before .before .split-child in
+    adopt-all .kept .1 .0 ∙ split-child .kept .0
 
 returns : tie.Need-returns
-returns c = link-as _ _ _ _ _ _ _ _ (c .before .before .before .before .before .before .before .before .before .before .before .before .before .before .slot-of .last .1 .1 .1 .1 .1 .0) _ _ _ (c .before .before .before .before .before .before .before .before .before .before .before .before .before .before .before .before .before .before .word .ensures) (c .before .before .before .before .before .before .before .before .before .before .before .before .before .before .slot-of .ensures) (front-back (c .before .before .before .before .before .before .before .before .before .before .before .before .before .before .before .before .before .before .before .before .before .before .before .args .g .stride) (c .before .before .before .before .before .before .before .before .before .before .before .before .before .before .slot-of .last .1 .1 .1 .1 .1 .0) _ (0 ∷ 0 ∷ 0 ∷ 0 ∷ []) (c .before .before .before .before .before .before .before .before .before .before .before .before .before .before .slot-of .kept .1 .1 .1 .1 .1 .0) (c .before .before .before .before .before .before .before .before .before .before .before .before .before .before .before .before .before .before .before .before .before .before .before .pre .0 .shaped .narrow)) (c .before .before .before .before .before .before .before .before .before .split-child .ensures) (c .before .before .before .before .adopt-all .ensures)
+returns c =
+    let slot-of = c .before .before .before .before .before .before .before .before .before .before .before .before .before .before .slot-of in
+    let word = c .before .before .before .before .before .before .before .before .before .before .before .before .before .before .before .before .before .before .word in
+    let args = c .before .before .before .before .before .before .before .before .before .before .before .before .before .before .before .before .before .before .before .before .before .before .before .args in
+    let pre = c .before .before .before .before .before .before .before .before .before .before .before .before .before .before .before .before .before .before .before .before .before .before .before .pre in
+    let split-child = c .before .before .before .before .before .before .before .before .before .split-child in
+    let adopt-all = c .before .before .before .before .adopt-all in
+    link-as _ _ _ _ _ _ _ _ (slot-of .last .1 .1 .1 .1 .1 .0) _ _ _ (word .ensures) (slot-of .ensures)
+    (front-back (args .g .stride) (slot-of .last .1 .1 .1 .1 .1 .0) _ (0 ∷ 0 ∷ 0 ∷ 0 ∷ []) (slot-of .kept .1 .1 .1 .1 .1 .0) (pre .0 .shaped .narrow)) (split-child .ensures) (adopt-all .ensures)
 
 pub link-spec : {M : Type 1} → statement M
 link-spec =

@@ -15,13 +15,17 @@ same-length : tie.Need-same-length
 same-length c = search needs
 
 returns : tie.Need-returns
-returns c = rw (eq-eqb _ _ (c .before .before .before .before .if1 .taken)) (c .before .before .sum-node .ensures)
+returns c =
+    let if1 = c .before .before .before .before .if1 in
+    rw (eq-eqb _ _ (if1 .taken)) (c .before .before .sum-node .ensures)
 
 same-length-2 : tie.Need-same-length-2
 same-length-2 c = search needs
 
 returns-2 : tie.Need-returns-2
-returns-2 c = rw (ne-eqb _ _ (c .before .before .before .before .if1 .left)) (c .before .before .sum-node2 .ensures)
+returns-2 c =
+    let if1 = c .before .before .before .before .if1 in
+    rw (ne-eqb _ _ (if1 .left)) (c .before .before .sum-node2 .ensures)
 
 pub slot-of-spec : {M : Type 1} → statement M
 slot-of-spec =

@@ -36,7 +36,10 @@ same-length : tie.Need-same-length
 same-length c = search needs
 
 returns : tie.Need-returns
-returns c = c .before .before .slot-for .ensures ∙ ap (λ (w : List ℕ). slotFor (c .before .before .before .before .before .before .before .args .g .stride) (c .before .before .before .before .before .before .before .args .k) (nodeOf (c .before .before .before .before .before .before .before .args .g .stride) (c .before .before .before .before .before .before .before .args .g .fan) w)) (lent (c .before .before .before .before .before .before .before .args .k * c .before .before .before .before .before .before .before .args .g .size) (c .before .before .before .before .before .before .before .args .g .size) (c .before .before .before .before .before .before .before .args .area .now))
+returns c =
+    let args = c .before .before .before .before .before .before .before .args in
+    c .before .before .slot-for .ensures ∙ ap (λ (w : List ℕ). slotFor (args .g .stride) (args .k) (nodeOf (args .g .stride) (args .g .fan) w))
+    (lent (args .k * args .g .size) (args .g .size) (args .area .now))
 
 pub sum-node-spec : {M : Type 1} → statement M
 sum-node-spec =

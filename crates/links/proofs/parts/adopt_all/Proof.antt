@@ -12,7 +12,8 @@ use Rattle.links.proofs.parts.adopt_all.Statement.{statement}
 use Rattle.links.proofs.parts.adopt_all.Tie as tie
 
 abbrev Inv-loop : tie.InvT-loop
-Inv-loop leaves₀ inners₀ g level p from to nodes stride parent i₀ leaves inners i = (length leaves ≡ length leaves₀) × (length inners ≡ length inners₀) × (adoptAll g level (p .0) (to - i) i (areas leaves inners) ≡ adoptAll g level (p .0) (to - from) from (areas leaves₀ inners₀))
+Inv-loop leaves₀ inners₀ g level p from to nodes stride parent i₀ leaves inners i = (length leaves ≡ length leaves₀) × (length inners ≡ length inners₀)
+    × (adoptAll g level (p .0) (to - i) i (areas leaves inners) ≡ adoptAll g level (p .0) (to - from) from (areas leaves₀ inners₀))
 
 abbrev μ-loop : tie.MeasureT-loop
 μ-loop leaves₀ inners₀ g level p from to nodes stride parent i₀ leaves inners i = to - i
@@ -30,40 +31,76 @@ loop-holds : tie.Need-loop-holds Inv-loop μ-loop
 loop-holds c = (refl, refl, refl)
 
 add-next : tie.Need-add-next Inv-loop μ-loop
-add-next c = omega (arith, c .loop-test .taken, c .before .before .before .before .before .pre .2, c .before .before .before .before .before .pre .0 .shaped .few)
+add-next c =
+    let pre = c .before .before .before .before .before .pre in
+    omega (arith, c .loop-test .taken, pre .2, pre .0 .shaped .few)
 
 mul-word : tie.Need-mul-word Inv-loop μ-loop
-mul-word c = omega (arith, turn (c .before), c .before .before .before .before .before .before .pre .0 .shaped .narrow, c .before .before .before .before .before .before .pre .0 .shaped .few, c .before .before .before .before .before .before .pre .0 .shaped .words)
+mul-word c =
+    let pre = c .before .before .before .before .before .before .pre in
+    omega (arith, turn (c .before), pre .0 .shaped .narrow, pre .0 .shaped .few, pre .0 .shaped .words)
 
 add-word : tie.Need-add-word Inv-loop μ-loop
-add-word c = omega (arith, turn (c .before), c .before .before .before .before .before .before .pre .0 .shaped .narrow, c .before .before .before .before .before .before .pre .0 .shaped .few, c .before .before .before .before .before .before .pre .0 .shaped .words)
+add-word c =
+    let pre = c .before .before .before .before .before .before .pre in
+    omega (arith, turn (c .before), pre .0 .shaped .narrow, pre .0 .shaped .few, pre .0 .shaped .words)
 
 word-requires : tie.Need-word-requires Inv-loop μ-loop
-word-requires c κs = (omega (arith, turn (c .before), c .before .before .before .before .before .before .pre .0 .shaped .columns), rw (c .before .before .loop .inv .1) (node-end (c .before .before .before .before .before .before .args .g) (c .before .before .before .before .before .before .args .p .0) (length (c .before .before .before .before .before .before .args .inners .now)) (c .before .before .before .before .before .before .pre .1) (c .before .before .before .before .before .before .pre .0 .inners)))
+word-requires c κs =
+    let pre = c .before .before .before .before .before .before .pre in
+    let args = c .before .before .before .before .before .before .args in
+    (omega (arith, turn (c .before), pre .0 .shaped .columns), rw (c .before .before .loop .inv .1) (node-end (args .g) (args .p .0) (length (args .inners .now)) (pre .1) (pre .0 .inners)))
 
 cast-k : tie.Need-cast-k Inv-loop μ-loop
 cast-k c = search needs
 
 same-length : tie.Need-same-length Inv-loop μ-loop
-same-length c = c .before .before .before .before .loop .inv .0
+same-length c =
+    let the-loop = c .before .before .before .before .loop in
+    the-loop .inv .0
 
 same-length-2 : tie.Need-same-length-2 Inv-loop μ-loop
-same-length-2 c = c .before .before .before .before .loop .inv .1
+same-length-2 c =
+    let the-loop = c .before .before .before .before .loop in
+    the-loop .inv .1
 
 returns : tie.Need-returns Inv-loop μ-loop
-returns c = sym (all-bad _ _ _ _ _ _ _ (c .before .before .before .loop-test .taken) (c .before .before .before .before .before .before .before .before .pre .2) (omega (arith, c .before .before .before .before .before .before .before .before .pre .0 .shaped .columns)) (c .before .word .ensures) (c .if1 .taken)) ∙ c .before .before .before .before .loop .inv .2
+returns c =
+    let loop-test = c .before .before .before .loop-test in
+    let pre = c .before .before .before .before .before .before .before .before .pre in
+    let the-loop = c .before .before .before .before .loop in
+    sym (all-bad _ _ _ _ _ _ _ (loop-test .taken) (pre .2) (omega (arith, pre .0 .shaped .columns)) (c .before .word .ensures) (c .if1 .taken)) ∙ the-loop .inv .2
 
 cast-adopt : tie.Need-cast-adopt Inv-loop μ-loop
-cast-adopt c = omega (arith, c .before .before .before .before .before .loop-test .taken, c .before .before .before .before .before .before .before .before .before .before .pre .2, c .before .before .before .before .before .before .before .before .before .before .pre .0 .shaped .few)
+cast-adopt c =
+    let loop-test = c .before .before .before .before .before .loop-test in
+    let pre = c .before .before .before .before .before .before .before .before .before .before .pre in
+    omega (arith, loop-test .taken, pre .2, pre .0 .shaped .few)
 
 adopt-requires : tie.Need-adopt-requires Inv-loop μ-loop
-adopt-requires c κs = (rw (c .before .before .before .before .before .before .loop .inv .0, c .before .before .before .before .before .before .loop .inv .1) (c .before .before .before .before .before .before .before .before .before .before .pre .0), c .before .before .if1 .left)
+adopt-requires c κs =
+    let the-loop = c .before .before .before .before .before .before .loop in
+    let pre = c .before .before .before .before .before .before .before .before .before .before .pre in
+    (rw (the-loop .inv .0, the-loop .inv .1) (pre .0), c .before .before .if1 .left)
 
 loop-less : tie.Need-loop-less Inv-loop μ-loop
-loop-less c = omega (arith, c .before .before .before .before .before .before .before .before .before .before .loop-test .taken)
+loop-less c =
+    let loop-test = c .before .before .before .before .before .before .before .before .before .before .loop-test in
+    omega (arith, loop-test .taken)
 
 loop-again : tie.Need-loop-again Inv-loop μ-loop
-loop-again c = (c .before .before .before .before .adopt .kept .0 ∙ c .before .before .before .before .before .before .before .before .before .before .before .loop .inv .0, c .before .before .before .before .adopt .kept .1 .0 ∙ c .before .before .before .before .before .before .before .before .before .before .before .loop .inv .1, all-more _ _ _ _ _ _ _ (c .before .before .before .before .before .before .before .before .before .before .loop-test .taken) (c .before .before .before .before .before .before .before .before .before .before .before .before .before .before .before .pre .2) (omega (arith, c .before .before .before .before .before .before .before .before .before .before .before .before .before .before .before .pre .0 .shaped .columns)) (c .before .before .before .before .before .before .before .before .word .ensures) _ (c .before .before .before .before .before .before .before .if1 .left) (c .before .before .before .before .adopt .ensures) ∙ c .before .before .before .before .before .before .before .before .before .before .before .loop .inv .2)
+loop-again c =
+    let adopt = c .before .before .before .before .adopt in
+    let the-loop = c .before .before .before .before .before .before .before .before .before .before .before .loop in
+    let loop-test = c .before .before .before .before .before .before .before .before .before .before .loop-test in
+    let pre = c .before .before .before .before .before .before .before .before .before .before .before .before .before .before .before .pre in
+    let word = c .before .before .before .before .before .before .before .before .word in
+    let if1 = c .before .before .before .before .before .before .before .if1 in (
+      adopt .kept .0 ∙ the-loop .inv .0,
+      adopt .kept .1 .0
+          ∙ the-loop .inv .1,
+      all-more _ _ _ _ _ _ _ (loop-test .taken) (pre .2) (omega (arith, pre .0 .shaped .columns)) (word .ensures) _ (if1 .left) (adopt .ensures) ∙ the-loop .inv .2,
+    )
 
 same-length-3 : tie.Need-same-length-3 Inv-loop μ-loop
 same-length-3 c = c .before .loop .inv .0

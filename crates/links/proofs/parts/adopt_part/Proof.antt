@@ -41,12 +41,22 @@ same-length-2 : tie.Need-same-length-2
 same-length-2 c = search needs
 
 returns : tie.Need-returns
-returns c = let s = c .before .before .before .before .before .before .before .before .before in
+returns c =
+    let before = c .before .before .before .before .before .before .before .before .before in
+    let node-part = c .before .before .before .before .node-part in
+    let leaf = c .before .before .before .leaf in
+    let s = before in
     dite (ℕ-discrete (s .args .level) 1)
-    (λ e. let q = c .before .before .before .before .node-part .ensures .0 e in
-    (c .before .before .before .leaf .given .1 .0 (ap (λ r. r .name) (sym q)) ∙ ap (λ r. set (set (r .now) 1 (s .args .parent)) 2 (s .args .at)) q, empty _ (s .args .inner .now) (s .args .parent) (s .args .at) (c .before .inner .given .1 .1) (s .pre .0 e .1)))
-    (λ e. let q = c .before .before .before .before .node-part .ensures .1 e in
-    (empty _ (s .args .leaf .now) (s .args .parent) (s .args .at) (c .before .before .before .leaf .given .1 .1) (s .pre .1 e .0), c .before .inner .given .1 .0 (ap (λ r. r .name) (sym q)) ∙ ap (λ r. set (set (r .now) 1 (s .args .parent)) 2 (s .args .at)) q))
+    (λ e. let q = node-part .ensures .0 e in (
+      leaf .given .1 .0 (ap (λ r. r .name) (sym q))
+          ∙ ap (λ r. set (set (r .now) 1 (s .args .parent)) 2 (s .args .at)) q,
+      empty _ (s .args .inner .now) (s .args .parent) (s .args .at) (c .before .inner .given .1 .1) (s .pre .0 e .1),
+    ))
+    (λ e. let q = node-part .ensures .1 e in (
+      empty _ (s .args .leaf .now) (s .args .parent) (s .args .at) (leaf .given .1 .1) (s .pre .1 e .0),
+      c .before .inner .given .1 .0 (ap (λ r. r .name) (sym q))
+          ∙ ap (λ r. set (set (r .now) 1 (s .args .parent)) 2 (s .args .at)) q,
+    ))
 
 pub adopt-part-spec : {M : Type 1} → statement M
 adopt-part-spec =

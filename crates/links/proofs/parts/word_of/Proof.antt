@@ -7,13 +7,19 @@ use Rattle.links.proofs.parts.word_of.Statement.{statement}
 use Rattle.links.proofs.parts.word_of.Tie as tie
 
 word-requires : tie.Need-word-requires
-word-requires c κs = (c .before .before .before .pre .2, node-end (c .before .before .before .args .g) (c .before .before .before .args .k) (length (c .before .before .before .args .leaves .now)) (c .before .before .before .pre .1) (c .before .before .before .pre .0 .leaves))
+word-requires c κs =
+    let pre = c .before .before .before .pre in
+    let args = c .before .before .before .args in
+    (pre .2, node-end (args .g) (args .k) (length (args .leaves .now)) (pre .1) (pre .0 .leaves))
 
 returns : tie.Need-returns
 returns c = rw (eq-eqb _ _ (c .before .if1 .taken)) (c .word .ensures)
 
 word-requires-2 : tie.Need-word-requires-2
-word-requires-2 c κs = (c .before .before .before .pre .2, node-end (c .before .before .before .args .g) (c .before .before .before .args .k) (length (c .before .before .before .args .inners .now)) (c .before .before .before .pre .1) (c .before .before .before .pre .0 .inners))
+word-requires-2 c κs =
+    let pre = c .before .before .before .pre in
+    let args = c .before .before .before .args in
+    (pre .2, node-end (args .g) (args .k) (length (args .inners .now)) (pre .1) (pre .0 .inners))
 
 returns-2 : tie.Need-returns-2
 returns-2 c = rw (ne-eqb _ _ (c .before .if1 .left)) (c .word2 .ensures)

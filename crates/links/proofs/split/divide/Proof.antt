@@ -15,7 +15,10 @@ cast-split-off-2 : tie.Need-cast-split-off-2
 cast-split-off-2 c = search needs
 
 split-off-requires : tie.Need-split-off-requires
-split-off-requires c κs = (c .before .before .before .before .before .pre .0 .shaped, c .before .before .before .before .before .pre .1, node-end (c .before .before .before .before .before .args .g) (c .before .before .before .before .before .args .m .0) (length (c .before .before .before .before .before .args .inners .now)) (c .before .before .before .before .before .pre .2) (c .before .before .before .before .before .pre .0 .inners))
+split-off-requires c κs =
+    let pre = c .before .before .before .before .before .pre in
+    let args = c .before .before .before .before .before .args in
+    (pre .0 .shaped, pre .1, node-end (args .g) (args .m .0) (length (args .inners .now)) (pre .2) (pre .0 .inners))
 
 sub-adopt-all : tie.Need-sub-adopt-all
 sub-adopt-all c = search needs
@@ -30,7 +33,13 @@ same-length-2 : tie.Need-same-length-2
 same-length-2 c = search needs
 
 returns : tie.Need-returns
-returns c = divide-as _ _ _ _ _ _ _ _ (c .before .before .before .before .before .before .before .before .before .before .before .before .before .before .before .pre .0 .shaped .words) (omega (arith, c .before .before .before .before .before .before .before .before .before .before .before .before .before .before .before .pre .0 .shaped .columns)) (c .before .before .before .before .before .before .before .before .before .before .before .before .before .before .before .pre .1) (node-end (c .before .before .before .before .before .before .before .before .before .before .before .before .before .before .before .args .g) (c .before .before .before .before .before .before .before .before .before .before .before .before .before .before .before .args .m .0) (length (c .before .before .before .before .before .before .before .before .before .before .before .before .before .before .before .args .inners .now)) (c .before .before .before .before .before .before .before .before .before .before .before .before .before .before .before .pre .2) (c .before .before .before .before .before .before .before .before .before .before .before .before .before .before .before .pre .0 .inners)) (c .before .before .before .before .before .before .before .before .before .split-off .ensures) (c .before .before .before .before .adopt-all .ensures)
+returns c =
+    let pre = c .before .before .before .before .before .before .before .before .before .before .before .before .before .before .before .pre in
+    let args = c .before .before .before .before .before .before .before .before .before .before .before .before .before .before .before .args in
+    let split-off = c .before .before .before .before .before .before .before .before .before .split-off in
+    let adopt-all = c .before .before .before .before .adopt-all in
+    divide-as _ _ _ _ _ _ _ _ (pre .0 .shaped .words) (omega (arith, pre .0 .shaped .columns)) (pre .1)
+    (node-end (args .g) (args .m .0) (length (args .inners .now)) (pre .2) (pre .0 .inners)) (split-off .ensures) (adopt-all .ensures)
 
 pub divide-spec : {M : Type 1} → statement M
 divide-spec =

@@ -11,10 +11,14 @@ use Rattle.links.proofs.split.grow_root.Statement.{statement}
 use Rattle.links.proofs.split.grow_root.Tie as tie
 
 cast-if1 : tie.Need-cast-if1
-cast-if1 c = omega (arith, c .before .before .before .good)
+cast-if1 c =
+    let good = c .before .before .before .good in
+    omega (arith, good)
 
 returns : tie.Need-returns
-returns c = root-none (c .before .before .before .before .args .g) (topOf (c .before .before .before .before .args .t)) (c .before .before .before .before .args .k .0) (c .before .before .before .before .args .m .0) _ _ (c .if1 .taken)
+returns c =
+    let args = c .before .before .before .before .args in
+    root-none (args .g) (topOf (args .t)) (args .k .0) (args .m .0) _ _ (c .if1 .taken)
 
 sub-sum-node : tie.Need-sub-sum-node
 sub-sum-node c = zero-le
@@ -23,10 +27,15 @@ part-x-start : tie.Need-part-x-start
 part-x-start c = zero-le
 
 part-x-end : tie.Need-part-x-end
-part-x-end c = c .before .before .before .before .before .pre .0 .shaped .narrow
+part-x-end c =
+    let pre = c .before .before .before .before .before .pre in
+    pre .0 .shaped .narrow
 
 sum-node-requires : tie.Need-sum-node-requires
-sum-node-requires c κs = (c .before .before .before .before .before .before .pre .0 .shaped, c .before .before .before .before .before .before .pre .1, c .before .before .before .before .before .before .pre .0 .inners, front-length (c .before .before .before .before .before .before .args .g .stride) (0 ∷ 0 ∷ 0 ∷ 0 ∷ []) (c .before .before .before .before .before .before .pre .0 .shaped .narrow))
+sum-node-requires c κs =
+    let pre = c .before .before .before .before .before .before .pre in
+    let args = c .before .before .before .before .before .before .args in
+    (pre .0 .shaped, pre .1, pre .0 .inners, front-length (args .g .stride) (0 ∷ 0 ∷ 0 ∷ 0 ∷ []) (pre .0 .shaped .narrow))
 
 sub-sum-node-2 : tie.Need-sub-sum-node-2
 sub-sum-node-2 c = zero-le
@@ -35,7 +44,9 @@ part-y-start : tie.Need-part-y-start
 part-y-start c = zero-le
 
 part-y-end : tie.Need-part-y-end
-part-y-end c = c .before .before .before .before .before .before .before .before .before .pre .0 .shaped .narrow
+part-y-end c =
+    let pre = c .before .before .before .before .before .before .before .before .before .pre in
+    pre .0 .shaped .narrow
 
 sum-node-requires-2 : tie.Need-sum-node-requires-2
 sum-node-requires-2 c κs = search needs
@@ -47,7 +58,11 @@ part-new-two-start : tie.Need-part-new-two-start
 part-new-two-start c = zero-le
 
 part-new-two-end : tie.Need-part-new-two-end
-part-new-two-end c = front-in (c .before .before .before .before .before .before .before .before .before .before .before .before .before .before .args .g .stride) (c .before .before .before .before .before .before .before .sum-node .last .1 .1 .1 .0) _ (0 ∷ 0 ∷ 0 ∷ 0 ∷ []) (c .before .before .before .before .before .before .before .sum-node .kept .1 .1 .1 .0) (c .before .before .before .before .before .before .before .before .before .before .before .before .before .before .pre .0 .shaped .narrow)
+part-new-two-end c =
+    let args = c .before .before .before .before .before .before .before .before .before .before .before .before .before .before .args in
+    let sum-node = c .before .before .before .before .before .before .before .sum-node in
+    let pre = c .before .before .before .before .before .before .before .before .before .before .before .before .before .before .pre in
+    front-in (args .g .stride) (sum-node .last .1 .1 .1 .0) _ (0 ∷ 0 ∷ 0 ∷ 0 ∷ []) (sum-node .kept .1 .1 .1 .0) (pre .0 .shaped .narrow)
 
 sub-new-two-2 : tie.Need-sub-new-two-2
 sub-new-two-2 c = zero-le
@@ -56,28 +71,68 @@ part-new-two-start-2 : tie.Need-part-new-two-start-2
 part-new-two-start-2 c = zero-le
 
 part-new-two-end-2 : tie.Need-part-new-two-end-2
-part-new-two-end-2 c = front-in (c .before .before .before .before .before .before .before .before .before .before .before .before .before .before .before .before .args .g .stride) (c .before .before .before .before .before .sum-node2 .last .1 .1 .1 .0) _ (0 ∷ 0 ∷ 0 ∷ 0 ∷ []) (c .before .before .before .before .before .sum-node2 .kept .1 .1 .1 .0) (c .before .before .before .before .before .before .before .before .before .before .before .before .before .before .before .before .pre .0 .shaped .narrow)
+part-new-two-end-2 c =
+    let args = c .before .before .before .before .before .before .before .before .before .before .before .before .before .before .before .before .args in
+    let sum-node2 = c .before .before .before .before .before .sum-node2 in
+    let pre = c .before .before .before .before .before .before .before .before .before .before .before .before .before .before .before .before .pre in
+    front-in (args .g .stride) (sum-node2 .last .1 .1 .1 .0) _ (0 ∷ 0 ∷ 0 ∷ 0 ∷ []) (sum-node2 .kept .1 .1 .1 .0) (pre .0 .shaped .narrow)
 
 new-two-requires : tie.Need-new-two-requires
-new-two-requires c κs = (record { shaped = c .before .before .before .before .before .before .before .before .before .before .before .before .before .before .before .before .before .pre .0 .shaped; room = c .before .before .before .before .before .before .before .before .before .before .before .before .before .before .before .before .before .pre .0 .inners }, c .before .before .before .before .before .before .before .before .before .before .before .before .before .if1 .left, front-again (c .before .before .before .before .before .before .before .before .before .before .before .before .before .before .before .before .before .args .g .stride) (c .before .before .before .before .before .before .before .before .before .before .sum-node .last .1 .1 .1 .0) _ (0 ∷ 0 ∷ 0 ∷ 0 ∷ []) (c .before .before .before .before .before .before .before .before .before .before .sum-node .kept .1 .1 .1 .0) (c .before .before .before .before .before .before .before .before .before .before .before .before .before .before .before .before .before .pre .0 .shaped .narrow), front-again (c .before .before .before .before .before .before .before .before .before .before .before .before .before .before .before .before .before .args .g .stride) (c .before .before .before .before .before .before .sum-node2 .last .1 .1 .1 .0) _ (0 ∷ 0 ∷ 0 ∷ 0 ∷ []) (c .before .before .before .before .before .before .sum-node2 .kept .1 .1 .1 .0) (c .before .before .before .before .before .before .before .before .before .before .before .before .before .before .before .before .before .pre .0 .shaped .narrow))
+new-two-requires c κs =
+    let pre = c .before .before .before .before .before .before .before .before .before .before .before .before .before .before .before .before .before .pre in
+    let if1 = c .before .before .before .before .before .before .before .before .before .before .before .before .before .if1 in
+    let args = c .before .before .before .before .before .before .before .before .before .before .before .before .before .before .before .before .before .args in
+    let sum-node = c .before .before .before .before .before .before .before .before .before .before .sum-node in
+    let sum-node2 = c .before .before .before .before .before .before .sum-node2 in (
+      record { shaped = pre .0 .shaped; room = pre .0 .inners },
+      if1 .left,
+      front-again (args .g .stride) (sum-node .last .1 .1 .1 .0) _ (0 ∷ 0 ∷ 0 ∷ 0 ∷ [])
+          (sum-node .kept .1 .1 .1 .0) (pre .0 .shaped .narrow),
+      front-again (args .g .stride) (sum-node2 .last .1 .1 .1 .0) _ (0 ∷ 0 ∷ 0 ∷ 0 ∷ []) (sum-node2 .kept .1 .1 .1 .0)
+          (pre .0 .shaped .narrow),
+    )
 
 adopt-all-requires : tie.Need-adopt-all-requires
-adopt-all-requires c κs = (rw (c .before .before .before .before .new-two .kept .0) (c .before .before .before .before .before .before .before .before .before .before .before .before .before .before .before .before .before .before .before .before .before .before .pre .0), c .before .before .before .before .before .before .before .before .before .before .before .before .before .before .before .before .before .before .if1 .left, omega (arith, c .before .before .before .before .before .before .before .before .before .before .before .before .before .before .before .before .before .before .before .before .before .before .pre .0 .shaped .slots))
+adopt-all-requires c κs =
+    let new-two = c .before .before .before .before .new-two in
+    let pre = c .before .before .before .before .before .before .before .before .before .before .before .before .before .before .before .before .before .before .before .before .before .before .pre in
+    let if1 = c .before .before .before .before .before .before .before .before .before .before .before .before .before .before .before .before .before .before .if1 in
+    (rw (new-two .kept .0) (pre .0), if1 .left, omega (arith, pre .0 .shaped .slots))
 
 add-t47 : tie.Need-add-t47
-add-t47 c = omega (arith, c .before .before .before .before .before .before .before .before .before .before .before .before .before .before .before .before .before .before .before .before .before .before .before .if1 .left, c .before .before .before .before .before .before .before .before .before .before .before .before .before .before .before .before .before .before .before .before .before .before .before .before .before .before .before .pre .0 .shaped .areas)
+add-t47 c =
+    let if1 = c .before .before .before .before .before .before .before .before .before .before .before .before .before .before .before .before .before .before .before .before .before .before .before .if1 in
+    let pre = c .before .before .before .before .before .before .before .before .before .before .before .before .before .before .before .before .before .before .before .before .before .before .before .before .before .before .before .pre in
+    omega (arith, if1 .left, pre .0 .shaped .areas)
 
 add-t48 : tie.Need-add-t48
-add-t48 c = omega (arith, c .before .before .before .before .before .before .before .before .before .before .before .before .before .before .before .before .before .before .before .before .before .before .before .before .before .before .before .pre .3)
+add-t48 c =
+    let pre = c .before .before .before .before .before .before .before .before .before .before .before .before .before .before .before .before .before .before .before .before .before .before .before .before .before .before .before .pre in
+    omega (arith, pre .3)
 
 same-length : tie.Need-same-length
-same-length c = c .before .before .before .before .adopt-all .kept .0
+same-length c =
+    let adopt-all = c .before .before .before .before .adopt-all in
+    adopt-all .kept .0
 
 same-length-2 : tie.Need-same-length-2
-same-length-2 c = c .before .before .before .before .adopt-all .kept .1 .0 ∙ c .before .before .before .before .before .before .before .before .before .new-two .kept .0
+same-length-2 c =
+    let adopt-all = c .before .before .before .before .adopt-all in
+    let new-two = c .before .before .before .before .before .before .before .before .before .new-two in
+    adopt-all .kept .1 .0 ∙ new-two .kept .0
 
 returns-2 : tie.Need-returns-2
-returns-2 c = root-as (c .before .before .before .before .before .before .before .before .before .before .before .before .before .before .before .before .before .before .before .before .before .before .before .before .before .before .before .args .g) (topOf (c .before .before .before .before .before .before .before .before .before .before .before .before .before .before .before .before .before .before .before .before .before .before .before .before .before .before .before .args .t)) (c .before .before .before .before .before .before .before .before .before .before .before .before .before .before .before .before .before .before .before .before .before .before .before .before .before .before .before .args .k .0) (c .before .before .before .before .before .before .before .before .before .before .before .before .before .before .before .before .before .before .before .before .before .before .before .before .before .before .before .args .m .0) _ _ (c .before .before .before .before .before .before .before .before .before .before .before .before .before .before .before .before .before .before .before .before .sum-node .last .1 .1 .1 .0) (c .before .before .before .before .before .before .before .before .before .before .before .before .before .before .before .before .sum-node2 .last .1 .1 .1 .0) _ _ _ _ _ (c .before .before .before .before .before .before .before .before .before .before .before .before .before .before .before .before .before .before .before .before .before .before .before .if1 .left) (c .before .before .before .before .before .before .before .before .before .before .before .before .before .before .before .before .before .before .before .before .sum-node .ensures) (c .before .before .before .before .before .before .before .before .before .before .before .before .before .before .before .before .sum-node2 .ensures) (front-back (c .before .before .before .before .before .before .before .before .before .before .before .before .before .before .before .before .before .before .before .before .before .before .before .before .before .before .before .args .g .stride) (c .before .before .before .before .before .before .before .before .before .before .before .before .before .before .before .before .before .before .before .before .sum-node .last .1 .1 .1 .0) _ (0 ∷ 0 ∷ 0 ∷ 0 ∷ []) (c .before .before .before .before .before .before .before .before .before .before .before .before .before .before .before .before .before .before .before .before .sum-node .kept .1 .1 .1 .0) (c .before .before .before .before .before .before .before .before .before .before .before .before .before .before .before .before .before .before .before .before .before .before .before .before .before .before .before .pre .0 .shaped .narrow)) (front-back (c .before .before .before .before .before .before .before .before .before .before .before .before .before .before .before .before .before .before .before .before .before .before .before .before .before .before .before .args .g .stride) (c .before .before .before .before .before .before .before .before .before .before .before .before .before .before .before .before .sum-node2 .last .1 .1 .1 .0) _ (0 ∷ 0 ∷ 0 ∷ 0 ∷ []) (c .before .before .before .before .before .before .before .before .before .before .before .before .before .before .before .before .sum-node2 .kept .1 .1 .1 .0) (c .before .before .before .before .before .before .before .before .before .before .before .before .before .before .before .before .before .before .before .before .before .before .before .before .before .before .before .pre .0 .shaped .narrow)) (c .before .before .before .before .before .before .before .before .before .new-two .ensures) (c .before .before .before .before .adopt-all .ensures)
+returns-2 c =
+    let args = c .before .before .before .before .before .before .before .before .before .before .before .before .before .before .before .before .before .before .before .before .before .before .before .before .before .before .before .args in
+    let sum-node = c .before .before .before .before .before .before .before .before .before .before .before .before .before .before .before .before .before .before .before .before .sum-node in
+    let sum-node2 = c .before .before .before .before .before .before .before .before .before .before .before .before .before .before .before .before .sum-node2 in
+    let if1 = c .before .before .before .before .before .before .before .before .before .before .before .before .before .before .before .before .before .before .before .before .before .before .before .if1 in
+    let pre = c .before .before .before .before .before .before .before .before .before .before .before .before .before .before .before .before .before .before .before .before .before .before .before .before .before .before .before .pre in
+    let new-two = c .before .before .before .before .before .before .before .before .before .new-two in
+    let adopt-all = c .before .before .before .before .adopt-all in
+    root-as (args .g) (topOf (args .t)) (args .k .0) (args .m .0) _ _ (sum-node .last .1 .1 .1 .0) (sum-node2 .last .1 .1 .1 .0) _ _ _ _ _ (if1 .left) (sum-node .ensures)
+    (sum-node2 .ensures) (front-back (args .g .stride) (sum-node .last .1 .1 .1 .0) _ (0 ∷ 0 ∷ 0 ∷ 0 ∷ []) (sum-node .kept .1 .1 .1 .0) (pre .0 .shaped .narrow))
+    (front-back (args .g .stride) (sum-node2 .last .1 .1 .1 .0) _ (0 ∷ 0 ∷ 0 ∷ 0 ∷ []) (sum-node2 .kept .1 .1 .1 .0) (pre .0 .shaped .narrow)) (new-two .ensures) (adopt-all .ensures)
 
 pub grow-root-spec : {M : Type 1} → statement M
 grow-root-spec =

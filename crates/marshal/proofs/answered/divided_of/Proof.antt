@@ -17,7 +17,9 @@ refused-divided-requires : tie.Need-refused-divided-requires
 refused-divided-requires c κs = search needs
 
 returns : tie.Need-returns
-returns c = ap (λ (x : Divided). dividedOf (dividedAnswer x)) (sym (c .before .before .before .a .given .1))
+returns c =
+    let a = c .before .before .before .a in
+    ap (λ (x : Divided). dividedOf (dividedAnswer x)) (sym (a .given .1))
 
 returns-2 : tie.Need-returns-2
 returns-2 c = c .refused-divided .ensures ∙ ap (λ (x : Divided). dividedOf (dividedAnswer x)) (sym (c .before .before .a2 .given .1))

@@ -13,7 +13,8 @@ cursor-from-requires c κs = search needs
 
 returns : tie.Need-returns
 unfolding targetFrom
-returns c = ap Before (c .cursor-from .ensures) ∙ sym (ap (λ (t : Bool). cond t (Before (cursorFrom (c .before .before .args .before))) End) (eq-eqb (c .before .before .args .end) 0 (c .before .if1 .taken)))
+returns c = ap Before (c .cursor-from .ensures)
+    ∙ sym (ap (λ (t : Bool). cond t (Before (cursorFrom (c .before .before .args .before))) End) (eq-eqb (c .before .before .args .end) 0 (c .before .if1 .taken)))
 
 returns-2 : tie.Need-returns-2
 unfolding targetFrom

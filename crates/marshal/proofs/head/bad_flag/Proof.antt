@@ -10,10 +10,14 @@ bad-head-requires : tie.Need-bad-head-requires
 bad-head-requires c κs = search needs
 
 returns : tie.Need-returns
-returns c = sym (ap (λ (t : Bool). t || ltb 1 (c .before .before .before .args .flag)) (sym (c .before .bad-head .ensures) ∙ c .if1 .taken))
+returns c =
+    let args = c .before .before .before .args in
+    sym (ap (λ (t : Bool). t || ltb 1 (args .flag)) (sym (c .before .bad-head .ensures) ∙ c .if1 .taken))
 
 returns-2 : tie.Need-returns-2
-returns-2 c = sym (ap (λ (t : Bool). t || ltb 1 (c .before .before .before .args .flag)) (sym (c .before .bad-head .ensures) ∙ c .if1 .left))
+returns-2 c =
+    let args = c .before .before .before .args in
+    sym (ap (λ (t : Bool). t || ltb 1 (args .flag)) (sym (c .before .bad-head .ensures) ∙ c .if1 .left))
 
 pub bad-flag-spec : {M : Type 1} → statement M
 bad-flag-spec = tie.close (tie.spec bad-head-requires returns returns-2)

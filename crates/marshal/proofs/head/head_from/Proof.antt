@@ -33,7 +33,10 @@ shared-slice-read-t17 c = search needs
 
 returns : tie.Need-returns
 unfolding headFrom
-returns c = let w = c .before .before .before .before .before .before .before .before .before .args .head .now in ap (headOf (getD w 0 0) (getD w 1 0) (getD w 2 0) (getD w 3 0) (getD w 4 0) (getD w 5 0) (getD w 6 0)) (c .before .before .before .before .before .before .before .held-from .ensures)
+returns c =
+    let args = c .before .before .before .before .before .before .before .before .before .args in
+    let held-from = c .before .before .before .before .before .before .before .held-from in
+    let w = args .head .now in ap (headOf (getD w 0 0) (getD w 1 0) (getD w 2 0) (getD w 3 0) (getD w 4 0) (getD w 5 0) (getD w 6 0)) (held-from .ensures)
 
 pub head-from-spec : {M : Type 1} → statement M
 head-from-spec =

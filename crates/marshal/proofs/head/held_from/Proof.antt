@@ -39,7 +39,10 @@ shared-slice-read-t17 c = search needs
 
 returns-2 : tie.Need-returns-2
 unfolding heldFrom
-returns-2 c = sym (ap (λ (t : Bool). cond t Absent (At (fingerFrom (c .before .before .before .before .before .before .before .before .before .args .head .now)))) (ne-eqb (getD (c .before .before .before .before .before .before .before .before .before .args .head .now) 7 0) 0 (c .before .before .before .before .before .before .before .if1 .left)))
+returns-2 c =
+    let args = c .before .before .before .before .before .before .before .before .before .args in
+    let if1 = c .before .before .before .before .before .before .before .if1 in
+    sym (ap (λ (t : Bool). cond t Absent (At (fingerFrom (args .head .now)))) (ne-eqb (getD (args .head .now) 7 0) 0 (if1 .left)))
 
 pub held-from-spec : {M : Type 1} → statement M
 held-from-spec =

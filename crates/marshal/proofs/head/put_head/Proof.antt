@@ -19,7 +19,10 @@ finger-of-requires c κs = search needs
 
 -- the place after some words is within the fifteen, whatever was written to those
 inside : (c : tie.After-finger-of) (vs : List ℕ) → ltb (length vs) 15 ≡ true → length vs < length (sets (c .before .before .before .before .args .head .now) 0 vs)
-inside c vs t = in-head (c .before .before .before .before .args .head .now) vs (length vs) t (c .before .before .before .before .pre)
+inside c vs t =
+    let args = c .before .before .before .before .args in
+    let pre = c .before .before .before .before .pre in
+    in-head (args .head .now) vs (length vs) t pre
 
 slice-write-head : tie.Need-slice-write-head
 slice-write-head c = inside c [] refl
@@ -70,7 +73,10 @@ same-length : tie.Need-same-length
 same-length c = search needs
 
 returns : tie.Need-returns
-returns c = written (c .before .before .before .before .args .head .now) (c .before .before .before .before .args .h) _ _ (c .before .before .before .before .pre) (c .before .present-of .ensures) (c .finger-of .ensures)
+returns c =
+    let args = c .before .before .before .before .args in
+    let pre = c .before .before .before .before .pre in
+    written (args .head .now) (args .h) _ _ pre (c .before .present-of .ensures) (c .finger-of .ensures)
 
 pub put-head-spec : {M : Type 1} → statement M
 put-head-spec =

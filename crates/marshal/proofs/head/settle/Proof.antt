@@ -11,7 +11,10 @@ same-length : tie.Need-same-length
 same-length c = search needs
 
 returns : tie.Need-returns
-returns c = after-done (c .before .before .before .before .before .before .args .number) (c .before .before .before .before .before .before .args .h) (c .before .before .before .before .before .before .args .head .now) _ (c .before .before .before .before .if1 .taken) (c .before .before .put-head .ensures)
+returns c =
+    let args = c .before .before .before .before .before .before .args in
+    let if1 = c .before .before .before .before .if1 in
+    after-done (args .number) (args .h) (args .head .now) _ (if1 .taken) (c .before .before .put-head .ensures)
 
 returns-2 : tie.Need-returns-2
 returns-2 c = after-refused (c .before .before .args .number) (c .before .before .args .h) (c .before .before .args .head .now) (c .if1 .left)

@@ -31,13 +31,19 @@ cast-node c =
     omega (arith, s .pre .0, s .pre .2)
 
 slice-write-node : tie.Need-slice-write-node
-slice-write-node c = omega (arith, room (c .before .before .before .before .before), c .before .before .clear .kept .0)
+slice-write-node c =
+    let before = c .before .before .before .before .before in
+    omega (arith, room before, c .before .before .clear .kept .0)
 
 slice-write-node-2 : tie.Need-slice-write-node-2
-slice-write-node-2 c = simp length-set (omega (arith, room (c .before .before .before .before .before), c .before .before .clear .kept .0))
+slice-write-node-2 c =
+    let before = c .before .before .before .before .before in
+    simp length-set (omega (arith, room before, c .before .before .clear .kept .0))
 
 slice-write-node-3 : tie.Need-slice-write-node-3
-slice-write-node-3 c = simp length-set (omega (arith, room (c .before .before .before .before .before), c .before .before .clear .kept .0))
+slice-write-node-3 c =
+    let before = c .before .before .before .before .before in
+    simp length-set (omega (arith, room before, c .before .before .clear .kept .0))
 
 same-length : tie.Need-same-length
 same-length c = simp length-set (c .before .before .clear .kept .0)

@@ -17,7 +17,9 @@ room : (c : tie.Start) → 3 + 1 * c .args .g .stride ≤ length (c .args .node 
 room c = slots-in (c .args .g) _ (c .pre .0) (c .pre .1) 1 (omega (arith, c .pre .0))
 
 put-requires : tie.Need-put-requires
-put-requires c κs = omega (arith, room (c .before .before .before), c .before .before .before .pre .2)
+put-requires c κs =
+    let pre = c .before .before .before .pre in
+    omega (arith, room (c .before .before .before), pre .2)
 
 keep-requires : tie.Need-keep-requires
 keep-requires c κs =
@@ -25,7 +27,9 @@ keep-requires c κs =
     (s .pre .0, c .before .before .before .put .kept .0 ∙ s .pre .1, omega (arith, s .pre .0))
 
 same-length : tie.Need-same-length
-same-length c = c .before .before .keep .kept .0 ∙ c .before .before .before .before .before .before .put .kept .0
+same-length c =
+    let put = c .before .before .before .before .before .before .put in
+    c .before .before .keep .kept .0 ∙ put .kept .0
 
 returns : tie.Need-returns
 unfolding All

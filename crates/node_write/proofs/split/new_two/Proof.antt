@@ -22,13 +22,22 @@ both : (s : ℕ) (x y ws one two : List ℕ) → length x ≡ s → 3 + s + leng
 both s x y ws one two e h p q = rw (flat-two, q, p) (put-next 3 (3 + s) x y ws (omega arith) h)
 
 put-requires : tie.Need-put-requires
-put-requires c κs = omega (arith, room (c .before .before .before .before), c .before .before .before .before .pre .2)
+put-requires c κs =
+    let before = c .before .before .before .before in
+    let pre = c .before .before .before .before .pre in
+    omega (arith, room before, pre .2)
 
 add-put : tie.Need-add-put
-add-put c = omega (arith, c .before .before .before .before .before .before .before .before .pre .0)
+add-put c =
+    let pre = c .before .before .before .before .before .before .before .before .pre in
+    omega (arith, pre .0)
 
 put-requires-2 : tie.Need-put-requires-2
-put-requires-2 c κs = omega (arith, room (c .before .before .before .before .before .before .before .before), c .before .before .before .before .before .before .before .before .pre .3, c .before .before .before .put .kept .0)
+put-requires-2 c κs =
+    let before = c .before .before .before .before .before .before .before .before in
+    let pre = c .before .before .before .before .before .before .before .before .pre in
+    let put = c .before .before .before .put in
+    omega (arith, room before, pre .3, put .kept .0)
 
 keep-requires : tie.Need-keep-requires
 keep-requires c κs =
@@ -36,14 +45,19 @@ keep-requires c κs =
     (s .pre .0, c .before .before .before .put2 .kept .0 ∙ c .before .before .before .before .before .before .before .put .kept .0 ∙ s .pre .1, omega (arith, s .pre .0))
 
 same-length : tie.Need-same-length
-same-length c = c .before .before .keep .kept .0 ∙ c .before .before .before .before .before .before .put2 .kept .0 ∙ c .before .before .before .before .before .before .before .before .before .before .put .kept .0
+same-length c =
+    let put2 = c .before .before .before .before .before .before .put2 in
+    let put = c .before .before .before .before .before .before .before .before .before .before .put in
+    c .before .before .keep .kept .0 ∙ put2 .kept .0 ∙ put .kept .0
 
 returns : tie.Need-returns
 unfolding All
 returns c =
     let s = c .before .before .before .before .before .before .before .before .before .before .before .before .before .before .before in
-    let e = both _ _ _ _ _ _ (s .pre .2) (omega (arith, room s, s .pre .3)) (c .before .before .before .before .before .before .before .before .before .before .put .ensures) (c .before .before .before .before .before .before .put2 .ensures) in
-    c .before .before .keep .ensures ∙ ap wordsOf (new-node _ _ _ (s .args .x .now ∷ s .args .y .now ∷ []) _ _ (whole _ _ (s .pre .0) (s .pre .1)) (s .pre .2, (s .pre .3, tt)) (omega (arith, s .pre .0)) e)
+    let e = both _ _ _ _ _ _ (s .pre .2) (omega (arith, room s, s .pre .3)) (c .before .before .before .before .before .before .before .before .before .before .put .ensures)
+    (c .before .before .before .before .before .before .put2 .ensures) in
+    c .before .before .keep .ensures ∙ ap wordsOf
+    (new-node _ _ _ (s .args .x .now ∷ s .args .y .now ∷ []) _ _ (whole _ _ (s .pre .0) (s .pre .1)) (s .pre .2, (s .pre .3, tt)) (omega (arith, s .pre .0)) e)
 
 pub new-two-spec : {M : Type 1} → statement M
 new-two-spec =

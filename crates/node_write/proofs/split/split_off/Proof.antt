@@ -50,36 +50,60 @@ slice-read-at : tie.Need-slice-read-at
 slice-read-at c = omega (arith, room (c .before .before .before))
 
 add-shift : tie.Need-add-shift
-add-shift c = omega (arith, room (c .before .before .before .before))
+add-shift c =
+    let before = c .before .before .before .before in
+    omega (arith, room before)
 
 mul-shift : tie.Need-mul-shift
-mul-shift c = omega (arith, room (c .before .before .before .before))
+mul-shift c =
+    let before = c .before .before .before .before in
+    omega (arith, room before)
 
 add-shift-2 : tie.Need-add-shift-2
-add-shift-2 c = omega (arith, room (c .before .before .before .before))
+add-shift-2 c =
+    let before = c .before .before .before .before in
+    omega (arith, room before)
 
 sub-shift : tie.Need-sub-shift
-sub-shift c = omega (arith, room (c .before .before .before .before))
+sub-shift c =
+    let before = c .before .before .before .before in
+    omega (arith, room before)
 
 shift-requires : tie.Need-shift-requires
-shift-requires c κs = omega (arith, room (c .before .before .before .before))
+shift-requires c κs =
+    let before = c .before .before .before .before in
+    omega (arith, room before)
 
 sub-keep-in : tie.Need-sub-keep-in
 sub-keep-in c = omega arith
 
 keep-in-requires : tie.Need-keep-in-requires
-keep-in-requires c κs = (c .before .before .before .before .before .before .before .before .pre .0, omega (arith, room (c .before .before .before .before .before .before .before .before), c .before .before .before .shift .kept .0), omega arith)
+keep-in-requires c κs =
+    let pre = c .before .before .before .before .before .before .before .before .pre in
+    let before = c .before .before .before .before .before .before .before .before in
+    let shift = c .before .before .before .shift in
+    (pre .0, omega (arith, room before, shift .kept .0), omega arith)
 
 keep-in-requires-2 : tie.Need-keep-in-requires-2
-keep-in-requires-2 c κs = (c .before .before .before .before .before .before .before .before .before .before .before .before .pre .0, omega (arith, room (c .before .before .before .before .before .before .before .before .before .before .before .before), c .before .before .before .before .before .before .before .shift .kept .0, c .before .before .before .keep-in .kept .0), omega arith)
+keep-in-requires-2 c κs =
+    let pre = c .before .before .before .before .before .before .before .before .before .before .before .before .pre in
+    let before = c .before .before .before .before .before .before .before .before .before .before .before .before in
+    let shift = c .before .before .before .before .before .before .before .shift in
+    let keep-in = c .before .before .before .keep-in in
+    (pre .0, omega (arith, room before, shift .kept .0, keep-in .kept .0), omega arith)
 
 same-length : tie.Need-same-length
-same-length c = c .before .before .keep-in2 .kept .0 ∙ c .before .before .before .before .before .before .keep-in .kept .0 ∙ c .before .before .before .before .before .before .before .before .before .before .shift .kept .0
+same-length c =
+    let keep-in = c .before .before .before .before .before .before .keep-in in
+    let shift = c .before .before .before .before .before .before .before .before .before .before .shift in
+    c .before .before .keep-in2 .kept .0 ∙ keep-in .kept .0 ∙ shift .kept .0
 
 returns : tie.Need-returns
 returns c =
     let s = c .before .before .before .before .before .before .before .before .before .before .before .before .before .before .before in
-    split-area (s .args .g) (s .args .k) (s .args .j) _ (omega (arith, s .pre .0)) (s .pre .0 .words) (s .pre .1) (s .pre .2) _ _ _ (c .before .before .before .before .before .before .before .before .before .before .shift .ensures) (c .before .before .before .before .before .before .keep-in .ensures) (c .before .before .keep-in2 .ensures)
+    split-area (s .args .g) (s .args .k) (s .args .j) _ (omega (arith, s .pre .0)) (s .pre .0 .words) (s .pre .1) (s .pre .2) _ _ _
+    (c .before .before .before .before .before .before .before .before .before .before .shift .ensures) (c .before .before .before .before .before .before .keep-in .ensures)
+    (c .before .before .keep-in2 .ensures)
 
 pub split-off-spec : {M : Type 1} → statement M
 split-off-spec =

@@ -10,7 +10,8 @@ use Rattle.node_write.proofs.write.insert.Statement.{statement}
 use Rattle.node_write.proofs.write.insert.Tie as tie
 
 -- slot i begins before the slot behind those in use, which lies in the node
-room : (c : tie.Start) → (c .args .i * c .args .g .stride ≤ getD (c .args .node .now) 0 0 * c .args .g .stride) × (3 + getD (c .args .node .now) 0 0 * c .args .g .stride + c .args .g .stride ≤ length (c .args .node .now))
+room : (c : tie.Start) → (c .args .i * c .args .g .stride ≤ getD (c .args .node .now) 0 0 * c .args .g .stride)
+    × (3 + getD (c .args .node .now) 0 0 * c .args .g .stride + c .args .g .stride ≤ length (c .args .node .now))
 room c = (rows-le (c .args .i) (getD (c .args .node .now) 0 0) (c .args .g .stride) (c .pre .2), slot-in (c .args .g) _ (c .pre .0) (c .pre .1) _ (c .pre .3))
 
 slice-read-len : tie.Need-slice-read-len
@@ -32,10 +33,16 @@ add-q : tie.Need-add-q
 add-q c = omega (arith, room (c .before .before .before))
 
 shift-requires : tie.Need-shift-requires
-shift-requires c κs = omega (arith, room (c .before .before .before .before))
+shift-requires c κs =
+    let before = c .before .before .before .before in
+    omega (arith, room before)
 
 put-requires : tie.Need-put-requires
-put-requires c κs = omega (arith, room (c .before .before .before .before .before .before .before .before), c .before .before .before .shift .kept .0, c .before .before .before .before .before .before .before .before .pre .4)
+put-requires c κs =
+    let before = c .before .before .before .before .before .before .before .before in
+    let shift = c .before .before .before .shift in
+    let pre = c .before .before .before .before .before .before .before .before .pre in
+    omega (arith, room before, shift .kept .0, pre .4)
 
 add-node : tie.Need-add-node
 add-node c =
@@ -43,15 +50,21 @@ add-node c =
     omega (arith, s .pre .0, s .pre .3)
 
 slice-write-node : tie.Need-slice-write-node
-slice-write-node c = omega (arith, room (c .before .before .before .before .before .before .before .before .before .before .before), c .before .before .put .kept .0, c .before .before .before .before .before .before .shift .kept .0)
+slice-write-node c =
+    let before = c .before .before .before .before .before .before .before .before .before .before .before in
+    let shift = c .before .before .before .before .before .before .shift in
+    omega (arith, room before, c .before .before .put .kept .0, shift .kept .0)
 
 same-length : tie.Need-same-length
-same-length c = simp length-set (c .before .before .put .kept .0 ∙ c .before .before .before .before .before .before .shift .kept .0)
+same-length c =
+    let shift = c .before .before .before .before .before .before .shift in
+    simp length-set (c .before .before .put .kept .0 ∙ shift .kept .0)
 
 returns : tie.Need-returns
 returns c =
     let s = c .before .before .before .before .before .before .before .before .before .before .before in
-    rw (c .before .before .put .ensures, c .before .before .before .before .before .before .shift .ensures) (insert-words _ _ _ (whole _ _ (s .pre .0) (s .pre .1)) _ _ (s .pre .4) (s .pre .2) (s .pre .3))
+    rw (c .before .before .put .ensures, c .before .before .before .before .before .before .shift .ensures)
+    (insert-words _ _ _ (whole _ _ (s .pre .0) (s .pre .1)) _ _ (s .pre .4) (s .pre .2) (s .pre .3))
 
 pub insert-spec : {M : Type 1} → statement M
 insert-spec =

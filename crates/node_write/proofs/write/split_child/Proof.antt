@@ -35,7 +35,8 @@ first p s xs ws now k h e = ap (λ (l : List ℕ). getD l 0 0) e ∙ getD-before
 abbrev Put : Bool → ℕ → ℕ → Type 0
 Put before i step = (step ≤ 1) × (i + step ≡ cond before i (i + 1))
 
-place : (c : tie.Joined1) → Put (c .before .before .before .before .before .before .before .before .args .before) (c .before .before .before .before .before .before .before .before .args .i) (c .if1 .step)
+place : (c : tie.Joined1) → Put (c .before .before .before .before .before .before .before .before .args .before)
+    (c .before .before .before .before .before .before .before .before .args .i) (c .if1 .step)
 place c = ⊎-elim (λ w. (omega arith, rw (w .0 .taken) (omega arith))) (λ w. (omega arith, rw (w .0 .left) (omega arith))) (c .if1 .came)
 
 mul-change-each : tie.Need-mul-change-each
@@ -57,25 +58,34 @@ part-change-each-end : tie.Need-part-change-each-end
 part-change-each-end c = omega arith
 
 change-each-requires : tie.Need-change-each-requires
-change-each-requires c κs = rw lent-rest (omega (arith, slot (c .before .before .before .before), tail (c .before .before .before .before)))
+change-each-requires c κs =
+    let before = c .before .before .before .before in
+    rw lent-rest (omega (arith, slot before, tail before))
 
 add-insert : tie.Need-add-insert
-add-insert c = omega (arith, place (c .before .before), c .before .before .before .before .before .before .before .before .before .before .pre)
+add-insert c =
+    let pre = c .before .before .before .before .before .before .before .before .before .before .pre in
+    omega (arith, place (c .before .before), pre)
 
 insert-requires : tie.Need-insert-requires
 insert-requires c κs =
     let s = c .before .before .before .before .before .before .before .before .before .before in
-    let k = first _ (s .args .g .stride) _ (s .args .node .now) (c .before .before .before .before .before .change-each .last .0) (omega (arith, s .pre .0)) (slot s) (c .before .before .before .before .before .change-each .ensures) in
+    let k = first _ (s .args .g .stride) _ (s .args .node .now) (c .before .before .before .before .before .change-each .last .0) (omega (arith, s .pre .0)) (slot s)
+    (c .before .before .before .before .before .change-each .ensures) in
     (s .pre .0, c .before .before .before .before .before .change-each .kept .0 ∙ s .pre .1, omega (arith, place (c .before .before), s .pre), omega (arith, s .pre), s .pre .4)
 
 same-length : tie.Need-same-length
-same-length c = c .before .before .insert .kept .0 ∙ c .before .before .before .before .before .before .before .before .change-each .kept .0
+same-length c =
+    let change-each = c .before .before .before .before .before .before .before .before .change-each in
+    c .before .before .insert .kept .0 ∙ change-each .kept .0
 
 returns : tie.Need-returns
 returns c =
     let s = c .before .before .before .before .before .before .before .before .before .before .before .before .before in
     c .before .before .insert .ensures
-    ∙ rw (place (c .before .before .before .before .before) .1) (split-words _ _ _ (s .args .before) (s .args .i) (s .args .x .now) _ (whole _ _ (s .pre .0) (s .pre .1)) (tail s) (omega (arith, s .pre)) (taken (s .args .x .now) (s .args .node .now) _ _ (c .before .before .before .before .before .before .before .before .change-each .ensures)))
+    ∙ rw (place (c .before .before .before .before .before) .1)
+    (split-words _ _ _ (s .args .before) (s .args .i) (s .args .x .now) _ (whole _ _ (s .pre .0) (s .pre .1)) (tail s) (omega (arith, s .pre))
+    (taken (s .args .x .now) (s .args .node .now) _ _ (c .before .before .before .before .before .before .before .before .change-each .ensures)))
 
 pub split-child-spec : {M : Type 1} → statement M
 split-child-spec =

@@ -11,7 +11,10 @@ length-of-requires-2 : tie.Need-length-of-requires-2
 length-of-requires-2 c κs = (c .before .before .pre .0, omega (arith, c .before .before .pre .1), c .before .before .pre .2, c .before .before .pre .3)
 
 returns : tie.Need-returns
-returns c = lengths-read (c .before .before .before .args .g) _ _ _ (c .before .before .before .pre .0) (c .before .before .before .pre .1) (c .before .before .before .pre .2) (c .before .before .before .pre .3) _ _ (c .before .length-of .ensures) (c .length-of2 .ensures)
+returns c =
+    let args = c .before .before .before .args in
+    let pre = c .before .before .before .pre in
+    lengths-read (args .g) _ _ _ (pre .0) (pre .1) (pre .2) (pre .3) _ _ (c .before .length-of .ensures) (c .length-of2 .ensures)
 
 pub lengths-at-spec : {M : Type 1} → statement M
 lengths-at-spec = tie.close (tie.spec length-of-requires length-of-requires-2 returns)

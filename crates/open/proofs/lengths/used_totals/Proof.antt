@@ -20,7 +20,10 @@ abbrev μ-loop : tie.MeasureT-loop
 
 -- the words of a turn lie in the node
 turn : (c : tie.In-loop Inv-loop μ-loop) → 3 + c .before .loop .k * c .before .before .before .before .before .args .g .stride + 2 < length (c .before .before .before .before .before .args .node .now)
-turn c = omega (arith, c .before .before .before .before .before .pre .0, in-row (c .before .loop .k) (c .before .before .before .before .before .args .g .fan) (c .before .before .before .before .before .args .g .stride) 2 (omega (arith, c .before .before .in-use .ensures .0)) (omega (arith, c .before .before .before .before .before .pre .2)))
+turn c =
+    let pre = c .before .before .before .before .before .pre in
+    let args = c .before .before .before .before .before .args in
+    omega (arith, pre .0, in-row (c .before .loop .k) (args .g .fan) (args .g .stride) 2 (omega (arith, c .before .before .in-use .ensures .0)) (omega (arith, pre .2)))
 
 shared-slice-read-in-use : tie.Need-shared-slice-read-in-use Inv-loop μ-loop
 shared-slice-read-in-use c = omega (arith, c .before .before .pre .0)
@@ -32,7 +35,16 @@ in-use-requires : tie.Need-in-use-requires Inv-loop μ-loop
 in-use-requires c κs = tt
 
 loop-holds : tie.Need-loop-holds Inv-loop μ-loop
-loop-holds c = (omega arith, omega (arith, zero-mul (c .before .before .before .args .g .stride)), omega arith, omega arith, sym (total-none (c .before .before .before .args .g .stride) 3 0 (c .before .before .before .args .node .now)), sym (total-none (c .before .before .before .args .g .stride) 3 1 (c .before .before .before .args .node .now)))
+loop-holds c =
+    let args = c .before .before .before .args in (
+      omega arith,
+      omega (arith, zero-mul (args .g .stride)),
+      omega arith,
+      omega arith,
+      sym (total-none (args .g .stride) 3 0 (args .node .now)),
+      sym
+          (total-none (args .g .stride) 3 1 (args .node .now)),
+    )
 
 mul-prepare : tie.Need-mul-prepare Inv-loop μ-loop
 mul-prepare c = omega (arith, turn c)
@@ -44,7 +56,9 @@ cast-prepare : tie.Need-cast-prepare Inv-loop μ-loop
 cast-prepare c = omega (arith, c .shared-slice-known3 .given (c .before .before .loop .p))
 
 add-prepare : tie.Need-add-prepare Inv-loop μ-loop
-add-prepare c = omega (arith, c .before .before .before .before .before .before .pre .0, c .shared-slice-known3 .given (c .before .before .loop .p))
+add-prepare c =
+    let pre = c .before .before .before .before .before .before .pre in
+    omega (arith, pre .0, c .shared-slice-known3 .given (c .before .before .loop .p))
 
 add-effect : tie.Need-add-effect Inv-loop μ-loop
 add-effect c = omega (arith, turn (c .before))
@@ -56,10 +70,15 @@ shared-slice-read-effect : tie.Need-shared-slice-read-effect Inv-loop μ-loop
 shared-slice-read-effect c = omega (arith, turn (c .before .before))
 
 cast-effect : tie.Need-cast-effect Inv-loop μ-loop
-cast-effect c = omega (arith, c .shared-slice-known4 .given (c .before .before .before .loop .p + 1))
+cast-effect c =
+    let the-loop = c .before .before .before .loop in
+    omega (arith, c .shared-slice-known4 .given (the-loop .p + 1))
 
 add-effect-2 : tie.Need-add-effect-2 Inv-loop μ-loop
-add-effect-2 c = omega (arith, c .before .before .before .before .before .before .before .pre .0, c .shared-slice-known4 .given (c .before .before .before .loop .p + 1))
+add-effect-2 c =
+    let pre = c .before .before .before .before .before .before .before .pre in
+    let the-loop = c .before .before .before .loop in
+    omega (arith, pre .0, c .shared-slice-known4 .given (the-loop .p + 1))
 
 add-p : tie.Need-add-p Inv-loop μ-loop
 add-p c = omega (arith, turn (c .before .before))
@@ -73,14 +92,27 @@ loop-less c = omega arith
 loop-again : tie.Need-loop-again Inv-loop μ-loop
 loop-again c =
     let s = c .before .before .before .before .before .before .before in
-    let l = c .before .before .before .loop in
-    (omega arith, omega (arith, one-more (l .k) (s .args .g .stride)), omega (arith, c .before .shared-slice-known3 .given (l .p)), omega (arith, c .shared-slice-known4 .given (l .p + 1)), total-more _ _ _ 0 _ _ _ _ (omega (arith, s .pre .2)) (l .inv .1) (l .inv .4) refl, total-more _ _ _ 1 _ _ _ _ (omega (arith, s .pre .2)) (omega (arith, l .inv .1)) (l .inv .5) refl)
+    let l = c .before .before .before .loop in (
+      omega arith,
+      omega (arith, one-more (l .k) (s .args .g .stride)),
+      omega (arith, c .before .shared-slice-known3 .given (l .p)),
+      omega
+          (arith, c .shared-slice-known4 .given (l .p + 1)),
+      total-more _ _ _ 0 _ _ _ _ (omega (arith, s .pre .2)) (l .inv .1) (l .inv .4) refl,
+      total-more _ _ _ 1 _ _ _ _
+          (omega (arith, s .pre .2)) (omega (arith, l .inv .1)) (l .inv .5) refl,
+    )
 
 returns : tie.Need-returns Inv-loop μ-loop
 returns c =
     let s = c .before .before .before .before .before in
-    let e = in-use (s .args .g .stride) (s .args .g .fan) _ _ (s .args .node .now) (c .before .before .in-use .ensures .1) (c .before .loop .inv .0) (c .loop-test .left) in
-    (c .before .loop .inv .4 ∙ ap (total 0) e, c .before .loop .inv .5 ∙ ap (total 1) e, omega (arith, s .pre .0, c .before .before .in-use .ensures .0), omega (arith, s .pre .0, c .before .before .in-use .ensures .0))
+    let e = in-use (s .args .g .stride) (s .args .g .fan) _ _ (s .args .node .now) (c .before .before .in-use .ensures .1) (c .before .loop .inv .0) (c .loop-test .left) in (
+      c .before .loop .inv .4 ∙ ap (total 0) e,
+      c .before .loop .inv .5
+          ∙ ap (total 1) e,
+      omega (arith, s .pre .0, c .before .before .in-use .ensures .0),
+      omega (arith, s .pre .0, c .before .before .in-use .ensures .0),
+    )
 
 pub used-totals-spec : {M : Type 1} → statement M
 used-totals-spec =

@@ -18,7 +18,11 @@ len-of-requires : tie.Need-len-of-requires
 len-of-requires c κs = search needs
 
 returns-3 : tie.Need-returns-3
-returns-3 c = current-last (state (c .before .before .before .before .before .before .before .before .args .head) (now (c .before .before .before .before .before .before .before .before .args .leaves)) [] []) (c .before .before .before .before .before .before .before .before .args .c) _ _ (c .before .before .before .before .before .before .before .before .pre .0) (c .before .before .before .before .if1 .left) (c .before .before .if2 .left) (c .before .len-of .ensures)
+returns-3 c =
+    let args = c .before .before .before .before .before .before .before .before .args in
+    let pre = c .before .before .before .before .before .before .before .before .pre in
+    let if1 = c .before .before .before .before .if1 in
+    current-last (state (args .head) (now (args .leaves)) [] []) (args .c) _ _ (pre .0) (if1 .left) (c .before .before .if2 .left) (c .before .len-of .ensures)
 
 pub current-spec : {M : Type 1} → statement M
 current-spec = tie.close (tie.spec returns returns-2 len-of-requires returns-3)

@@ -17,13 +17,21 @@ astray-requires : tie.Need-astray-requires
 astray-requires c κs = search needs
 
 returns : tie.Need-returns
-returns c = open-astray _ _ (c .before .before .before .before .before .open-areas .ensures) _ (c .before .before .before .g .given .1) _ (c .before .astray .ensures) (c .if1 .taken)
+returns c =
+    let open-areas = c .before .before .before .before .before .open-areas in
+    let g = c .before .before .before .g in
+    open-astray _ _ (open-areas .ensures) _ (g .given .1) _ (c .before .astray .ensures) (c .if1 .taken)
 
 returns-2 : tie.Need-returns-2
-returns-2 c = open-refused _ _ (c .before .before .before .open-areas .ensures) _ (c .before .n .given .1)
+returns-2 c =
+    let open-areas = c .before .before .before .open-areas in
+    open-refused _ _ (open-areas .ensures) _ (c .before .n .given .1)
 
 returns-3 : tie.Need-returns-3
-returns-3 c = open-good _ _ (c .before .before .before .before .before .open-areas .ensures) _ (c .before .before .before .g .given .1) _ (c .before .astray .ensures) (c .if1 .left)
+returns-3 c =
+    let open-areas = c .before .before .before .before .before .open-areas in
+    let g = c .before .before .before .g in
+    open-good _ _ (open-areas .ensures) _ (g .given .1) _ (c .before .astray .ensures) (c .if1 .left)
 
 pub open-spec : {M : Type 1} → statement M
 open-spec = tie.close (tie.spec open-areas-requires enum-known-n enum-known-g astray-requires returns returns-2 returns-3)

@@ -20,10 +20,20 @@ too-short-requires : tie.Need-too-short-requires
 too-short-requires c κs = search needs
 
 returns-2 : tie.Need-returns-2
-returns-2 c = short-areas _ _ (now (c .before .before .before .before .before .before .before .before .args .leaves)) (now (c .before .before .before .before .before .before .before .before .args .inners)) (now (c .before .before .before .before .before .before .before .before .args .homes)) _ _ _ (c .before .before .before .before .bad-size .ensures) (c .before .before .before .if1 .left) (c .before .before .shape-of .ensures .0) (c .before .too-short .ensures) (c .if2 .taken)
+returns-2 c =
+    let args = c .before .before .before .before .before .before .before .before .args in
+    let bad-size = c .before .before .before .before .bad-size in
+    let if1 = c .before .before .before .if1 in
+    short-areas _ _ (now (args .leaves)) (now (args .inners)) (now (args .homes)) _ _ _ (bad-size .ensures) (if1 .left) (c .before .before .shape-of .ensures .0)
+    (c .before .too-short .ensures) (c .if2 .taken)
 
 returns-3 : tie.Need-returns-3
-returns-3 c = long-areas _ _ (now (c .before .before .before .before .before .before .before .before .args .leaves)) (now (c .before .before .before .before .before .before .before .before .args .inners)) (now (c .before .before .before .before .before .before .before .before .args .homes)) _ _ _ (c .before .before .before .before .bad-size .ensures) (c .before .before .before .if1 .left) (c .before .before .shape-of .ensures .0) (c .before .too-short .ensures) (c .if2 .left)
+returns-3 c =
+    let args = c .before .before .before .before .before .before .before .before .args in
+    let bad-size = c .before .before .before .before .bad-size in
+    let if1 = c .before .before .before .if1 in
+    long-areas _ _ (now (args .leaves)) (now (args .inners)) (now (args .homes)) _ _ _ (bad-size .ensures) (if1 .left) (c .before .before .shape-of .ensures .0)
+    (c .before .too-short .ensures) (c .if2 .left)
 
 pub open-areas-spec : {M : Type 1} → statement M
 open-areas-spec = tie.close (tie.spec bad-size-requires returns shape-of-requires too-short-requires returns-2 returns-3)

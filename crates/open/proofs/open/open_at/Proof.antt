@@ -18,22 +18,44 @@ current-requires : tie.Need-current-requires
 current-requires c κs = let h = ready _ _ _ (c .before .before .before .«open» .ensures) (c .before .g .given .1) in (h .same, leaf-area _ _ h, h .leaves)
 
 returns : tie.Need-returns
-returns c = at-stale _ (c .before .before .before .before .before .before .before .before .before .args .c) _ (c .before .before .before .before .before .«open» .ensures) _ (c .before .before .before .g .given .1) _ (c .before .current .ensures) (c .if1 .taken)
+returns c =
+    let args = c .before .before .before .before .before .before .before .before .before .args in
+    let before = c .before .before .before .before .before in
+    let g = c .before .before .before .g in
+    at-stale _ (args .c) _ (before .«open» .ensures) _ (g .given .1) _ (c .before .current .ensures) (c .if1 .taken)
 
 len-of-requires : tie.Need-len-of-requires
-len-of-requires c κs = at-leaf _ (c .before .before .before .before .before .before .before .before .before .args .c) _ (c .before .before .before .before .before .«open» .ensures) _ (c .before .before .before .g .given .1) _ (c .before .current .ensures) (c .if1 .left)
+len-of-requires c κs =
+    let args = c .before .before .before .before .before .before .before .before .before .args in
+    let before = c .before .before .before .before .before in
+    let g = c .before .before .before .g in
+    at-leaf _ (args .c) _ (before .«open» .ensures) _ (g .given .1) _ (c .before .current .ensures) (c .if1 .left)
 
 cast-if2 : tie.Need-cast-if2
 cast-if2 c = search needs
 
 returns-2 : tie.Need-returns-2
-returns-2 c = at-overfull _ (c .before .before .before .before .before .before .before .before .before .before .before .before .args .c) _ (c .before .before .before .before .before .before .before .before .«open» .ensures) _ (c .before .before .before .before .before .before .g .given .1) _ (c .before .before .before .before .current .ensures) (c .before .before .before .if1 .left) _ (c .before .before .len-of .ensures) (c .if2 .taken)
+returns-2 c =
+    let args = c .before .before .before .before .before .before .before .before .before .before .before .before .args in
+    let before = c .before .before .before .before .before .before .before .before in
+    let g = c .before .before .before .before .before .before .g in
+    let current = c .before .before .before .before .current in
+    let if1 = c .before .before .before .if1 in
+    at-overfull _ (args .c) _ (before .«open» .ensures) _ (g .given .1) _ (current .ensures) (if1 .left) _ (c .before .before .len-of .ensures) (c .if2 .taken)
 
 returns-3 : tie.Need-returns-3
-returns-3 c = at-refused _ (c .before .before .before .before .before .before .before .args .c) _ (c .before .before .before .«open» .ensures) _ (c .before .n .given .1)
+returns-3 c =
+    let args = c .before .before .before .before .before .before .before .args in
+    at-refused _ (args .c) _ (c .before .before .before .«open» .ensures) _ (c .before .n .given .1)
 
 returns-4 : tie.Need-returns-4
-returns-4 c = at-good _ (c .before .before .before .before .before .before .before .before .before .before .before .before .args .c) _ (c .before .before .before .before .before .before .before .before .«open» .ensures) _ (c .before .before .before .before .before .before .g .given .1) _ (c .before .before .before .before .current .ensures) (c .before .before .before .if1 .left) _ (c .before .before .len-of .ensures) (c .if2 .left)
+returns-4 c =
+    let args = c .before .before .before .before .before .before .before .before .before .before .before .before .args in
+    let before = c .before .before .before .before .before .before .before .before in
+    let g = c .before .before .before .before .before .before .g in
+    let current = c .before .before .before .before .current in
+    let if1 = c .before .before .before .if1 in
+    at-good _ (args .c) _ (before .«open» .ensures) _ (g .given .1) _ (current .ensures) (if1 .left) _ (c .before .before .len-of .ensures) (c .if2 .left)
 
 pub open-at-spec : {M : Type 1} → statement M
 open-at-spec =

@@ -20,10 +20,16 @@ same-length-3 : tie.Need-same-length-3
 same-length-3 c = search needs
 
 returns : tie.Need-returns
-returns c = λ h. entered-not (c .before .before .before .before .before .before .before .before .before .before .before .before .before .before .before .before .args .g) (λ j. putBy (c .before .before .before .before .before .before .before .before .before .before .before .before .before .before .before .before .args .split) (c .before .before .before .before .before .before .before .before .before .before .before .before .before .before .before .before .args .before) j (c .before .before .before .before .before .before .before .before .before .before .before .before .before .before .before .before .args .x .now)) (least (c .before .before .before .before .before .before .before .before .before .before .before .before .before .before .before .before .args .split)) _ _ h _ _ _ _ (c .before .before .before .before .before .before .before .before .make-room .ensures h) (c .if1 .taken)
+returns c =
+    let args = c .before .before .before .before .before .before .before .before .before .before .before .before .before .before .before .before .args in
+    let make-room = c .before .before .before .before .before .before .before .before .make-room in
+    λ h. entered-not (args .g) (λ j. putBy (args .split) (args .before) j (args .x .now)) (least (args .split)) _ _ h _ _ _ _ (make-room .ensures h) (c .if1 .taken)
 
 put-slot-requires : tie.Need-put-slot-requires
-put-slot-requires c κs = (record { shaped = c .before .before .before .before .before .before .before .before .before .before .before .before .before .before .before .before .before .before .pre .0 .shaped; room = omega (arith, c .before .before .before .before .before .before .before .before .before .before .before .before .before .before .before .before .before .before .pre .0 .leaves, c .before .before .before .before .before .before .before .before .before .before .make-room .kept .0) }, c .before .before .before .before .before .before .before .before .before .before .before .before .before .before .before .before .before .before .pre .6)
+put-slot-requires c κs =
+    let pre = c .before .before .before .before .before .before .before .before .before .before .before .before .before .before .before .before .before .before .pre in
+    let make-room = c .before .before .before .before .before .before .before .before .before .before .make-room in
+    (record { shaped = pre .0 .shaped; room = omega (arith, pre .0 .leaves, make-room .kept .0) }, pre .6)
 
 astray-requires : tie.Need-astray-requires
 astray-requires c κs = search needs
@@ -38,10 +44,18 @@ same-length-6 : tie.Need-same-length-6
 same-length-6 c = search needs
 
 returns-2 : tie.Need-returns-2
-returns-2 c = λ h. entered-none (c .before .before .before .before .before .before .before .before .before .before .before .before .before .before .before .before .before .before .before .before .before .before .before .args .g) (λ j. putBy (c .before .before .before .before .before .before .before .before .before .before .before .before .before .before .before .before .before .before .before .before .before .before .before .args .split) (c .before .before .before .before .before .before .before .before .before .before .before .before .before .before .before .before .before .before .before .before .before .before .before .args .before) j (c .before .before .before .before .before .before .before .before .before .before .before .before .before .before .before .before .before .before .before .before .before .before .before .args .x .now)) (least (c .before .before .before .before .before .before .before .before .before .before .before .before .before .before .before .before .before .before .before .before .before .before .before .args .split)) _ _ h _ _ _ _ (c .before .before .before .before .before .before .before .before .before .before .before .before .before .before .before .make-room .ensures h) (c .before .before .before .before .before .before .before .if1 .left) _ _ (c .before .before .before .before .put-slot .ensures) (not-true _ (c .before .if2 .taken)) _ (c .astray .ensures)
+returns-2 c =
+    let args = c .before .before .before .before .before .before .before .before .before .before .before .before .before .before .before .before .before .before .before .before .before .before .before .args in
+    let make-room = c .before .before .before .before .before .before .before .before .before .before .before .before .before .before .before .make-room in
+    let if1 = c .before .before .before .before .before .before .before .if1 in
+    let put-slot = c .before .before .before .before .put-slot in
+    λ h. entered-none (args .g) (λ j. putBy (args .split) (args .before) j (args .x .now)) (least (args .split)) _ _ h _ _ _ _ (make-room .ensures h) (if1 .left) _ _
+    (put-slot .ensures) (not-true _ (c .before .if2 .taken)) _ (c .astray .ensures)
 
 mul-homes : tie.Need-mul-homes
-mul-homes c = omega (arith, c .before .before .before .before .before .before .before .before .before .before .before .before .before .before .before .before .before .before .before .before .before .before .good)
+mul-homes c =
+    let good = c .before .before .before .before .before .before .before .before .before .before .before .before .before .before .before .before .before .before .before .before .before .before .good in
+    omega (arith, good)
 
 slice-write-homes : tie.Need-slice-write-homes
 slice-write-homes c = search needs
@@ -56,7 +70,13 @@ same-length-9 : tie.Need-same-length-9
 same-length-9 c = search needs
 
 returns-3 : tie.Need-returns-3
-returns-3 c = λ h. entered-done (c .before .before .before .before .before .before .before .before .before .before .before .before .before .before .before .before .before .before .before .before .before .before .args .g) (λ j. putBy (c .before .before .before .before .before .before .before .before .before .before .before .before .before .before .before .before .before .before .before .before .before .before .args .split) (c .before .before .before .before .before .before .before .before .before .before .before .before .before .before .before .before .before .before .before .before .before .before .args .before) j (c .before .before .before .before .before .before .before .before .before .before .before .before .before .before .before .before .before .before .before .before .before .before .args .x .now)) (least (c .before .before .before .before .before .before .before .before .before .before .before .before .before .before .before .before .before .before .before .before .before .before .args .split)) _ _ h _ _ _ _ (c .before .before .before .before .before .before .before .before .before .before .before .before .before .before .make-room .ensures h) (c .before .before .before .before .before .before .if1 .left) _ _ (c .before .before .before .put-slot .ensures) (not-false _ (c .if2 .left))
+returns-3 c =
+    let args = c .before .before .before .before .before .before .before .before .before .before .before .before .before .before .before .before .before .before .before .before .before .before .args in
+    let make-room = c .before .before .before .before .before .before .before .before .before .before .before .before .before .before .make-room in
+    let if1 = c .before .before .before .before .before .before .if1 in
+    let put-slot = c .before .before .before .put-slot in
+    λ h. entered-done (args .g) (λ j. putBy (args .split) (args .before) j (args .x .now)) (least (args .split)) _ _ h _ _ _ _ (make-room .ensures h) (if1 .left) _ _
+    (put-slot .ensures) (not-false _ (c .if2 .left))
 
 pub enter-slot-spec : {M : Type 1} → statement M
 enter-slot-spec =

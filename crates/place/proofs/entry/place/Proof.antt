@@ -17,7 +17,18 @@ top-of-requires : tie.Need-top-of-requires
 top-of-requires c κs = search needs
 
 enter-requires : tie.Need-enter-requires
-enter-requires c κs = (c .before .before .before .before .before .before .before .pre .0, c .before .before .before .before .before .before .before .pre .1, omega (arith, c .before .before .before .before .before .before .before .pre .2, ap (λ (t : Top). t .inners) (c .before .before .before .top-of .ensures)), omega (arith, c .before .before .before .before .before .before .before .pre .3, ap (λ (t : Top). t .levels) (c .before .before .before .top-of .ensures)), omega (arith, c .before .before .before .before .before .before .before .pre .4, ap (λ (t : Top). t .levels) (c .before .before .before .top-of .ensures)), c .before .before .before .before .before .before .before .pre .5, c .before .before .before .before .before .before .before .pre .7)
+enter-requires c κs =
+    let pre = c .before .before .before .before .before .before .before .pre in
+    let top-of = c .before .before .before .top-of in (
+      pre .0,
+      pre .1,
+      omega (arith, pre .2, ap (λ (t : Top). t .inners) (top-of .ensures)),
+      omega (arith, pre .3, ap (λ (t : Top). t .levels) (top-of .ensures)),
+      omega
+          (arith, pre .4, ap (λ (t : Top). t .levels) (top-of .ensures)),
+      pre .5,
+      pre .7,
+    )
 
 entered-requires : tie.Need-entered-requires
 entered-requires c κs = search needs
@@ -32,7 +43,13 @@ same-length-3 : tie.Need-same-length-3
 same-length-3 c = search needs
 
 returns : tie.Need-returns
-returns c = by-field _ _ _ (c .entered .ensures) ∙ c .before .before .before .before .before .before .before .enter .ensures (c .before .before .before .before .before .before .before .before .before .before .before .before .before .before .before .args .head) ∙ ap (λ (h : Head). entering (c .before .before .before .before .before .before .before .before .before .before .before .before .before .before .before .args .g) (λ j. inserted j (c .before .before .before .before .before .before .before .before .before .before .before .before .before .before .before .args .head .entries ∷ listOf (c .before .before .before .before .before .before .before .before .before .before .before .before .before .before .before .args .lengths))) 0 (makeRoom (c .before .before .before .before .before .before .before .before .before .before .before .before .before .before .before .args .g) (state h (c .before .before .before .before .before .before .before .before .before .before .before .before .before .before .before .args .leaves .now) (c .before .before .before .before .before .before .before .before .before .before .before .before .before .before .before .args .inners .now) (c .before .before .before .before .before .before .before .before .before .before .before .before .before .before .before .args .homes .now)) (c .before .before .before .before .before .before .before .before .before .before .before .before .before .before .before .args .k) (c .before .before .before .before .before .before .before .before .before .before .before .before .before .before .before .args .i))) (own _ _ (c .before .before .before .before .before .before .before .before .before .before .before .top-of .ensures))
+returns c =
+    let enter = c .before .before .before .before .before .before .before .enter in
+    let args = c .before .before .before .before .before .before .before .before .before .before .before .before .before .before .before .args in
+    let top-of = c .before .before .before .before .before .before .before .before .before .before .before .top-of in
+    by-field _ _ _ (c .entered .ensures) ∙ enter .ensures (args .head)
+    ∙ ap (λ (h : Head). entering (args .g) (λ j. inserted j (args .head .entries ∷ listOf (args .lengths))) 0
+    (makeRoom (args .g) (state h (args .leaves .now) (args .inners .now) (args .homes .now)) (args .k) (args .i))) (own _ _ (top-of .ensures))
 
 pub place-spec : {M : Type 1} → statement M
 place-spec =

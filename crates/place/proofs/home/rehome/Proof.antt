@@ -28,13 +28,20 @@ loop-holds : tie.Need-loop-holds Inv-loop μ-loop
 loop-holds c = (omega arith, refl, refl)
 
 child-of-requires : tie.Need-child-of-requires Inv-loop μ-loop
-child-of-requires c κs = (c .before .before .before .before .before .pre .0, c .before .before .before .before .before .pre .1, omega (arith, c .before .before .before .before .before .pre .2, c .before .before .len-of .ensures))
+child-of-requires c κs =
+    let pre = c .before .before .before .before .before .pre in
+    (pre .0, pre .1, omega (arith, pre .2, c .before .before .len-of .ensures))
 
 same-length : tie.Need-same-length Inv-loop μ-loop
 same-length c = omega arith
 
 returns : tie.Need-returns Inv-loop μ-loop
-returns c = turn-past (c .before .before .before .before .before .before .before .args .g) _ _ _ _ _ (c .before .before .before .before .before .before .before .args .leaves .now) _ _ (c .before .before .before .before .len-of .ensures) (c .before .before .before .before .before .before .before .pre .2) (c .before .before .before .loop .inv .2) (c .before .before .loop-test .taken) (c .before .child-of .ensures) (c .if1 .taken)
+returns c =
+    let args = c .before .before .before .before .before .before .before .args in
+    let len-of = c .before .before .before .before .len-of in
+    let pre = c .before .before .before .before .before .before .before .pre in
+    let the-loop = c .before .before .before .loop in
+    turn-past (args .g) _ _ _ _ _ (args .leaves .now) _ _ (len-of .ensures) (pre .2) (the-loop .inv .2) (c .before .before .loop-test .taken) (c .before .child-of .ensures) (c .if1 .taken)
 
 cast-homes : tie.Need-cast-homes Inv-loop μ-loop
 cast-homes c = omega arith
@@ -52,13 +59,25 @@ loop-less : tie.Need-loop-less Inv-loop μ-loop
 loop-less c = omega arith
 
 loop-again : tie.Need-loop-again Inv-loop μ-loop
-loop-again c = (omega arith, simp length-set (c .before .before .before .loop .inv .1), turn-on (c .before .before .before .before .before .before .before .args .g) _ _ _ _ _ (c .before .before .before .before .before .before .before .args .leaves .now) _ _ (c .before .before .before .before .len-of .ensures) (c .before .before .before .before .before .before .before .pre .2) (c .before .before .before .loop .inv .2) (c .before .before .loop-test .taken) (c .before .child-of .ensures) (c .if1 .left))
+loop-again c =
+    let the-loop = c .before .before .before .loop in
+    let args = c .before .before .before .before .before .before .before .args in
+    let len-of = c .before .before .before .before .len-of in
+    let pre = c .before .before .before .before .before .before .before .pre in (
+      omega arith,
+      simp length-set (the-loop .inv .1),
+      turn-on (args .g) _ _ _ _ _ (args .leaves .now) _ _ (len-of .ensures) (pre .2) (the-loop .inv .2)
+          (c .before .before .loop-test .taken) (c .before .child-of .ensures) (c .if1 .left),
+    )
 
 same-length-2 : tie.Need-same-length-2 Inv-loop μ-loop
 same-length-2 c = omega arith
 
 returns-2 : tie.Need-returns-2 Inv-loop μ-loop
-returns-2 c = turn-end (c .before .before .before .before .before .args .g) _ _ _ _ 0 (c .before .before .before .before .before .args .leaves .now) _ _ (c .before .before .len-of .ensures) (c .before .before .before .before .before .pre .2) (c .before .loop .inv .2) (c .loop-test .left)
+returns-2 c =
+    let args = c .before .before .before .before .before .args in
+    let pre = c .before .before .before .before .before .pre in
+    turn-end (args .g) _ _ _ _ 0 (args .leaves .now) _ _ (c .before .before .len-of .ensures) (pre .2) (c .before .loop .inv .2) (c .loop-test .left)
 
 pub rehome-spec : {M : Type 1} → statement M
 rehome-spec =

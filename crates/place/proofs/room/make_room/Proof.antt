@@ -11,7 +11,10 @@ room-at-requires : tie.Need-room-at-requires
 room-at-requires c κs = search needs
 
 returns : tie.Need-returns
-returns c = λ h. at-room _ _ h _ _ _ (c .room-at .ensures) (room-unused (c .before .before .before .before .before .args .g) _ _ _ (counted (c .before .before .before .before .before .args .used) (topOf (c .before .before .before .before .before .args .t)) (c .before .before .before .before .before .args .entries) h) (c .before .before .before .before .before .args .leaves .now) (c .before .before .before .before .before .args .inners .now) (c .before .before .before .before .before .args .homes .now) refl (c .before .if1 .taken))
+returns c =
+    let args = c .before .before .before .before .before .args in
+    λ h. at-room _ _ h _ _ _ (c .room-at .ensures)
+    (room-unused (args .g) _ _ _ (counted (args .used) (topOf (args .t)) (args .entries) h) (args .leaves .now) (args .inners .now) (args .homes .now) refl (c .before .if1 .taken))
 
 len-of-requires : tie.Need-len-of-requires
 len-of-requires c κs = search needs
@@ -26,7 +29,12 @@ same-length : tie.Need-same-length
 same-length c = search needs
 
 returns-2 : tie.Need-returns-2
-returns-2 c = λ h. at-room _ _ h _ _ _ (c .room-at2 .ensures) (room-past (c .before .before .before .before .before .before .before .before .args .g) _ _ _ (counted (c .before .before .before .before .before .before .before .before .args .used) (topOf (c .before .before .before .before .before .before .before .before .args .t)) (c .before .before .before .before .before .before .before .before .args .entries) h) (c .before .before .before .before .before .before .before .before .args .leaves .now) (c .before .before .before .before .before .before .before .before .args .inners .now) (c .before .before .before .before .before .before .before .before .args .homes .now) (c .before .before .len-of .ensures) (c .before .before .before .before .if1 .left) (c .before .if2 .taken))
+returns-2 c =
+    let args = c .before .before .before .before .before .before .before .before .args in
+    let if1 = c .before .before .before .before .if1 in
+    λ h. at-room _ _ h _ _ _ (c .room-at2 .ensures)
+    (room-past (args .g) _ _ _ (counted (args .used) (topOf (args .t)) (args .entries) h) (args .leaves .now) (args .inners .now) (args .homes .now)
+    (c .before .before .len-of .ensures) (if1 .left) (c .before .if2 .taken))
 
 room-at-requires-3 : tie.Need-room-at-requires-3
 room-at-requires-3 c κs = search needs
@@ -35,7 +43,13 @@ same-length-2 : tie.Need-same-length-2
 same-length-2 c = search needs
 
 returns-3 : tie.Need-returns-3
-returns-3 c = λ h. at-room _ _ h _ _ _ (c .room-at3 .ensures) (room-over (c .before .before .before .before .before .before .before .before .before .args .g) _ _ _ (counted (c .before .before .before .before .before .before .before .before .before .args .used) (topOf (c .before .before .before .before .before .before .before .before .before .args .t)) (c .before .before .before .before .before .before .before .before .before .args .entries) h) (c .before .before .before .before .before .before .before .before .before .args .leaves .now) (c .before .before .before .before .before .before .before .before .before .args .inners .now) (c .before .before .before .before .before .before .before .before .before .args .homes .now) (c .before .before .before .len-of .ensures) (c .before .before .before .before .before .if1 .left) (c .before .before .if2 .left) (c .before .if3 .taken))
+returns-3 c =
+    let args = c .before .before .before .before .before .before .before .before .before .args in
+    let len-of = c .before .before .before .len-of in
+    let if1 = c .before .before .before .before .before .if1 in
+    λ h. at-room _ _ h _ _ _ (c .room-at3 .ensures)
+    (room-over (args .g) _ _ _ (counted (args .used) (topOf (args .t)) (args .entries) h) (args .leaves .now) (args .inners .now) (args .homes .now) (len-of .ensures) (if1 .left)
+    (c .before .before .if2 .left) (c .before .if3 .taken))
 
 room-at-requires-4 : tie.Need-room-at-requires-4
 room-at-requires-4 c κs = search needs
@@ -44,7 +58,14 @@ same-length-3 : tie.Need-same-length-3
 same-length-3 c = search needs
 
 returns-4 : tie.Need-returns-4
-returns-4 c = λ h. at-room _ _ h _ _ _ (c .room-at4 .ensures) (room-there (c .before .before .before .before .before .before .before .before .before .before .args .g) _ _ _ (counted (c .before .before .before .before .before .before .before .before .before .before .args .used) (topOf (c .before .before .before .before .before .before .before .before .before .before .args .t)) (c .before .before .before .before .before .before .before .before .before .before .args .entries) h) (c .before .before .before .before .before .before .before .before .before .before .args .leaves .now) (c .before .before .before .before .before .before .before .before .before .before .args .inners .now) (c .before .before .before .before .before .before .before .before .before .before .args .homes .now) (c .before .before .before .before .len-of .ensures) (c .before .before .before .before .before .before .if1 .left) (c .before .before .before .if2 .left) (c .before .before .if3 .left) (c .before .if4 .taken))
+returns-4 c =
+    let args = c .before .before .before .before .before .before .before .before .before .before .args in
+    let len-of = c .before .before .before .before .len-of in
+    let if1 = c .before .before .before .before .before .before .if1 in
+    let if2 = c .before .before .before .if2 in
+    λ h. at-room _ _ h _ _ _ (c .room-at4 .ensures)
+    (room-there (args .g) _ _ _ (counted (args .used) (topOf (args .t)) (args .entries) h) (args .leaves .now) (args .inners .now) (args .homes .now) (len-of .ensures) (if1 .left)
+    (if2 .left) (c .before .before .if3 .left) (c .before .if4 .taken))
 
 split-leaf-requires : tie.Need-split-leaf-requires
 split-leaf-requires c κs = search needs
@@ -59,7 +80,16 @@ same-length-6 : tie.Need-same-length-6
 same-length-6 c = search needs
 
 returns-5 : tie.Need-returns-5
-returns-5 c = λ h. room-made (c .before .before .before .before .before .before .before .before .before .before .before .before .before .before .before .before .before .before .before .args .g) _ _ _ (counted (c .before .before .before .before .before .before .before .before .before .before .before .before .before .before .before .before .before .before .before .args .used) (topOf (c .before .before .before .before .before .before .before .before .before .before .before .before .before .before .before .before .before .before .before .args .t)) (c .before .before .before .before .before .before .before .before .before .before .before .before .before .before .before .before .before .before .before .args .entries) h) (c .before .before .before .before .before .before .before .before .before .before .before .before .before .before .before .before .before .before .before .args .leaves .now) (c .before .before .before .before .before .before .before .before .before .before .before .before .before .before .before .before .before .before .before .args .inners .now) (c .before .before .before .before .before .before .before .before .before .before .before .before .before .before .before .before .before .before .before .args .homes .now) (c .before .before .before .before .before .before .before .before .before .before .before .before .before .len-of .ensures) (c .before .before .before .before .before .before .before .before .before .before .before .before .before .before .before .if1 .left) (c .before .before .before .before .before .before .before .before .before .before .before .before .if2 .left) (c .before .before .before .before .before .before .before .before .before .before .before .if3 .left) (c .before .before .before .before .before .before .before .before .before .before .if4 .left) _ (c .before .before .before .before .before .before .split-leaf .ensures h)
+returns-5 c =
+    let args = c .before .before .before .before .before .before .before .before .before .before .before .before .before .before .before .before .before .before .before .args in
+    let len-of = c .before .before .before .before .before .before .before .before .before .before .before .before .before .len-of in
+    let if1 = c .before .before .before .before .before .before .before .before .before .before .before .before .before .before .before .if1 in
+    let if2 = c .before .before .before .before .before .before .before .before .before .before .before .before .if2 in
+    let if3 = c .before .before .before .before .before .before .before .before .before .before .before .if3 in
+    let if4 = c .before .before .before .before .before .before .before .before .before .before .if4 in
+    let split-leaf = c .before .before .before .before .before .before .split-leaf in
+    λ h. room-made (args .g) _ _ _ (counted (args .used) (topOf (args .t)) (args .entries) h) (args .leaves .now) (args .inners .now) (args .homes .now) (len-of .ensures)
+    (if1 .left) (if2 .left) (if3 .left) (if4 .left) _ (split-leaf .ensures h)
 
 pub make-room-spec : {M : Type 1} → statement M
 make-room-spec =

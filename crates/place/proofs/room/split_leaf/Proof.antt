@@ -13,13 +13,25 @@ room-at-requires : tie.Need-room-at-requires
 room-at-requires c κs = search needs
 
 returns : tie.Need-returns
-returns c = λ h. at-room _ _ h _ _ _ (c .room-at .ensures) (split-none (c .before .before .before .before .before .args .g) _ _ (counted (c .before .before .before .before .before .args .used) (topOf (c .before .before .before .before .before .args .t)) (c .before .before .before .before .before .args .entries) h) (c .before .before .before .before .before .args .leaves .now) (c .before .before .before .before .before .args .inners .now) (c .before .before .before .before .before .args .homes .now) (c .before .if1 .taken))
+returns c =
+    let args = c .before .before .before .before .before .args in
+    λ h. at-room _ _ h _ _ _ (c .room-at .ensures)
+    (split-none (args .g) _ _ (counted (args .used) (topOf (args .t)) (args .entries) h) (args .leaves .now) (args .inners .now) (args .homes .now) (c .before .if1 .taken))
 
 split-off-requires : tie.Need-split-off-requires
-split-off-requires c κs = (c .before .before .before .before .before .pre .0 .shaped, c .before .before .before .before .before .pre .1, node-end (c .before .before .before .before .before .args .g) (c .before .before .before .before .before .args .used) _ (c .before .if1 .left) (c .before .before .before .before .before .pre .0 .leaves))
+split-off-requires c κs =
+    let pre = c .before .before .before .before .before .pre in
+    let args = c .before .before .before .before .before .args in
+    (pre .0 .shaped, pre .1, node-end (args .g) (args .used) _ (c .before .if1 .left) (pre .0 .leaves))
 
 rehome-requires : tie.Need-rehome-requires
-rehome-requires c κs = let z = (halves (c .before .before .before .before .before .before .before .before .before .before .args .g) (c .before .before .before .before .before .before .before .before .before .before .args .k) (c .before .before .before .before .before .before .before .before .before .before .args .used) (c .before .before .before .before .before .before .before .before .before .before .args .leaves .now) _ (c .before .before .before .before .before .before .before .before .before .before .pre .0 .shaped .words) (omega (arith, c .before .before .before .before .before .before .before .before .before .before .pre .0 .shaped)) (c .before .before .before .before .before .before .before .before .before .before .pre .1) (node-end (c .before .before .before .before .before .before .before .before .before .before .args .g) (c .before .before .before .before .before .before .before .before .before .before .args .used) _ (c .before .before .before .before .before .before .if1 .left) (c .before .before .before .before .before .before .before .before .before .before .pre .0 .leaves)) (c .before .before .before .before .split-off .ensures)) in (record { shaped = c .before .before .before .before .before .before .before .before .before .before .pre .0 .shaped; room = rw (z .long) (c .before .before .before .before .before .before .before .before .before .before .pre .0 .leaves) }, c .before .before .before .before .before .before .if1 .left, few z, c .before .before .before .before .before .before .before .before .before .before .pre .5)
+rehome-requires c κs =
+    let args = c .before .before .before .before .before .before .before .before .before .before .args in
+    let pre = c .before .before .before .before .before .before .before .before .before .before .pre in
+    let if1 = c .before .before .before .before .before .before .if1 in
+    let split-off = c .before .before .before .before .split-off in
+    let z = (halves (args .g) (args .k) (args .used) (args .leaves .now) _ (pre .0 .shaped .words) (omega (arith, pre .0 .shaped)) (pre .1)
+    (node-end (args .g) (args .used) _ (if1 .left) (pre .0 .leaves)) (split-off .ensures)) in (record { shaped = pre .0 .shaped; room = rw (z .long) (pre .0 .leaves) }, if1 .left, few z, pre .5)
 
 room-at-requires-2 : tie.Need-room-at-requires-2
 room-at-requires-2 c κs = search needs
@@ -31,7 +43,16 @@ same-length-2 : tie.Need-same-length-2
 same-length-2 c = search needs
 
 returns-2 : tie.Need-returns-2
-returns-2 c = λ h. at-room _ _ h _ _ _ (c .room-at2 .ensures) (split-lost (c .before .before .before .before .before .before .before .before .before .before .before .before .before .before .before .args .g) _ _ (counted (c .before .before .before .before .before .before .before .before .before .before .before .before .before .before .before .args .used) (topOf (c .before .before .before .before .before .before .before .before .before .before .before .before .before .before .before .args .t)) (c .before .before .before .before .before .before .before .before .before .before .before .before .before .before .before .args .entries) h) (c .before .before .before .before .before .before .before .before .before .before .before .before .before .before .before .args .leaves .now) (c .before .before .before .before .before .before .before .before .before .before .before .before .before .before .before .args .inners .now) (c .before .before .before .before .before .before .before .before .before .before .before .before .before .before .before .args .homes .now) _ _ _ (halves (c .before .before .before .before .before .before .before .before .before .before .before .before .before .before .before .args .g) (c .before .before .before .before .before .before .before .before .before .before .before .before .before .before .before .args .k) (c .before .before .before .before .before .before .before .before .before .before .before .before .before .before .before .args .used) (c .before .before .before .before .before .before .before .before .before .before .before .before .before .before .before .args .leaves .now) _ (c .before .before .before .before .before .before .before .before .before .before .before .before .before .before .before .pre .0 .shaped .words) (omega (arith, c .before .before .before .before .before .before .before .before .before .before .before .before .before .before .before .pre .0 .shaped)) (c .before .before .before .before .before .before .before .before .before .before .before .before .before .before .before .pre .1) (node-end (c .before .before .before .before .before .before .before .before .before .before .before .before .before .before .before .args .g) (c .before .before .before .before .before .before .before .before .before .before .before .before .before .before .before .args .used) _ (c .before .before .before .before .before .before .before .before .before .before .before .if1 .left) (c .before .before .before .before .before .before .before .before .before .before .before .before .before .before .before .pre .0 .leaves)) (c .before .before .before .before .before .before .before .before .before .split-off .ensures)) (c .before .before .before .before .before .before .before .before .before .before .before .if1 .left) (c .before .before .before .before .rehome .ensures) (c .before .if2 .taken))
+returns-2 c =
+    let args = c .before .before .before .before .before .before .before .before .before .before .before .before .before .before .before .args in
+    let pre = c .before .before .before .before .before .before .before .before .before .before .before .before .before .before .before .pre in
+    let if1 = c .before .before .before .before .before .before .before .before .before .before .before .if1 in
+    let split-off = c .before .before .before .before .before .before .before .before .before .split-off in
+    let rehome = c .before .before .before .before .rehome in
+    λ h. at-room _ _ h _ _ _ (c .room-at2 .ensures)
+    (split-lost (args .g) _ _ (counted (args .used) (topOf (args .t)) (args .entries) h) (args .leaves .now) (args .inners .now) (args .homes .now) _ _ _
+    (halves (args .g) (args .k) (args .used) (args .leaves .now) _ (pre .0 .shaped .words) (omega (arith, pre .0 .shaped)) (pre .1)
+    (node-end (args .g) (args .used) _ (if1 .left) (pre .0 .leaves)) (split-off .ensures)) (if1 .left) (rehome .ensures) (c .before .if2 .taken))
 
 parent-of-requires : tie.Need-parent-of-requires
 parent-of-requires c κs = search needs
@@ -43,13 +64,19 @@ add-child-requires : tie.Need-add-child-requires
 add-child-requires c κs = search needs
 
 add-room-at : tie.Need-add-room-at
-add-room-at c = omega (arith, c .before .before .before .before .before .before .before .before .before .before .before .before .before .before .before .before .before .before .before .before .before .if1 .left, c .before .before .before .before .before .before .before .before .before .before .before .before .before .before .before .before .before .before .before .before .before .before .before .before .before .pre .0 .shaped)
+add-room-at c =
+    let if1 = c .before .before .before .before .before .before .before .before .before .before .before .before .before .before .before .before .before .before .before .before .before .if1 in
+    let pre = c .before .before .before .before .before .before .before .before .before .before .before .before .before .before .before .before .before .before .before .before .before .before .before .before .before .pre in
+    omega (arith, if1 .left, pre .0 .shaped)
 
 room-at-requires-3 : tie.Need-room-at-requires-3
 room-at-requires-3 c κs = search needs
 
 same-length-3 : tie.Need-same-length-3
-same-length-3 c = c .before .before .before .before .before .before .before .add-child .kept .0 ∙ c .before .before .before .before .before .before .before .before .before .before .before .before .before .before .before .before .before .before .before .before .split-off .kept .0
+same-length-3 c =
+    let add-child = c .before .before .before .before .before .before .before .add-child in
+    let split-off = c .before .before .before .before .before .before .before .before .before .before .before .before .before .before .before .before .before .before .before .before .split-off in
+    add-child .kept .0 ∙ split-off .kept .0
 
 same-length-4 : tie.Need-same-length-4
 same-length-4 c = search needs
@@ -58,13 +85,31 @@ same-length-5 : tie.Need-same-length-5
 same-length-5 c = search needs
 
 returns-3 : tie.Need-returns-3
-returns-3 c = λ h. at-room _ _ h _ _ _ (c .room-at3 .ensures) (split-low (c .before .before .before .before .before .before .before .before .before .before .before .before .before .before .before .before .before .before .before .before .before .before .before .before .before .before .args .g) _ _ (counted (c .before .before .before .before .before .before .before .before .before .before .before .before .before .before .before .before .before .before .before .before .before .before .before .before .before .before .args .used) (topOf (c .before .before .before .before .before .before .before .before .before .before .before .before .before .before .before .before .before .before .before .before .before .before .before .before .before .before .args .t)) (c .before .before .before .before .before .before .before .before .before .before .before .before .before .before .before .before .before .before .before .before .before .before .before .before .before .before .args .entries) h) (c .before .before .before .before .before .before .before .before .before .before .before .before .before .before .before .before .before .before .before .before .before .before .before .before .before .before .args .leaves .now) (c .before .before .before .before .before .before .before .before .before .before .before .before .before .before .before .before .before .before .before .before .before .before .before .before .before .before .args .inners .now) (c .before .before .before .before .before .before .before .before .before .before .before .before .before .before .before .before .before .before .before .before .before .before .before .before .before .before .args .homes .now) _ _ _ (halves (c .before .before .before .before .before .before .before .before .before .before .before .before .before .before .before .before .before .before .before .before .before .before .before .before .before .before .args .g) (c .before .before .before .before .before .before .before .before .before .before .before .before .before .before .before .before .before .before .before .before .before .before .before .before .before .before .args .k) (c .before .before .before .before .before .before .before .before .before .before .before .before .before .before .before .before .before .before .before .before .before .before .before .before .before .before .args .used) (c .before .before .before .before .before .before .before .before .before .before .before .before .before .before .before .before .before .before .before .before .before .before .before .before .before .before .args .leaves .now) _ (c .before .before .before .before .before .before .before .before .before .before .before .before .before .before .before .before .before .before .before .before .before .before .before .before .before .before .pre .0 .shaped .words) (omega (arith, c .before .before .before .before .before .before .before .before .before .before .before .before .before .before .before .before .before .before .before .before .before .before .before .before .before .before .pre .0 .shaped)) (c .before .before .before .before .before .before .before .before .before .before .before .before .before .before .before .before .before .before .before .before .before .before .before .before .before .before .pre .1) (node-end (c .before .before .before .before .before .before .before .before .before .before .before .before .before .before .before .before .before .before .before .before .before .before .before .before .before .before .args .g) (c .before .before .before .before .before .before .before .before .before .before .before .before .before .before .before .before .before .before .before .before .before .before .before .before .before .before .args .used) _ (c .before .before .before .before .before .before .before .before .before .before .before .before .before .before .before .before .before .before .before .before .before .before .if1 .left) (c .before .before .before .before .before .before .before .before .before .before .before .before .before .before .before .before .before .before .before .before .before .before .before .before .before .before .pre .0 .leaves)) (c .before .before .before .before .before .before .before .before .before .before .before .before .before .before .before .before .before .before .before .before .split-off .ensures)) (c .before .before .before .before .before .before .before .before .before .before .before .before .before .before .before .before .before .before .before .before .before .before .if1 .left) (c .before .before .before .before .before .before .before .before .before .before .before .before .before .before .before .rehome .ensures) _ _ (c .before .before .before .before .before .before .before .before .before .before .before .before .if2 .left) (rw (c .before .before .before .before .before .before .before .before .before .before .parent-of .ensures) at (c .before .before .before .before .before .before .before .add-child .ensures)) refl (c .before .if3 .taken))
+returns-3 c =
+    let args = c .before .before .before .before .before .before .before .before .before .before .before .before .before .before .before .before .before .before .before .before .before .before .before .before .before .before .args in
+    let pre = c .before .before .before .before .before .before .before .before .before .before .before .before .before .before .before .before .before .before .before .before .before .before .before .before .before .before .pre in
+    let if1 = c .before .before .before .before .before .before .before .before .before .before .before .before .before .before .before .before .before .before .before .before .before .before .if1 in
+    let split-off = c .before .before .before .before .before .before .before .before .before .before .before .before .before .before .before .before .before .before .before .before .split-off in
+    let rehome = c .before .before .before .before .before .before .before .before .before .before .before .before .before .before .before .rehome in
+    let if2 = c .before .before .before .before .before .before .before .before .before .before .before .before .if2 in
+    let parent-of = c .before .before .before .before .before .before .before .before .before .before .parent-of in
+    let add-child = c .before .before .before .before .before .before .before .add-child in
+    λ h. at-room _ _ h _ _ _ (c .room-at3 .ensures)
+    (split-low (args .g) _ _ (counted (args .used) (topOf (args .t)) (args .entries) h) (args .leaves .now) (args .inners .now) (args .homes .now) _ _ _
+    (halves (args .g) (args .k) (args .used) (args .leaves .now) _ (pre .0 .shaped .words) (omega (arith, pre .0 .shaped)) (pre .1)
+    (node-end (args .g) (args .used) _ (if1 .left) (pre .0 .leaves)) (split-off .ensures)) (if1 .left) (rehome .ensures) _ _ (if2 .left)
+    (rw (parent-of .ensures) at (add-child .ensures)) refl (c .before .if3 .taken))
 
 add-room-at-2 : tie.Need-add-room-at-2
-add-room-at-2 c = omega (arith, c .before .before .before .before .before .before .before .before .before .before .before .before .before .before .before .before .before .before .before .before .before .if1 .left, c .before .before .before .before .before .before .before .before .before .before .before .before .before .before .before .before .before .before .before .before .before .before .before .before .before .pre .0 .shaped)
+add-room-at-2 c =
+    let if1 = c .before .before .before .before .before .before .before .before .before .before .before .before .before .before .before .before .before .before .before .before .before .if1 in
+    let pre = c .before .before .before .before .before .before .before .before .before .before .before .before .before .before .before .before .before .before .before .before .before .before .before .before .before .pre in
+    omega (arith, if1 .left, pre .0 .shaped)
 
 cast-room-at : tie.Need-cast-room-at
-cast-room-at c = omega (arith, c .before .before .before .before .before .before .before .before .before .before .before .before .before .before .before .before .before .before .before .before .before .before .before .before .before .pre .0 .shaped)
+cast-room-at c =
+    let pre = c .before .before .before .before .before .before .before .before .before .before .before .before .before .before .before .before .before .before .before .before .before .before .before .before .before .pre in
+    omega (arith, pre .0 .shaped)
 
 sub-room-at : tie.Need-sub-room-at
 sub-room-at c = search needs
@@ -73,7 +118,10 @@ room-at-requires-4 : tie.Need-room-at-requires-4
 room-at-requires-4 c κs = search needs
 
 same-length-6 : tie.Need-same-length-6
-same-length-6 c = c .before .before .before .before .before .before .before .add-child .kept .0 ∙ c .before .before .before .before .before .before .before .before .before .before .before .before .before .before .before .before .before .before .before .before .split-off .kept .0
+same-length-6 c =
+    let add-child = c .before .before .before .before .before .before .before .add-child in
+    let split-off = c .before .before .before .before .before .before .before .before .before .before .before .before .before .before .before .before .before .before .before .before .split-off in
+    add-child .kept .0 ∙ split-off .kept .0
 
 same-length-7 : tie.Need-same-length-7
 same-length-7 c = search needs
@@ -82,7 +130,20 @@ same-length-8 : tie.Need-same-length-8
 same-length-8 c = search needs
 
 returns-4 : tie.Need-returns-4
-returns-4 c = λ h. at-room _ _ h _ _ _ (c .room-at4 .ensures) (split-high (c .before .before .before .before .before .before .before .before .before .before .before .before .before .before .before .before .before .before .before .before .before .before .before .before .before .before .args .g) _ _ (counted (c .before .before .before .before .before .before .before .before .before .before .before .before .before .before .before .before .before .before .before .before .before .before .before .before .before .before .args .used) (topOf (c .before .before .before .before .before .before .before .before .before .before .before .before .before .before .before .before .before .before .before .before .before .before .before .before .before .before .args .t)) (c .before .before .before .before .before .before .before .before .before .before .before .before .before .before .before .before .before .before .before .before .before .before .before .before .before .before .args .entries) h) (c .before .before .before .before .before .before .before .before .before .before .before .before .before .before .before .before .before .before .before .before .before .before .before .before .before .before .args .leaves .now) (c .before .before .before .before .before .before .before .before .before .before .before .before .before .before .before .before .before .before .before .before .before .before .before .before .before .before .args .inners .now) (c .before .before .before .before .before .before .before .before .before .before .before .before .before .before .before .before .before .before .before .before .before .before .before .before .before .before .args .homes .now) _ _ _ (halves (c .before .before .before .before .before .before .before .before .before .before .before .before .before .before .before .before .before .before .before .before .before .before .before .before .before .before .args .g) (c .before .before .before .before .before .before .before .before .before .before .before .before .before .before .before .before .before .before .before .before .before .before .before .before .before .before .args .k) (c .before .before .before .before .before .before .before .before .before .before .before .before .before .before .before .before .before .before .before .before .before .before .before .before .before .before .args .used) (c .before .before .before .before .before .before .before .before .before .before .before .before .before .before .before .before .before .before .before .before .before .before .before .before .before .before .args .leaves .now) _ (c .before .before .before .before .before .before .before .before .before .before .before .before .before .before .before .before .before .before .before .before .before .before .before .before .before .before .pre .0 .shaped .words) (omega (arith, c .before .before .before .before .before .before .before .before .before .before .before .before .before .before .before .before .before .before .before .before .before .before .before .before .before .before .pre .0 .shaped)) (c .before .before .before .before .before .before .before .before .before .before .before .before .before .before .before .before .before .before .before .before .before .before .before .before .before .before .pre .1) (node-end (c .before .before .before .before .before .before .before .before .before .before .before .before .before .before .before .before .before .before .before .before .before .before .before .before .before .before .args .g) (c .before .before .before .before .before .before .before .before .before .before .before .before .before .before .before .before .before .before .before .before .before .before .before .before .before .before .args .used) _ (c .before .before .before .before .before .before .before .before .before .before .before .before .before .before .before .before .before .before .before .before .before .before .if1 .left) (c .before .before .before .before .before .before .before .before .before .before .before .before .before .before .before .before .before .before .before .before .before .before .before .before .before .before .pre .0 .leaves)) (c .before .before .before .before .before .before .before .before .before .before .before .before .before .before .before .before .before .before .before .before .split-off .ensures)) (c .before .before .before .before .before .before .before .before .before .before .before .before .before .before .before .before .before .before .before .before .before .before .if1 .left) (c .before .before .before .before .before .before .before .before .before .before .before .before .before .before .before .rehome .ensures) _ _ (c .before .before .before .before .before .before .before .before .before .before .before .before .if2 .left) (rw (c .before .before .before .before .before .before .before .before .before .before .parent-of .ensures) at (c .before .before .before .before .before .before .before .add-child .ensures)) refl (c .before .if3 .left))
+returns-4 c =
+    let args = c .before .before .before .before .before .before .before .before .before .before .before .before .before .before .before .before .before .before .before .before .before .before .before .before .before .before .args in
+    let pre = c .before .before .before .before .before .before .before .before .before .before .before .before .before .before .before .before .before .before .before .before .before .before .before .before .before .before .pre in
+    let if1 = c .before .before .before .before .before .before .before .before .before .before .before .before .before .before .before .before .before .before .before .before .before .before .if1 in
+    let split-off = c .before .before .before .before .before .before .before .before .before .before .before .before .before .before .before .before .before .before .before .before .split-off in
+    let rehome = c .before .before .before .before .before .before .before .before .before .before .before .before .before .before .before .rehome in
+    let if2 = c .before .before .before .before .before .before .before .before .before .before .before .before .if2 in
+    let parent-of = c .before .before .before .before .before .before .before .before .before .before .parent-of in
+    let add-child = c .before .before .before .before .before .before .before .add-child in
+    λ h. at-room _ _ h _ _ _ (c .room-at4 .ensures)
+    (split-high (args .g) _ _ (counted (args .used) (topOf (args .t)) (args .entries) h) (args .leaves .now) (args .inners .now) (args .homes .now) _ _ _
+    (halves (args .g) (args .k) (args .used) (args .leaves .now) _ (pre .0 .shaped .words) (omega (arith, pre .0 .shaped)) (pre .1)
+    (node-end (args .g) (args .used) _ (if1 .left) (pre .0 .leaves)) (split-off .ensures)) (if1 .left) (rehome .ensures) _ _ (if2 .left)
+    (rw (parent-of .ensures) at (add-child .ensures)) refl (c .before .if3 .left))
 
 pub split-leaf-spec : {M : Type 1} → statement M
 split-leaf-spec =

@@ -16,7 +16,10 @@ same-length : tie.Need-same-length
 same-length c = search needs
 
 returns : tie.Need-returns
-returns c = rw (← c .before .before .before .before .before .parent-of .ensures, ← c .before .before .before .before .at-of .ensures) (c .before .before .add-up .ensures)
+returns c =
+    let parent-of = c .before .before .before .before .before .parent-of in
+    let at-of = c .before .before .before .before .at-of in
+    rw (← parent-of .ensures, ← at-of .ensures) (c .before .before .add-up .ensures)
 
 pub add-to-ancestors-spec : {M : Type 1} → statement M
 add-to-ancestors-spec =

@@ -20,7 +20,11 @@ same-length : tie.Need-same-length
 same-length c = search needs
 
 returns : tie.Need-returns
-returns c = rw (← c .before .before .before .before .before .before .start-in .ensures .0, ← c .before .before .before .before .before .parent-of .ensures, ← c .before .before .before .before .at-of .ensures) (c .before .before .climb-up .ensures)
+returns c =
+    let start-in = c .before .before .before .before .before .before .start-in in
+    let parent-of = c .before .before .before .before .before .parent-of in
+    let at-of = c .before .before .before .before .at-of in
+    rw (← start-in .ensures .0, ← parent-of .ensures, ← at-of .ensures) (c .before .before .climb-up .ensures)
 
 pub climb-spec : {M : Type 1} → statement M
 climb-spec =

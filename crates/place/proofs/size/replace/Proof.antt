@@ -17,7 +17,10 @@ same-length : tie.Need-same-length
 same-length c = search needs
 
 returns : tie.Need-returns
-returns c = λ xs hs. replaced (c .before .before .before .before .before .before .before .before .args .g) _ _ _ _ _ _ (c .before .before .before .before .before .before .before .before .args .leaves .now) _ xs hs (c .before .before .before .before .set-lengths .ensures) (c .before .changing .ensures) (c .with-finger .ensures)
+returns c =
+    let args = c .before .before .before .before .before .before .before .before .args in
+    let set-lengths = c .before .before .before .before .set-lengths in
+    λ xs hs. replaced (args .g) _ _ _ _ _ _ (args .leaves .now) _ xs hs (set-lengths .ensures) (c .before .changing .ensures) (c .with-finger .ensures)
 
 pub replace-spec : {M : Type 1} → statement M
 replace-spec =

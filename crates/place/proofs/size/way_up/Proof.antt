@@ -35,31 +35,53 @@ slice-aggregate-climb : tie.Need-slice-aggregate-climb
 slice-aggregate-climb c = search needs
 
 climb-requires : tie.Need-climb-requires
-climb-requires c κs = rw (c .before .before .before .fixed .ensures) (c .before .before .before .before .before .before .pre .0, c .before .before .before .before .before .before .pre .1, omega (arith, c .before .before .before .before .before .before .pre .2), omega (arith, c .before .before .before .before .before .before .pre .2), c .before .before .before .before .before .before .pre .3, c .before .before .before .before .before .before .pre .4, c .before .before .before .before .before .before .pre .5)
+climb-requires c κs =
+    let fixed = c .before .before .before .fixed in
+    let pre = c .before .before .before .before .before .before .pre in
+    rw (fixed .ensures) (pre .0, pre .1, omega (arith, pre .2), omega (arith, pre .2), pre .3, pre .4, pre .5)
 
 same-length : tie.Need-same-length
 same-length c = search needs
 
 returns : tie.Need-returns
-returns c = summed-way _ _ _ (c .before .before .before .before .before .if1 .taken) (c .before .before .climb .ensures ∙ ap (climbed (c .before .before .before .before .before .before .before .before .before)) (c .before .before .before .before .before .before .fixed .ensures))
+returns c =
+    let if1 = c .before .before .before .before .before .if1 in
+    let before = c .before .before .before .before .before .before .before .before .before in
+    let fixed = c .before .before .before .before .before .before .fixed in
+    summed-way _ _ _ (if1 .taken) (c .before .before .climb .ensures ∙ ap (climbed before) (fixed .ensures))
 
 slice-aggregate-add-to-ancestors : tie.Need-slice-aggregate-add-to-ancestors
 slice-aggregate-add-to-ancestors c = search needs
 
 add-to-ancestors-requires : tie.Need-add-to-ancestors-requires
-add-to-ancestors-requires c κs = rw (c .before .before .before .fixed .ensures) (c .before .before .before .before .before .before .pre .0, c .before .before .before .before .before .before .pre .1, omega (arith, c .before .before .before .before .before .before .pre .2), c .before .before .before .before .before .before .pre .4)
+add-to-ancestors-requires c κs =
+    let fixed = c .before .before .before .fixed in
+    let pre = c .before .before .before .before .before .before .pre in
+    rw (fixed .ensures) (pre .0, pre .1, omega (arith, pre .2), pre .4)
 
 same-length-2 : tie.Need-same-length-2
 same-length-2 c = search needs
 
 returns-2 : tie.Need-returns-2
-returns-2 c = lost-way _ _ (c .before .before .before .before .before .before .if1 .left) _ (c .before .before .before .before .before .before .before .before .before .before .args .g) 1 (listOf (c .before .before .before .before .before .before .before .before .before .before .args .delta)) _ _ _ _ _ (c .before .before .before .add-to-ancestors .ensures ∙ ap (raised (c .before .before .before .before .before .before .before .before .before .before)) (c .before .before .before .before .before .before .before .fixed .ensures)) (not-true _ (c .if2 .taken))
+returns-2 c =
+    let if1 = c .before .before .before .before .before .before .if1 in
+    let args = c .before .before .before .before .before .before .before .before .before .before .args in
+    let add-to-ancestors = c .before .before .before .add-to-ancestors in
+    let before = c .before .before .before .before .before .before .before .before .before .before in
+    let fixed = c .before .before .before .before .before .before .before .fixed in
+    lost-way _ _ (if1 .left) _ (args .g) 1 (listOf (args .delta)) _ _ _ _ _ (add-to-ancestors .ensures ∙ ap (raised before) (fixed .ensures)) (not-true _ (c .if2 .taken))
 
 same-length-3 : tie.Need-same-length-3
 same-length-3 c = search needs
 
 returns-3 : tie.Need-returns-3
-returns-3 c = whole-way _ _ (c .before .before .before .before .before .before .if1 .left) _ (c .before .before .before .before .before .before .before .before .before .before .args .g) 1 (listOf (c .before .before .before .before .before .before .before .before .before .before .args .delta)) _ _ _ _ _ (c .before .before .before .add-to-ancestors .ensures ∙ ap (raised (c .before .before .before .before .before .before .before .before .before .before)) (c .before .before .before .before .before .before .before .fixed .ensures)) (not-false _ (c .if2 .left))
+returns-3 c =
+    let if1 = c .before .before .before .before .before .before .if1 in
+    let args = c .before .before .before .before .before .before .before .before .before .before .args in
+    let add-to-ancestors = c .before .before .before .add-to-ancestors in
+    let before = c .before .before .before .before .before .before .before .before .before .before in
+    let fixed = c .before .before .before .before .before .before .before .fixed in
+    whole-way _ _ (if1 .left) _ (args .g) 1 (listOf (args .delta)) _ _ _ _ _ (add-to-ancestors .ensures ∙ ap (raised before) (fixed .ensures)) (not-false _ (c .if2 .left))
 
 pub way-up-spec : {M : Type 1} → statement M
 way-up-spec =

@@ -62,7 +62,9 @@ same-length : tie.Need-same-length Inv-loop μ-loop
 same-length c = omega arith
 
 returns : tie.Need-returns Inv-loop μ-loop
-returns c = c .before .loop .inv .2 ∙ each-all (changed (c .before .before .before .before .args .less)) _ _ _ _ (c .before .loop .inv .0) (c .loop-test .left)
+returns c =
+    let args = c .before .before .before .before .args in
+    c .before .loop .inv .2 ∙ each-all (changed (args .less)) _ _ _ _ (c .before .loop .inv .0) (c .loop-test .left)
 
 pub change-each-spec : {M : Type 1} → statement M
 change-each-spec =

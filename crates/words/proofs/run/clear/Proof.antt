@@ -20,8 +20,11 @@ abbrev μ-loop : tie.MeasureT-loop
 μ-loop ws₀ stride p n child w₀ i₀ ws w i = n - i
 
 -- the slot of a turn lies in the words
-turn : (c : tie.In-loop Inv-loop μ-loop) → c .before .loop .w + c .before .before .before .before .before .before .before .args .stride ≤ length (c .before .before .before .before .before .before .before .args .ws .now)
-turn c = omega (arith, row-end (c .before .loop .i) (c .before .before .before .before .before .before .before .args .n) (c .before .before .before .before .before .before .before .args .stride) (c .loop-test .taken))
+turn : (c : tie.In-loop Inv-loop μ-loop) → c .before .loop .w + c .before .before .before .before .before .before .before .args .stride ≤ length
+    (c .before .before .before .before .before .before .before .args .ws .now)
+turn c =
+    let args = c .before .before .before .before .before .before .before .args in
+    omega (arith, row-end (c .before .loop .i) (args .n) (args .stride) (c .loop-test .taken))
 
 mul-zero : tie.Need-mul-zero Inv-loop μ-loop
 mul-zero c = omega (arith, c .before .before .fits)
@@ -33,7 +36,9 @@ zero-requires : tie.Need-zero-requires Inv-loop μ-loop
 zero-requires c κs = (omega arith, c .before .before .pre .1)
 
 loop-holds : tie.Need-loop-holds Inv-loop μ-loop
-loop-holds c = (omega arith, omega (arith, zero-mul (c .before .before .before .before .before .args .stride)), refl, rw (flat-none, put-none))
+loop-holds c =
+    let args = c .before .before .before .before .before .args in
+    (omega arith, omega (arith, zero-mul (args .stride)), refl, rw (flat-none, put-none))
 
 mul-ws : tie.Need-mul-ws Inv-loop μ-loop
 mul-ws c = omega (arith, turn c)
@@ -53,17 +58,26 @@ loop-less c = omega arith
 loop-again : tie.Need-loop-again Inv-loop μ-loop
 loop-again c =
     let s = c .before .before .before .before .before .before .before in
-    let l = c .before .loop in
-    (omega arith, omega (arith, one-more (l .i) (s .args .stride)), simp length-set (l .inv .2), child-turn (s .args .stride) (s .args .p) (s .args .n) _ (s .args .ws .now) (s .pre .0) (c .before .before .before .before .zero .ensures) (s .pre .1) (c .before .before .before .before .zero .kept .0) (l .i) (l .w) _ (c .loop-test .taken) (l .inv .1) (l .inv .2) (l .inv .3))
+    let l = c .before .loop in (
+      omega arith,
+      omega (arith, one-more (l .i) (s .args .stride)),
+      simp length-set (l .inv .2),
+      child-turn (s .args .stride) (s .args .p) (s .args .n) _ (s .args .ws .now)
+          (s .pre .0) (c .before .before .before .before .zero .ensures) (s .pre .1) (c .before .before .before .before .zero .kept .0) (l .i) (l .w) _ (c .loop-test .taken) (l .inv .1)
+          (l .inv .2) (l .inv .3),
+    )
 
 same-length : tie.Need-same-length Inv-loop μ-loop
-same-length c = c .before .loop .inv .2 ∙ c .before .before .before .before .zero .kept .0
+same-length c =
+    let zero = c .before .before .before .before .zero in
+    c .before .loop .inv .2 ∙ zero .kept .0
 
 returns : tie.Need-returns Inv-loop μ-loop
 returns c =
     let s = c .before .before .before .before .before .before .before in
     let e : c .before .loop .i ≡ s .args .n = omega arith in
-    rw e at (c .before .loop .inv .3) ∙ clear-all (s .args .stride) (s .args .p) (s .args .n) _ (s .args .ws .now) (s .pre .0) (c .before .before .before .before .zero .ensures) (s .pre .1) (c .before .before .before .before .zero .kept .0)
+    rw e at (c .before .loop .inv .3) ∙ clear-all (s .args .stride) (s .args .p) (s .args .n) _ (s .args .ws .now) (s .pre .0) (c .before .before .before .before .zero .ensures)
+    (s .pre .1) (c .before .before .before .before .zero .kept .0)
 
 pub clear-spec : {M : Type 1} → statement M
 clear-spec =

@@ -41,13 +41,16 @@ loop-less : tie.Need-loop-less Inv-loop μ-loop
 loop-less c = omega arith
 
 loop-again : tie.Need-loop-again Inv-loop μ-loop
-loop-again c = (omega arith, simp length-set (c .before .before .loop .inv .1), rw (c .before .before .loop .inv .2) (copy-turn _ _ _ _ (c .before .loop-test .taken) (c .before .before .before .pre)))
+loop-again c =
+    let pre = c .before .before .before .pre in
+    (omega arith, simp length-set (c .before .before .loop .inv .1), rw (c .before .before .loop .inv .2) (copy-turn _ _ _ _ (c .before .loop-test .taken) pre))
 
 same-length : tie.Need-same-length Inv-loop μ-loop
 same-length c = omega arith
 
 returns : tie.Need-returns Inv-loop μ-loop
-returns c = c .before .loop .inv .2 ∙ ap (λ l. putAt (c .before .before .args .p) l (c .before .before .args .ws .now)) (take-all (c .before .loop .i) (c .before .before .args .src .now) (c .loop-test .left))
+returns c = c .before .loop .inv .2 ∙ ap (λ l. putAt (c .before .before .args .p) l (c .before .before .args .ws .now))
+    (take-all (c .before .loop .i) (c .before .before .args .src .now) (c .loop-test .left))
 
 pub put-spec : {M : Type 1} → statement M
 put-spec =
