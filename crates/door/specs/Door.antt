@@ -3,10 +3,9 @@ use mathlib.Core.Bool.{cond}
 use mathlib.Core.List.{List}
 use Prim.Native.Nat.{ℕ}
 use Rattle.model.specs.Kind.{base}
-use Rattle.model.specs.Length.{listOf}
-use Rattle.model.specs.Row.{Row, madeRow, rowStep}
-use Rattle.model.specs.declared.length.Lengths.{Lengths}
+use Rattle.model.specs.Row.{rowStep}
 use Rattle.row.specs.Run.{recordsOf, played, fit}
+use Rattle.row.specs.Made.{doorRow}
 
 -- the number returned, and the output
 pub record Opened : Type 0 where
@@ -15,12 +14,6 @@ pub record Opened : Type 0 where
 
 abbrev pub opened : ℕ → List ℕ → Opened
 opened n out = record { number = n; out = out }
-
-abbrev pub firstLengths : Lengths
-firstLengths = record { prepare = 0; effect = 0 }
-
-abbrev pub doorRow : Row
-doorRow = madeRow 512 (listOf firstLengths)
 
 unfoldable pub doorOn : List ℕ → List ℕ → Opened
 doorOn bs out = cond (fit bs out) (opened 0 (played (rowStep base) doorRow (recordsOf bs))) (opened 11 out)

@@ -1,3 +1,4 @@
 pub mod AsRow
+pub mod MadeLaws
 pub mod RunLaws
 pub mod Words

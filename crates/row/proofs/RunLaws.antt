@@ -117,10 +117,10 @@ fitting bs out e h = rw (eq-eqb (length bs) (length out) e, eq-eqb (length bs % 
 
 -- a run's two promises
 abbrev pub Promises : State → List ℕ → List ℕ → Ran → Type 0
-Promises s bs out m = (m ≡ runOn s bs out) × ((q : row.Row) → fit bs out ≡ true → Stands base s q → AsRow bs m q)
+Promises s bs out m = (m ≡ runOn s bs out) × ((q : row.Row) → fit bs out ≡ true → Stands base s q → AsRow bs m (s .head .fan) q)
 
 promised : (s : State) (bs out : List ℕ) (m : Ran) → Bytes bs → m ≡ runOn s bs out → Promises s bs out m
-promised s bs out m b e = (e, λ q f w. subst (λ (x : Ran). AsRow bs x q) (sym e) (as-row s bs out q b f w))
+promised s bs out m b e = (e, λ q f w. subst (λ (x : Ran). AsRow bs x (s .head .fan) q) (sym e) (as-row s bs out q b f w))
 
 refused-run : (s : State) (bs out : List ℕ) → Bytes bs → fit bs out ≡ false → Promises s bs out (ran s (outcome.Refused 11) out)
 unfolding runOn

@@ -70,7 +70,7 @@ ran s a out = record { after = s; answer = a; out = out }
 unfoldable pub runOn : State → List ℕ → List ℕ → Ran
 runOn s bs out = cond (fit bs out) (let m = turns s (recordsOf bs) in ran (m .after) outcome.Done (m .out)) (ran s (outcome.Refused 11) out)
 
--- where a tree stands for a row, the output is the row's, and the tree left stands for what the row becomes
-pub record AsRow (bs : List ℕ) (m : Ran) (r : Row) : Type 0 where
+-- where a tree of that fan stands for a row, the output is the row's, and the tree left stands for what the row becomes
+pub record AsRow (bs : List ℕ) (m : Ran) (fan : ℕ) (r : Row) : Type 0 where
   pub says : m .out ≡ played (rowStep base) r (recordsOf bs)
-  pub kept : Kept base (m .after) (left (rowStep base) r (recordsOf bs))
+  pub kept : Kept base fan (m .after) (left (rowStep base) r (recordsOf bs))

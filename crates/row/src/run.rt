@@ -79,7 +79,7 @@ pub fn run(
     out: &mut [u8],
 ) -> OutcomeReply
     ensures { λ r. ⌜ ran (state (r .head) (now (leaves .exit)) (now (inners .exit)) (now (homes .exit))) (r .answer) (now (out .exit)) ≡ runOn (state head (now (leaves .entry)) (now (inners .entry)) (now (homes .entry))) (now (records .entry)) (now (out .entry)) ⌝ }
-    ensures { λ r. ⌜ ((q : Row) → fit (now (records .entry)) (now (out .entry)) ≡ true → Stands base (state head (now (leaves .entry)) (now (inners .entry)) (now (homes .entry))) q → AsRow (now (records .entry)) (ran (state (r .head) (now (leaves .exit)) (now (inners .exit)) (now (homes .exit))) (r .answer) (now (out .exit))) q) ⌝ }
+    ensures { λ r. ⌜ ((q : Row) → fit (now (records .entry)) (now (out .entry)) ≡ true → Stands base (state head (now (leaves .entry)) (now (inners .entry)) (now (homes .entry))) q → AsRow (now (records .entry)) (ran (state (r .head) (now (leaves .exit)) (now (inners .exit)) (now (homes .exit))) (r .answer) (now (out .exit))) (head .fan) q) ⌝ }
 {
     if records.len() != out.len() {
         return OutcomeReply {

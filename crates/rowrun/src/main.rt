@@ -1,16 +1,22 @@
-// Reads records from standard input and prints a line for each answer, from a tree of fan 8 and limit 512 with the entry (0, 0).
+// Reads records from standard input and prints a line for each answer, from the door's tree.
 // A block is read as it comes, so that a record may be cut anywhere; what isn't whole yet is kept for the next.
-use calls_make::begin::new;
+use libc::STDERR_FILENO;
 use libc::STDIN_FILENO;
 use libc::STDOUT_FILENO;
 use model::head::Head;
-use model::length::Lengths;
+use row::made::door_tree;
+use stream::block::Fed;
 use stream::block::feed;
 use stream::rest::tail;
 ghost use mathlib.Core.Path.{_≡_};
-ghost use Prim.Native.Nat.{_<_};
+ghost use Prim.Native.Nat.{_+_, _*_, _/_, _<_, _≤_};
 ghost use lib.ListN.{length};
-ghost use Rattle.rowrun.specs.Kept.{keptOf};
+ghost use Rattle.model.specs.Kind.{base};
+ghost use Rattle.model.specs.State.{state};
+ghost use Rattle.model.specs.Promise.{Stands};
+ghost use Rattle.row.specs.Made.{doorRow};
+ghost use Rattle.stream.specs.Shown.{fedOf};
+ghost use Rattle.rowrun.specs.Turn.{answered, Turned};
 
 // Whether the input goes on: with the head, and how many bytes are kept at the block's start.
 enum Input {
@@ -18,15 +24,34 @@ enum Input {
     Over,
 }
 
-// The line of a short tail.
-fn finish(stray: usize, out: &mut [u8])
-    requires { ⌜ length (now out) ≡ 11264 ⌝ }
+// What n bytes read behind the kept ones are answered: the lines of the whole records. No byte read is the end of the input,
+// and a short tail's line.
+fn answer(
+    head: Head,
+    leaves: &mut [u32],
+    inners: &mut [u32],
+    homes: &mut [u32],
+    block: &mut [u8],
+    kept: usize,
+    n: usize,
+    out: &mut [u8],
+) -> Fed
+    requires { ⌜ (kept + n ≤ length (now block)) × (44 * ((kept + n) / 16) ≤ length (now out)) × (44 ≤ length (now out)) ⌝ }
+    ensures { λ r. ⌜ fedOf (state (r .head) (now (leaves .exit)) (now (inners .exit)) (now (homes .exit))) (r .end) (now (out .exit)) (r .kept) (now (block .exit)) ≡ answered (state head (now (leaves .entry)) (now (inners .entry)) (now (homes .entry))) (now (block .entry)) kept n (now (out .entry)) ⌝ }
+    ensures { λ r. ⌜ r .end ≤ length (now (out .exit)) ⌝ }
 {
-    let end = tail(stray, out);
-    io::write_all(STDOUT_FILENO, &out[..end]);
+    if n == 0 {
+        let end = tail(kept, out);
+        return Fed {
+            head: head,
+            end: end,
+            kept: kept,
+        };
+    }
+    feed(head, leaves, inners, homes, block, kept + n, out)
 }
 
-// One block: read, played and printed.
+// One block: read, answered and printed.
 fn turn(
     head: Head,
     leaves: &mut [u32],
@@ -37,19 +62,23 @@ fn turn(
     out: &mut [u8],
 ) -> Input
     requires { ⌜ (length (now block) ≡ 4096) × (length (now out) ≡ 11264) × (kept < 16) ⌝ }
-    ensures { λ r. ⌜ keptOf r < 16 ⌝ }
+    ensures { λ r. ⌜ Turned r (state head (now (leaves .entry)) (now (inners .entry)) (now (homes .entry))) (now (block .entry)) kept (now (out .entry)) (now (leaves .exit)) (now (inners .exit)) (now (homes .exit)) (now (block .exit)) (now (out .exit)) ⌝ }
 {
     let got = libc::read(STDIN_FILENO, &mut block[kept..]);
-    let n = io::count(got, &block[kept..]);
-    if n == 0 {
-        finish(kept, out);
+    if got < 0 {
+        io::write_all(STDERR_FILENO, b"rowrun: standard input can't be read\n");
         return Input::Over;
     }
-    let fed = feed(head, leaves, inners, homes, block, kept + n, out);
+    let n = io::count(got, &block[kept..]);
+    let fed = answer(head, leaves, inners, homes, block, kept, n, out);
     let after = fed.head;
     let rest = fed.kept;
     let end = fed.end;
     if !io::write_all(STDOUT_FILENO, &out[..end]) {
+        io::write_all(STDERR_FILENO, b"rowrun: standard output can't be written\n");
+        return Input::Over;
+    }
+    if n == 0 {
         return Input::Over;
     }
     Input::More(after, rest)
@@ -64,7 +93,7 @@ fn run(
     block: &mut [u8],
     out: &mut [u8],
 )
-    requires { ⌜ (length (now block) ≡ 4096) × (length (now out) ≡ 11264) ⌝ }
+    requires { ⌜ Stands base (state head (now leaves) (now inners) (now homes)) doorRow × (length (now block) ≡ 4096) × (length (now out) ≡ 11264) ⌝ }
 {
     let mut after = head;
     let mut kept = 0;
@@ -90,11 +119,7 @@ fn main() {
     let mut homes = [0u32; 512];
     let mut block = [0u8; 4096];
     let mut out = [0u8; 11264];
-    let lengths = Lengths {
-        prepare: 0,
-        effect: 0,
-    };
-    let made = new(8, 512, lengths, &mut leaves, &mut inners, &mut homes);
+    let made = door_tree(&mut leaves, &mut inners, &mut homes);
     let head = made.head;
     run(
         head,

@@ -20,7 +20,8 @@ use Rattle.stream.specs.Shown.{lines, Shown, shown, showFrom, Fed, fedOf
 pub front-room : (block : List ℕ) (have room : ℕ) → have ≤ length block → 44 * (have / 16) ≤ room → 44 * (length (take have block) / 16) ≤ room
 front-room block have room h r = subst (λ (k : ℕ). 44 * (k / 16) ≤ room) (sym (length-take-le have block h)) r
 
-pub fed : (s t : State) (block b : List ℕ) (kept have end : ℕ) (out o : List ℕ) → kept ≡ have % 16 → shown t end o ≡ showFrom s (callsOf (recordsOf (take have block))) 0 out → (kept, b) ≡ put block 0 (part (have - kept) kept block)
+pub fed : (s t : State) (block b : List ℕ) (kept have end : ℕ) (out o : List ℕ) → kept ≡ have % 16 → shown t end o ≡ showFrom s (callsOf (recordsOf (take have block))) 0 out
+    → (kept, b) ≡ put block 0 (part (have - kept) kept block)
     → fedOf t end o kept b ≡ feed s block have out
 unfolding feed
 fed s t block b kept have end out o q e k = ap₂ (λ (x : Shown) (y : ℕ × List ℕ). record { seen = x; kept = y }) e (k ∙ ap (λ (n : ℕ). put block 0 (part (have - n) n block)) q)

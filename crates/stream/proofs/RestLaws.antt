@@ -21,13 +21,15 @@ behind-sets [] out at k d h = refl
 behind-sets (x ∷ xs) out at k d h = behind-sets xs (set out at x) (suc at) k d (omega arith) ∙ getD-set-other out at k x d (λ e. omega arith)
 
 -- one byte more
-pub keep-more : (block b : List ℕ) (from i n : ℕ) → from + n ≤ length block → i < n → (i, b) ≡ put block 0 (part from i block) → (i + 1, set b i (getD b (from + i) 0)) ≡ put block 0 (part from (i + 1) block)
+pub keep-more : (block b : List ℕ) (from i n : ℕ) → from + n ≤ length block → i < n → (i, b) ≡ put block 0 (part from i block)
+    → (i + 1, set b i (getD b (from + i) 0)) ≡ put block 0 (part from (i + 1) block)
 unfolding part
 keep-more block b from i n h l e =
     let xs = take i (drop from block) in
     let long : i < length (drop from block) = omega (arith, length-drop from block) in
     let same : getD b (from + i) 0 ≡ getD (drop from block) i 0 =
-    ap (λ (z : List ℕ). getD z (from + i) 0) (after block b 0 i xs e) ∙ behind-sets xs block 0 (from + i) 0 (omega (arith, length-take-le i (drop from block) (omega arith))) ∙ sym (getD-drop from block i 0) in
+    ap (λ (z : List ℕ). getD z (from + i) 0) (after block b 0 i xs e) ∙ behind-sets xs block 0 (from + i) 0 (omega (arith, length-take-le i (drop from block) (omega arith)))
+    ∙ sym (getD-drop from block i 0) in
     let one : i + 1 ≡ suc i = omega arith in
     put-one b i (getD b (from + i) 0)
     ∙ put-more block b 0 i xs (getD b (from + i) 0 ∷ []) e

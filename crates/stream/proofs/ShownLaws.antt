@@ -26,7 +26,8 @@ said-decode c f bs e q = e ∙ ap said q
 abbrev both : State → ℕ × List ℕ → Shown
 both s w = record { after = s; written = w }
 
-pub one-shown : (s t : State) (c d : Call) (a : Answer) (at end : ℕ) (out o : List ℕ) → stepped t a ≡ stepBy (treeStep base s c) → c ≡ d → (end, o) ≡ put out at (line a) → shown t end o ≡ showOne s d at out
+pub one-shown : (s t : State) (c d : Call) (a : Answer) (at end : ℕ) (out o : List ℕ) → stepped t a ≡ stepBy (treeStep base s c) → c ≡ d → (end, o) ≡ put out at (line a)
+    → shown t end o ≡ showOne s d at out
 unfolding showOne
 one-shown s t c d a at end out o e q l =
     ap₂ both
@@ -67,7 +68,8 @@ turn whole s t block out o at left end next w pos e =
     let l : left ≡ suc (left - 1) = omega arith in
     w
     ∙ ap (λ (k : ℕ). showFrom s (callsOf (records k (drop at block))) end out) l
-    ∙ more s t (decode (take 16 (drop at block))) end next out o (e ∙ ap (λ (k : ℕ). showOne s (decode (take k (drop at block))) end out) (sixteen at)) (callsOf (records (left - 1) (drop 16 (drop at block))))
+    ∙ more s t (decode (take 16 (drop at block))) end next out o (e ∙ ap (λ (k : ℕ). showOne s (decode (take k (drop at block))) end out) (sixteen at))
+    (callsOf (records (left - 1) (drop 16 (drop at block))))
     ∙ ap (λ (bs : List ℕ). showFrom t (callsOf (records (left - 1) bs)) next o) (drop-drop 16 at block)
 
 pub finish : (whole : Shown) (s : State) (bs out : List ℕ) (left end : ℕ) → whole ≡ showFrom s (callsOf (records left bs)) end out → left ≡ 0 → shown s end out ≡ whole

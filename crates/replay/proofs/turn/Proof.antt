@@ -26,10 +26,17 @@ show-requires : tie.Need-show-requires
 show-requires c κs = search needs
 
 array-share-prefix-out : tie.Need-array-share-prefix-out
-array-share-prefix-out c = omega (arith, shown-short _ _ (c .before .before .before .before .before .before .before .before .before .before .before .before .before .before .before .before .read-full .last .1 .0) _ _ (c .before .before .before .before .before .before .before .before .show .result .end) (c .before .before .before .before .before .before .before .before .show .ensures), c .before .before .before .before .before .before .before .before .before .before .before .before .before .before .before .before .read-full .kept .1 .0, c .before .before .before .before .before .before .before .before .show .kept .1 .1 .1 .1 .1 .0)
+array-share-prefix-out c =
+    let read-full = c .before .before .before .before .before .before .before .before .before .before .before .before .before .before .before .before .read-full in
+    let show = c .before .before .before .before .before .before .before .before .show in
+    omega (arith, shown-short _ _ (read-full .last .1 .0) _ _ (show .result .end) (show .ensures), read-full .kept .1 .0, show .kept .1 .1 .1 .1 .1 .0)
 
 slice-aggregate-write-all : tie.Need-slice-aggregate-write-all
-slice-aggregate-write-all c = sym (length-take-le (c .before .before .before .before .before .before .before .before .before .show .result .end) (c .before .before .before .before .before .before .before .before .before .show .last .1 .1 .1 .1 .1 .0) (omega (arith, shown-short _ _ (c .before .before .before .before .before .before .before .before .before .before .before .before .before .before .before .before .before .read-full .last .1 .0) _ _ (c .before .before .before .before .before .before .before .before .before .show .result .end) (c .before .before .before .before .before .before .before .before .before .show .ensures), c .before .before .before .before .before .before .before .before .before .before .before .before .before .before .before .before .before .read-full .kept .1 .0, c .before .before .before .before .before .before .before .before .before .show .kept .1 .1 .1 .1 .1 .0)))
+slice-aggregate-write-all c =
+    let show = c .before .before .before .before .before .before .before .before .before .show in
+    let read-full = c .before .before .before .before .before .before .before .before .before .before .before .before .before .before .before .before .before .read-full in
+    sym (length-take-le (show .result .end) (show .last .1 .1 .1 .1 .1 .0)
+    (omega (arith, shown-short _ _ (read-full .last .1 .0) _ _ (show .result .end) (show .ensures), read-full .kept .1 .0, show .kept .1 .1 .1 .1 .1 .0)))
 
 write-all-requires : tie.Need-write-all-requires
 write-all-requires c κs = search needs

@@ -4,20 +4,23 @@ use mathlib.Core.Path.{_≡_, refl, _∙_}
 use native.Mathlib.Omega.{arith}
 use borrow.Author.Needs.{needs}
 use lib.ListN.{length}
-use Rattle.rowrun.specs.Kept.{kept-of}
+use Rattle.rowrun.proofs.TurnLaws.{kept-of}
 use Rattle.rowrun.proofs.run.Statement.{statement}
 use Rattle.rowrun.proofs.run.Tie as tie
 
 abbrev Inv-loop : tie.InvT-loop
 Inv-loop leaves₀ inners₀ homes₀ block₀ out₀ after₀ kept₀ turns₀ leaves inners homes block out after kept turns =
-    (length leaves ≡ length leaves₀) × (length inners ≡ length inners₀) × (length homes ≡ length homes₀) × (length block ≡ length block₀) × (length out ≡ length out₀) × (length block ≡ 4096) × (length out ≡ 11264) × (kept < 16)
+    (length leaves ≡ length leaves₀) × (length inners ≡ length inners₀) × (length homes ≡ length homes₀) × (length block ≡ length block₀) × (length out ≡ length out₀)
+    × (length block ≡ 4096) × (length out ≡ 11264) × (kept < 16)
 
 abbrev μ-loop : tie.MeasureT-loop
 μ-loop leaves₀ inners₀ homes₀ block₀ out₀ after₀ kept₀ turns₀ leaves inners homes block out after kept turns =
     turns
 
 loop-holds : tie.Need-loop-holds Inv-loop μ-loop
-loop-holds c = (refl, refl, refl, refl, refl, c .before .before .before .before .before .pre .0, c .before .before .before .before .before .pre .1, omega arith)
+loop-holds c =
+    let pre = c .before .before .before .before .before .pre in
+    (refl, refl, refl, refl, refl, pre .1, pre .2, omega arith)
 
 turn-requires : tie.Need-turn-requires Inv-loop μ-loop
 turn-requires c κs = search needs
@@ -53,16 +56,18 @@ loop-less : tie.Need-loop-less Inv-loop μ-loop
 loop-less c = search needs
 
 loop-again : tie.Need-loop-again Inv-loop μ-loop
-loop-again c = (
-  c .before .before .before .before .before .before .before .before .before .before .before .before .before .turn .kept .1 .0 ∙ c .before .before .before .before .before .before .before .before .before .before .before .before .before .before .before .before .before .before .before .before .loop .inv .0,
-  c .before .before .before .before .before .before .before .before .before .before .before .before .before .turn .kept .1 .1 .0 ∙ c .before .before .before .before .before .before .before .before .before .before .before .before .before .before .before .before .before .before .before .before .loop .inv .1,
-  c .before .before .before .before .before .before .before .before .before .before .before .before .before .turn .kept .1 .1 .1 .0 ∙ c .before .before .before .before .before .before .before .before .before .before .before .before .before .before .before .before .before .before .before .before .loop .inv .2,
-  c .before .before .before .before .before .before .before .before .before .before .before .before .before .turn .kept .1 .1 .1 .1 .0 ∙ c .before .before .before .before .before .before .before .before .before .before .before .before .before .before .before .before .before .before .before .before .loop .inv .3,
-  c .before .before .before .before .before .before .before .before .before .before .before .before .before .turn .kept .1 .1 .1 .1 .1 .1 .0 ∙ c .before .before .before .before .before .before .before .before .before .before .before .before .before .before .before .before .before .before .before .before .loop .inv .4,
-  c .before .before .before .before .before .before .before .before .before .before .before .before .before .turn .kept .1 .1 .1 .1 .0 ∙ c .before .before .before .before .before .before .before .before .before .before .before .before .before .before .before .before .before .before .before .before .loop .inv .5,
-  c .before .before .before .before .before .before .before .before .before .before .before .before .before .turn .kept .1 .1 .1 .1 .1 .1 .0 ∙ c .before .before .before .before .before .before .before .before .before .before .before .before .before .before .before .before .before .before .before .before .loop .inv .6,
-  kept-of _ _ _ (c .before .next .given .1) (c .before .before .before .before .before .before .before .before .before .before .before .before .before .turn .ensures),
-)
+loop-again c =
+    let turn = c .before .before .before .before .before .before .before .before .before .before .before .before .before .turn in
+    let the-loop = c .before .before .before .before .before .before .before .before .before .before .before .before .before .before .before .before .before .before .before .before .loop in (
+      turn .kept .1 .0 ∙ the-loop .inv .0,
+      turn .kept .1 .1 .0 ∙ the-loop .inv .1,
+      turn .kept .1 .1 .1 .0 ∙ the-loop .inv .2,
+      turn .kept .1 .1 .1 .1 .0 ∙ the-loop .inv .3,
+      turn .kept .1 .1 .1 .1 .1 .1 .0 ∙ the-loop .inv .4,
+      turn .kept .1 .1 .1 .1 .0 ∙ the-loop .inv .5,
+      turn .kept .1 .1 .1 .1 .1 .1 .0 ∙ the-loop .inv .6,
+      kept-of _ _ _ _ _ _ _ _ _ _ (turn .ensures) _ _ (c .before .next .given .1),
+    )
 
 same-length-6 : tie.Need-same-length-6 Inv-loop μ-loop
 same-length-6 c = search needs

@@ -20,54 +20,79 @@ abbrev μ-loop : tie.MeasureT-loop
 μ-loop leaves₀ inners₀ homes₀ records out₀ h₀ at₀ more₀ leaves inners homes out h at more = more
 
 loop-holds : tie.Need-loop-holds Inv-loop μ-loop
-loop-holds c = (all-left (length (c .before .before .before .before .before .args .records .now)) (c .before .before .before .before .before .pre .1), c .before .before .before .before .before .pre .0, refl, refl, refl, refl, refl)
+loop-holds c =
+    let args = c .before .before .before .before .before .args in
+    let pre = c .before .before .before .before .before .pre in
+    (all-left (length (args .records .now)) (pre .1), pre .0, refl, refl, refl, refl, refl)
 
 add-end : tie.Need-add-end Inv-loop μ-loop
 add-end c = omega arith
 
 sub-one : tie.Need-sub-one Inv-loop μ-loop
-sub-one c = ahead (c .before .before .before .before .loop .at)
+sub-one c =
+    let the-loop = c .before .before .before .before .loop in
+    ahead (the-loop .at)
 
 part-one-start : tie.Need-part-one-start Inv-loop μ-loop
-part-one-start c = ahead (c .before .before .before .before .loop .at)
+part-one-start c =
+    let the-loop = c .before .before .before .before .loop in
+    ahead (the-loop .at)
 
 part-one-end : tie.Need-part-one-end Inv-loop μ-loop
-part-one-end c = room-for (c .before .before .before .before .loop .at) (c .before .before .before .before .loop .more) _ (c .before .before .before .before .loop .inv .0) (c .before .before .before .loop-test .taken)
+part-one-end c =
+    let the-loop = c .before .before .before .before .loop in
+    let loop-test = c .before .before .before .loop-test in
+    room-for (the-loop .at) (the-loop .more) _ (the-loop .inv .0) (loop-test .taken)
 
 sub-one-2 : tie.Need-sub-one-2 Inv-loop μ-loop
-sub-one-2 c = ahead (c .before .before .before .before .before .loop .at)
+sub-one-2 c =
+    let the-loop = c .before .before .before .before .before .loop in
+    ahead (the-loop .at)
 
 part-one-start-2 : tie.Need-part-one-start-2 Inv-loop μ-loop
-part-one-start-2 c = ahead (c .before .before .before .before .before .loop .at)
+part-one-start-2 c =
+    let the-loop = c .before .before .before .before .before .loop in
+    ahead (the-loop .at)
 
 part-one-end-2 : tie.Need-part-one-end-2 Inv-loop μ-loop
-part-one-end-2 c = room-for (c .before .before .before .before .before .loop .at) (c .before .before .before .before .before .loop .more) _ (c .before .before .before .before .before .loop .inv .0 ∙ c .before .before .before .before .before .loop .inv .1 ∙ sym (c .before .before .before .before .before .loop .inv .2)) (c .before .before .before .before .loop-test .taken)
+part-one-end-2 c =
+    let the-loop = c .before .before .before .before .before .loop in
+    let loop-test = c .before .before .before .before .loop-test in
+    room-for (the-loop .at) (the-loop .more) _ (the-loop .inv .0 ∙ the-loop .inv .1 ∙ sym (the-loop .inv .2)) (loop-test .taken)
 
 one-requires : tie.Need-one-requires Inv-loop μ-loop
 one-requires c κs =
     let l = c .before .before .before .before .before .before .loop in (
-      part-long (l .at) (c .before .before .before .before .before .before .before .before .before .before .before .before .args .records .now) (room-for (l .at) (l .more) _ (l .inv .0) (c .before .before .before .before .before .loop-test .taken)),
+      part-long (l .at) (c .before .before .before .before .before .before .before .before .before .before .before .before .args .records .now)
+          (room-for (l .at) (l .more) _ (l .inv .0) (c .before .before .before .before .before .loop-test .taken)),
       part-long (l .at) (l .out) (room-for (l .at) (l .more) _ (l .inv .0 ∙ l .inv .1 ∙ sym (l .inv .2)) (c .before .before .before .before .before .loop-test .taken)),
     )
 
 sub-more : tie.Need-sub-more Inv-loop μ-loop
-sub-more c = c .before .before .before .before .before .before .before .before .before .before .before .before .before .before .loop-test .taken
+sub-more c =
+    let loop-test = c .before .before .before .before .before .before .before .before .before .before .before .before .before .before .loop-test in
+    loop-test .taken
 
 loop-less : tie.Need-loop-less Inv-loop μ-loop
-loop-less c = one-less (c .before .before .before .before .before .before .before .before .before .before .before .before .before .before .before .loop .more) (c .before .before .before .before .before .before .before .before .before .before .before .before .before .before .loop-test .taken)
+loop-less c =
+    let the-loop = c .before .before .before .before .before .before .before .before .before .before .before .before .before .before .before .loop in
+    let loop-test = c .before .before .before .before .before .before .before .before .before .before .before .before .before .before .loop-test in
+    one-less (the-loop .more) (loop-test .taken)
 
 loop-again : tie.Need-loop-again Inv-loop μ-loop
 loop-again c =
     let l = c .before .before .before .before .before .before .before .before .before .before .before .before .before .before .before .loop in
     let p = c .before .before .before .before .before .before .before .before .one in
-    let room : l .at + 16 ≤ length (l .out) = room-for (l .at) (l .more) _ (l .inv .0 ∙ l .inv .1 ∙ sym (l .inv .2)) (c .before .before .before .before .before .before .before .before .before .before .before .before .before .before .loop-test .taken) in (
+    let room : l .at + 16 ≤ length (l .out) = room-for (l .at) (l .more) _ (l .inv .0 ∙ l .inv .1 ∙ sym (l .inv .2))
+    (c .before .before .before .before .before .before .before .before .before .before .before .before .before .before .loop-test .taken) in (
       left-after (l .at) (l .more) _ (l .inv .0) (c .before .before .before .before .before .before .before .before .before .before .before .before .before .before .loop-test .taken),
       l .inv .1,
       same-len-mid (l .at) (l .at + 16 - l .at) (l .out) (p .last .1 .1 .1 .1 .1 .0) (p .kept .1 .1 .1 .1 .1 .0) ∙ l .inv .2,
       p .kept .1 .0 ∙ l .inv .3,
       p .kept .1 .1 .0 ∙ l .inv .4,
       p .kept .1 .1 .1 .0 ∙ l .inv .5,
-      next-turn _ _ _ _ (l .at) (l .more) (l .inv .6) (c .before .before .before .before .before .before .before .before .before .before .before .before .before .before .loop-test .taken) room _ _ (p .ensures),
+      next-turn _ _ _ _ (l .at) (l .more) (l .inv .6)
+          (c .before .before .before .before .before .before .before .before .before .before .before .before .before .before .loop-test .taken) room _ _ (p .ensures),
     )
 
 same-length : tie.Need-same-length Inv-loop μ-loop

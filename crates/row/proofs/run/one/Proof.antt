@@ -29,7 +29,11 @@ same-length-4 : tie.Need-same-length-4
 same-length-4 c = search needs
 
 returns : tie.Need-returns
-returns c = one-record _ _ (c .before .before .before .before .before .before .before .before .before .before .before .before .before .before .before .before .before .read .result) (c .before .before .before .before .before .before .before .before .before .before .before .before .before .before .before .before .before .read .ensures) (c .before .before .before .before .before .before .before .before .before .before .before .before .before .before .before .before .decode .result) (c .before .before .before .before .before .before .before .before .before .before .before .before .before .before .before .before .decode .ensures) _ _ (c .before .before .before .before .before .before .before .before .before .before .before .before .step .ensures) _ (c .before .before .write .ensures)
+returns c =
+    let read = c .before .before .before .before .before .before .before .before .before .before .before .before .before .before .before .before .before .read in
+    let decode = c .before .before .before .before .before .before .before .before .before .before .before .before .before .before .before .before .decode in
+    let step = c .before .before .before .before .before .before .before .before .before .before .before .before .step in
+    one-record _ _ (read .result) (read .ensures) (decode .result) (decode .ensures) _ _ (step .ensures) _ (c .before .before .write .ensures)
 
 pub one-spec : {M : Type 1} → statement M
 one-spec =

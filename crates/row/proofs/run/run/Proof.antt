@@ -9,10 +9,17 @@ use Rattle.row.proofs.run.run.Statement.{statement}
 use Rattle.row.proofs.run.run.Tie as tie
 
 returns : tie.Need-returns
-returns c = run-unequal (state (c .before .before .before .before .before .before .args .head) (now (c .before .before .before .before .before .before .args .leaves)) (now (c .before .before .before .before .before .before .args .inners)) (now (c .before .before .before .before .before .before .args .homes))) (now (c .before .before .before .before .before .before .args .records)) (now (c .before .before .before .before .before .before .args .out)) (λ (i : ℕ). omega (arith, c .before .before .shared-slice-known .given i)) (c .if1 .taken)
+returns c =
+    let args = c .before .before .before .before .before .before .args in
+    run-unequal (state (args .head) (now (args .leaves)) (now (args .inners)) (now (args .homes))) (now (args .records)) (now (args .out))
+    (λ (i : ℕ). omega (arith, c .before .before .shared-slice-known .given i)) (c .if1 .taken)
 
 returns-2 : tie.Need-returns-2
-returns-2 c = run-uneven (state (c .before .before .before .before .before .before .before .args .head) (now (c .before .before .before .before .before .before .before .args .leaves)) (now (c .before .before .before .before .before .before .before .args .inners)) (now (c .before .before .before .before .before .before .before .args .homes))) (now (c .before .before .before .before .before .before .before .args .records)) (now (c .before .before .before .before .before .before .before .args .out)) (λ (i : ℕ). omega (arith, c .before .before .before .shared-slice-known .given i)) (c .before .if1 .left) (c .if2 .taken)
+returns-2 c =
+    let args = c .before .before .before .before .before .before .before .args in
+    let shared-slice-known = c .before .before .before .shared-slice-known in
+    run-uneven (state (args .head) (now (args .leaves)) (now (args .inners)) (now (args .homes))) (now (args .records)) (now (args .out))
+    (λ (i : ℕ). omega (arith, shared-slice-known .given i)) (c .before .if1 .left) (c .if2 .taken)
 
 all-requires : tie.Need-all-requires
 all-requires c κs = search needs
@@ -30,7 +37,14 @@ same-length-4 : tie.Need-same-length-4
 same-length-4 c = search needs
 
 returns-3 : tie.Need-returns-3
-returns-3 c = run-whole (state (c .before .before .before .before .before .before .before .before .before .before .before .before .before .before .before .before .before .before .before .before .args .head) (now (c .before .before .before .before .before .before .before .before .before .before .before .before .before .before .before .before .before .before .before .before .args .leaves)) (now (c .before .before .before .before .before .before .before .before .before .before .before .before .before .before .before .before .before .before .before .before .args .inners)) (now (c .before .before .before .before .before .before .before .before .before .before .before .before .before .before .before .before .before .before .before .before .args .homes))) (now (c .before .before .before .before .before .before .before .before .before .before .before .before .before .before .before .before .before .before .before .before .args .records)) (now (c .before .before .before .before .before .before .before .before .before .before .before .before .before .before .before .before .before .before .before .before .args .out)) (λ (i : ℕ). omega (arith, c .before .before .before .before .before .before .before .before .before .before .before .before .before .before .before .before .shared-slice-known .given i)) (c .before .before .before .before .before .before .before .before .before .before .before .before .before .before .if1 .left) (c .before .before .before .before .before .before .before .before .before .before .before .before .before .if2 .left) _ _ (c .before .before .before .before .before .before .before .before .all .ensures)
+returns-3 c =
+    let args = c .before .before .before .before .before .before .before .before .before .before .before .before .before .before .before .before .before .before .before .before .args in
+    let shared-slice-known = c .before .before .before .before .before .before .before .before .before .before .before .before .before .before .before .before .shared-slice-known in
+    let if1 = c .before .before .before .before .before .before .before .before .before .before .before .before .before .before .if1 in
+    let if2 = c .before .before .before .before .before .before .before .before .before .before .before .before .before .if2 in
+    let all = c .before .before .before .before .before .before .before .before .all in
+    run-whole (state (args .head) (now (args .leaves)) (now (args .inners)) (now (args .homes))) (now (args .records)) (now (args .out))
+    (λ (i : ℕ). omega (arith, shared-slice-known .given i)) (if1 .left) (if2 .left) _ _ (all .ensures)
 
 pub run-spec : {M : Type 1} → statement M
 run-spec =

@@ -10,10 +10,16 @@ slice-reshare-prefix-show : tie.Need-slice-reshare-prefix-show
 slice-reshare-prefix-show c = search needs
 
 slice-aggregate-show : tie.Need-slice-aggregate-show
-slice-aggregate-show c = sym (length-take-le (c .before .before .before .before .before .before .before .before .before .args .have) (c .before .before .before .before .before .before .before .before .before .args .block .now) (c .before .before .before .before .before .before .before .before .before .pre .0))
+slice-aggregate-show c =
+    let args = c .before .before .before .before .before .before .before .before .before .args in
+    let pre = c .before .before .before .before .before .before .before .before .before .pre in
+    sym (length-take-le (args .have) (args .block .now) (pre .0))
 
 show-requires : tie.Need-show-requires
-show-requires c κs = front-room (c .before .before .before .before .before .before .before .before .before .before .args .block .now) (c .before .before .before .before .before .before .before .before .before .before .args .have) _ (c .before .before .before .before .before .before .before .before .before .before .pre .0) (c .before .before .before .before .before .before .before .before .before .before .pre .1)
+show-requires c κs =
+    let args = c .before .before .before .before .before .before .before .before .before .before .args in
+    let pre = c .before .before .before .before .before .before .before .before .before .before .pre in
+    front-room (args .block .now) (args .have) _ (pre .0) (pre .1)
 
 sub-keep : tie.Need-sub-keep
 sub-keep c = search needs
@@ -37,7 +43,10 @@ same-length-5 : tie.Need-same-length-5
 same-length-5 c = search needs
 
 returns : tie.Need-returns
-returns c = fed _ _ (c .before .before .before .before .before .before .before .before .before .before .before .before .before .before .before .before .before .before .before .before .before .before .before .before .args .block .now) _ _ (c .before .before .before .before .before .before .before .before .before .before .before .before .before .before .before .before .before .before .before .before .before .before .before .before .args .have) (c .before .before .before .before .before .before .before .before .before .before .before .before .before .show .result .end) (c .before .before .before .before .before .before .before .before .before .before .before .before .before .before .before .before .before .before .before .before .before .before .before .before .args .out .now) _ refl (c .before .before .before .before .before .before .before .before .before .before .before .before .before .show .ensures) (c .before .before .keep .ensures)
+returns c =
+    let args = c .before .before .before .before .before .before .before .before .before .before .before .before .before .before .before .before .before .before .before .before .before .before .before .before .args in
+    let show = c .before .before .before .before .before .before .before .before .before .before .before .before .before .show in
+    fed _ _ (args .block .now) _ _ (args .have) (show .result .end) (args .out .now) _ refl (show .ensures) (c .before .before .keep .ensures)
 
 pub feed-spec : {M : Type 1} → statement M
 feed-spec =

@@ -29,7 +29,13 @@ same-length-4 : tie.Need-same-length-4
 same-length-4 c = search needs
 
 returns : tie.Need-returns
-returns c = one-shown _ _ _ _ (c .before .before .before .before .before .before .before .before .before .before .before .before .step .result .answer) (c .before .before .before .before .before .before .before .before .before .before .before .before .before .before .before .before .before .before .before .before .before .before .before .args .at) (c .before .before .line .result) (c .before .before .before .before .before .before .before .before .before .before .before .before .before .before .before .before .before .before .before .before .before .before .before .args .out .now) (c .before .before .line .last .0) (c .before .before .before .before .before .before .before .before .before .before .before .before .step .ensures) (said-decode _ _ _ (c .before .before .before .before .before .before .before .before .before .before .before .before .before .before .before .before .decode .ensures) (c .before .before .before .before .before .before .before .before .before .before .before .before .before .before .before .before .before .read .ensures)) (c .before .before .line .ensures)
+returns c =
+    let step = c .before .before .before .before .before .before .before .before .before .before .before .before .step in
+    let args = c .before .before .before .before .before .before .before .before .before .before .before .before .before .before .before .before .before .before .before .before .before .before .before .args in
+    let decode = c .before .before .before .before .before .before .before .before .before .before .before .before .before .before .before .before .decode in
+    let read = c .before .before .before .before .before .before .before .before .before .before .before .before .before .before .before .before .before .read in
+    one-shown _ _ _ _ (step .result .answer) (args .at) (c .before .before .line .result) (args .out .now) (c .before .before .line .last .0) (step .ensures)
+    (said-decode _ _ _ (decode .ensures) (read .ensures)) (c .before .before .line .ensures)
 
 pub show-record-spec : {M : Type 1} → statement M
 show-record-spec =

@@ -22,10 +22,14 @@ add-block : tie.Need-add-block Inv-loop μ-loop
 add-block c = record { fits = omega (arith, c .before .before .good .0 .0, c .before .before .pre) }
 
 slice-read-block : tie.Need-slice-read-block Inv-loop μ-loop
-slice-read-block c = omega (arith, c .before .before .loop .inv .0, c .before .before .before .pre)
+slice-read-block c =
+    let pre = c .before .before .before .pre in
+    omega (arith, c .before .before .loop .inv .0, pre)
 
 slice-write-block : tie.Need-slice-write-block Inv-loop μ-loop
-slice-write-block c = omega (arith, c .before .before .loop .inv .0, c .before .before .before .pre)
+slice-write-block c =
+    let pre = c .before .before .before .pre in
+    omega (arith, c .before .before .loop .inv .0, pre)
 
 add-i : tie.Need-add-i Inv-loop μ-loop
 add-i c = record { fits = omega arith }
@@ -34,13 +38,22 @@ loop-less : tie.Need-loop-less Inv-loop μ-loop
 loop-less c = omega arith
 
 loop-again : tie.Need-loop-again Inv-loop μ-loop
-loop-again c = (length-set (c .before .before .loop .block) _ _ ∙ c .before .before .loop .inv .0, omega arith, keep-more (c .before .before .before .args .block .now) (c .before .before .loop .block) (c .before .before .before .args .from) (c .before .before .loop .i) (c .before .before .before .args .n) (c .before .before .before .pre) (c .before .loop-test .taken) (c .before .before .loop .inv .2))
+loop-again c =
+    let args = c .before .before .before .args in
+    let pre = c .before .before .before .pre in (
+      length-set (c .before .before .loop .block) _ _
+          ∙ c .before .before .loop .inv .0,
+      omega arith,
+      keep-more (args .block .now) (c .before .before .loop .block) (args .from) (c .before .before .loop .i) (args .n) pre
+          (c .before .loop-test .taken) (c .before .before .loop .inv .2),
+    )
 
 same-length : tie.Need-same-length Inv-loop μ-loop
 same-length c = c .before .loop .inv .0
 
 returns : tie.Need-returns Inv-loop μ-loop
-returns c = keep-all (c .before .before .args .block .now) (c .before .loop .block) (c .before .before .args .from) (c .before .loop .i) (c .before .before .args .n) (omega (arith, c .before .loop .inv .1, c .loop-test .left)) (c .before .loop .inv .2)
+returns c = keep-all (c .before .before .args .block .now) (c .before .loop .block) (c .before .before .args .from) (c .before .loop .i) (c .before .before .args .n)
+    (omega (arith, c .before .loop .inv .1, c .loop-test .left)) (c .before .loop .inv .2)
 
 pub keep-spec : {M : Type 1} → statement M
 keep-spec =

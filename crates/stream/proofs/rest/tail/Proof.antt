@@ -14,7 +14,10 @@ same-length : tie.Need-same-length
 same-length c = search needs
 
 returns-2 : tie.Need-returns-2
-returns-2 c = a-tail (c .before .before .before .before .before .before .args .stray) (c .before .before .line .result) (c .before .before .before .before .before .before .args .out .now) (c .before .before .line .last .0) (c .before .before .before .before .if1 .left) (c .before .before .line .ensures)
+returns-2 c =
+    let args = c .before .before .before .before .before .before .args in
+    let if1 = c .before .before .before .before .if1 in
+    a-tail (args .stray) (c .before .before .line .result) (args .out .now) (c .before .before .line .last .0) (if1 .left) (c .before .before .line .ensures)
 
 pub tail-spec : {M : Type 1} → statement M
 tail-spec = tie.close (tie.spec returns line-requires same-length returns-2)

@@ -1,0 +1,158 @@
+//! The program `rowrun` beside the plain row: what it prints, however its input is cut, and how it ends.
+//! It is the one that `rt check rowrun` proved and linked, in the gate `rt ci`.
+
+use oracle::lists::{Lister, Sizes, Style, EVEN, GROWING};
+use oracle::record::{Answer, Record};
+use oracle::row::{rowrun, Row};
+use std::collections::BTreeSet;
+use std::fs::File;
+use std::io::{BufRead, BufReader, Read, Write};
+use std::os::fd::OwnedFd;
+use std::os::unix::net::{UnixDatagram, UnixStream};
+use std::path::Path;
+use std::process::{Command, Output, Stdio};
+
+const LIMIT: u32 = 512;
+/// The most that the program reads at once.
+const BLOCK: usize = 4_096;
+const UNREADABLE: &str = "rowrun: standard input can't be read\n";
+const UNWRITABLE: &str = "rowrun: standard output can't be written\n";
+
+fn program() -> Command {
+    let path = Path::new(env!("CARGO_MANIFEST_DIR")).join("../../target/bin/rowrun");
+    assert!(path.exists(), "target/bin/rowrun isn't there: rt check rowrun");
+    let mut program = Command::new(path);
+    program.stdout(Stdio::piped()).stderr(Stdio::piped());
+    program
+}
+
+/// What is printed of an input that comes through a pipe in pieces of that size, each written when all before is answered.
+fn piped(input: &[u8], size: usize) -> String {
+    let mut child = program().stdin(Stdio::piped()).spawn().expect("it starts");
+    let mut stdin = child.stdin.take().expect("a pipe");
+    let mut stdout = BufReader::new(child.stdout.take().expect("a pipe"));
+    let (mut printed, mut written, mut lines) = (String::new(), 0, 0);
+    for piece in input.chunks(size) {
+        stdin.write_all(piece).expect("it reads on");
+        written += piece.len();
+        while lines < written / 16 {
+            assert!(stdout.read_line(&mut printed).expect("text") > 0, "it ends after {lines} lines");
+            lines += 1;
+        }
+    }
+    drop(stdin);
+    stdout.read_to_string(&mut printed).expect("text");
+    said(child.wait_with_output().expect("it ends"), "");
+    printed
+}
+
+/// The same where each read gets one piece: a datagram, and an empty one as the end. What a read has no room for is lost.
+fn cut(input: &[u8], size: usize) -> String {
+    assert!(size + 15 <= BLOCK);
+    let (ours, theirs) = UnixDatagram::pair().expect("two sockets");
+    let child = program().stdin(OwnedFd::from(theirs)).spawn().expect("it starts");
+    let ended = std::thread::spawn(|| child.wait_with_output().expect("it ends"));
+    for piece in input.chunks(size).chain([&[][..]]) {
+        ours.send(piece).expect("it reads on");
+    }
+    said(ended.join().expect("no panic"), "")
+}
+
+/// What was printed, with that on standard error.
+fn said(Output { status, stdout, stderr }: Output, errors: &str) -> String {
+    assert!(status.success());
+    assert_eq!(String::from_utf8_lossy(&stderr), errors);
+    String::from_utf8(stdout).expect("text")
+}
+
+fn bytes(records: &[Record]) -> Vec<u8> {
+    records.iter().flat_map(Record::encode).collect()
+}
+
+/// Calls of every kind, good and refused, past the limit; then a reset, and others.
+fn list() -> Vec<Record> {
+    let mut row = Row::make(LIMIT, [0, 0]);
+    let mut records = Vec::new();
+    for (seed, weights, sizes) in [(1, GROWING, Sizes::Small), (2, EVEN, Sizes::NearEnd)] {
+        let mut lister = Lister::new(seed, Style { weights, sizes, close: 60, miss: 10 });
+        for drawn in 0..1_500 {
+            let record = if drawn == 0 { lister.good(1, &row) } else { lister.draw(&row) };
+            row.play(&record);
+            records.push(record);
+        }
+    }
+    records
+}
+
+fn answers(limit: u32, records: &[Record]) -> Vec<Answer> {
+    let mut row = Row::make(limit, [0, 0]);
+    records.iter().map(|record| row.play(record)).collect()
+}
+
+#[test]
+fn the_list_meets_every_answer() {
+    let list = list();
+    let met: BTreeSet<_> =
+        list.iter().zip(answers(LIMIT, &list)).map(|(record, answer)| (record.kind, answer.number)).collect();
+    assert!((1..=13).all(|kind| met.contains(&(kind, 0))), "{met:?}");
+    assert!([4, 5, 6, 7, 8, 10].iter().all(|number| met.iter().any(|(_, met)| met == number)), "{met:?}");
+    assert!((2..=4).all(|kind| met.contains(&(kind, 8))), "{met:?}");
+    // a tree that holds an entry less is found out, and a program that stops after two reads
+    assert_ne!(answers(LIMIT - 1, &list), answers(LIMIT, &list));
+    assert!(bytes(&list).len() > 2 * (BLOCK + 1) + 16);
+}
+
+#[test]
+fn however_the_input_is_cut() {
+    let input = bytes(&list());
+    let wanted = rowrun(&input);
+    for size in [1, 7, 16, 17, BLOCK - 1, BLOCK, BLOCK + 1] {
+        assert_eq!(piped(&input, size), wanted, "a pipe, {size} bytes at a time");
+    }
+    for size in [1, 5, 15, 16, 17, BLOCK - 15] {
+        assert_eq!(cut(&input, size), wanted, "{size} bytes a read");
+    }
+    println!("rowrun: {} bytes in 13 ways", input.len());
+}
+
+#[test]
+fn tails() {
+    let input = bytes(&list());
+    for records in [0, 1, 256, 300] {
+        for tail in 0..16 {
+            let input = &input[..records * 16 + tail];
+            let wanted = rowrun(input);
+            assert_eq!(wanted.ends_with("11 0 0 0\n"), tail > 0);
+            for size in [1, BLOCK - 1, BLOCK + 1] {
+                assert_eq!(piped(input, size), wanted, "{records} records and {tail} bytes, {size} at a time");
+            }
+            assert_eq!(cut(input, 17), wanted, "{records} records and {tail} bytes, 17 a read");
+        }
+    }
+    println!("rowrun: tails of 0 to 15 bytes behind 0, 1, 256 and 300 records");
+}
+
+/// A read that fails isn't the end of the input: all whole records have their lines, the bytes behind them none.
+#[test]
+fn a_failed_read() {
+    let folder = File::open(env!("CARGO_MANIFEST_DIR")).expect("it opens, and can't be read");
+    assert_eq!(said(program().stdin(folder).output().expect("it ends"), UNREADABLE), "");
+
+    let (mut ours, theirs) = UnixStream::pair().expect("two sockets");
+    theirs.set_nonblocking(true).expect("then a read of nothing fails");
+    let input = bytes(&list()[..10]);
+    ours.write_all(&input[..9 * 16 + 5]).expect("room");
+    let output = program().stdin(OwnedFd::from(theirs)).output().expect("it ends");
+    assert_eq!(said(output, UNREADABLE), rowrun(&input[..9 * 16]));
+}
+
+/// After a write that fails nothing more is read or written.
+#[test]
+fn a_failed_write() {
+    let (mut ours, theirs) = UnixStream::pair().expect("two sockets");
+    ours.write_all(&bytes(&list()[..2])[..20]).expect("room");
+    drop(ours);
+    let full = File::options().write(true).open("/dev/full").expect("Linux has it");
+    let output = program().stdin(OwnedFd::from(theirs)).stdout(full).output().expect("it ends");
+    said(output, UNWRITABLE);
+}
