@@ -44,7 +44,8 @@ module _ (s : State) (l : Lengths) (i : ℕ) (t : Standing) (e : t ≡ calls.cur
   unfolding treeStep
   set-stops n d = cursor-stops s i t e setting n d
 
-  pub set-goes : (c : Cursor) → t ≡ standing.At c → (u : State) (a : Outcome) → reply u a ≡ calls.setLengths base s c (listOf l) → moved u (outcomeAnswer a) ≡ treeStep base s (row.setLengths i (listOf l))
+  pub set-goes : (c : Cursor) → t ≡ standing.At c → (u : State) (a : Outcome) → reply u a ≡ calls.setLengths base s c (listOf l)
+      → moved u (outcomeAnswer a) ≡ treeStep base s (row.setLengths i (listOf l))
   unfolding treeStep
   set-goes c d u a q = cursor-goes s i t e setting c d _ (told-by outcomeAnswer u a (calls.setLengths base s c (listOf l)) q)
 

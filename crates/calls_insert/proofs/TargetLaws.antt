@@ -36,7 +36,8 @@ use Rattle.open.specs.declared.open.Opened.the-variants.{Good, Refused}
 abbrev pub frontOf : State → Target → List Cause
 frontOf s t = opening base s ++ targetCauses base s t
 
-pub open-before : (s : State) (t : Target) (c : Cursor) (o : Opened) → t ≡ target.Before c → o ≡ openedBy (opening base s ++ atCursor base s c) (shapeOf base (s .head)) → o ≡ openedBy (frontOf s t) (shapeOf base (s .head))
+pub open-before : (s : State) (t : Target) (c : Cursor) (o : Opened) → t ≡ target.Before c → o ≡ openedBy (opening base s ++ atCursor base s c) (shapeOf base (s .head))
+    → o ≡ openedBy (frontOf s t) (shapeOf base (s .head))
 open-before s t c o e q = rw e q
 
 pub open-end : (s : State) (t : Target) (o : Opened) → t ≡ target.End → o ≡ openedBy (opening base s) (shapeOf base (s .head)) → o ≡ openedBy (frontOf s t) (shapeOf base (s .head))
@@ -61,7 +62,8 @@ none-ready s ys n = ready-here s (n .0) (n .1 .0) (n .1 .1 .0)
 pub front-ready : (s : State) (t : Target) (g : Shape) (o : Opened) → o ≡ openedBy (frontOf s t) (shapeOf base (s .head)) → o ≡ Good g → Ready s g
 front-ready s t g o e d =
     let q = sym e ∙ d in
-    rw (← good-shape (frontOf s t) (shapeOf base (s .head)) g q) (none-ready s (targetCauses base s t) (none-applies (frontOf s t) (front-numbered s t) (good-number (frontOf s t) (shapeOf base (s .head)) g q)))
+    rw (← good-shape (frontOf s t) (shapeOf base (s .head)) g q)
+    (none-ready s (targetCauses base s t) (none-applies (frontOf s t) (front-numbered s t) (good-number (frontOf s t) (shapeOf base (s .head)) g q)))
 
 -- what 7 says with no lengths for old ones
 past-none : (s : State) (l : Lengths) → past base (state (s .head) [] (s .inners) []) (0 ∷ 0 ∷ []) (listOf l) .applies ≡ past base s [] (listOf l) .applies
@@ -100,7 +102,8 @@ pub insert-room : (s : State) (t : Target) (l : Lengths) (g : Shape) (o : Opened
     → Ready s g × (s .head .entries < s .head .limit)
 insert-room s t l g o e d =
     let q = sym e ∙ d in
-    rw (← good-shape (insertCauses base s t (listOf l)) (shapeOf base (s .head)) g q) (none-room s t l (none-applies (insertCauses base s t (listOf l)) (insert-numbered s t l) (good-number (insertCauses base s t (listOf l)) (shapeOf base (s .head)) g q)))
+    rw (← good-shape (insertCauses base s t (listOf l)) (shapeOf base (s .head)) g q)
+    (none-room s t l (none-applies (insertCauses base s t (listOf l)) (insert-numbered s t l) (good-number (insertCauses base s t (listOf l)) (shapeOf base (s .head)) g q)))
 
 -- the leaf that the last slots lead to is in the area
 within : Shape → Leaf → Type 0

@@ -69,15 +69,26 @@ module _ (s : State) (c : Cursor) (l : Lengths) (g : Shape) (o : Opened) (e : o 
   unfolding All
   below-limit =
       leb-false _ _
-      (good-rest (opening base s ++ atCursor base s c) (tooMuch base (listOf l) (lengths (slotAt base s c)) ∷ full s ∷ []) (shapeOf base (s .head)) g (sym e ∙ d) (at-numbered s c) (omega arith, (omega arith, tt)) .1 .0)
+      (good-rest (opening base s ++ atCursor base s c) (tooMuch base (listOf l) (lengths (slotAt base s c)) ∷ full s ∷ []) (shapeOf base (s .head)) g (sym e ∙ d) (at-numbered s c)
+      (omega arith, (omega arith, tt)) .1 .0)
 
   few-entries : s .head .entries < 65536
   few-entries = omega (arith, below-limit, split-stands .ready .limit-most)
 
-  pub divide-in : Fits g (length (s .leaves)) (length (s .inners)) × (s .head .leaves ≤ g .nodes) × (s .head .inners ≤ g .nodes) × (1 ≤ s .head .levels) × (s .head .levels ≤ 15) × (s .head .entries < length (s .homes)) × (s .head .entries < 4294967295) × (g .stride ≡ 3)
+  pub divide-in : Fits g (length (s .leaves)) (length (s .inners)) × (s .head .leaves ≤ g .nodes) × (s .head .inners ≤ g .nodes) × (1 ≤ s .head .levels) × (s .head .levels ≤ 15)
+      × (s .head .entries < length (s .homes)) × (s .head .entries < 4294967295) × (g .stride ≡ 3)
   divide-in =
-      let r = split-stands .ready in
-      (record { shaped = r .shaped; leaves = r .leaf-area; inners = r .inner-area }, r .leaves, r .inners, r .levels-least, r .levels-most, omega (arith, below-limit, r .home-area), omega (arith, few-entries), ap (λ (x : Shape). x .stride) (r .same))
+      let r = split-stands .ready in (
+        record { shaped = r .shaped; leaves = r .leaf-area; inners = r .inner-area },
+        r .leaves,
+        r .inners,
+        r .levels-least,
+        r .levels-most,
+        omega
+            (arith, below-limit, r .home-area),
+        omega (arith, few-entries),
+        ap (λ (x : Shape). x .stride) (r .same),
+      )
 
 -- an entry that was divided stands in a slot that the leaf has
 picked : (b : Bool) (x y : Change) (n : ℕ) → (b ≡ true → x .slot < n) → y .number ≡ 9 → cond b x y .number ≡ 0 → cond b x y .slot < n

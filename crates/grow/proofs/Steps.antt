@@ -32,7 +32,8 @@ module _ (g : Shape) (c level p after new : ℕ) (a : Areas) where
   no-new h₁ h₂ h₃ = simp (lt-ltb _ _ h₁, lt-ltb _ _ h₂, le-ltb _ _ h₃)
 
   -- the place of after, and the slots in use, as they are read
-  module _ (i len : ℕ) (ei : i ≡ getD (part (after * g .size) (g .size) (areaOf level a)) 2 0) (el : len ≡ getD (part (p * g .size) (g .size) (a .inners)) 0 0) (h₁ : p < c) (h₂ : after < g .nodes) (h₃ : new < g .nodes) where
+  module _ (i len : ℕ) (ei : i ≡ getD (part (after * g .size) (g .size) (areaOf level a)) 2 0) (el : len ≡ getD (part (p * g .size) (g .size) (a .inners)) 0 0) (h₁ : p < c)
+      (h₂ : after < g .nodes) (h₃ : new < g .nodes) where
     pub no-place : len ≤ i → Missing ≡ standing g c level p after new a
     unfolding standing nodeOf
     no-place h₄ = simp (lt-ltb _ _ h₁, lt-ltb _ _ h₂, lt-ltb _ _ h₃, le-ltb _ _ (rw (ei, el) at h₄))

@@ -21,6 +21,7 @@ pub by-call : (s : State) (k x : Call) → k ≡ x → (h : Head) (ls xs hs : Li
 by-call s k x e h ls xs hs a m r q =
     ap (λ (y : Step). stepped (state (y .head) ls xs hs) (y .answer)) q ∙ ap stepBy m ∙ ap (λ (y : Call). stepBy (treeStep base s (callOf y))) (sym e)
 
-pub by-none : (s : State) (k : Call) → k ≡ call.Malformed → (r : Step) → r ≡ stepOf (s .head) (refused 10) → stepped (state (r .head) (s .leaves) (s .inners) (s .homes)) (r .answer) ≡ stepBy (treeStep base s (callOf k))
+pub by-none : (s : State) (k : Call) → k ≡ call.Malformed → (r : Step) → r ≡ stepOf (s .head) (refused 10)
+    → stepped (state (r .head) (s .leaves) (s .inners) (s .homes)) (r .answer) ≡ stepBy (treeStep base s (callOf k))
 unfolding treeStep
 by-none s k e r q = by-call s k call.Malformed e (s .head) (s .leaves) (s .inners) (s .homes) (refused 10) refl r q

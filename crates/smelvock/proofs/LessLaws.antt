@@ -60,7 +60,8 @@ pub less-left : (g : Given) (v index : ℕ) (r : FlatLocated) (w ls xs hs : List
 unfolding locate charIndexToEntry calls.charIndexToEntry
 less-left g v index r w ls xs hs e =
     ap (lessLeft less) e
-    ∙ less-by locatedOf locatedAnswer selectedOf selectedAnswer lessEffect less refl less-answer less-number (badHead (g .head) || ltb 1 v) g (calls.locate base (stateOf g) (viewNumber (viewFrom v)) index)
+    ∙ less-by locatedOf locatedAnswer selectedOf selectedAnswer lessEffect less refl less-answer less-number (badHead (g .head) || ltb 1 v) g
+    (calls.locate base (stateOf g) (viewNumber (viewFrom v)) index)
 
 -- other lengths: with the position, and without
 pub resize-update : (g : Given) (c : FlatCursor) (l : FlatLengths) → shared.resize true g c l ≡ update g c l
@@ -98,7 +99,8 @@ id-number : (a : Inserted) → insertedAnswer a .number ≡ namedAnswer (put.unp
 id-number (inserted.At i p) = refl
 id-number (inserted.Refused n) = refl
 
-pub enter-add : (g : Given) (end : ℕ) (c : FlatCursor) (l : FlatLengths) (r : FlatInserted) (w ls xs hs : List ℕ) → left r w ls xs hs ≡ shared.enter false g end c l → left (idOf r) w ls xs hs ≡ add g end c l
+pub enter-add : (g : Given) (end : ℕ) (c : FlatCursor) (l : FlatLengths) (r : FlatInserted) (w ls xs hs : List ℕ) → left r w ls xs hs ≡ shared.enter false g end c l
+    → left (idOf r) w ls xs hs ≡ add g end c l
 unfolding shared.enter add
 enter-add g end c l r w ls xs hs e =
     let y = put.enter false (stateOf g) (targetFrom end c) (lengthsFrom l) in

@@ -8,7 +8,7 @@ use native.Mathlib.Omega.{arith}
 use borrow.Author.Tests.{lt-ltb, le-ltb}
 use lib.ListN.{length, set, length-append}
 use lib.Dec.{ltb}
-use lib.Seq.{sets, length-sets}
+use lib.Seq.{sets}
 use Rattle.records.specs.declared.answer.Answer.{Answer}
 use Rattle.text.specs.Text.{numeral, decimal, line, put}
 
@@ -24,9 +24,6 @@ behind out o at r text e = ap (λ (p : ℕ × List ℕ). p .0) e
 pub after : (out o : List ℕ) (at r : ℕ) (text : List ℕ) → (r, o) ≡ put out at text → o ≡ sets out at text
 unfolding put
 after out o at r text e = ap (λ (p : ℕ × List ℕ). p .1) e
-
-pub as-long : (out o : List ℕ) (at r : ℕ) (text : List ℕ) → (r, o) ≡ put out at text → length o ≡ length out
-as-long out o at r text e = ap length (after out o at r text e) ∙ length-sets out at text
 
 -- more text behind
 pub put-more : (out o : List ℕ) (at r : ℕ) (xs ys : List ℕ) → (r, o) ≡ put out at xs → put o r ys ≡ put out at (xs ++ ys)
@@ -86,7 +83,8 @@ pub field-short : (out o : List ℕ) (at r n b : ℕ) → (r, o) ≡ put out at 
 field-short out o at r n b e = omega (arith, behind out o at r (decimal n ++ (b ∷ [])) e, length-append (decimal n) (b ∷ []), decimal-short n)
 
 -- four fields
-pub line-of : (a : Answer) (out o p q s : List ℕ) (at i j k r : ℕ) → (i, o) ≡ put out at (decimal (a .number) ++ (32 ∷ [])) → (j, p) ≡ put o i (decimal (a .x) ++ (32 ∷ [])) → (k, q) ≡ put p j (decimal (a .y) ++ (32 ∷ []))
+pub line-of : (a : Answer) (out o p q s : List ℕ) (at i j k r : ℕ) → (i, o) ≡ put out at (decimal (a .number) ++ (32 ∷ [])) → (j, p) ≡ put o i (decimal (a .x) ++ (32 ∷ []))
+    → (k, q) ≡ put p j (decimal (a .y) ++ (32 ∷ []))
     → (r, s) ≡ put q k (decimal (a .z) ++ (10 ∷ [])) → (r, s) ≡ put out at (line a)
 unfolding line
 line-of a out o p q s at i j k r e f g h = h ∙ put-more p q j k _ _ g ∙ put-more o p i j _ _ f ∙ put-more out o at i _ _ e

@@ -24,16 +24,26 @@ same-length-2 : tie.Need-same-length-2
 same-length-2 c = refl
 
 returns : tie.Need-returns
-returns c = set-stops _ _ _ _ (c .before .before .before .cursor .ensures) _ (c .before .n .given .1)
+returns c =
+    let cursor = c .before .before .before .cursor in
+    set-stops _ _ _ _ (cursor .ensures) _ (c .before .n .given .1)
 
 same-length-3 : tie.Need-same-length-3
-same-length-3 c = c .before .before .before .before .set-lengths .kept .1 .0
+same-length-3 c =
+    let set-lengths = c .before .before .before .before .set-lengths in
+    set-lengths .kept .1 .0
 
 same-length-4 : tie.Need-same-length-4
-same-length-4 c = c .before .before .before .before .set-lengths .kept .1 .1 .0
+same-length-4 c =
+    let set-lengths = c .before .before .before .before .set-lengths in
+    set-lengths .kept .1 .1 .0
 
 returns-2 : tie.Need-returns-2
-returns-2 c = set-goes _ _ _ _ (c .before .before .before .before .before .before .before .before .before .before .cursor .ensures) _ (c .before .before .before .before .before .before .before .before .c .given .1) _ _ (c .before .before .before .before .set-lengths .ensures)
+returns-2 c =
+    let cursor = c .before .before .before .before .before .before .before .before .before .before .cursor in
+    let the-c = c .before .before .before .before .before .before .before .before .c in
+    let set-lengths = c .before .before .before .before .set-lengths in
+    set-goes _ _ _ _ (cursor .ensures) _ (the-c .given .1) _ _ (set-lengths .ensures)
 
 pub set-lengths-spec : {M : Type 1} → statement M
 set-lengths-spec =

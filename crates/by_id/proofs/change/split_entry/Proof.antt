@@ -27,19 +27,33 @@ same-length-3 : tie.Need-same-length-3
 same-length-3 c = refl
 
 returns : tie.Need-returns
-returns c = split-stops _ _ _ _ (c .before .before .before .cursor .ensures) (c .before .before .before .before .before .before .before .before .before .before .args .before) _ (c .before .n .given .1)
+returns c =
+    let cursor = c .before .before .before .cursor in
+    let args = c .before .before .before .before .before .before .before .before .before .before .args in
+    split-stops _ _ _ _ (cursor .ensures) (args .before) _ (c .before .n .given .1)
 
 same-length-4 : tie.Need-same-length-4
-same-length-4 c = c .before .before .before .before .before .before .split-entry .kept .1 .0
+same-length-4 c =
+    let split-entry = c .before .before .before .before .before .before .split-entry in
+    split-entry .kept .1 .0
 
 same-length-5 : tie.Need-same-length-5
-same-length-5 c = c .before .before .before .before .before .before .split-entry .kept .1 .1 .0
+same-length-5 c =
+    let split-entry = c .before .before .before .before .before .before .split-entry in
+    split-entry .kept .1 .1 .0
 
 same-length-6 : tie.Need-same-length-6
-same-length-6 c = c .before .before .before .before .before .before .split-entry .kept .1 .1 .1 .0
+same-length-6 c =
+    let split-entry = c .before .before .before .before .before .before .split-entry in
+    split-entry .kept .1 .1 .1 .0
 
 returns-2 : tie.Need-returns-2
-returns-2 c = split-goes _ _ _ _ (c .before .before .before .before .before .before .before .before .before .before .before .before .before .cursor .ensures) (c .before .before .before .before .before .before .before .before .before .before .before .before .before .before .before .before .before .before .before .before .args .before) _ (c .before .before .before .before .before .before .before .before .before .before .before .c .given .1) _ _ (c .before .before .before .before .before .before .split-entry .ensures)
+returns-2 c =
+    let cursor = c .before .before .before .before .before .before .before .before .before .before .before .before .before .cursor in
+    let args = c .before .before .before .before .before .before .before .before .before .before .before .before .before .before .before .before .before .before .before .before .args in
+    let the-c = c .before .before .before .before .before .before .before .before .before .before .before .c in
+    let split-entry = c .before .before .before .before .before .before .split-entry in
+    split-goes _ _ _ _ (cursor .ensures) (args .before) _ (the-c .given .1) _ _ (split-entry .ensures)
 
 pub split-entry-spec : {M : Type 1} → statement M
 split-entry-spec =

@@ -24,16 +24,26 @@ same-length-2 : tie.Need-same-length-2
 same-length-2 c = refl
 
 returns : tie.Need-returns
-returns c = update-stops _ _ _ _ (c .before .before .before .cursor .ensures) _ (c .before .n .given .1)
+returns c =
+    let cursor = c .before .before .before .cursor in
+    update-stops _ _ _ _ (cursor .ensures) _ (c .before .n .given .1)
 
 same-length-3 : tie.Need-same-length-3
-same-length-3 c = c .before .before .before .before .update .kept .1 .0
+same-length-3 c =
+    let the-update = c .before .before .before .before .update in
+    the-update .kept .1 .0
 
 same-length-4 : tie.Need-same-length-4
-same-length-4 c = c .before .before .before .before .update .kept .1 .1 .0
+same-length-4 c =
+    let the-update = c .before .before .before .before .update in
+    the-update .kept .1 .1 .0
 
 returns-2 : tie.Need-returns-2
-returns-2 c = update-goes _ _ _ _ (c .before .before .before .before .before .before .before .before .before .before .cursor .ensures) _ (c .before .before .before .before .before .before .before .before .c .given .1) _ _ (c .before .before .before .before .update .ensures)
+returns-2 c =
+    let cursor = c .before .before .before .before .before .before .before .before .before .before .cursor in
+    let the-c = c .before .before .before .before .before .before .before .before .c in
+    let the-update = c .before .before .before .before .update in
+    update-goes _ _ _ _ (cursor .ensures) _ (the-c .given .1) _ _ (the-update .ensures)
 
 pub update-spec : {M : Type 1} → statement M
 update-spec =

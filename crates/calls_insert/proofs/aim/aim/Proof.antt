@@ -36,17 +36,20 @@ returns c =
 returns-2 : tie.Need-returns-2
 returns-2 c =
     let a = c .before .before .before .before .before .before .before .before .before in
-    λ hs. aim-end (state (a .args .head) (a .args .leaves .now) (a .args .inners .now) hs) (a .args .before) (c .before .before .before .before .before .enum-told .given .1) (a .args .g) (a .pre .0) _ (c .before .before .before .before .last-down .ensures) _ _ (c .before .before .k .given .1) (c .len-of .ensures)
+    λ hs. aim-end (state (a .args .head) (a .args .leaves .now) (a .args .inners .now) hs) (a .args .before) (c .before .before .before .before .before .enum-told .given .1)
+    (a .args .g) (a .pre .0) _ (c .before .before .before .before .last-down .ensures) _ _ (c .before .before .k .given .1) (c .len-of .ensures)
 
 returns-3 : tie.Need-returns-3
 returns-3 c =
     let a = c .before .before .before .before .before .before .before in
-    λ hs. aim-nothing (state (a .args .head) (a .args .leaves .now) (a .args .inners .now) hs) (a .args .before) (c .before .before .before .enum-told .given .1) (a .args .g) (a .pre .0) _ (c .before .before .last-down .ensures) (c .enum-told2 .given .1)
+    λ hs. aim-nothing (state (a .args .head) (a .args .leaves .now) (a .args .inners .now) hs) (a .args .before) (c .before .before .before .enum-told .given .1) (a .args .g)
+    (a .pre .0) _ (c .before .before .last-down .ensures) (c .enum-told2 .given .1)
 
 returns-4 : tie.Need-returns-4
 returns-4 c =
     let a = c .before .before .before .before .before .before .before in
-    λ hs. aim-broken (state (a .args .head) (a .args .leaves .now) (a .args .inners .now) hs) (a .args .before) (c .before .before .before .enum-told .given .1) (a .args .g) (a .pre .0) _ (c .before .before .last-down .ensures) (c .enum-told3 .given .1)
+    λ hs. aim-broken (state (a .args .head) (a .args .leaves .now) (a .args .inners .now) hs) (a .args .before) (c .before .before .before .enum-told .given .1) (a .args .g)
+    (a .pre .0) _ (c .before .before .last-down .ensures) (c .enum-told3 .given .1)
 
 pub aim-spec : {M : Type 1} → statement M
 aim-spec =

@@ -17,10 +17,14 @@ open-requires : tie.Need-open-requires
 open-requires c κs = search needs
 
 returns : tie.Need-returns
-returns c = open-before _ (c .before .before .before .before .before .before .before .args .before) _ _ (c .before .before .before2 .given .1) (c .open-at .ensures)
+returns c =
+    let args = c .before .before .before .before .before .before .before .args in
+    open-before _ (args .before) _ _ (c .before .before .before2 .given .1) (c .open-at .ensures)
 
 returns-2 : tie.Need-returns-2
-returns-2 c = open-end _ (c .before .before .before .before .before .before .args .before) _ (c .before .enum-told .given .1) (c .«open» .ensures)
+returns-2 c =
+    let args = c .before .before .before .before .before .before .args in
+    open-end _ (args .before) _ (c .before .enum-told .given .1) (c .«open» .ensures)
 
 pub open-for-spec : {M : Type 1} → statement M
 open-for-spec =

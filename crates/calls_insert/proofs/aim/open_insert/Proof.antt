@@ -28,7 +28,8 @@ past-requires c κs =
 returns : tie.Need-returns
 returns c =
     let a = c .before .before .before .before .before .before .before .before .before in
-    insert-past (entry a) (a .args .before) (a .args .lengths) _ (c .before .before .before .before .before .open-for .ensures) _ (c .before .before .before .g .given .1) _ (c .before .past .ensures) (c .if1 .taken)
+    insert-past (entry a) (a .args .before) (a .args .lengths) _ (c .before .before .before .before .before .open-for .ensures) _ (c .before .before .before .g .given .1) _
+    (c .before .past .ensures) (c .if1 .taken)
 
 full-requires : tie.Need-full-requires
 full-requires c κs = search needs
@@ -36,7 +37,8 @@ full-requires c κs = search needs
 returns-2 : tie.Need-returns-2
 returns-2 c =
     let a = c .before .before .before .before .before .before .before .before .before .before .before in
-    insert-full (entry a) (a .args .before) (a .args .lengths) _ (c .before .before .before .before .before .before .before .open-for .ensures) _ (c .before .before .before .before .before .g .given .1) _ (c .before .before .before .past .ensures) (c .before .before .if1 .left) _ (c .before .full .ensures) (c .if2 .taken)
+    insert-full (entry a) (a .args .before) (a .args .lengths) _ (c .before .before .before .before .before .before .before .open-for .ensures) _
+    (c .before .before .before .before .before .g .given .1) _ (c .before .before .before .past .ensures) (c .before .before .if1 .left) _ (c .before .full .ensures) (c .if2 .taken)
 
 returns-3 : tie.Need-returns-3
 returns-3 c =
@@ -46,7 +48,8 @@ returns-3 c =
 returns-4 : tie.Need-returns-4
 returns-4 c =
     let a = c .before .before .before .before .before .before .before .before .before .before .before in
-    insert-good (entry a) (a .args .before) (a .args .lengths) _ (c .before .before .before .before .before .before .before .open-for .ensures) _ (c .before .before .before .before .before .g .given .1) _ (c .before .before .before .past .ensures) (c .before .before .if1 .left) _ (c .before .full .ensures) (c .if2 .left)
+    insert-good (entry a) (a .args .before) (a .args .lengths) _ (c .before .before .before .before .before .before .before .open-for .ensures) _
+    (c .before .before .before .before .before .g .given .1) _ (c .before .before .before .past .ensures) (c .before .before .if1 .left) _ (c .before .full .ensures) (c .if2 .left)
 
 pub open-insert-spec : {M : Type 1} → statement M
 open-insert-spec =

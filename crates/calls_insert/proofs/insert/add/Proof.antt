@@ -22,7 +22,10 @@ same-length-3 : tie.Need-same-length-3
 same-length-3 c = search needs
 
 returns : tie.Need-returns
-returns c = ap (reply _) (c .unplaced .ensures) ∙ add-is _ (c .before .before .before .before .before .before .before .before .before .before .before .before .before .before .before .args .before) (c .before .before .before .before .before .before .before .before .before .before .before .before .before .before .before .args .lengths) _ (c .before .before .before .before .before .before .before .before .enter .ensures)
+returns c =
+    let args = c .before .before .before .before .before .before .before .before .before .before .before .before .before .before .before .args in
+    let enter = c .before .before .before .before .before .before .before .before .enter in
+    ap (reply _) (c .unplaced .ensures) ∙ add-is _ (args .before) (args .lengths) _ (enter .ensures)
 
 pub add-spec : {M : Type 1} → statement M
 add-spec =

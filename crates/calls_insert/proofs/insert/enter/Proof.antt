@@ -50,7 +50,9 @@ same-length-6 c = search needs
 returns-2 : tie.Need-returns-2
 returns-2 c =
     let a = c .before .before .before .before .before .before .before .before .before .before .before .before .before .before .before .before .before .before .before .before in
-    enter-done (entry a) (a .args .before) (a .args .lengths) (a .args .summed) _ (c .before .before .before .before .before .before .before .before .before .before .before .before .before .open-insert .ensures) _ (c .before .before .before .before .before .before .before .before .before .before .before .g .given .1) _ (c .before .before .before .before .before .before .enter-open .ensures)
+    enter-done (entry a) (a .args .before) (a .args .lengths) (a .args .summed) _
+    (c .before .before .before .before .before .before .before .before .before .before .before .before .before .open-insert .ensures) _
+    (c .before .before .before .before .before .before .before .before .before .before .before .g .given .1) _ (c .before .before .before .before .before .before .enter-open .ensures)
 
 pub enter-spec : {M : Type 1} → statement M
 enter-spec =

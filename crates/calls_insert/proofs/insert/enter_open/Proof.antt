@@ -37,8 +37,15 @@ way-up-requires c κs =
     let s = entry a in
     let h = a .pre .0 in
     let e : a .args .g .stride ≡ 3 = ap (λ (x : Shape). x .stride) (h .same) in
-    let i = put-in (a .args .g) s (a .args .before) (a .args .lengths) _ (p .ensures) (c .before .before .before .if1 .left) in
-    (still (a .args .g) _ _ (h .shaped) (h .leaf-area) (p .kept .1 .0), still (a .args .g) _ _ (h .shaped) (h .inner-area) (p .kept .1 .1 .0), e, omega (arith, put-levels (a .args .g) s (a .args .before) (a .args .lengths) _ (p .ensures), h .levels-most), i .0, i .1)
+    let i = put-in (a .args .g) s (a .args .before) (a .args .lengths) _ (p .ensures) (c .before .before .before .if1 .left) in (
+      still (a .args .g) _ _ (h .shaped) (h .leaf-area) (p .kept .1 .0),
+      still (a .args .g) _ _ (h .shaped) (h .inner-area) (p .kept .1 .1 .0),
+      e,
+      omega
+          (arith, put-levels (a .args .g) s (a .args .before) (a .args .lengths) _ (p .ensures), h .levels-most),
+      i .0,
+      i .1,
+    )
 
 enum-known-n : tie.Need-enum-known-n
 enum-known-n c = search needs
@@ -62,7 +69,9 @@ returns-2 : tie.Need-returns-2
 returns-2 c =
     let a = c .before .before .before .before .before .before .before .before .before .before .before .before .before .before .before .before .before .before .before .before .before .before .before in
     let s = entry a in
-    done-whole (a .args .g) s (a .args .before) (a .args .lengths) _ (c .before .before .before .before .before .before .before .before .before .before .before .before .before .before .before .before .put .ensures) (a .args .summed) _ (c .before .before .before .before .before .before .before .before .before .if1 .left) _ (c .before .before .before .before .before .way-up .ensures) _ (c .before .n .given .1)
+    done-whole (a .args .g) s (a .args .before) (a .args .lengths) _
+    (c .before .before .before .before .before .before .before .before .before .before .before .before .before .before .before .before .put .ensures) (a .args .summed) _
+    (c .before .before .before .before .before .before .before .before .before .if1 .left) _ (c .before .before .before .before .before .way-up .ensures) _ (c .before .n .given .1)
 
 same-length-7 : tie.Need-same-length-7
 same-length-7 c = search needs
@@ -77,7 +86,9 @@ returns-3 : tie.Need-returns-3
 returns-3 c =
     let a = c .before .before .before .before .before .before .before .before .before .before .before .before .before .before .before .before .before .before .before .before .before .before in
     let s = entry a in
-    done-broken (a .args .g) s (a .args .before) (a .args .lengths) _ (c .before .before .before .before .before .before .before .before .before .before .before .before .before .before .before .put .ensures) (a .args .summed) _ (c .before .before .before .before .before .before .before .before .if1 .left) _ (c .before .before .before .before .way-up .ensures) (c .enum-told .given .1)
+    done-broken (a .args .g) s (a .args .before) (a .args .lengths) _
+    (c .before .before .before .before .before .before .before .before .before .before .before .before .before .before .before .put .ensures) (a .args .summed) _
+    (c .before .before .before .before .before .before .before .before .if1 .left) _ (c .before .before .before .before .way-up .ensures) (c .enum-told .given .1)
 
 pub enter-open-spec : {M : Type 1} → statement M
 enter-open-spec =

@@ -18,7 +18,10 @@ same-length-3 : tie.Need-same-length-3
 same-length-3 c = search needs
 
 returns : tie.Need-returns
-returns c = c .before .before .before .before .before .before .enter .ensures ∙ insert-is _ (c .before .before .before .before .before .before .before .before .before .before .before .before .before .args .before) (c .before .before .before .before .before .before .before .before .before .before .before .before .before .args .lengths)
+returns c =
+    let enter = c .before .before .before .before .before .before .enter in
+    let args = c .before .before .before .before .before .before .before .before .before .before .before .before .before .args in
+    enter .ensures ∙ insert-is _ (args .before) (args .lengths)
 
 pub insert-spec : {M : Type 1} → statement M
 insert-spec = tie.close (tie.spec enter-requires same-length same-length-2 same-length-3 returns)

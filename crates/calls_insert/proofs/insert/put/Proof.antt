@@ -32,8 +32,17 @@ returns c =
 place-requires : tie.Need-place-requires
 place-requires c κs =
     let a = c .before .before .before .before .before .before .before .before .before .before .before in
-    let h = a .pre .0 in
-    (fits (entry a) _ h, h .leaves, h .inners, h .levels-least, h .levels-most, omega (arith, h .home-area, a .pre .1), omega (arith, h .limit-most, a .pre .1), ap (λ (x : Shape). x .stride) (h .same))
+    let h = a .pre .0 in (
+      fits (entry a) _ h,
+      h .leaves,
+      h .inners,
+      h .levels-least,
+      h .levels-most,
+      omega (arith, h .home-area, a .pre .1),
+      omega (arith, h .limit-most, a .pre .1),
+      ap
+          (λ (x : Shape). x .stride) (h .same),
+    )
 
 same-length-3 : tie.Need-same-length-3
 same-length-3 c = search needs
@@ -47,7 +56,9 @@ same-length-5 c = search needs
 returns-2 : tie.Need-returns-2
 returns-2 c =
     let a = c .before .before .before .before .before .before .before .before .before .before .before .before .before .before .before .before .before .before in
-    put-done (a .args .g) (entry a) (a .args .before) (a .args .lengths) _ (c .before .before .before .before .before .before .before .before .before .before .before .before .aim .ensures (a .args .homes .now)) (c .before .before .before .before .before .before .before .before .before .before .if1 .left) _ (c .before .before .before .before .before .before .place .ensures)
+    put-done (a .args .g) (entry a) (a .args .before) (a .args .lengths) _
+    (c .before .before .before .before .before .before .before .before .before .before .before .before .aim .ensures (a .args .homes .now))
+    (c .before .before .before .before .before .before .before .before .before .before .if1 .left) _ (c .before .before .before .before .before .before .place .ensures)
 
 pub put-spec : {M : Type 1} → statement M
 put-spec =

@@ -18,7 +18,9 @@ enum-told-2 : tie.Need-enum-told-2
 enum-told-2 c = search needs
 
 returns : tie.Need-returns
-returns c = c .hit .ensures ∙ ap (searchOf (c .before .before .before .before .args .head)) (sym (c .before .before .found .given .1))
+returns c =
+    let args = c .before .before .before .before .args in
+    c .hit .ensures ∙ ap (searchOf (args .head)) (sym (c .before .before .found .given .1))
 
 returns-2 : tie.Need-returns-2
 returns-2 c = ap (searchOf (c .before .before .args .head)) (sym (c .enum-told .given .1))

@@ -14,10 +14,16 @@ enum-known-answer-2 : tie.Need-enum-known-answer-2
 enum-known-answer-2 c = search needs
 
 returns : tie.Need-returns
-returns c = less-effect _ (c .before .before .before .before .before .before .before .before .args .view) _ _ (c .before .before .before .before .locate .ensures) _ (c .before .answer .given .1)
+returns c =
+    let args = c .before .before .before .before .before .before .before .before .args in
+    let locate = c .before .before .before .before .locate in
+    less-effect _ (args .view) _ _ (locate .ensures) _ (c .before .answer .given .1)
 
 returns-2 : tie.Need-returns-2
-returns-2 c = less-effect _ (c .before .before .before .before .before .before .before .before .args .view) _ _ (c .before .before .before .before .locate .ensures) _ (c .before .answer2 .given .1)
+returns-2 c =
+    let args = c .before .before .before .before .before .before .before .before .args in
+    let locate = c .before .before .before .before .locate in
+    less-effect _ (args .view) _ _ (locate .ensures) _ (c .before .answer2 .given .1)
 
 pub char-index-to-entry-spec : {M : Type 1} → statement M
 char-index-to-entry-spec =

@@ -19,7 +19,11 @@ number-requires : tie.Need-number-requires
 number-requires c κs = search needs
 
 served-by-requires : tie.Need-served-by-requires
-served-by-requires c κs = let h = ready _ _ _ (c .before .before .before .before .«open» .ensures) (c .before .before .g .given .1) in (leaf-area _ _ h, view-in _ _ _ h (rw (c .number .ensures) (view-few (c .before .before .before .before .before .before .before .before .args .view))), view-in _ _ 1 h (omega arith), h .leaves)
+served-by-requires c κs =
+    let before = c .before .before .before .before in
+    let args = c .before .before .before .before .before .before .before .before .args in
+    let h = ready _ _ _ (before .«open» .ensures) (c .before .before .g .given .1) in
+    (leaf-area _ _ h, view-in _ _ _ h (rw (c .number .ensures) (view-few (args .view))), view-in _ _ 1 h (omega arith), h .leaves)
 
 enum-known-f : tie.Need-enum-known-f
 enum-known-f c = search needs
@@ -31,7 +35,13 @@ enum-told : tie.Need-enum-told
 enum-told c = search needs
 
 from-root-requires : tie.Need-from-root-requires
-from-root-requires c κs = let h = ready _ _ _ (c .before .before .before .before .before .before .before .«open» .ensures) (c .before .before .before .before .before .g .given .1) in (leaf-area _ _ h, inner-area _ _ h, view-in _ _ _ h (rw (c .before .before .before .number .ensures) (view-few (c .before .before .before .before .before .before .before .before .before .before .before .args .view))), view-in _ _ 1 h (omega arith), h .levels-most, h .leaves)
+from-root-requires c κs =
+    let before = c .before .before .before .before .before .before .before in
+    let g = c .before .before .before .before .before .g in
+    let number = c .before .before .before .number in
+    let args = c .before .before .before .before .before .before .before .before .before .before .before .args in
+    let h = ready _ _ _ (before .«open» .ensures) (g .given .1) in
+    (leaf-area _ _ h, inner-area _ _ h, view-in _ _ _ h (rw (number .ensures) (view-few (args .view))), view-in _ _ 1 h (omega arith), h .levels-most, h .leaves)
 
 by-search-requires : tie.Need-by-search-requires
 by-search-requires c κs = search needs
@@ -40,16 +50,36 @@ enum-told-2 : tie.Need-enum-told-2
 enum-told-2 c = search needs
 
 returns : tie.Need-returns
-returns c = locate-refused _ (c .before .before .before .before .before .before .before .args .view) _ _ (c .before .before .before .«open» .ensures) _ (c .before .n .given .1)
+returns c =
+    let args = c .before .before .before .before .before .before .before .args in
+    locate-refused _ (args .view) _ _ (c .before .before .before .«open» .ensures) _ (c .before .n .given .1)
 
 returns-2 : tie.Need-returns-2
-returns-2 c = locate-hit _ (c .before .before .before .before .before .before .before .before .before .before .before .before .before .args .view) _ _ (c .before .before .before .before .before .before .before .before .before .«open» .ensures) _ (c .before .before .before .before .before .before .before .g .given .1) _ (c .before .before .before .before .before .number .ensures) _ (c .before .before .before .before .served-by .ensures) _ _ (c .before .before .f .given .1) _ (c .hit .ensures)
+returns-2 c =
+    let args = c .before .before .before .before .before .before .before .before .before .before .before .before .before .args in
+    let before = c .before .before .before .before .before .before .before .before .before in
+    let g = c .before .before .before .before .before .before .before .g in
+    let number = c .before .before .before .before .before .number in
+    let served-by = c .before .before .before .before .served-by in
+    locate-hit _ (args .view) _ _ (before .«open» .ensures) _ (g .given .1) _ (number .ensures) _ (served-by .ensures) _ _ (c .before .before .f .given .1) _ (c .hit .ensures)
 
 returns-3 : tie.Need-returns-3
-returns-3 c = locate-again _ (c .before .before .before .before .before .before .before .before .before .before .before .before .before .args .view) _ _ (c .before .before .before .before .before .before .before .before .before .«open» .ensures) _ (c .before .before .before .before .before .before .before .g .given .1) _ (c .before .before .before .before .before .number .ensures) _ (c .before .before .before .before .served-by .ensures) (c .before .before .enum-told .given .1) _ (c .before .from-root .ensures) _ (c .by-search .ensures)
+returns-3 c =
+    let args = c .before .before .before .before .before .before .before .before .before .before .before .before .before .args in
+    let before = c .before .before .before .before .before .before .before .before .before in
+    let g = c .before .before .before .before .before .before .before .g in
+    let number = c .before .before .before .before .before .number in
+    let served-by = c .before .before .before .before .served-by in
+    locate-again _ (args .view) _ _ (before .«open» .ensures) _ (g .given .1) _ (number .ensures) _ (served-by .ensures) (c .before .before .enum-told .given .1) _
+    (c .before .from-root .ensures) _ (c .by-search .ensures)
 
 returns-4 : tie.Need-returns-4
-returns-4 c = locate-broken _ (c .before .before .before .before .before .before .before .before .before .before .before .args .view) _ _ (c .before .before .before .before .before .before .before .«open» .ensures) _ (c .before .before .before .before .before .g .given .1) _ (c .before .before .before .number .ensures) _ (c .before .before .served-by .ensures) (c .enum-told2 .given .1)
+returns-4 c =
+    let args = c .before .before .before .before .before .before .before .before .before .before .before .args in
+    let before = c .before .before .before .before .before .before .before in
+    let g = c .before .before .before .before .before .g in
+    let number = c .before .before .before .number in
+    locate-broken _ (args .view) _ _ (before .«open» .ensures) _ (g .given .1) _ (number .ensures) _ (c .before .before .served-by .ensures) (c .enum-told2 .given .1)
 
 pub locate-spec : {M : Type 1} → statement M
 locate-spec =

@@ -9,13 +9,19 @@ returns : tie.Need-returns
 returns c = search needs
 
 returns-2 : tie.Need-returns-2
-returns-2 c = by-second (c .before .before .before .before .args .a) (c .before .before .before .before .args .b) (c .if2 .taken)
+returns-2 c =
+    let args = c .before .before .before .before .args in
+    by-second (args .a) (args .b) (c .if2 .taken)
 
 in-order-requires : tie.Need-in-order-requires
 in-order-requires c κs = search needs
 
 returns-3 : tie.Need-returns-3
-returns-3 c = c .in-order .ensures ∙ by-both (c .before .before .before .before .before .args .a) (c .before .before .before .before .before .args .b) (c .before .before .before .before .before .pre .0) (c .before .before .before .before .before .pre .1) (c .before .before .before .if1 .left) (c .before .if2 .left)
+returns-3 c =
+    let args = c .before .before .before .before .before .args in
+    let pre = c .before .before .before .before .before .pre in
+    let if1 = c .before .before .before .if1 in
+    c .in-order .ensures ∙ by-both (args .a) (args .b) (pre .0) (pre .1) (if1 .left) (c .before .if2 .left)
 
 pub by-path-spec : {M : Type 1} → statement M
 by-path-spec = tie.close (tie.spec returns returns-2 in-order-requires returns-3)

@@ -18,34 +18,78 @@ current-requires : tie.Need-current-requires
 current-requires c κs = let h = ready _ _ _ (c .before .before .before .«open» .ensures) (c .before .g .given .1) in (h .same, leaf-area _ _ h, h .leaves)
 
 returns : tie.Need-returns
-returns c = cmp-first _ (c .before .before .before .before .before .before .before .before .before .args .a) (c .before .before .before .before .before .before .before .before .before .args .b) _ (c .before .before .before .before .before .«open» .ensures) _ (c .before .before .before .g .given .1) _ (c .before .current .ensures) (c .if1 .taken)
+returns c =
+    let args = c .before .before .before .before .before .before .before .before .before .args in
+    let before = c .before .before .before .before .before in
+    let g = c .before .before .before .g in
+    cmp-first _ (args .a) (args .b) _ (before .«open» .ensures) _ (g .given .1) _ (c .before .current .ensures) (c .if1 .taken)
 
 current-requires-2 : tie.Need-current-requires-2
-current-requires-2 c κs = let h = ready _ _ _ (c .before .before .before .before .before .«open» .ensures) (c .before .before .before .g .given .1) in (h .same, leaf-area _ _ h, h .leaves)
+current-requires-2 c κs =
+    let before = c .before .before .before .before .before in
+    let g = c .before .before .before .g in
+    let h = ready _ _ _ (before .«open» .ensures) (g .given .1) in (h .same, leaf-area _ _ h, h .leaves)
 
 returns-2 : tie.Need-returns-2
-returns-2 c = cmp-second _ (c .before .before .before .before .before .before .before .before .before .before .before .args .a) (c .before .before .before .before .before .before .before .before .before .before .before .args .b) _ (c .before .before .before .before .before .before .before .«open» .ensures) _ (c .before .before .before .before .before .g .given .1) _ (c .before .before .before .current .ensures) (c .before .before .if1 .left) _ (c .before .current2 .ensures) (c .if2 .taken)
+returns-2 c =
+    let args = c .before .before .before .before .before .before .before .before .before .before .before .args in
+    let before = c .before .before .before .before .before .before .before in
+    let g = c .before .before .before .before .before .g in
+    let current = c .before .before .before .current in
+    cmp-second _ (args .a) (args .b) _ (before .«open» .ensures) _ (g .given .1) _ (current .ensures) (c .before .before .if1 .left) _ (c .before .current2 .ensures) (c .if2 .taken)
 
 by-slot-requires : tie.Need-by-slot-requires
 by-slot-requires c κs = search needs
 
 returns-3 : tie.Need-returns-3
-returns-3 c = cmp-slot _ (c .before .before .before .before .before .before .before .before .before .before .before .before .before .before .before .args .a) (c .before .before .before .before .before .before .before .before .before .before .before .before .before .before .before .args .b) _ (c .before .before .before .before .before .before .before .before .before .before .before .«open» .ensures) _ (c .before .before .before .before .before .before .before .before .before .g .given .1) _ (c .before .before .before .before .before .before .before .current .ensures) (c .before .before .before .before .before .before .if1 .left) _ (c .before .before .before .before .before .current2 .ensures) (c .before .before .before .before .if2 .left) _ (c .before .if3 .taken) (c .by-slot .ensures)
+returns-3 c =
+    let args = c .before .before .before .before .before .before .before .before .before .before .before .before .before .before .before .args in
+    let before = c .before .before .before .before .before .before .before .before .before .before .before in
+    let g = c .before .before .before .before .before .before .before .before .before .g in
+    let current = c .before .before .before .before .before .before .before .current in
+    let if1 = c .before .before .before .before .before .before .if1 in
+    let current2 = c .before .before .before .before .before .current2 in
+    let if2 = c .before .before .before .before .if2 in
+    cmp-slot _ (args .a) (args .b) _ (before .«open» .ensures) _ (g .given .1) _ (current .ensures) (if1 .left) _ (current2 .ensures) (if2 .left) _ (c .before .if3 .taken) (c .by-slot .ensures)
 
 path-requires : tie.Need-path-requires
-path-requires c κs = path-in _ _ _ (c .before .before .before .before .before .before .before .before .before .before .«open» .ensures) (c .before .before .before .before .before .before .before .before .g .given .1) (c .before .before .before .before .before .before .before .before .before .before .before .before .before .before .args .a) _ (c .before .before .before .before .before .before .current .ensures) (c .before .before .before .before .before .if1 .left)
+path-requires c κs =
+    let before = c .before .before .before .before .before .before .before .before .before .before in
+    let g = c .before .before .before .before .before .before .before .before .g in
+    let args = c .before .before .before .before .before .before .before .before .before .before .before .before .before .before .args in
+    let current = c .before .before .before .before .before .before .current in
+    let if1 = c .before .before .before .before .before .if1 in
+    path-in _ _ _ (before .«open» .ensures) (g .given .1) (args .a) _ (current .ensures) (if1 .left)
 
 path-requires-2 : tie.Need-path-requires-2
-path-requires-2 c κs = path-in _ _ _ (c .before .before .before .before .before .before .before .before .before .before .before .«open» .ensures) (c .before .before .before .before .before .before .before .before .before .g .given .1) (c .before .before .before .before .before .before .before .before .before .before .before .before .before .before .before .args .b) _ (c .before .before .before .before .before .current2 .ensures) (c .before .before .before .before .if2 .left)
+path-requires-2 c κs =
+    let before = c .before .before .before .before .before .before .before .before .before .before .before in
+    let g = c .before .before .before .before .before .before .before .before .before .g in
+    let args = c .before .before .before .before .before .before .before .before .before .before .before .before .before .before .before .args in
+    let current2 = c .before .before .before .before .before .current2 in
+    let if2 = c .before .before .before .before .if2 in
+    path-in _ _ _ (before .«open» .ensures) (g .given .1) (args .b) _ (current2 .ensures) (if2 .left)
 
 by-path-requires : tie.Need-by-path-requires
 by-path-requires c κs = search needs
 
 returns-4 : tie.Need-returns-4
-returns-4 c = cmp-refused _ (c .before .before .before .before .before .before .before .args .a) (c .before .before .before .before .before .before .before .args .b) _ (c .before .before .before .«open» .ensures) _ (c .before .n .given .1)
+returns-4 c =
+    let args = c .before .before .before .before .before .before .before .args in
+    cmp-refused _ (args .a) (args .b) _ (c .before .before .before .«open» .ensures) _ (c .before .n .given .1)
 
 returns-5 : tie.Need-returns-5
-returns-5 c = cmp-path _ (c .before .before .before .before .before .before .before .before .before .before .before .before .before .before .before .before .before .args .a) (c .before .before .before .before .before .before .before .before .before .before .before .before .before .before .before .before .before .args .b) _ (c .before .before .before .before .before .before .before .before .before .before .before .before .before .«open» .ensures) _ (c .before .before .before .before .before .before .before .before .before .before .before .g .given .1) _ (c .before .before .before .before .before .before .before .before .before .current .ensures) (c .before .before .before .before .before .before .before .before .if1 .left) _ (c .before .before .before .before .before .before .before .current2 .ensures) (c .before .before .before .before .before .before .if2 .left) _ (c .before .before .before .if3 .left) _ _ (c .before .before .path .ensures .0) (c .before .path2 .ensures .0) (c .by-path .ensures)
+returns-5 c =
+    let args = c .before .before .before .before .before .before .before .before .before .before .before .before .before .before .before .before .before .args in
+    let before = c .before .before .before .before .before .before .before .before .before .before .before .before .before in
+    let g = c .before .before .before .before .before .before .before .before .before .before .before .g in
+    let current = c .before .before .before .before .before .before .before .before .before .current in
+    let if1 = c .before .before .before .before .before .before .before .before .if1 in
+    let current2 = c .before .before .before .before .before .before .before .current2 in
+    let if2 = c .before .before .before .before .before .before .if2 in
+    let if3 = c .before .before .before .if3 in
+    cmp-path _ (args .a) (args .b) _ (before .«open» .ensures) _ (g .given .1) _ (current .ensures) (if1 .left) _ (current2 .ensures) (if2 .left) _ (if3 .left) _ _
+    (c .before .before .path .ensures .0) (c .before .path2 .ensures .0) (c .by-path .ensures)
 
 pub cmp-spec : {M : Type 1} → statement M
 cmp-spec =

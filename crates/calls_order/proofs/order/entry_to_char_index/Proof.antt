@@ -20,16 +20,34 @@ number-requires : tie.Need-number-requires
 number-requires c κs = search needs
 
 start-in-requires : tie.Need-start-in-requires
-start-in-requires c κs = let h = stands _ (c .before .before .before .before .before .before .before .before .args .at) _ _ (c .before .before .before .before .open-at .ensures) (c .before .before .g .given .1) in let i = slot-in _ (c .before .before .before .before .before .before .before .before .args .at) _ h in (i .0, i .1, view-in _ _ _ (h .ready) (rw (c .number .ensures) (view-few (c .before .before .before .before .before .before .before .before .args .view))), omega (arith, i .2))
+start-in-requires c κs =
+    let args = c .before .before .before .before .before .before .before .before .args in
+    let open-at = c .before .before .before .before .open-at in
+    let h = stands _ (args .at) _ _ (open-at .ensures) (c .before .before .g .given .1) in let i = slot-in _ (args .at) _ h in
+    (i .0, i .1, view-in _ _ _ (h .ready) (rw (c .number .ensures) (view-few (args .view))), omega (arith, i .2))
 
 parent-of-requires : tie.Need-parent-of-requires
-parent-of-requires c κs = let i = slot-in _ (c .before .before .before .before .before .before .before .before .before .args .at) _ (stands _ (c .before .before .before .before .before .before .before .before .before .args .at) _ _ (c .before .before .before .before .before .open-at .ensures) (c .before .before .before .g .given .1)) in (i .0, i .1)
+parent-of-requires c κs =
+    let args = c .before .before .before .before .before .before .before .before .before .args in
+    let open-at = c .before .before .before .before .before .open-at in
+    let g = c .before .before .before .g in
+    let i = slot-in _ (args .at) _ (stands _ (args .at) _ _ (open-at .ensures) (g .given .1)) in (i .0, i .1)
 
 at-of-requires : tie.Need-at-of-requires
-at-of-requires c κs = let i = slot-in _ (c .before .before .before .before .before .before .before .before .before .before .args .at) _ (stands _ (c .before .before .before .before .before .before .before .before .before .before .args .at) _ _ (c .before .before .before .before .before .before .open-at .ensures) (c .before .before .before .before .g .given .1)) in (i .0, i .1)
+at-of-requires c κs =
+    let args = c .before .before .before .before .before .before .before .before .before .before .args in
+    let open-at = c .before .before .before .before .before .before .open-at in
+    let g = c .before .before .before .before .g in
+    let i = slot-in _ (args .at) _ (stands _ (args .at) _ _ (open-at .ensures) (g .given .1)) in (i .0, i .1)
 
 rank-up-requires : tie.Need-rank-up-requires
-rank-up-requires c κs = let h = stands _ (c .before .before .before .before .before .before .before .before .before .before .before .args .at) _ _ (c .before .before .before .before .before .before .before .open-at .ensures) (c .before .before .before .before .before .g .given .1) in (inner-area _ _ (h .ready), view-in _ _ _ (h .ready) (rw (c .before .before .before .number .ensures) (view-few (c .before .before .before .before .before .before .before .before .before .before .before .args .view))), h .ready .levels-most, c .before .before .start-in .ensures .1)
+rank-up-requires c κs =
+    let args = c .before .before .before .before .before .before .before .before .before .before .before .args in
+    let open-at = c .before .before .before .before .before .before .before .open-at in
+    let g = c .before .before .before .before .before .g in
+    let number = c .before .before .before .number in
+    let h = stands _ (args .at) _ _ (open-at .ensures) (g .given .1) in
+    (inner-area _ _ (h .ready), view-in _ _ _ (h .ready) (rw (number .ensures) (view-few (args .view))), h .ready .levels-most, c .before .before .start-in .ensures .1)
 
 enum-known-n-2 : tie.Need-enum-known-n-2
 enum-known-n-2 c = search needs
@@ -41,13 +59,35 @@ enum-told : tie.Need-enum-told
 enum-told c = search needs
 
 returns : tie.Need-returns
-returns c = rank-refused _ (c .before .before .before .before .before .before .before .args .at) _ (c .before .before .before .open-at .ensures) (c .before .before .before .before .before .before .before .args .view) _ (c .before .n .given .1)
+returns c =
+    let args = c .before .before .before .before .before .before .before .args in
+    let open-at = c .before .before .before .open-at in
+    rank-refused _ (args .at) _ (open-at .ensures) (args .view) _ (c .before .n .given .1)
 
 returns-2 : tie.Need-returns-2
-returns-2 c = rank-good _ (c .before .before .before .before .before .before .before .before .before .before .before .before .before .before .before .args .at) _ (c .before .before .before .before .before .before .before .before .before .before .before .open-at .ensures) _ (c .before .before .before .before .before .before .before .before .before .g .given .1) (c .before .before .before .before .before .before .before .before .before .before .before .before .before .before .before .args .view) _ _ _ _ _ _ (c .before .before .before .before .before .before .before .number .ensures) (c .before .before .before .before .before .before .start-in .ensures .0) (c .before .before .before .before .before .parent-of .ensures) (c .before .before .before .before .at-of .ensures) (c .before .before .before .rank-up .ensures) (c .before .n2 .given .1)
+returns-2 c =
+    let args = c .before .before .before .before .before .before .before .before .before .before .before .before .before .before .before .args in
+    let open-at = c .before .before .before .before .before .before .before .before .before .before .before .open-at in
+    let g = c .before .before .before .before .before .before .before .before .before .g in
+    let number = c .before .before .before .before .before .before .before .number in
+    let start-in = c .before .before .before .before .before .before .start-in in
+    let parent-of = c .before .before .before .before .before .parent-of in
+    let at-of = c .before .before .before .before .at-of in
+    let rank-up = c .before .before .before .rank-up in
+    rank-good _ (args .at) _ (open-at .ensures) _ (g .given .1) (args .view) _ _ _ _ _ _ (number .ensures) (start-in .ensures .0) (parent-of .ensures) (at-of .ensures)
+    (rank-up .ensures) (c .before .n2 .given .1)
 
 returns-3 : tie.Need-returns-3
-returns-3 c = rank-good _ (c .before .before .before .before .before .before .before .before .before .before .before .before .before .before .args .at) _ (c .before .before .before .before .before .before .before .before .before .before .open-at .ensures) _ (c .before .before .before .before .before .before .before .before .g .given .1) (c .before .before .before .before .before .before .before .before .before .before .before .before .before .before .args .view) _ _ _ _ _ _ (c .before .before .before .before .before .before .number .ensures) (c .before .before .before .before .before .start-in .ensures .0) (c .before .before .before .before .parent-of .ensures) (c .before .before .before .at-of .ensures) (c .before .before .rank-up .ensures) (c .enum-told .given .1)
+returns-3 c =
+    let args = c .before .before .before .before .before .before .before .before .before .before .before .before .before .before .args in
+    let open-at = c .before .before .before .before .before .before .before .before .before .before .open-at in
+    let g = c .before .before .before .before .before .before .before .before .g in
+    let number = c .before .before .before .before .before .before .number in
+    let start-in = c .before .before .before .before .before .start-in in
+    let parent-of = c .before .before .before .before .parent-of in
+    let at-of = c .before .before .before .at-of in
+    rank-good _ (args .at) _ (open-at .ensures) _ (g .given .1) (args .view) _ _ _ _ _ _ (number .ensures) (start-in .ensures .0) (parent-of .ensures) (at-of .ensures)
+    (c .before .before .rank-up .ensures) (c .enum-told .given .1)
 
 pub entry-to-char-index-spec : {M : Type 1} → statement M
 entry-to-char-index-spec =

@@ -30,13 +30,23 @@ returns : tie.Need-returns
 returns c = first-refused _ _ (c .before .before .before .«open» .ensures) _ (c .before .n .given .1)
 
 returns-2 : tie.Need-returns-2
-returns-2 c = first-good _ _ (c .before .before .before .before .before .before .before .«open» .ensures) _ (c .before .before .before .before .before .g .given .1) _ _ (c .before .before .before .first-down .ensures) (c .before .k .given .1)
+returns-2 c =
+    let before = c .before .before .before .before .before .before .before in
+    let g = c .before .before .before .before .before .g in
+    let first-down = c .before .before .before .first-down in
+    first-good _ _ (before .«open» .ensures) _ (g .given .1) _ _ (first-down .ensures) (c .before .k .given .1)
 
 returns-3 : tie.Need-returns-3
-returns-3 c = first-good _ _ (c .before .before .before .before .before .before .«open» .ensures) _ (c .before .before .before .before .g .given .1) _ _ (c .before .before .first-down .ensures) (c .enum-told .given .1)
+returns-3 c =
+    let before = c .before .before .before .before .before .before in
+    let g = c .before .before .before .before .g in
+    first-good _ _ (before .«open» .ensures) _ (g .given .1) _ _ (c .before .before .first-down .ensures) (c .enum-told .given .1)
 
 returns-4 : tie.Need-returns-4
-returns-4 c = first-good _ _ (c .before .before .before .before .before .before .«open» .ensures) _ (c .before .before .before .before .g .given .1) _ _ (c .before .before .first-down .ensures) (c .enum-told2 .given .1)
+returns-4 c =
+    let before = c .before .before .before .before .before .before in
+    let g = c .before .before .before .before .g in
+    first-good _ _ (before .«open» .ensures) _ (g .given .1) _ _ (c .before .before .first-down .ensures) (c .enum-told2 .given .1)
 
 pub first-spec : {M : Type 1} → statement M
 first-spec =

@@ -18,7 +18,9 @@ enum-known-g : tie.Need-enum-known-g
 enum-known-g c = search needs
 
 returns : tie.Need-returns
-returns c = cursor-past _ _ _ (c .before .before .before .before .«open» .ensures) _ (c .before .before .g .given .1) (c .if1 .taken)
+returns c =
+    let before = c .before .before .before .before in
+    cursor-past _ _ _ (before .«open» .ensures) _ (c .before .before .g .given .1) (c .if1 .taken)
 
 cast-k : tie.Need-cast-k
 cast-k c = search needs
@@ -27,19 +29,33 @@ mul-k : tie.Need-mul-k
 mul-k c = search needs
 
 shared-slice-read-k : tie.Need-shared-slice-read-k
-shared-slice-read-k c = let h = ready _ _ _ (c .before .before .before .before .before .«open» .ensures) (c .before .before .before .g .given .1) in omega (arith, h .entries, h .home-area)
+shared-slice-read-k c =
+    let before = c .before .before .before .before .before in
+    let g = c .before .before .before .g in
+    let h = ready _ _ _ (before .«open» .ensures) (g .given .1) in omega (arith, h .entries, h .home-area)
 
 returns-2 : tie.Need-returns-2
-returns-2 c = cursor-astray _ _ _ (c .before .before .before .before .before .before .before .«open» .ensures) _ (c .before .before .before .before .before .g .given .1) (c .before .before .before .if1 .left) _ refl (c .if2 .taken)
+returns-2 c =
+    let before = c .before .before .before .before .before .before .before in
+    let g = c .before .before .before .before .before .g in
+    let if1 = c .before .before .before .if1 in
+    cursor-astray _ _ _ (before .«open» .ensures) _ (g .given .1) (if1 .left) _ refl (c .if2 .taken)
 
 cursor-in-requires : tie.Need-cursor-in-requires
-cursor-in-requires c κs = let h = ready _ _ _ (c .before .before .before .before .before .before .before .«open» .ensures) (c .before .before .before .before .before .g .given .1) in (leaf-area _ _ h, lt-of-lt-of-le (c .if2 .left) (h .leaves))
+cursor-in-requires c κs =
+    let before = c .before .before .before .before .before .before .before in
+    let g = c .before .before .before .before .before .g in
+    let h = ready _ _ _ (before .«open» .ensures) (g .given .1) in (leaf-area _ _ h, lt-of-lt-of-le (c .if2 .left) (h .leaves))
 
 returns-3 : tie.Need-returns-3
 returns-3 c = cursor-refused _ _ _ (c .before .before .before .«open» .ensures) _ (c .before .n .given .1)
 
 returns-4 : tie.Need-returns-4
-returns-4 c = cursor-good _ _ _ (c .before .before .before .before .before .before .before .before .«open» .ensures) _ (c .before .before .before .before .before .before .g .given .1) (c .before .before .before .before .if1 .left) _ refl (c .before .if2 .left) _ (c .cursor-in .ensures)
+returns-4 c =
+    let before = c .before .before .before .before .before .before .before .before in
+    let g = c .before .before .before .before .before .before .g in
+    let if1 = c .before .before .before .before .if1 in
+    cursor-good _ _ _ (before .«open» .ensures) _ (g .given .1) (if1 .left) _ refl (c .before .if2 .left) _ (c .cursor-in .ensures)
 
 pub cursor-spec : {M : Type 1} → statement M
 cursor-spec =

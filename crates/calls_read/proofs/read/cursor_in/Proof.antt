@@ -13,25 +13,44 @@ cast-if1 : tie.Need-cast-if1
 cast-if1 c = search needs
 
 returns : tie.Need-returns
-returns c = home-over (c .before .before .before .args .g) _ _ _ _ (rw (c .before .len-of .ensures) at (c .if1 .taken))
+returns c =
+    let args = c .before .before .before .args in
+    home-over (args .g) _ _ _ _ (rw (c .before .len-of .ensures) at (c .if1 .taken))
 
 slot-of-requires : tie.Need-slot-of-requires
-slot-of-requires c κs = (c .before .before .before .pre .0, c .before .before .before .pre .1, rw (c .before .len-of .ensures) at (c .if1 .left))
+slot-of-requires c κs =
+    let pre = c .before .before .before .pre in
+    (pre .0, pre .1, rw (c .before .len-of .ensures) at (c .if1 .left))
 
 enum-known-i : tie.Need-enum-known-i
 enum-known-i c = search needs
 
 cast-t14 : tie.Need-cast-t14
-cast-t14 c = omega (arith, home-slot (c .before .before .before .before .before .before .before .args .g) _ _ _ (c .before .before .before .before .before .before .before .args .stamp) (c .before .before .before .before .before .before .before .pre .0 .shaped) (rw (c .before .before .before .before .before .len-of .ensures) at (c .before .before .before .before .if1 .left)) _ _ (c .before .before .before .slot-of .ensures) (c .before .i .given .1))
+cast-t14 c =
+    let args = c .before .before .before .before .before .before .before .args in
+    let pre = c .before .before .before .before .before .before .before .pre in
+    let len-of = c .before .before .before .before .before .len-of in
+    let if1 = c .before .before .before .before .if1 in
+    let slot-of = c .before .before .before .slot-of in
+    omega (arith, home-slot (args .g) _ _ _ (args .stamp) (pre .0 .shaped) (rw (len-of .ensures) at (if1 .left)) _ _ (slot-of .ensures) (c .before .i .given .1))
 
 enum-told : tie.Need-enum-told
 enum-told c = search needs
 
 returns-2 : tie.Need-returns-2
-returns-2 c = home-few (c .before .before .before .before .before .before .before .args .g) _ _ _ _ (rw (c .before .before .before .before .before .len-of .ensures) at (c .before .before .before .before .if1 .left)) _ _ (c .before .before .before .slot-of .ensures) (c .before .i .given .1)
+returns-2 c =
+    let args = c .before .before .before .before .before .before .before .args in
+    let len-of = c .before .before .before .before .before .len-of in
+    let if1 = c .before .before .before .before .if1 in
+    let slot-of = c .before .before .before .slot-of in
+    home-few (args .g) _ _ _ _ (rw (len-of .ensures) at (if1 .left)) _ _ (slot-of .ensures) (c .before .i .given .1)
 
 returns-3 : tie.Need-returns-3
-returns-3 c = home-few (c .before .before .before .before .before .before .args .g) _ _ _ _ (rw (c .before .before .before .before .len-of .ensures) at (c .before .before .before .if1 .left)) _ _ (c .before .before .slot-of .ensures) (c .enum-told .given .1)
+returns-3 c =
+    let args = c .before .before .before .before .before .before .args in
+    let len-of = c .before .before .before .before .len-of in
+    let if1 = c .before .before .before .if1 in
+    home-few (args .g) _ _ _ _ (rw (len-of .ensures) at (if1 .left)) _ _ (c .before .before .slot-of .ensures) (c .enum-told .given .1)
 
 pub cursor-in-spec : {M : Type 1} → statement M
 cursor-in-spec =

@@ -18,13 +18,23 @@ cast-i : tie.Need-cast-i
 cast-i c = search needs
 
 child-of-requires : tie.Need-child-of-requires
-child-of-requires c κs = slot-in _ (c .before .before .before .before .before .before .before .before .args .at) _ (stands _ (c .before .before .before .before .before .before .before .before .args .at) _ _ (c .before .before .before .before .open-at .ensures) (c .before .before .g .given .1))
+child-of-requires c κs =
+    let args = c .before .before .before .before .before .before .before .before .args in
+    let open-at = c .before .before .before .before .open-at in
+    slot-in _ (args .at) _ (stands _ (args .at) _ _ (open-at .ensures) (c .before .before .g .given .1))
 
 returns : tie.Need-returns
-returns c = id-refused _ (c .before .before .before .before .before .before .before .args .at) _ (c .before .before .before .open-at .ensures) _ (c .before .n .given .1)
+returns c =
+    let args = c .before .before .before .before .before .before .before .args in
+    let open-at = c .before .before .before .open-at in
+    id-refused _ (args .at) _ (open-at .ensures) _ (c .before .n .given .1)
 
 returns-2 : tie.Need-returns-2
-returns-2 c = id-good _ (c .before .before .before .before .before .before .before .before .before .args .at) _ (c .before .before .before .before .before .open-at .ensures) _ (c .before .before .before .g .given .1) _ (c .child-of .ensures)
+returns-2 c =
+    let args = c .before .before .before .before .before .before .before .before .before .args in
+    let open-at = c .before .before .before .before .before .open-at in
+    let g = c .before .before .before .g in
+    id-good _ (args .at) _ (open-at .ensures) _ (g .given .1) _ (c .child-of .ensures)
 
 pub id-spec : {M : Type 1} → statement M
 id-spec =

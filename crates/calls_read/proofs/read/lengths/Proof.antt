@@ -23,10 +23,16 @@ lengths-at-requires c κs =
     (i .0, ap (λ (x : Shape). x .stride) (st .ready .same), i .1, i .2)
 
 returns : tie.Need-returns
-returns c = lengths-refused _ (c .before .before .before .before .before .before .before .args .at) _ (c .before .before .before .open-at .ensures) _ (c .before .n .given .1)
+returns c =
+    let args = c .before .before .before .before .before .before .before .args in
+    let open-at = c .before .before .before .open-at in
+    lengths-refused _ (args .at) _ (open-at .ensures) _ (c .before .n .given .1)
 
 returns-2 : tie.Need-returns-2
-returns-2 c = lengths-good _ (c .before .before .before .before .before .before .before .before .args .at) _ (c .before .before .before .before .open-at .ensures) _ (c .before .before .g .given .1) _ (c .lengths-at .ensures)
+returns-2 c =
+    let args = c .before .before .before .before .before .before .before .before .args in
+    let open-at = c .before .before .before .before .open-at in
+    lengths-good _ (args .at) _ (open-at .ensures) _ (c .before .before .g .given .1) _ (c .lengths-at .ensures)
 
 pub lengths-spec : {M : Type 1} → statement M
 lengths-spec = tie.close (tie.spec open-at-requires enum-known-n enum-known-g lengths-at-requires returns returns-2)

@@ -33,7 +33,12 @@ part-index-of-end c = omega (arith, inside c)
 
 index-of-requires : tie.Need-index-of-requires
 unfolding nodeOf
-index-of-requires c κs = (c .before .before .pre .0 .shaped, rw lent (node-length (c .before .before .args .g) _ _ (c .before .before .pre .1) (c .before .before .pre .0 .room)), rw lent (c .before .before .pre .2))
+index-of-requires c κs = (
+  c .before .before .pre .0 .shaped,
+  rw lent
+      (node-length (c .before .before .args .g) _ _ (c .before .before .pre .1) (c .before .before .pre .0 .room)),
+  rw lent (c .before .before .pre .2),
+)
 
 returns : tie.Need-returns
 returns c = rw lent at (c .index-of .ensures)

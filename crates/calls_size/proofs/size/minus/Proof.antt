@@ -13,7 +13,9 @@ wrapping-sub-u32-requires-2 : tie.Need-wrapping-sub-u32-requires-2
 wrapping-sub-u32-requires-2 c κs = search needs
 
 returns : tie.Need-returns
-returns c = differences (c .before .before .args .new) (c .before .before .args .old) _ _ (wrapped-less _ _ _ (c .before .wrapping-sub-u32 .ensures) (omega (arith, c .before .wrapping-sub-u32 .ok)) (omega (arith, c .before .before .good))) (wrapped-less _ _ _ (c .wrapping-sub-u322 .ensures) (omega (arith, c .wrapping-sub-u322 .ok)) (omega (arith, c .before .before .good)))
+returns c = differences (c .before .before .args .new) (c .before .before .args .old) _ _
+    (wrapped-less _ _ _ (c .before .wrapping-sub-u32 .ensures) (omega (arith, c .before .wrapping-sub-u32 .ok)) (omega (arith, c .before .before .good)))
+    (wrapped-less _ _ _ (c .wrapping-sub-u322 .ensures) (omega (arith, c .wrapping-sub-u322 .ok)) (omega (arith, c .before .before .good)))
 
 pub minus-spec : {M : Type 1} → statement M
 minus-spec = tie.close (tie.spec wrapping-sub-u32-requires wrapping-sub-u32-requires-2 returns)

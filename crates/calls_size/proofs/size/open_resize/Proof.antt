@@ -16,19 +16,36 @@ enum-known-g : tie.Need-enum-known-g
 enum-known-g c = search needs
 
 lengths-at-requires : tie.Need-lengths-at-requires
-lengths-at-requires c κs = both-in _ (c .before .before .before .before .before .before .before .args .at) _ (stands _ (c .before .before .before .before .before .before .before .args .at) _ _ (c .before .before .before .open-at .ensures) (c .before .g .given .1))
+lengths-at-requires c κs =
+    let args = c .before .before .before .before .before .before .before .args in
+    let open-at = c .before .before .before .open-at in
+    both-in _ (args .at) _ (stands _ (args .at) _ _ (open-at .ensures) (c .before .g .given .1))
 
 past-requires : tie.Need-past-requires
-past-requires c κs = let h = stands _ (c .before .before .before .before .before .before .before .before .args .at) _ _ (c .before .before .before .before .open-at .ensures) (c .before .before .g .given .1) .ready in (h .same, inner-area _ _ h, h .root)
+past-requires c κs =
+    let args = c .before .before .before .before .before .before .before .before .args in
+    let open-at = c .before .before .before .before .open-at in
+    let h = stands _ (args .at) _ _ (open-at .ensures) (c .before .before .g .given .1) .ready in (h .same, inner-area _ _ h, h .root)
 
 returns : tie.Need-returns
-returns c = resize-past _ (c .before .before .before .before .before .before .before .before .before .before .args .at) (c .before .before .before .before .before .before .before .before .before .before .args .lengths) _ (c .before .before .before .before .before .before .open-at .ensures) _ (c .before .before .before .before .g .given .1) _ (c .before .before .lengths-at .ensures) _ (c .before .past .ensures) (c .if1 .taken)
+returns c =
+    let args = c .before .before .before .before .before .before .before .before .before .before .args in
+    let open-at = c .before .before .before .before .before .before .open-at in
+    let g = c .before .before .before .before .g in
+    resize-past _ (args .at) (args .lengths) _ (open-at .ensures) _ (g .given .1) _ (c .before .before .lengths-at .ensures) _ (c .before .past .ensures) (c .if1 .taken)
 
 returns-2 : tie.Need-returns-2
-returns-2 c = resize-refused _ (c .before .before .before .before .before .before .before .args .at) (c .before .before .before .before .before .before .before .args .lengths) _ (c .before .before .before .open-at .ensures) _ (c .before .n .given .1)
+returns-2 c =
+    let args = c .before .before .before .before .before .before .before .args in
+    let open-at = c .before .before .before .open-at in
+    resize-refused _ (args .at) (args .lengths) _ (open-at .ensures) _ (c .before .n .given .1)
 
 returns-3 : tie.Need-returns-3
-returns-3 c = resize-good _ (c .before .before .before .before .before .before .before .before .before .before .args .at) (c .before .before .before .before .before .before .before .before .before .before .args .lengths) _ (c .before .before .before .before .before .before .open-at .ensures) _ (c .before .before .before .before .g .given .1) _ (c .before .before .lengths-at .ensures) _ (c .before .past .ensures) (c .if1 .left)
+returns-3 c =
+    let args = c .before .before .before .before .before .before .before .before .before .before .args in
+    let open-at = c .before .before .before .before .before .before .open-at in
+    let g = c .before .before .before .before .g in
+    resize-good _ (args .at) (args .lengths) _ (open-at .ensures) _ (g .given .1) _ (c .before .before .lengths-at .ensures) _ (c .before .past .ensures) (c .if1 .left)
 
 pub open-resize-spec : {M : Type 1} → statement M
 open-resize-spec =

@@ -20,7 +20,11 @@ same-length : tie.Need-same-length
 same-length c = search needs
 
 returns : tie.Need-returns
-returns c = λ xs hs. replaced-is (c .before .before .before .before .before .before .before .before .before .args .g) (c .before .before .before .before .before .before .before .before .before .args .head) _ (c .before .before .before .before .before .before .before .before .before .args .at) (c .before .before .before .before .before .before .before .before .before .args .lengths) _ (c .before .before .before .before .before .before .before .before .before .args .leaves .now) _ xs hs _ (c .before .before .before .before .before .before .lengths-at .ensures) (c .before .before .before .replace .ensures xs hs) (c .minus .ensures)
+returns c =
+    let args = c .before .before .before .before .before .before .before .before .before .args in
+    let lengths-at = c .before .before .before .before .before .before .lengths-at in
+    let the-replace = c .before .before .before .replace in
+    λ xs hs. replaced-is (args .g) (args .head) _ (args .at) (args .lengths) _ (args .leaves .now) _ xs hs _ (lengths-at .ensures) (the-replace .ensures xs hs) (c .minus .ensures)
 
 pub replace-spec : {M : Type 1} → statement M
 replace-spec =

@@ -15,10 +15,18 @@ enum-known-g : tie.Need-enum-known-g
 enum-known-g c = search needs
 
 replace-requires : tie.Need-replace-requires
-replace-requires c κs = both-in _ (c .before .before .before .before .before .before .before .before .before .before .args .at) _ (resize-stands _ (c .before .before .before .before .before .before .before .before .before .before .args .at) (c .before .before .before .before .before .before .before .before .before .before .args .lengths) _ _ (c .before .before .before .before .open-resize .ensures) (c .before .before .g .given .1))
+replace-requires c κs =
+    let args = c .before .before .before .before .before .before .before .before .before .before .args in
+    let open-resize = c .before .before .before .before .open-resize in
+    both-in _ (args .at) _ (resize-stands _ (args .at) (args .lengths) _ _ (open-resize .ensures) (c .before .before .g .given .1))
 
 way-up-requires : tie.Need-way-up-requires
-way-up-requires c κs = climb-in _ (c .before .before .before .before .before .before .before .before .before .before .before .before .before .before .before .before .before .args .at) _ (resize-stands _ (c .before .before .before .before .before .before .before .before .before .before .before .before .before .before .before .before .before .args .at) (c .before .before .before .before .before .before .before .before .before .before .before .before .before .before .before .before .before .args .lengths) _ _ (c .before .before .before .before .before .before .before .before .before .before .before .open-resize .ensures) (c .before .before .before .before .before .before .before .before .before .g .given .1)) _ (c .before .before .before .before .before .before .replace .kept .1 .0)
+way-up-requires c κs =
+    let args = c .before .before .before .before .before .before .before .before .before .before .before .before .before .before .before .before .before .args in
+    let open-resize = c .before .before .before .before .before .before .before .before .before .before .before .open-resize in
+    let g = c .before .before .before .before .before .before .before .before .before .g in
+    let replace = c .before .before .before .before .before .before .replace in
+    climb-in _ (args .at) _ (resize-stands _ (args .at) (args .lengths) _ _ (open-resize .ensures) (g .given .1)) _ (replace .kept .1 .0)
 
 enum-known-n-2 : tie.Need-enum-known-n-2
 enum-known-n-2 c = search needs
@@ -36,7 +44,10 @@ same-length-2 : tie.Need-same-length-2
 same-length-2 c = search needs
 
 returns : tie.Need-returns
-returns c = size-refused _ (c .before .before .before .before .before .before .before .before .before .args .at) (c .before .before .before .before .before .before .before .before .before .args .lengths) (c .before .before .before .before .before .before .before .before .before .args .summed) _ (c .before .before .before .open-resize .ensures) _ (c .before .n .given .1)
+returns c =
+    let args = c .before .before .before .before .before .before .before .before .before .args in
+    let open-resize = c .before .before .before .open-resize in
+    size-refused _ (args .at) (args .lengths) (args .summed) _ (open-resize .ensures) _ (c .before .n .given .1)
 
 same-length-3 : tie.Need-same-length-3
 same-length-3 c = search needs
@@ -45,7 +56,13 @@ same-length-4 : tie.Need-same-length-4
 same-length-4 c = search needs
 
 returns-2 : tie.Need-returns-2
-returns-2 c = size-whole _ (c .before .before .before .before .before .before .before .before .before .before .before .before .before .before .before .before .before .before .before .before .before .before .before .args .at) (c .before .before .before .before .before .before .before .before .before .before .before .before .before .before .before .before .before .before .before .before .before .before .before .args .lengths) (c .before .before .before .before .before .before .before .before .before .before .before .before .before .before .before .before .before .before .before .before .before .before .before .args .summed) _ (c .before .before .before .before .before .before .before .before .before .before .before .before .before .before .before .before .before .open-resize .ensures) _ (c .before .before .before .before .before .before .before .before .before .before .before .before .before .before .before .g .given .1) _ _ _ _ (c .before .before .before .before .before .before .before .before .before .before .before .before .replace .ensures _ _) _ (c .before .before .before .before .before .way-up .ensures) _ (c .before .n2 .given .1)
+returns-2 c =
+    let args = c .before .before .before .before .before .before .before .before .before .before .before .before .before .before .before .before .before .before .before .before .before .before .before .args in
+    let open-resize = c .before .before .before .before .before .before .before .before .before .before .before .before .before .before .before .before .before .open-resize in
+    let g = c .before .before .before .before .before .before .before .before .before .before .before .before .before .before .before .g in
+    let replace = c .before .before .before .before .before .before .before .before .before .before .before .before .replace in
+    let way-up = c .before .before .before .before .before .way-up in
+    size-whole _ (args .at) (args .lengths) (args .summed) _ (open-resize .ensures) _ (g .given .1) _ _ _ _ (replace .ensures _ _) _ (way-up .ensures) _ (c .before .n2 .given .1)
 
 same-length-5 : tie.Need-same-length-5
 same-length-5 c = search needs
@@ -54,7 +71,13 @@ same-length-6 : tie.Need-same-length-6
 same-length-6 c = search needs
 
 returns-3 : tie.Need-returns-3
-returns-3 c = size-broken _ (c .before .before .before .before .before .before .before .before .before .before .before .before .before .before .before .before .before .before .before .before .before .before .args .at) (c .before .before .before .before .before .before .before .before .before .before .before .before .before .before .before .before .before .before .before .before .before .before .args .lengths) (c .before .before .before .before .before .before .before .before .before .before .before .before .before .before .before .before .before .before .before .before .before .before .args .summed) _ (c .before .before .before .before .before .before .before .before .before .before .before .before .before .before .before .before .open-resize .ensures) _ (c .before .before .before .before .before .before .before .before .before .before .before .before .before .before .g .given .1) _ _ _ _ (c .before .before .before .before .before .before .before .before .before .before .before .replace .ensures _ _) _ (c .before .before .before .before .way-up .ensures) (c .enum-told .given .1)
+returns-3 c =
+    let args = c .before .before .before .before .before .before .before .before .before .before .before .before .before .before .before .before .before .before .before .before .before .before .args in
+    let open-resize = c .before .before .before .before .before .before .before .before .before .before .before .before .before .before .before .before .open-resize in
+    let g = c .before .before .before .before .before .before .before .before .before .before .before .before .before .before .g in
+    let replace = c .before .before .before .before .before .before .before .before .before .before .before .replace in
+    let way-up = c .before .before .before .before .way-up in
+    size-broken _ (args .at) (args .lengths) (args .summed) _ (open-resize .ensures) _ (g .given .1) _ _ _ _ (replace .ensures _ _) _ (way-up .ensures) (c .enum-told .given .1)
 
 pub resize-spec : {M : Type 1} → statement M
 resize-spec =

@@ -19,7 +19,10 @@ same-length-2 : tie.Need-same-length-2
 same-length-2 c = search needs
 
 returns : tie.Need-returns
-returns c = ap (reply _) (c .unnumbered .ensures) ∙ set-is _ (c .before .before .before .before .before .before .before .before .before .before .before .before .args .at) (c .before .before .before .before .before .before .before .before .before .before .before .before .args .lengths) _ (c .before .before .before .before .before .before .resize .ensures)
+returns c =
+    let args = c .before .before .before .before .before .before .before .before .before .before .before .before .args in
+    let resize = c .before .before .before .before .before .before .resize in
+    ap (reply _) (c .unnumbered .ensures) ∙ set-is _ (args .at) (args .lengths) _ (resize .ensures)
 
 pub set-lengths-spec : {M : Type 1} → statement M
 set-lengths-spec =

@@ -15,7 +15,10 @@ same-length-2 : tie.Need-same-length-2
 same-length-2 c = search needs
 
 returns : tie.Need-returns
-returns c = c .before .before .before .before .resize .ensures ∙ update-is _ (c .before .before .before .before .before .before .before .before .before .before .args .at) (c .before .before .before .before .before .before .before .before .before .before .args .lengths)
+returns c =
+    let resize = c .before .before .before .before .resize in
+    let args = c .before .before .before .before .before .before .before .before .before .before .args in
+    resize .ensures ∙ update-is _ (args .at) (args .lengths)
 
 pub update-spec : {M : Type 1} → statement M
 update-spec = tie.close (tie.spec resize-requires same-length same-length-2 returns)

@@ -15,25 +15,49 @@ enum-known-g : tie.Need-enum-known-g
 enum-known-g c = search needs
 
 lengths-at-requires : tie.Need-lengths-at-requires
-lengths-at-requires c κs = both-in _ (c .before .before .before .before .before .before .before .args .at) _ (stands _ (c .before .before .before .before .before .before .before .args .at) _ _ (c .before .before .before .open-at .ensures) (c .before .g .given .1))
+lengths-at-requires c κs =
+    let args = c .before .before .before .before .before .before .before .args in
+    let open-at = c .before .before .before .open-at in
+    both-in _ (args .at) _ (stands _ (args .at) _ _ (open-at .ensures) (c .before .g .given .1))
 
 too-much-requires : tie.Need-too-much-requires
 too-much-requires c κs = search needs
 
 returns : tie.Need-returns
-returns c = split-much _ (c .before .before .before .before .before .before .before .before .before .before .args .at) (c .before .before .before .before .before .before .before .before .before .before .args .lengths) _ (c .before .before .before .before .before .before .open-at .ensures) _ (c .before .before .before .before .g .given .1) _ (c .before .before .lengths-at .ensures) _ (c .before .too-much .ensures) (c .if1 .taken)
+returns c =
+    let args = c .before .before .before .before .before .before .before .before .before .before .args in
+    let open-at = c .before .before .before .before .before .before .open-at in
+    let g = c .before .before .before .before .g in
+    split-much _ (args .at) (args .lengths) _ (open-at .ensures) _ (g .given .1) _ (c .before .before .lengths-at .ensures) _ (c .before .too-much .ensures) (c .if1 .taken)
 
 full-requires : tie.Need-full-requires
 full-requires c κs = search needs
 
 returns-2 : tie.Need-returns-2
-returns-2 c = split-full _ (c .before .before .before .before .before .before .before .before .before .before .before .before .args .at) (c .before .before .before .before .before .before .before .before .before .before .before .before .args .lengths) _ (c .before .before .before .before .before .before .before .before .open-at .ensures) _ (c .before .before .before .before .before .before .g .given .1) _ (c .before .before .before .before .lengths-at .ensures) _ (c .before .before .before .too-much .ensures) (c .before .before .if1 .left) _ (c .before .full .ensures) (c .if2 .taken)
+returns-2 c =
+    let args = c .before .before .before .before .before .before .before .before .before .before .before .before .args in
+    let open-at = c .before .before .before .before .before .before .before .before .open-at in
+    let g = c .before .before .before .before .before .before .g in
+    let lengths-at = c .before .before .before .before .lengths-at in
+    let too-much = c .before .before .before .too-much in
+    split-full _ (args .at) (args .lengths) _ (open-at .ensures) _ (g .given .1) _ (lengths-at .ensures) _ (too-much .ensures) (c .before .before .if1 .left) _
+    (c .before .full .ensures) (c .if2 .taken)
 
 returns-3 : tie.Need-returns-3
-returns-3 c = split-refused _ (c .before .before .before .before .before .before .before .args .at) (c .before .before .before .before .before .before .before .args .lengths) _ (c .before .before .before .open-at .ensures) _ (c .before .n .given .1)
+returns-3 c =
+    let args = c .before .before .before .before .before .before .before .args in
+    let open-at = c .before .before .before .open-at in
+    split-refused _ (args .at) (args .lengths) _ (open-at .ensures) _ (c .before .n .given .1)
 
 returns-4 : tie.Need-returns-4
-returns-4 c = split-good _ (c .before .before .before .before .before .before .before .before .before .before .before .before .args .at) (c .before .before .before .before .before .before .before .before .before .before .before .before .args .lengths) _ (c .before .before .before .before .before .before .before .before .open-at .ensures) _ (c .before .before .before .before .before .before .g .given .1) _ (c .before .before .before .before .lengths-at .ensures) _ (c .before .before .before .too-much .ensures) (c .before .before .if1 .left) _ (c .before .full .ensures) (c .if2 .left)
+returns-4 c =
+    let args = c .before .before .before .before .before .before .before .before .before .before .before .before .args in
+    let open-at = c .before .before .before .before .before .before .before .before .open-at in
+    let g = c .before .before .before .before .before .before .g in
+    let lengths-at = c .before .before .before .before .lengths-at in
+    let too-much = c .before .before .before .too-much in
+    split-good _ (args .at) (args .lengths) _ (open-at .ensures) _ (g .given .1) _ (lengths-at .ensures) _ (too-much .ensures) (c .before .before .if1 .left) _
+    (c .before .full .ensures) (c .if2 .left)
 
 pub open-split-spec : {M : Type 1} → statement M
 open-split-spec =

@@ -14,7 +14,11 @@ enum-known-g : tie.Need-enum-known-g
 enum-known-g c = search needs
 
 divide-requires : tie.Need-divide-requires
-divide-requires c κs = divide-in _ (c .before .before .before .before .before .before .before .before .before .before .before .before .before .args .at) (c .before .before .before .before .before .before .before .before .before .before .before .before .before .args .lengths) _ _ (c .before .before .before .before .before .before .open-split .ensures) (c .before .before .before .before .g .given .1)
+divide-requires c κs =
+    let args = c .before .before .before .before .before .before .before .before .before .before .before .before .before .args in
+    let open-split = c .before .before .before .before .before .before .open-split in
+    let g = c .before .before .before .before .g in
+    divide-in _ (args .at) (args .lengths) _ _ (open-split .ensures) (g .given .1)
 
 same-length : tie.Need-same-length
 same-length c = search needs
@@ -26,10 +30,20 @@ same-length-3 : tie.Need-same-length-3
 same-length-3 c = search needs
 
 returns : tie.Need-returns
-returns c = entry-broken _ (c .before .before .before .before .before .before .before .before .before .before .before .before .before .before .before .before .before .before .before .before .before .before .args .at) (c .before .before .before .before .before .before .before .before .before .before .before .before .before .before .before .before .before .before .before .before .before .before .args .lengths) (c .before .before .before .before .before .before .before .before .before .before .before .before .before .before .before .before .before .before .before .before .before .before .args .before) _ (c .before .before .before .before .before .before .before .before .before .before .before .before .before .before .before .open-split .ensures) _ (c .before .before .before .before .before .before .before .before .before .before .before .before .before .g .given .1) _ (c .before .before .before .before .before .before .before .before .divide .ensures) (c .if1 .taken)
+returns c =
+    let args = c .before .before .before .before .before .before .before .before .before .before .before .before .before .before .before .before .before .before .before .before .before .before .args in
+    let open-split = c .before .before .before .before .before .before .before .before .before .before .before .before .before .before .before .open-split in
+    let g = c .before .before .before .before .before .before .before .before .before .before .before .before .before .g in
+    let divide = c .before .before .before .before .before .before .before .before .divide in
+    entry-broken _ (args .at) (args .lengths) (args .before) _ (open-split .ensures) _ (g .given .1) _ (divide .ensures) (c .if1 .taken)
 
 divided-at-requires : tie.Need-divided-at-requires
-divided-at-requires c κs = answer-in _ (c .before .before .before .before .before .before .before .before .before .before .before .before .before .before .before .before .before .before .before .before .before .before .before .before .args .at) (c .before .before .before .before .before .before .before .before .before .before .before .before .before .before .before .before .before .before .before .before .before .before .before .before .args .lengths) (c .before .before .before .before .before .before .before .before .before .before .before .before .before .before .before .before .before .before .before .before .before .before .before .before .args .before) _ (c .before .before .before .before .before .before .before .before .before .before .before .before .before .before .before .before .before .open-split .ensures) _ (c .before .before .before .before .before .before .before .before .before .before .before .before .before .before .before .g .given .1) _ (c .before .before .before .before .before .before .before .before .before .before .divide .ensures) (c .before .before .if1 .left)
+divided-at-requires c κs =
+    let args = c .before .before .before .before .before .before .before .before .before .before .before .before .before .before .before .before .before .before .before .before .before .before .before .before .args in
+    let open-split = c .before .before .before .before .before .before .before .before .before .before .before .before .before .before .before .before .before .open-split in
+    let g = c .before .before .before .before .before .before .before .before .before .before .before .before .before .before .before .g in
+    let divide = c .before .before .before .before .before .before .before .before .before .before .divide in
+    answer-in _ (args .at) (args .lengths) (args .before) _ (open-split .ensures) _ (g .given .1) _ (divide .ensures) (c .before .before .if1 .left)
 
 same-length-4 : tie.Need-same-length-4
 same-length-4 c = search needs
@@ -41,7 +55,10 @@ same-length-6 : tie.Need-same-length-6
 same-length-6 c = search needs
 
 returns-2 : tie.Need-returns-2
-returns-2 c = entry-refused _ (c .before .before .before .before .before .before .before .before .before .before .args .at) (c .before .before .before .before .before .before .before .before .before .before .args .lengths) (c .before .before .before .before .before .before .before .before .before .before .args .before) _ (c .before .before .before .open-split .ensures) _ (c .before .n .given .1)
+returns-2 c =
+    let args = c .before .before .before .before .before .before .before .before .before .before .args in
+    let open-split = c .before .before .before .open-split in
+    entry-refused _ (args .at) (args .lengths) (args .before) _ (open-split .ensures) _ (c .before .n .given .1)
 
 same-length-7 : tie.Need-same-length-7
 same-length-7 c = search needs
@@ -53,7 +70,13 @@ same-length-9 : tie.Need-same-length-9
 same-length-9 c = search needs
 
 returns-3 : tie.Need-returns-3
-returns-3 c = entry-whole _ (c .before .before .before .before .before .before .before .before .before .before .before .before .before .before .before .before .before .before .before .before .before .before .before .before .before .args .at) (c .before .before .before .before .before .before .before .before .before .before .before .before .before .before .before .before .before .before .before .before .before .before .before .before .before .args .lengths) (c .before .before .before .before .before .before .before .before .before .before .before .before .before .before .before .before .before .before .before .before .before .before .before .before .before .args .before) _ (c .before .before .before .before .before .before .before .before .before .before .before .before .before .before .before .before .before .before .open-split .ensures) _ (c .before .before .before .before .before .before .before .before .before .before .before .before .before .before .before .before .g .given .1) _ (c .before .before .before .before .before .before .before .before .before .before .before .divide .ensures) (c .before .before .before .if1 .left) _ (c .divided-at .ensures)
+returns-3 c =
+    let args = c .before .before .before .before .before .before .before .before .before .before .before .before .before .before .before .before .before .before .before .before .before .before .before .before .before .args in
+    let open-split = c .before .before .before .before .before .before .before .before .before .before .before .before .before .before .before .before .before .before .open-split in
+    let g = c .before .before .before .before .before .before .before .before .before .before .before .before .before .before .before .before .g in
+    let divide = c .before .before .before .before .before .before .before .before .before .before .before .divide in
+    let if1 = c .before .before .before .if1 in
+    entry-whole _ (args .at) (args .lengths) (args .before) _ (open-split .ensures) _ (g .given .1) _ (divide .ensures) (if1 .left) _ (c .divided-at .ensures)
 
 pub split-entry-spec : {M : Type 1} → statement M
 split-entry-spec =

@@ -53,9 +53,11 @@ loop-again : tie.Need-loop-again Inv-loop μ-loop
 loop-again c =
     let s = c .before .before .before .before .before .before .before .before .before in (
       omega arith,
-      sym (back-turn _ _ (nodeAt (s .args .g) (s .args .f .leaf) (s .args .leaves .now)) _ _ _ _ _ _ _ _ (c .before .before .before .before .before .loop-test .taken) (omega (arith, s .pre .5)) (c .before .before .before .before .if1 .left) (c .before .before .before .length-of .ensures) (c .before .before .length-of2 .ensures)
+      sym (back-turn _ _ (nodeAt (s .args .g) (s .args .f .leaf) (s .args .leaves .now)) _ _ _ _ _ _ _ _ (c .before .before .before .before .before .loop-test .taken)
+          (omega (arith, s .pre .5)) (c .before .before .before .before .if1 .left) (c .before .before .before .length-of .ensures) (c .before .before .length-of2 .ensures)
           (wrapped-less _ _ _ (c .before .wrapping-sub-u32 .ensures) (omega (arith, c .before .wrapping-sub-u32 .ok)) (omega (arith, c .before .before .before .length-of .ok)))
-          (wrapped-less _ _ _ (c .wrapping-sub-u322 .ensures) (omega (arith, c .wrapping-sub-u322 .ok)) (omega (arith, c .before .before .length-of2 .ok)))) ∙ c .before .before .before .before .before .before .loop .inv .1,
+          (wrapped-less _ _ _ (c .wrapping-sub-u322 .ensures) (omega (arith, c .wrapping-sub-u322 .ok)) (omega (arith, c .before .before .length-of2 .ok))))
+          ∙ c .before .before .before .before .before .before .loop .inv .1,
     )
 
 returns-2 : tie.Need-returns-2 Inv-loop μ-loop

@@ -68,9 +68,11 @@ module _ {M : Type 1} (𝓤 : URA M) (H : Heap 𝓤) (A : Atoms 𝓤) (W : Given
   abbrev bound : walkOf 𝓤 H A f.ended stayed (f.clauses 𝓤 H A at-mem run) .Ghost
   bound = (((κ, tt), (q, tt), tt, (record { ptr = (b, o); name = γ; now = h }, tt), (vptr b o ∷ [], tt)), tt)
 
-  walk : (C : Calls 𝓤 H) (Λ : Loops 𝓤 H) → ent 𝓤 (onEntry 𝓤 H A f.signature (κ, tt) (q, tt) (bound .0 .3) (bound .0 .4)) (WpFn 𝓤 H C Λ code.function (vptr b o ∷ []) (walkOf 𝓤 H A f.ended stayed (f.clauses 𝓤 H A at-mem run) .post bound))
+  walk : (C : Calls 𝓤 H) (Λ : Loops 𝓤 H) → ent 𝓤 (onEntry 𝓤 H A f.signature (κ, tt) (q, tt) (bound .0 .3) (bound .0 .4))
+      (WpFn 𝓤 H C Λ code.function (vptr b o ∷ []) (walkOf 𝓤 H A f.ended stayed (f.clauses 𝓤 H A at-mem run) .post bound))
   walk C Λ =
-      qed W ((‵ (flft κ q) ⊛ ‵ ftrue) ∷ ‵ (owns (MutRef (named 0) κ T.the-row ∷ []) (bound .0 .3) (bound .0 .4)) ∷ []) ∵ split ! $ move ! (2 ∷ []) $ fsplit ! $ fsplit3 ! $ drop ! $ move ! (0 ∷ 1 ∷ 3 ∷ []) $
+      qed W ((‵ (flft κ q) ⊛ ‵ ftrue) ∷ ‵ (owns (MutRef (named 0) κ T.the-row ∷ []) (bound .0 .3) (bound .0 .4)) ∷ []) ∵ split ! $ move !
+      (2 ∷ []) $ fsplit ! $ fsplit3 ! $ drop ! $ move ! (0 ∷ 1 ∷ 3 ∷ []) $
       -- [h, the reference's half; the borrow; the lifetime; true; true]
       -- _0, the result, and _1, the reference, get room
       enter ! C Λ code.function (vptr b o ∷ []) _ $

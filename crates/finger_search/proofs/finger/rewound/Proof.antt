@@ -110,12 +110,14 @@ module _ {M : Type 1} (𝓤 : URA M) (H : Heap 𝓤) (A : Atoms 𝓤) (at-mem : 
         owned ! T.the-row (Is T.the-row) (LL.makes T.the-type T′.the-plain 𝓤 H A) h _ is $ move ! (5 ∷ 0 ∷ []) $
         use2 W (‵ (partAt T.the-row fullShare h l₂ 0)) (part-in 𝓤 H A W T.the-row refl fullShare h l₂ 0 (val h)) $
         lft-new ! tt (λ α. move ! (1 ∷ []) $
-        use1 W (later (some (λ (δ : GName). ‵ (own-lent α l₂ δ) ⊛ ‵ (flent (α ∷ []) (Body (mem T.the-row) l₂ 0 δ))))) (lends-ref 𝓤 H A W T.the-row (named 0) (α ∷ []) h l₂ 0) $ await ! tt $ pick ! (λ δ. split ! $
+        use1 W (later (some (λ (δ : GName). ‵ (own-lent α l₂ δ) ⊛ ‵ (flent (α ∷ []) (Body (mem T.the-row) l₂ 0 δ)))))
+        (lends-ref 𝓤 H A W T.the-row (named 0) (α ∷ []) h l₂ 0) $ await ! tt $ pick ! (λ δ. split ! $
         move ! (2 ∷ 0 ∷ []) $ use2 W (raw (Rewind .pre (to α l₂ δ))) (passes α l₂ δ) $
         -- [what `rewind` asks; the lender's part; _4; ..; room for _3; ..; _2's end; _1; ..; room for _0; ..; what the parameter owns]
         -- the call
         calls-at ! fm Rewind known (to α l₂ δ) (and-then ! (load ! (from ! (stop !)) (look ! 2 refl)) (no-more !)) (λ u.
-        use1 W (later (some (λ (r : Unit {0}). ((‵ (flft (α ∷ []) fullShare) ⊛ ‵ ftrue) ⊛ ‵ (Nothing .own r (u ∷ []))) ⊛ raw (ensured 𝓤 H A rewind.ended (rewind.clauses 𝓤 H A at-mem run) (α ∷ [], tt) (lent l₂ δ, tt) tt r)))) (id⊢ 𝓤 _) $ await ! tt $ pick ! (λ r.
+        use1 W (later (some (λ (r : Unit {0}). ((‵ (flft (α ∷ []) fullShare) ⊛ ‵ ftrue) ⊛ ‵ (Nothing .own r (u ∷ []))) ⊛ raw
+        (ensured 𝓤 H A rewind.ended (rewind.clauses 𝓤 H A at-mem run) (α ∷ [], tt) (lent l₂ δ, tt) tt r)))) (id⊢ 𝓤 _) $ await ! tt $ pick ! (λ r.
         split ! $ move ! (1 ∷ []) $ use1 W (‵ (fres δ (T.the-row .coded .code (rewound h)))) (told α l₂ δ r) $ move ! (1 ∷ []) $ split ! $ move ! (1 ∷ []) $ feqL ! (λ e. split ! $
         -- [the lifetime; true; the last value; the lender's part; _4; ..; room for _3; ..; _2's end; _1; ..; room for _0; ..; what the parameter owns]
         land ! (from ! (stop !)) (init ! 6 refl (subst (λ (y : Val). Holds (hasTy tyUnit y) × WT y) (sym (ap only e)) (tt, tt))) $
@@ -142,6 +144,7 @@ rewound-spec 𝓤 H 𝓜 𝓖 𝓡 =
     (𝓣 .C) (𝓣 .Λ) #rewound code.function (code.unfolded 𝓤 H 𝓜 𝓡)
     (walk-meets 𝓤 H (𝓖 .A) f.ended stayed W (goes-none 𝓤 H (𝓖 .A) W 0 (λ _. T.the-row) yes (λ κs x f. refl), tt) (f.clauses 𝓤 H (𝓖 .A) (𝓜 .mem) (𝓡 .run))
     (WpFn 𝓤 H (𝓣 .C) (𝓣 .Λ) code.function) (WpFn-mono 𝓤 H (W .laws) 𝓣 code.function)
-    (walked 𝓤 H (𝓖 .A) f.ended stayed (f.clauses 𝓤 H (𝓖 .A) (𝓜 .mem) (𝓡 .run)) (WpFn 𝓤 H (𝓣 .C) (𝓣 .Λ) code.function) (λ κs. (LL.vals T.the-type T′.the-laws, tt)) (λ κs. (LL.tells T.the-type T′.the-laws, tt))
+    (walked 𝓤 H (𝓖 .A) f.ended stayed (f.clauses 𝓤 H (𝓖 .A) (𝓜 .mem) (𝓡 .run)) (WpFn 𝓤 H (𝓣 .C) (𝓣 .Λ) code.function) (λ κs. (LL.vals T.the-type T′.the-laws, tt))
+    (λ κs. (LL.tells T.the-type T′.the-laws, tt))
     (λ κs qs bounds a g are. via 𝓤 _ (fst∗ 𝓤 _ (emp 𝓤)) (walk 𝓤 H (𝓖 .A) (𝓜 .mem) (𝓡 .run) W (a .0) (𝓣 .C) (𝓣 .Λ) (fmOf 𝓤 H (W .laws) 𝓣)
     (cited 𝓤 H (Rewind 𝓤 H (𝓖 .A) (𝓜 .mem) (𝓡 .run)) 𝓜 𝓡 code.env #rewind rewind-def.routine code.calls-finger-search·finger·rewind (rewind-thm.met 𝓤 H 𝓜 𝓖 𝓡)) (are .0)))))

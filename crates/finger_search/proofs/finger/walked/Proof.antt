@@ -15,7 +15,13 @@ from : (c : tie.After-back)
     → c .back .result .slot < nodeAt (c .before .before .args .g) (c .before .before .args .f .leaf) (c .before .before .args .leaves .now) .len
 from c =
     let a = c .before .before .args in
-    omega (arith, ap (λ s. s .slot) (c .back .ensures), back-slot (a .view) (a .effect) (used (nodeAt (a .g) (a .f .leaf) (a .leaves .now))) (a .index) (a .f .slot) (a .f .within) (a .f .«effect_within»), c .before .before .pre .5)
+    omega (
+      arith,
+      ap (λ s. s .slot) (c .back .ensures),
+      back-slot (a .view) (a .effect) (used (nodeAt (a .g) (a .f .leaf) (a .leaves .now))) (a .index) (a .f .slot) (a .f .within)
+          (a .f .«effect_within»),
+      c .before .before .pre .5,
+    )
 
 -- what was found lies in the leaf, and no more than the index is left
 found : (c : tie.After-known-told)
@@ -36,7 +42,9 @@ cast-sum : tie.Need-cast-sum
 cast-sum c = search needs
 
 returns : tie.Need-returns
-returns c = sym (walked-broken _ _ (c .before .before .before .before .args .f) _ _ _ _ _ (c .before .before .back .ensures) (c .if1 .taken))
+returns c =
+    let args = c .before .before .before .before .args in
+    sym (walked-broken _ _ (args .f) _ _ _ _ _ (c .before .before .back .ensures) (c .if1 .taken))
 
 find-in-requires : tie.Need-find-in-requires
 find-in-requires c κs =
@@ -50,10 +58,16 @@ enum-told : tie.Need-enum-told
 enum-told c = search needs
 
 returns-2 : tie.Need-returns-2
-returns-2 c = sym (walked-miss _ _ (c .before .before .before .before .before .before .before .args .f) _ _ _ _ _ (c .before .before .before .before .before .back .ensures) (c .before .before .before .if1 .left) (sym (c .before .before .find-in .ensures .finds) ∙ c .enum-told .given .1))
+returns-2 c =
+    let args = c .before .before .before .before .before .before .before .args in
+    let back = c .before .before .before .before .before .back in
+    let if1 = c .before .before .before .if1 in
+    sym (walked-miss _ _ (args .f) _ _ _ _ _ (back .ensures) (if1 .left) (sym (c .before .before .find-in .ensures .finds) ∙ c .enum-told .given .1))
 
 cast-at : tie.Need-cast-at
-cast-at c = omega (arith, found c, c .before .before .before .before .before .before .before .before .pre .0 .shaped)
+cast-at c =
+    let pre = c .before .before .before .before .before .before .before .before .pre in
+    omega (arith, found c, pre .0 .shaped)
 
 sub-t20 : tie.Need-sub-t20
 sub-t20 c = omega (arith, found c)
@@ -62,7 +76,12 @@ cast-t22 : tie.Need-cast-t22
 cast-t22 c = omega arith
 
 returns-3 : tie.Need-returns-3
-returns-3 c = sym (walked-found _ _ (c .before .before .before .before .before .before .before .before .args .f) _ _ _ _ _ (c .before .before .before .before .before .before .back .ensures) _ _ _ (c .before .before .before .before .if1 .left) (sym (c .before .before .before .find-in .ensures .finds) ∙ c .before .found .given .1))
+returns-3 c =
+    let args = c .before .before .before .before .before .before .before .before .args in
+    let back = c .before .before .before .before .before .before .back in
+    let if1 = c .before .before .before .before .if1 in
+    let find-in = c .before .before .before .find-in in
+    sym (walked-found _ _ (args .f) _ _ _ _ _ (back .ensures) _ _ _ (if1 .left) (sym (find-in .ensures .finds) ∙ c .before .found .given .1))
 
 pub walked-spec : {M : Type 1} → statement M
 walked-spec =

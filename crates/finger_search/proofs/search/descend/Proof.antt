@@ -35,10 +35,15 @@ loop-holds : tie.Need-loop-holds Inv-loop μ-loop
 loop-holds c = (omega arith, omega arith, rw (le-ltb (c .before .args .levels) (c .before .args .levels) (omega arith)))
 
 sized-requires : tie.Need-sized-requires Inv-loop μ-loop
-sized-requires c κs = c .before .before .before .pre .0
+sized-requires c κs =
+    let pre = c .before .before .before .pre in
+    pre .0
 
 returns : tie.Need-returns Inv-loop μ-loop
-returns c = sym (descend-broken _ _ (c .before .before .before .before .before .args .g) _ _ _ _ _ _ (c .before .before .loop-test .taken) (sym (c .before .sized .ensures) ∙ not-true _ (c .if1 .taken))) ∙ c .before .before .before .loop .inv .2
+returns c =
+    let args = c .before .before .before .before .before .args in
+    let the-loop = c .before .before .before .loop in
+    sym (descend-broken _ _ (args .g) _ _ _ _ _ _ (c .before .before .loop-test .taken) (sym (c .before .sized .ensures) ∙ not-true _ (c .if1 .taken))) ∙ the-loop .inv .2
 
 find-in-requires : tie.Need-find-in-requires Inv-loop μ-loop
 find-in-requires c κs =
@@ -56,21 +61,31 @@ returns-2 : tie.Need-returns-2 Inv-loop μ-loop
 returns-2 c =
     let s = c .before .before .before .before .before .before .before .before .before in
     let l = c .before .before .before .before .before .before .before .loop in
-    sym (descend-miss _ _ (s .args .g) _ _ _ _ _ _ (c .before .before .before .before .before .before .loop-test .taken) (turn (c .before .before .before .before)) (sym (c .before .before .before .find-in .ensures .finds) ∙ c .before .enum-told .given .1)
+    sym (descend-miss _ _ (s .args .g) _ _ _ _ _ _ (c .before .before .before .before .before .before .loop-test .taken) (turn (c .before .before .before .before))
+    (sym (c .before .before .before .find-in .ensures .finds) ∙ c .before .enum-told .given .1)
     ∙ rw (le-ltb (l .n) (s .args .levels) (omega (arith, c .if2 .taken)))) ∙ l .inv .2
 
 returns-3 : tie.Need-returns-3 Inv-loop μ-loop
 returns-3 c =
     let s = c .before .before .before .before .before .before .before .before .before in
     let l = c .before .before .before .before .before .before .before .loop in
-    sym (descend-miss _ _ (s .args .g) _ _ _ _ _ _ (c .before .before .before .before .before .before .loop-test .taken) (turn (c .before .before .before .before)) (sym (c .before .before .before .find-in .ensures .finds) ∙ c .before .enum-told .given .1)
+    sym (descend-miss _ _ (s .args .g) _ _ _ _ _ _ (c .before .before .before .before .before .before .loop-test .taken) (turn (c .before .before .before .before))
+    (sym (c .before .before .before .find-in .ensures .finds) ∙ c .before .enum-told .given .1)
     ∙ rw (lt-ltb (l .n) (s .args .levels) (omega (arith, c .if2 .left)))) ∙ l .inv .2
 
 child-of-requires : tie.Need-child-of-requires Inv-loop μ-loop
 child-of-requires c κs =
     let s = c .before .before .before .before .before .before .before .before .before in
-    let t = sized-in (s .args .g) _ _ (turn (c .before .before .before .before)) in
-    (s .pre .0, t .0, omega (arith, used-ranged (s .args .g) _ _ _ 0 _ _ _ (t .1) (omega arith) .slot _ _ _ (sym (c .before .before .before .find-in .ensures .finds) ∙ c .before .found .given .1), t .1))
+    let t = sized-in (s .args .g) _ _ (turn (c .before .before .before .before)) in (
+      s .pre .0,
+      t .0,
+      omega (
+        arith,
+        used-ranged (s .args .g) _ _ _ 0 _ _ _ (t .1) (omega arith) .slot _ _ _
+            (sym (c .before .before .before .find-in .ensures .finds) ∙ c .before .found .given .1),
+        t .1,
+      ),
+    )
 
 sub-n : tie.Need-sub-n Inv-loop μ-loop
 sub-n c = omega arith
@@ -85,11 +100,14 @@ loop-again c =
       omega arith,
       omega (arith, c .before .before .before .before .find-in .ensures .few _ _ _ (c .before .before .found .given .1)),
       rw (c .child-of .ensures, lt-ltb (l .n - 1) (s .args .levels) (omega arith))
-          (sym (descend-on _ _ (s .args .g) _ _ _ _ _ _ _ _ _ (c .before .before .before .before .before .before .before .loop-test .taken) (turn (c .before .before .before .before .before)) (sym (c .before .before .before .before .find-in .ensures .finds) ∙ c .before .before .found .given .1)) ∙ l .inv .2),
+          (sym (descend-on _ _ (s .args .g) _ _ _ _ _ _ _ _ _ (c .before .before .before .before .before .before .before .loop-test .taken)
+          (turn (c .before .before .before .before .before)) (sym (c .before .before .before .before .find-in .ensures .finds) ∙ c .before .before .found .given .1)) ∙ l .inv .2),
     )
 
 returns-4 : tie.Need-returns-4 Inv-loop μ-loop
-returns-4 c = sym (descend-end _ _ (c .before .before .before .args .g) _ _ _ _ _ _ (c .loop-test .left)) ∙ c .before .loop .inv .2
+returns-4 c =
+    let args = c .before .before .before .args in
+    sym (descend-end _ _ (args .g) _ _ _ _ _ _ (c .loop-test .left)) ∙ c .before .loop .inv .2
 
 pub descend-spec : {M : Type 1} → statement M
 descend-spec =

@@ -14,8 +14,14 @@ enum-known-way c = search needs
 
 search-leaf-requires : tie.Need-search-leaf-requires
 search-leaf-requires c κs =
-    let s = c .before .before .before .before .before .before in
-    (s .pre .0, s .pre .2, s .pre .3, s .pre .5, descend-rests _ _ (s .args .g) _ _ _ _ _ _ (nothing-rests _) .rest _ _ _ (sym (c .before .before .before .descend .ensures) ∙ c .before .way .given .1))
+    let s = c .before .before .before .before .before .before in (
+      s .pre .0,
+      s .pre .2,
+      s .pre .3,
+      s .pre .5,
+      descend-rests _ _ (s .args .g) _ _ _ _ _ _ (nothing-rests _) .rest _ _ _
+          (sym (c .before .before .before .descend .ensures) ∙ c .before .way .given .1),
+    )
 
 enum-told : tie.Need-enum-told
 enum-told c = search needs
@@ -25,7 +31,9 @@ enum-told-2 c = search needs
 
 returns : tie.Need-returns
 unfolding fromRoot
-returns c = rw (← c .before .before .before .before .descend .ensures, c .before .before .way .given .1) (c .search-leaf .ensures)
+returns c =
+    let descend = c .before .before .before .before .descend in
+    rw (← descend .ensures, c .before .before .way .given .1) (c .search-leaf .ensures)
 
 returns-2 : tie.Need-returns-2
 unfolding fromRoot

@@ -10,11 +10,13 @@ use Rattle.finger_search.proofs.search.search_leaf.Statement.{statement
 use Rattle.finger_search.proofs.search.search_leaf.Tie as tie
 
 -- the leaf says no more slots than it has
-filled : (c : tie.Else2) → nodeAt (c .before .before .before .before .args .g) (c .before .before .before .before .args .k) (c .before .before .before .before .args .leaves .now) .len ≤ c .before .before .before .before .args .g .fan
+filled : (c : tie.Else2) → nodeAt (c .before .before .before .before .args .g) (c .before .before .before .before .args .k)
+    (c .before .before .before .before .args .leaves .now) .len ≤ c .before .before .before .before .args .g .fan
 filled c = omega (arith, c .before .len-of .ensures, c .if2 .left)
 
 -- what was found lies in the leaf, and no more than the position is left
-found : (c : tie.After-known-told) → (c .before .found .given .0 .0 < c .before .before .before .before .before .before .before .before .args .g .fan) × (c .before .found .given .0 .1 .0 ≤ c .before .before .before .before .before .before .before .before .args .rest)
+found : (c : tie.After-known-told) → (c .before .found .given .0 .0 < c .before .before .before .before .before .before .before .before .args .g .fan)
+    × (c .before .found .given .0 .1 .0 ≤ c .before .before .before .before .before .before .before .before .args .rest)
 found c =
     let a = c .before .before .before .before .before .before .before .before .args in
     let t = filled (c .before .before .before .before) in
@@ -32,7 +34,9 @@ cast-if2 : tie.Need-cast-if2
 cast-if2 c = omega (arith, c .len-of .ok)
 
 returns-2 : tie.Need-returns-2
-returns-2 c = sym (leaf-full _ _ (c .before .before .before .before .args .g) _ _ _ _ _ _ (c .before .before .if1 .left) (omega (arith, c .before .len-of .ensures, c .if2 .taken)))
+returns-2 c =
+    let args = c .before .before .before .before .args in
+    sym (leaf-full _ _ (args .g) _ _ _ _ _ _ (c .before .before .if1 .left) (omega (arith, c .before .len-of .ensures, c .if2 .taken)))
 
 find-in-requires : tie.Need-find-in-requires
 find-in-requires c κs =
@@ -47,19 +51,26 @@ enum-told c = search needs
 
 returns-3 : tie.Need-returns-3
 returns-3 c =
-    sym (leaf-miss _ _ (c .before .before .before .before .before .before .before .args .g) _ _ _ _ _ _ (c .before .before .before .before .before .if1 .left) (filled (c .before .before .before)) (sym (c .before .before .find-in .ensures .finds) ∙ c .enum-told .given .1))
+    sym (leaf-miss _ _ (c .before .before .before .before .before .before .before .args .g) _ _ _ _ _ _ (c .before .before .before .before .before .if1 .left)
+    (filled (c .before .before .before)) (sym (c .before .before .find-in .ensures .finds) ∙ c .enum-told .given .1))
 
 cast-t19 : tie.Need-cast-t19
-cast-t19 c = omega (arith, c .before .before .before .before .before .before .before .before .pre .0 .shaped, c .before .before .before .before .before .before .before .before .pre .1)
+cast-t19 c =
+    let pre = c .before .before .before .before .before .before .before .before .pre in
+    omega (arith, pre .0 .shaped, pre .1)
 
 sub-t20 : tie.Need-sub-t20
-sub-t20 c = omega (arith, c .before .before .before .before .before .before .before .before .pre .4)
+sub-t20 c =
+    let pre = c .before .before .before .before .before .before .before .before .pre in
+    omega (arith, pre .4)
 
 cast-t22 : tie.Need-cast-t22
 cast-t22 c = omega arith
 
 cast-t23 : tie.Need-cast-t23
-cast-t23 c = omega (arith, found c, c .before .before .before .before .before .before .before .before .pre .0 .shaped)
+cast-t23 c =
+    let pre = c .before .before .before .before .before .before .before .before .pre in
+    omega (arith, found c, pre .0 .shaped)
 
 sub-t24 : tie.Need-sub-t24
 sub-t24 c = omega (arith, found c)
@@ -69,7 +80,8 @@ cast-t26 c = omega arith
 
 returns-4 : tie.Need-returns-4
 returns-4 c =
-    sym (leaf-found _ _ (c .before .before .before .before .before .before .before .before .args .g) _ _ _ _ _ _ _ _ _ (c .before .before .before .before .before .before .if1 .left) (filled (c .before .before .before .before)) (sym (c .before .before .before .find-in .ensures .finds) ∙ c .before .found .given .1))
+    sym (leaf-found _ _ (c .before .before .before .before .before .before .before .before .args .g) _ _ _ _ _ _ _ _ _
+    (c .before .before .before .before .before .before .if1 .left) (filled (c .before .before .before .before)) (sym (c .before .before .before .find-in .ensures .finds) ∙ c .before .found .given .1))
 
 pub search-leaf-spec : {M : Type 1} → statement M
 search-leaf-spec =

@@ -63,7 +63,9 @@ stood : (t : ℕ) (c : add-child-lts.After-known-told (
   link-half-reads.Learnt,
 ) (add-child-at t) add-child.Post) → let a = c .before .before .before .before .before .before .before .before .before .args in
     Stands (a .g) (a .t .inners) (a .level) (a .p .0) (a .after) (a .new) (areas (a .leaves .now) (a .inners .now)) (c .before .place .given .0 .0)
-stood t c = stands _ _ _ _ _ _ _ _ (sym (c .before .place .given .1) ∙ c .before .before .before .standing .ensures)
+stood t c =
+    let the-standing = c .before .before .before .standing in
+    stands _ _ _ _ _ _ _ _ (sym (c .before .place .given .1) ∙ the-standing .ensures)
 
 add-child-standing-requires : (t : ℕ) → add-child-lts.Need-standing-requires (
   standing-reads.Asked,
@@ -77,7 +79,9 @@ add-child-standing-requires : (t : ℕ) → add-child-lts.Need-standing-requires
   link-half-reads.Asked,
   link-half-reads.Learnt,
 ) (add-child-at t) add-child.Post
-add-child-standing-requires t c κs = (c .before .before .before .before .before .pre .1 .0, c .before .before .before .before .before .pre .1 .1)
+add-child-standing-requires t c κs =
+    let pre = c .before .before .before .before .before .pre in
+    (pre .1 .0, pre .1 .1)
 
 add-child-enum-known-place : (t : ℕ) → add-child-lts.Need-enum-known-place (
   standing-reads.Asked,
@@ -147,7 +151,10 @@ add-child-returns : (t : ℕ) → add-child-lts.Need-returns (
   link-half-reads.Asked,
   link-half-reads.Learnt,
 ) (add-child-at t) add-child.Post
-add-child-returns t c = add-missing (c .before .before .before .before .before .before .before .before .args .g) (aboveOf (c .before .before .before .before .before .before .before .before .args .g) (c .before .before .before .before .before .before .before .before .args .left)) (topOf (c .before .before .before .before .before .before .before .before .args .t)) (c .before .before .before .before .before .before .before .before .args .level) (c .before .before .before .before .before .before .before .before .args .p .0) (c .before .before .before .before .before .before .before .before .args .after) (c .before .before .before .before .before .before .before .before .args .new) (areas (c .before .before .before .before .before .before .before .before .args .leaves .now) (c .before .before .before .before .before .before .before .before .args .inners .now)) (sym (c .enum-told .given .1) ∙ c .before .before .standing .ensures)
+add-child-returns t c =
+    let args = c .before .before .before .before .before .before .before .before .args in
+    add-missing (args .g) (aboveOf (args .g) (args .left)) (topOf (args .t)) (args .level) (args .p .0) (args .after) (args .new) (areas (args .leaves .now) (args .inners .now))
+    (sym (c .enum-told .given .1) ∙ c .before .before .standing .ensures)
 
 add-child-cast-word : (t : ℕ) → add-child-lts.Need-cast-word (
   standing-reads.Asked,
@@ -175,7 +182,10 @@ add-child-word-requires : (t : ℕ) → add-child-lts.Need-word-requires (
   link-half-reads.Asked,
   link-half-reads.Learnt,
 ) (add-child-at t) add-child.Post
-add-child-word-requires t c κs = (omega (arith, c .before .before .before .before .before .before .before .before .before .before .before .pre .1 .0 .shaped .words), node-end (c .before .before .before .before .before .before .before .before .before .before .before .args .g) (c .before .before .before .before .before .before .before .before .before .before .before .args .p .0) (length (c .before .before .before .before .before .before .before .before .before .before .before .args .inners .now)) (omega (arith, stood t (c .before .before) .node, c .before .before .before .before .before .before .before .before .before .before .before .pre .1 .1)) (c .before .before .before .before .before .before .before .before .before .before .before .pre .1 .0 .inners))
+add-child-word-requires t c κs =
+    let pre = c .before .before .before .before .before .before .before .before .before .before .before .pre in
+    let args = c .before .before .before .before .before .before .before .before .before .before .before .args in
+    (omega (arith, pre .1 .0 .shaped .words), node-end (args .g) (args .p .0) (length (args .inners .now)) (omega (arith, stood t (c .before .before) .node, pre .1 .1)) (pre .1 .0 .inners))
 
 add-child-cast-len : (t : ℕ) → add-child-lts.Need-cast-len (
   standing-reads.Asked,
@@ -204,7 +214,19 @@ add-child-link-top-requires : (t : ℕ) → add-child-lts.Need-link-top-requires
   link-half-reads.Learnt,
 ) (add-child-at t) add-child.Post
 unfolding nodeOf
-add-child-link-top-requires t c κs = (c .before .before .before .before .before .before .before .before .before .before .before .before .before .before .before .pre .1 .0, omega (arith, stood t (c .before .before .before .before .before .before) .node, c .before .before .before .before .before .before .before .before .before .before .before .before .before .before .before .pre .1 .1), stood t (c .before .before .before .before .before .before) .fresh, record { place = stood t (c .before .before .before .before .before .before) .place; space = omega (arith, c .before .before .before .word .ensures, c .before .before .if1 .taken) })
+add-child-link-top-requires t c κs =
+    let pre = c .before .before .before .before .before .before .before .before .before .before .before .before .before .before .before .pre in
+    let before = c .before .before .before .before .before .before in
+    let the-word = c .before .before .before .word in (
+      pre .1 .0,
+      omega (arith, stood t before .node, pre .1 .1),
+      stood t before .fresh,
+      record {
+        place = stood t before .place;
+        space = omega
+            (arith, the-word .ensures, c .before .before .if1 .taken);
+      },
+    )
 
 add-child-same-length-3 : (t : ℕ) → add-child-lts.Need-same-length-3 (
   standing-reads.Asked,
@@ -218,7 +240,9 @@ add-child-same-length-3 : (t : ℕ) → add-child-lts.Need-same-length-3 (
   link-half-reads.Asked,
   link-half-reads.Learnt,
 ) (add-child-at t) add-child.Post
-add-child-same-length-3 t c = c .before .before .before .before .link-top .kept .0
+add-child-same-length-3 t c =
+    let link-top = c .before .before .before .before .link-top in
+    link-top .kept .0
 
 add-child-same-length-4 : (t : ℕ) → add-child-lts.Need-same-length-4 (
   standing-reads.Asked,
@@ -232,7 +256,9 @@ add-child-same-length-4 : (t : ℕ) → add-child-lts.Need-same-length-4 (
   link-half-reads.Asked,
   link-half-reads.Learnt,
 ) (add-child-at t) add-child.Post
-add-child-same-length-4 t c = c .before .before .before .before .link-top .kept .1 .0
+add-child-same-length-4 t c =
+    let link-top = c .before .before .before .before .link-top in
+    link-top .kept .1 .0
 
 add-child-returns-2 : (t : ℕ) → add-child-lts.Need-returns-2 (
   standing-reads.Asked,
@@ -246,7 +272,15 @@ add-child-returns-2 : (t : ℕ) → add-child-lts.Need-returns-2 (
   link-half-reads.Asked,
   link-half-reads.Learnt,
 ) (add-child-at t) add-child.Post
-add-child-returns-2 t c = c .before .before .before .before .link-top .ensures ∙ add-room (c .before .before .before .before .before .before .before .before .before .before .before .before .before .before .before .before .before .before .before .before .args .g) (aboveOf (c .before .before .before .before .before .before .before .before .before .before .before .before .before .before .before .before .before .before .before .before .args .g) (c .before .before .before .before .before .before .before .before .before .before .before .before .before .before .before .before .before .before .before .before .args .left)) (topOf (c .before .before .before .before .before .before .before .before .before .before .before .before .before .before .before .before .before .before .before .before .args .t)) (c .before .before .before .before .before .before .before .before .before .before .before .before .before .before .before .before .before .before .before .before .args .level) (c .before .before .before .before .before .before .before .before .before .before .before .before .before .before .before .before .before .before .before .before .args .p .0) (c .before .before .before .before .before .before .before .before .before .before .before .before .before .before .before .before .before .before .before .before .args .after) (c .before .before .before .before .before .before .before .before .before .before .before .before .before .before .before .before .before .before .before .before .args .new) (areas (c .before .before .before .before .before .before .before .before .before .before .before .before .before .before .before .before .before .before .before .before .args .leaves .now) (c .before .before .before .before .before .before .before .before .before .before .before .before .before .before .before .before .before .before .before .before .args .inners .now)) _ _ (sym (c .before .before .before .before .before .before .before .before .before .before .before .before .place .given .1) ∙ c .before .before .before .before .before .before .before .before .before .before .before .before .before .before .standing .ensures) (c .before .before .before .before .before .before .before .before .word .ensures) (c .before .before .before .before .before .before .before .if1 .taken)
+add-child-returns-2 t c =
+    let link-top = c .before .before .before .before .link-top in
+    let args = c .before .before .before .before .before .before .before .before .before .before .before .before .before .before .before .before .before .before .before .before .args in
+    let place = c .before .before .before .before .before .before .before .before .before .before .before .before .place in
+    let the-standing = c .before .before .before .before .before .before .before .before .before .before .before .before .before .before .standing in
+    let the-word = c .before .before .before .before .before .before .before .before .word in
+    let if1 = c .before .before .before .before .before .before .before .if1 in
+    link-top .ensures ∙ add-room (args .g) (aboveOf (args .g) (args .left)) (topOf (args .t)) (args .level) (args .p .0) (args .after) (args .new)
+    (areas (args .leaves .now) (args .inners .now)) _ _ (sym (place .given .1) ∙ the-standing .ensures) (the-word .ensures) (if1 .taken)
 
 add-child-cast-if2 : (t : ℕ) → add-child-lts.Need-cast-if2 (
   standing-reads.Asked,
@@ -302,7 +336,12 @@ add-child-returns-3 : (t : ℕ) → add-child-lts.Need-returns-3 (
   link-half-reads.Asked,
   link-half-reads.Learnt,
 ) (add-child-at t) add-child.Post
-add-child-returns-3 t c = add-none (c .before .before .before .before .before .before .before .before .before .before .before .before .before .before .args .g) (aboveOf (c .before .before .before .before .before .before .before .before .before .before .before .before .before .before .args .g) (c .before .before .before .before .before .before .before .before .before .before .before .before .before .before .args .left)) (topOf (c .before .before .before .before .before .before .before .before .before .before .before .before .before .before .args .t)) (c .before .before .before .before .before .before .before .before .before .before .before .before .before .before .args .level) (c .before .before .before .before .before .before .before .before .before .before .before .before .before .before .args .p .0) (c .before .before .before .before .before .before .before .before .before .before .before .before .before .before .args .after) (c .before .before .before .before .before .before .before .before .before .before .before .before .before .before .args .new) (areas (c .before .before .before .before .before .before .before .before .before .before .before .before .before .before .args .leaves .now) (c .before .before .before .before .before .before .before .before .before .before .before .before .before .before .args .inners .now)) _ _ (sym (c .before .before .before .before .before .before .place .given .1) ∙ c .before .before .before .before .before .before .before .before .standing .ensures) (c .before .before .word .ensures) (c .before .if1 .left) (c .if2 .taken)
+add-child-returns-3 t c =
+    let args = c .before .before .before .before .before .before .before .before .before .before .before .before .before .before .args in
+    let place = c .before .before .before .before .before .before .place in
+    let the-standing = c .before .before .before .before .before .before .before .before .standing in
+    add-none (args .g) (aboveOf (args .g) (args .left)) (topOf (args .t)) (args .level) (args .p .0) (args .after) (args .new) (areas (args .leaves .now) (args .inners .now)) _ _
+    (sym (place .given .1) ∙ the-standing .ensures) (c .before .before .word .ensures) (c .before .if1 .left) (c .if2 .taken)
 
 add-child-split-node-requires : (t : ℕ) → add-child-lts.Need-split-node-requires (
   standing-reads.Asked,
@@ -316,7 +355,10 @@ add-child-split-node-requires : (t : ℕ) → add-child-lts.Need-split-node-requ
   link-half-reads.Asked,
   link-half-reads.Learnt,
 ) (add-child-at t) add-child.Post
-add-child-split-node-requires t c κs = (omega (arith, c .before .before .before .before .before .before .before .before .before .before .before .before .before .before .before .before .pre .0), (c .before .before .before .before .before .before .before .before .before .before .before .before .before .before .before .before .pre .1 .0, stood t (c .before .before .before .before .before .before .before) .node, c .before .before .if2 .left, c .before .before .before .before .before .before .before .before .before .before .before .before .before .before .before .before .pre .1 .2))
+add-child-split-node-requires t c κs =
+    let pre = c .before .before .before .before .before .before .before .before .before .before .before .before .before .before .before .before .pre in
+    let before = c .before .before .before .before .before .before .before in
+    (omega (arith, pre .0), (pre .1 .0, stood t before .node, c .before .before .if2 .left, pre .1 .2))
 
 add-child-link-half-requires : (t : ℕ) → add-child-lts.Need-link-half-requires (
   standing-reads.Asked,
@@ -330,8 +372,16 @@ add-child-link-half-requires : (t : ℕ) → add-child-lts.Need-link-half-requir
   link-half-reads.Asked,
   link-half-reads.Learnt,
 ) (add-child-at t) add-child.Post
-add-child-link-half-requires t c κs = let h = halves (c .before .before .before .before .before .before .before .before .before .before .before .before .before .before .before .before .before .before .before .before .before .before .before .args .g) (c .before .before .before .before .before .before .before .before .before .before .before .before .before .before .before .before .before .before .before .before .before .before .before .args .left) (topOf (c .before .before .before .before .before .before .before .before .before .before .before .before .before .before .before .before .before .before .before .before .before .before .before .args .t)) (c .before .before .before .before .before .before .before .before .before .before .before .before .before .before .before .before .before .before .before .before .before .before .before .args .level) (c .before .before .before .before .before .before .before .before .before .before .before .before .before .before .before .before .before .before .before .before .before .before .before .args .p .0) (c .before .before .before .before .before .before .before .before .before .before .before .before .before .before .before .place .given .0 .0) _ _ _ (c .before .before .before .before .before .before .before .before .before .before .before .before .before .before .before .before .before .before .before .before .before .before .before .pre .1 .0) (stood t (c .before .before .before .before .before .before .before .before .before .before .before .before .before .before) .node) (c .before .before .before .before .before .before .before .before .before .if2 .left) (omega (arith, stood t (c .before .before .before .before .before .before .before .before .before .before .before .before .before .before) .place, stood t (c .before .before .before .before .before .before .before .before .before .before .before .before .before .before) .full)) (c .before .before .before .before .before .before .split-node .ensures) in
-    (rw (c .before .before .before .before .before .before .split-node .kept .0, c .before .before .before .before .before .before .split-node .kept .1 .0) (c .before .before .before .before .before .before .before .before .before .before .before .before .before .before .before .before .before .before .before .before .before .before .before .pre .1 .0), omega (arith, stood t (c .before .before .before .before .before .before .before .before .before .before .before .before .before .before) .node, c .before .before .before .before .before .before .before .before .before .before .before .before .before .before .before .before .before .before .before .before .before .before .before .pre .1 .1), c .before .before .before .before .before .before .before .before .before .if2 .left, stood t (c .before .before .before .before .before .before .before .before .before .before .before .before .before .before) .fresh, h .0, h .1)
+add-child-link-half-requires t c κs =
+    let args = c .before .before .before .before .before .before .before .before .before .before .before .before .before .before .before .before .before .before .before .before .before .before .before .args in
+    let place = c .before .before .before .before .before .before .before .before .before .before .before .before .before .before .before .place in
+    let pre = c .before .before .before .before .before .before .before .before .before .before .before .before .before .before .before .before .before .before .before .before .before .before .before .pre in
+    let before = c .before .before .before .before .before .before .before .before .before .before .before .before .before .before in
+    let if2 = c .before .before .before .before .before .before .before .before .before .if2 in
+    let the-split-node = c .before .before .before .before .before .before .split-node in
+    let h = halves (args .g) (args .left) (topOf (args .t)) (args .level) (args .p .0) (place .given .0 .0) _ _ _ (pre .1 .0) (stood t before .node) (if2 .left)
+    (omega (arith, stood t before .place, stood t before .full)) (the-split-node .ensures) in
+    (rw (the-split-node .kept .0, the-split-node .kept .1 .0) (pre .1 .0), omega (arith, stood t before .node, pre .1 .1), if2 .left, stood t before .fresh, h .0, h .1)
 
 add-child-same-length-7 : (t : ℕ) → add-child-lts.Need-same-length-7 (
   standing-reads.Asked,
@@ -345,7 +395,10 @@ add-child-same-length-7 : (t : ℕ) → add-child-lts.Need-same-length-7 (
   link-half-reads.Asked,
   link-half-reads.Learnt,
 ) (add-child-at t) add-child.Post
-add-child-same-length-7 t c = c .before .before .before .before .link-half .kept .0 ∙ c .before .before .before .before .before .before .before .before .before .before .before .split-node .kept .0
+add-child-same-length-7 t c =
+    let link-half = c .before .before .before .before .link-half in
+    let the-split-node = c .before .before .before .before .before .before .before .before .before .before .before .split-node in
+    link-half .kept .0 ∙ the-split-node .kept .0
 
 add-child-same-length-8 : (t : ℕ) → add-child-lts.Need-same-length-8 (
   standing-reads.Asked,
@@ -359,7 +412,10 @@ add-child-same-length-8 : (t : ℕ) → add-child-lts.Need-same-length-8 (
   link-half-reads.Asked,
   link-half-reads.Learnt,
 ) (add-child-at t) add-child.Post
-add-child-same-length-8 t c = c .before .before .before .before .link-half .kept .1 .0 ∙ c .before .before .before .before .before .before .before .before .before .before .before .split-node .kept .1 .0
+add-child-same-length-8 t c =
+    let link-half = c .before .before .before .before .link-half in
+    let the-split-node = c .before .before .before .before .before .before .before .before .before .before .before .split-node in
+    link-half .kept .1 .0 ∙ the-split-node .kept .1 .0
 
 add-child-returns-4 : (t : ℕ) → add-child-lts.Need-returns-4 (
   standing-reads.Asked,
@@ -373,7 +429,18 @@ add-child-returns-4 : (t : ℕ) → add-child-lts.Need-returns-4 (
   link-half-reads.Asked,
   link-half-reads.Learnt,
 ) (add-child-at t) add-child.Post
-add-child-returns-4 t c = c .before .before .before .before .link-half .ensures ∙ ap (linkHalf (c .before .before .before .before .before .before .before .before .before .before .before .before .before .before .before .before .before .before .before .before .before .before .before .before .before .before .before .before .args .g) (c .before .before .before .before .before .before .before .before .before .before .before .before .before .before .before .before .before .before .before .before .before .before .before .before .before .before .before .before .args .level) (c .before .before .before .before .before .before .before .before .before .before .before .before .before .before .before .before .before .before .before .before .before .before .before .before .before .before .before .before .args .p .0) (c .before .before .before .before .before .before .before .before .before .before .before .before .before .before .before .before .before .before .before .before .before .before .before .before .before .before .before .before .args .t .inners) _ (c .before .before .before .before .before .before .before .before .before .before .before .before .before .before .before .before .before .before .before .before .before .before .before .before .before .before .before .before .args .new)) (c .before .before .before .before .before .before .before .before .before .before .before .split-node .ensures) ∙ add-split (c .before .before .before .before .before .before .before .before .before .before .before .before .before .before .before .before .before .before .before .before .before .before .before .before .before .before .before .before .args .g) (aboveOf (c .before .before .before .before .before .before .before .before .before .before .before .before .before .before .before .before .before .before .before .before .before .before .before .before .before .before .before .before .args .g) (c .before .before .before .before .before .before .before .before .before .before .before .before .before .before .before .before .before .before .before .before .before .before .before .before .before .before .before .before .args .left)) (topOf (c .before .before .before .before .before .before .before .before .before .before .before .before .before .before .before .before .before .before .before .before .before .before .before .before .before .before .before .before .args .t)) (c .before .before .before .before .before .before .before .before .before .before .before .before .before .before .before .before .before .before .before .before .before .before .before .before .before .before .before .before .args .level) (c .before .before .before .before .before .before .before .before .before .before .before .before .before .before .before .before .before .before .before .before .before .before .before .before .before .before .before .before .args .p .0) (c .before .before .before .before .before .before .before .before .before .before .before .before .before .before .before .before .before .before .before .before .before .before .before .before .before .before .before .before .args .after) (c .before .before .before .before .before .before .before .before .before .before .before .before .before .before .before .before .before .before .before .before .before .before .before .before .before .before .before .before .args .new) (areas (c .before .before .before .before .before .before .before .before .before .before .before .before .before .before .before .before .before .before .before .before .before .before .before .before .before .before .before .before .args .leaves .now) (c .before .before .before .before .before .before .before .before .before .before .before .before .before .before .before .before .before .before .before .before .before .before .before .before .before .before .before .before .args .inners .now)) _ _ (sym (c .before .before .before .before .before .before .before .before .before .before .before .before .before .before .before .before .before .before .before .before .place .given .1) ∙ c .before .before .before .before .before .before .before .before .before .before .before .before .before .before .before .before .before .before .before .before .before .before .standing .ensures) (c .before .before .before .before .before .before .before .before .before .before .before .before .before .before .before .before .word .ensures) (c .before .before .before .before .before .before .before .before .before .before .before .before .before .before .before .if1 .left) (c .before .before .before .before .before .before .before .before .before .before .before .before .before .before .if2 .left)
+add-child-returns-4 t c =
+    let link-half = c .before .before .before .before .link-half in
+    let args = c .before .before .before .before .before .before .before .before .before .before .before .before .before .before .before .before .before .before .before .before .before .before .before .before .before .before .before .before .args in
+    let the-split-node = c .before .before .before .before .before .before .before .before .before .before .before .split-node in
+    let place = c .before .before .before .before .before .before .before .before .before .before .before .before .before .before .before .before .before .before .before .before .place in
+    let the-standing = c .before .before .before .before .before .before .before .before .before .before .before .before .before .before .before .before .before .before .before .before .before .before .standing in
+    let the-word = c .before .before .before .before .before .before .before .before .before .before .before .before .before .before .before .before .word in
+    let if1 = c .before .before .before .before .before .before .before .before .before .before .before .before .before .before .before .if1 in
+    let if2 = c .before .before .before .before .before .before .before .before .before .before .before .before .before .before .if2 in
+    link-half .ensures ∙ ap (linkHalf (args .g) (args .level) (args .p .0) (args .t .inners) _ (args .new)) (the-split-node .ensures)
+    ∙ add-split (args .g) (aboveOf (args .g) (args .left)) (topOf (args .t)) (args .level) (args .p .0) (args .after) (args .new)
+    (areas (args .leaves .now) (args .inners .now)) _ _ (sym (place .given .1) ∙ the-standing .ensures) (the-word .ensures) (if1 .left) (if2 .left)
 
 split-node-add-next : (t : ℕ) → split-node-lts.Need-add-next (
   divide-reads.Asked,
@@ -385,7 +452,9 @@ split-node-add-next : (t : ℕ) → split-node-lts.Need-add-next (
   add-child-below t,
   add-child.Post,
 ) (split-node-at t) split-node.Post
-split-node-add-next t c = omega (arith, c .before .before .before .pre .1 .2, c .before .before .before .pre .1 .0 .shaped .areas)
+split-node-add-next t c =
+    let pre = c .before .before .before .pre in
+    omega (arith, pre .1 .2, pre .1 .0 .shaped .areas)
 
 split-node-divide-requires : (t : ℕ) → split-node-lts.Need-divide-requires (
   divide-reads.Asked,
@@ -397,7 +466,9 @@ split-node-divide-requires : (t : ℕ) → split-node-lts.Need-divide-requires (
   add-child-below t,
   add-child.Post,
 ) (split-node-at t) split-node.Post
-split-node-divide-requires t c κs = (c .before .before .before .before .before .pre .1 .0, c .before .before .before .before .before .pre .1 .1, c .before .before .before .before .before .pre .1 .2)
+split-node-divide-requires t c κs =
+    let pre = c .before .before .before .before .before .pre in
+    (pre .1 .0, pre .1 .1, pre .1 .2)
 
 split-node-same-length : (t : ℕ) → split-node-lts.Need-same-length (
   divide-reads.Asked,
@@ -409,7 +480,9 @@ split-node-same-length : (t : ℕ) → split-node-lts.Need-same-length (
   add-child-below t,
   add-child.Post,
 ) (split-node-at t) split-node.Post
-split-node-same-length t c = c .before .before .before .before .before .divide .kept .0
+split-node-same-length t c =
+    let the-divide = c .before .before .before .before .before .divide in
+    the-divide .kept .0
 
 split-node-same-length-2 : (t : ℕ) → split-node-lts.Need-same-length-2 (
   divide-reads.Asked,
@@ -421,7 +494,9 @@ split-node-same-length-2 : (t : ℕ) → split-node-lts.Need-same-length-2 (
   add-child-below t,
   add-child.Post,
 ) (split-node-at t) split-node.Post
-split-node-same-length-2 t c = c .before .before .before .before .before .divide .kept .1 .0
+split-node-same-length-2 t c =
+    let the-divide = c .before .before .before .before .before .divide in
+    the-divide .kept .1 .0
 
 split-node-returns : (t : ℕ) → split-node-lts.Need-returns (
   divide-reads.Asked,
@@ -433,7 +508,10 @@ split-node-returns : (t : ℕ) → split-node-lts.Need-returns (
   add-child-below t,
   add-child.Post,
 ) (split-node-at t) split-node.Post
-split-node-returns t c = split-bad (c .before .before .before .before .before .before .before .before .before .before .before .args .g) (aboveOf (c .before .before .before .before .before .before .before .before .before .before .before .args .g) (c .before .before .before .before .before .before .before .before .before .before .before .args .left)) (topOf (c .before .before .before .before .before .before .before .before .before .before .before .args .t)) (c .before .before .before .before .before .before .before .before .before .before .before .args .level) (c .before .before .before .before .before .before .before .before .before .before .before .args .k .0) (areas (c .before .before .before .before .before .before .before .before .before .before .before .args .leaves .now) (c .before .before .before .before .before .before .before .before .before .before .before .args .inners .now)) _ _ (c .before .before .before .before .before .divide .ensures) (c .if1 .taken)
+split-node-returns t c =
+    let args = c .before .before .before .before .before .before .before .before .before .before .before .args in
+    let the-divide = c .before .before .before .before .before .divide in
+    split-bad (args .g) (aboveOf (args .g) (args .left)) (topOf (args .t)) (args .level) (args .k .0) (areas (args .leaves .now) (args .inners .now)) _ _ (the-divide .ensures) (c .if1 .taken)
 
 split-node-grow-root-requires : (t : ℕ) → split-node-lts.Need-grow-root-requires (
   divide-reads.Asked,
@@ -445,7 +523,10 @@ split-node-grow-root-requires : (t : ℕ) → split-node-lts.Need-grow-root-requ
   add-child-below t,
   add-child.Post,
 ) (split-node-at t) split-node.Post
-split-node-grow-root-requires t c κs = (rw (c .before .before .before .before .before .before .before .before .divide .kept .0, c .before .before .before .before .before .before .before .before .divide .kept .1 .0) (c .before .before .before .before .before .before .before .before .before .before .before .before .before .before .pre .1 .0), omega (arith, c .before .before .before .before .before .before .before .before .before .before .before .before .before .before .pre .1 .1, c .before .before .before .before .before .before .before .before .before .before .before .before .before .before .pre .1 .2), c .before .before .before .before .before .before .before .before .before .before .before .before .before .before .pre .1 .2, c .before .before .before .before .before .before .before .before .before .before .before .before .before .before .pre .1 .3)
+split-node-grow-root-requires t c κs =
+    let the-divide = c .before .before .before .before .before .before .before .before .divide in
+    let pre = c .before .before .before .before .before .before .before .before .before .before .before .before .before .before .pre in
+    (rw (the-divide .kept .0, the-divide .kept .1 .0) (pre .1 .0), omega (arith, pre .1 .1, pre .1 .2), pre .1 .2, pre .1 .3)
 
 split-node-same-length-3 : (t : ℕ) → split-node-lts.Need-same-length-3 (
   divide-reads.Asked,
@@ -457,7 +538,10 @@ split-node-same-length-3 : (t : ℕ) → split-node-lts.Need-same-length-3 (
   add-child-below t,
   add-child.Post,
 ) (split-node-at t) split-node.Post
-split-node-same-length-3 t c = c .before .before .before .before .grow-root .kept .0 ∙ c .before .before .before .before .before .before .before .before .before .before .before .before .before .divide .kept .0
+split-node-same-length-3 t c =
+    let grow-root = c .before .before .before .before .grow-root in
+    let the-divide = c .before .before .before .before .before .before .before .before .before .before .before .before .before .divide in
+    grow-root .kept .0 ∙ the-divide .kept .0
 
 split-node-same-length-4 : (t : ℕ) → split-node-lts.Need-same-length-4 (
   divide-reads.Asked,
@@ -469,7 +553,10 @@ split-node-same-length-4 : (t : ℕ) → split-node-lts.Need-same-length-4 (
   add-child-below t,
   add-child.Post,
 ) (split-node-at t) split-node.Post
-split-node-same-length-4 t c = c .before .before .before .before .grow-root .kept .1 .0 ∙ c .before .before .before .before .before .before .before .before .before .before .before .before .before .divide .kept .1 .0
+split-node-same-length-4 t c =
+    let grow-root = c .before .before .before .before .grow-root in
+    let the-divide = c .before .before .before .before .before .before .before .before .before .before .before .before .before .divide in
+    grow-root .kept .1 .0 ∙ the-divide .kept .1 .0
 
 split-node-returns-2 : (t : ℕ) → split-node-lts.Need-returns-2 (
   divide-reads.Asked,
@@ -481,7 +568,14 @@ split-node-returns-2 : (t : ℕ) → split-node-lts.Need-returns-2 (
   add-child-below t,
   add-child.Post,
 ) (split-node-at t) split-node.Post
-split-node-returns-2 t c = c .before .before .before .before .grow-root .ensures ∙ above-none (c .before .before .before .before .before .before .before .before .before .before .before .before .before .before .before .before .before .before .before .args .g) _ _ _ _ (c .before .before .before .before .before .before .before .before .before .before .before .before .before .before .before .before .before .before .before .args .left) (c .before .before .before .before .before .before .before .if2 .taken) ∙ split-ok (c .before .before .before .before .before .before .before .before .before .before .before .before .before .before .before .before .before .before .before .args .g) (aboveOf (c .before .before .before .before .before .before .before .before .before .before .before .before .before .before .before .before .before .before .before .args .g) (c .before .before .before .before .before .before .before .before .before .before .before .before .before .before .before .before .before .before .before .args .left)) (topOf (c .before .before .before .before .before .before .before .before .before .before .before .before .before .before .before .before .before .before .before .args .t)) (c .before .before .before .before .before .before .before .before .before .before .before .before .before .before .before .before .before .before .before .args .level) (c .before .before .before .before .before .before .before .before .before .before .before .before .before .before .before .before .before .before .before .args .k .0) (areas (c .before .before .before .before .before .before .before .before .before .before .before .before .before .before .before .before .before .before .before .args .leaves .now) (c .before .before .before .before .before .before .before .before .before .before .before .before .before .before .before .before .before .before .before .args .inners .now)) _ _ (c .before .before .before .before .before .before .before .before .before .before .before .before .before .divide .ensures) (c .before .before .before .before .before .before .before .before .if1 .left)
+split-node-returns-2 t c =
+    let grow-root = c .before .before .before .before .grow-root in
+    let args = c .before .before .before .before .before .before .before .before .before .before .before .before .before .before .before .before .before .before .before .args in
+    let if2 = c .before .before .before .before .before .before .before .if2 in
+    let the-divide = c .before .before .before .before .before .before .before .before .before .before .before .before .before .divide in
+    let if1 = c .before .before .before .before .before .before .before .before .if1 in
+    grow-root .ensures ∙ above-none (args .g) _ _ _ _ (args .left) (if2 .taken)
+    ∙ split-ok (args .g) (aboveOf (args .g) (args .left)) (topOf (args .t)) (args .level) (args .k .0) (areas (args .leaves .now) (args .inners .now)) _ _ (the-divide .ensures) (if1 .left)
 
 split-node-cast-word : (t : ℕ) → split-node-lts.Need-cast-word (
   divide-reads.Asked,
@@ -505,7 +599,11 @@ split-node-word-requires : (t : ℕ) → split-node-lts.Need-word-requires (
   add-child-below t,
   add-child.Post,
 ) (split-node-at t) split-node.Post
-split-node-word-requires t c κs = (omega (arith, c .before .before .before .before .before .before .before .before .before .before .before .before .before .before .pre .1 .0 .shaped .words), rw (c .before .before .before .before .before .before .before .before .divide .kept .1 .0) (node-end (c .before .before .before .before .before .before .before .before .before .before .before .before .before .before .args .g) (c .before .before .before .before .before .before .before .before .before .before .before .before .before .before .args .k .0) (length (c .before .before .before .before .before .before .before .before .before .before .before .before .before .before .args .inners .now)) (omega (arith, c .before .before .before .before .before .before .before .before .before .before .before .before .before .before .pre .1 .1, c .before .before .before .before .before .before .before .before .before .before .before .before .before .before .pre .1 .2)) (c .before .before .before .before .before .before .before .before .before .before .before .before .before .before .pre .1 .0 .inners)))
+split-node-word-requires t c κs =
+    let pre = c .before .before .before .before .before .before .before .before .before .before .before .before .before .before .pre in
+    let the-divide = c .before .before .before .before .before .before .before .before .divide in
+    let args = c .before .before .before .before .before .before .before .before .before .before .before .before .before .before .args in
+    (omega (arith, pre .1 .0 .shaped .words), rw (the-divide .kept .1 .0) (node-end (args .g) (args .k .0) (length (args .inners .now)) (omega (arith, pre .1 .1, pre .1 .2)) (pre .1 .0 .inners)))
 
 split-node-sub-add-child : (t : ℕ) → split-node-lts.Need-sub-add-child (
   divide-reads.Asked,
@@ -517,7 +615,9 @@ split-node-sub-add-child : (t : ℕ) → split-node-lts.Need-sub-add-child (
   add-child-below t,
   add-child.Post,
 ) (split-node-at t) split-node.Post
-split-node-sub-add-child t c = omega (arith, c .before .before .before .before .before .if2 .left)
+split-node-sub-add-child t c =
+    let if2 = c .before .before .before .before .before .if2 in
+    omega (arith, if2 .left)
 
 split-node-add-child-requires : (t : ℕ) → split-node-lts.Need-add-child-requires (
   divide-reads.Asked,
@@ -529,7 +629,11 @@ split-node-add-child-requires : (t : ℕ) → split-node-lts.Need-add-child-requ
   add-child-below t,
   add-child.Post,
 ) (split-node-at t) split-node.Post
-split-node-add-child-requires t c κs = (omega (arith, c .before .before .before .before .before .before .before .before .before .before .before .before .before .before .before .before .before .pre .0, c .before .before .before .before .before .if2 .left), (rw (c .before .before .before .before .before .before .before .before .before .before .before .divide .kept .0, c .before .before .before .before .before .before .before .before .before .before .before .divide .kept .1 .0) (c .before .before .before .before .before .before .before .before .before .before .before .before .before .before .before .before .before .pre .1 .0), omega (arith, c .before .before .before .before .before .before .before .before .before .before .before .before .before .before .before .before .before .pre .1 .2), c .before .before .before .before .before .before .before .before .before .before .before .before .before .before .before .before .before .pre .1 .3))
+split-node-add-child-requires t c κs =
+    let pre = c .before .before .before .before .before .before .before .before .before .before .before .before .before .before .before .before .before .pre in
+    let if2 = c .before .before .before .before .before .if2 in
+    let the-divide = c .before .before .before .before .before .before .before .before .before .before .before .divide in
+    (omega (arith, pre .0, if2 .left), (rw (the-divide .kept .0, the-divide .kept .1 .0) (pre .1 .0), omega (arith, pre .1 .2), pre .1 .3))
 
 split-node-same-length-5 : (t : ℕ) → split-node-lts.Need-same-length-5 (
   divide-reads.Asked,
@@ -541,7 +645,10 @@ split-node-same-length-5 : (t : ℕ) → split-node-lts.Need-same-length-5 (
   add-child-below t,
   add-child.Post,
 ) (split-node-at t) split-node.Post
-split-node-same-length-5 t c = c .before .before .before .before .add-child .kept .0 ∙ c .before .before .before .before .before .before .before .before .before .before .before .before .before .before .before .before .divide .kept .0
+split-node-same-length-5 t c =
+    let the-add-child = c .before .before .before .before .add-child in
+    let the-divide = c .before .before .before .before .before .before .before .before .before .before .before .before .before .before .before .before .divide in
+    the-add-child .kept .0 ∙ the-divide .kept .0
 
 split-node-same-length-6 : (t : ℕ) → split-node-lts.Need-same-length-6 (
   divide-reads.Asked,
@@ -553,7 +660,10 @@ split-node-same-length-6 : (t : ℕ) → split-node-lts.Need-same-length-6 (
   add-child-below t,
   add-child.Post,
 ) (split-node-at t) split-node.Post
-split-node-same-length-6 t c = c .before .before .before .before .add-child .kept .1 .0 ∙ c .before .before .before .before .before .before .before .before .before .before .before .before .before .before .before .before .divide .kept .1 .0
+split-node-same-length-6 t c =
+    let the-add-child = c .before .before .before .before .add-child in
+    let the-divide = c .before .before .before .before .before .before .before .before .before .before .before .before .before .before .before .before .divide in
+    the-add-child .kept .1 .0 ∙ the-divide .kept .1 .0
 
 split-node-returns-3 : (t : ℕ) → split-node-lts.Need-returns-3 (
   divide-reads.Asked,
@@ -565,7 +675,15 @@ split-node-returns-3 : (t : ℕ) → split-node-lts.Need-returns-3 (
   add-child-below t,
   add-child.Post,
 ) (split-node-at t) split-node.Post
-split-node-returns-3 t c = c .before .before .before .before .add-child .ensures ∙ above-more (c .before .before .before .before .before .before .before .before .before .before .before .before .before .before .before .before .before .before .before .before .before .before .args .g) _ _ _ _ (c .before .before .before .before .before .before .before .before .before .before .before .before .before .before .before .before .before .before .before .before .before .before .args .left) _ (c .before .before .before .before .before .before .before .before .before .before .if2 .left) (c .before .before .before .before .before .before .before .word .ensures) ∙ split-ok (c .before .before .before .before .before .before .before .before .before .before .before .before .before .before .before .before .before .before .before .before .before .before .args .g) (aboveOf (c .before .before .before .before .before .before .before .before .before .before .before .before .before .before .before .before .before .before .before .before .before .before .args .g) (c .before .before .before .before .before .before .before .before .before .before .before .before .before .before .before .before .before .before .before .before .before .before .args .left)) (topOf (c .before .before .before .before .before .before .before .before .before .before .before .before .before .before .before .before .before .before .before .before .before .before .args .t)) (c .before .before .before .before .before .before .before .before .before .before .before .before .before .before .before .before .before .before .before .before .before .before .args .level) (c .before .before .before .before .before .before .before .before .before .before .before .before .before .before .before .before .before .before .before .before .before .before .args .k .0) (areas (c .before .before .before .before .before .before .before .before .before .before .before .before .before .before .before .before .before .before .before .before .before .before .args .leaves .now) (c .before .before .before .before .before .before .before .before .before .before .before .before .before .before .before .before .before .before .before .before .before .before .args .inners .now)) _ _ (c .before .before .before .before .before .before .before .before .before .before .before .before .before .before .before .before .divide .ensures) (c .before .before .before .before .before .before .before .before .before .before .before .if1 .left)
+split-node-returns-3 t c =
+    let the-add-child = c .before .before .before .before .add-child in
+    let args = c .before .before .before .before .before .before .before .before .before .before .before .before .before .before .before .before .before .before .before .before .before .before .args in
+    let if2 = c .before .before .before .before .before .before .before .before .before .before .if2 in
+    let the-word = c .before .before .before .before .before .before .before .word in
+    let the-divide = c .before .before .before .before .before .before .before .before .before .before .before .before .before .before .before .before .divide in
+    let if1 = c .before .before .before .before .before .before .before .before .before .before .before .if1 in
+    the-add-child .ensures ∙ above-more (args .g) _ _ _ _ (args .left) _ (if2 .left) (the-word .ensures)
+    ∙ split-ok (args .g) (aboveOf (args .g) (args .left)) (topOf (args .t)) (args .level) (args .k .0) (areas (args .leaves .now) (args .inners .now)) _ _ (the-divide .ensures) (if1 .left)
 
 pub +add-child+split-node-spec : {M : Type 1} → statement M
 +add-child+split-node-spec = close μ-add-child μ-split-node (λ t. add-child-lts.spec (

@@ -16,7 +16,10 @@ same-length-2 : tie.Need-same-length-2
 same-length-2 c = search needs
 
 returns : tie.Need-returns
-returns c = ap (toppedBy (topOf (c .before .before .before .before .before .before .before .before .before .before .args .t))) (c .before .before .before .before .link .ensures)
+returns c =
+    let args = c .before .before .before .before .before .before .before .before .before .before .args in
+    let link = c .before .before .before .before .link in
+    ap (toppedBy (topOf (args .t))) (link .ensures)
 
 pub link-top-spec : {M : Type 1} → statement M
 link-top-spec = tie.close (tie.spec link-requires same-length same-length-2 returns)

@@ -27,19 +27,37 @@ cast-word : tie.Need-cast-word
 cast-word c = search needs
 
 word-requires : tie.Need-word-requires
-word-requires c κs = (omega (arith, c .before .before .before .before .before .before .pre .0 .shaped .words), node-end (c .before .before .before .before .before .before .args .g) (c .before .before .before .before .before .before .args .p .0) (length (c .before .before .before .before .before .before .args .inners .now)) (omega (arith, c .before .before .before .if1 .left, c .before .before .before .before .before .before .pre .1)) (c .before .before .before .before .before .before .pre .0 .inners))
+word-requires c κs =
+    let pre = c .before .before .before .before .before .before .pre in
+    let args = c .before .before .before .before .before .before .args in
+    let if1 = c .before .before .before .if1 in
+    (omega (arith, pre .0 .shaped .words), node-end (args .g) (args .p .0) (length (args .inners .now)) (omega (arith, if1 .left, pre .1)) (pre .0 .inners))
 
 cast-len : tie.Need-cast-len
 cast-len c = search needs
 
 returns-4 : tie.Need-returns-4
-returns-4 c = no-place _ _ _ _ _ _ _ _ _ (c .before .before .word-of .ensures) (c .before .word .ensures) (c .before .before .before .before .before .if1 .left) (c .before .before .before .before .if2 .left) (c .before .before .before .if3 .left) (c .if4 .taken)
+returns-4 c =
+    let if1 = c .before .before .before .before .before .if1 in
+    let if2 = c .before .before .before .before .if2 in
+    let if3 = c .before .before .before .if3 in
+    no-place _ _ _ _ _ _ _ _ _ (c .before .before .word-of .ensures) (c .before .word .ensures) (if1 .left) (if2 .left) (if3 .left) (c .if4 .taken)
 
 returns-5 : tie.Need-returns-5
-returns-5 c = too-long _ _ _ _ _ _ _ _ _ (c .before .before .before .word-of .ensures) (c .before .before .word .ensures) (c .before .before .before .before .before .before .if1 .left) (c .before .before .before .before .before .if2 .left) (c .before .before .before .before .if3 .left) (c .before .if4 .left) (c .if5 .taken)
+returns-5 c =
+    let word-of = c .before .before .before .word-of in
+    let if1 = c .before .before .before .before .before .before .if1 in
+    let if2 = c .before .before .before .before .before .if2 in
+    let if3 = c .before .before .before .before .if3 in
+    too-long _ _ _ _ _ _ _ _ _ (word-of .ensures) (c .before .before .word .ensures) (if1 .left) (if2 .left) (if3 .left) (c .before .if4 .left) (c .if5 .taken)
 
 returns-6 : tie.Need-returns-6
-returns-6 c = stands-at _ _ _ _ _ _ _ _ _ (c .before .before .before .word-of .ensures) (c .before .before .word .ensures) (c .before .before .before .before .before .before .if1 .left) (c .before .before .before .before .before .if2 .left) (c .before .before .before .before .if3 .left) (c .before .if4 .left) (c .if5 .left)
+returns-6 c =
+    let word-of = c .before .before .before .word-of in
+    let if1 = c .before .before .before .before .before .before .if1 in
+    let if2 = c .before .before .before .before .before .if2 in
+    let if3 = c .before .before .before .before .if3 in
+    stands-at _ _ _ _ _ _ _ _ _ (word-of .ensures) (c .before .before .word .ensures) (if1 .left) (if2 .left) (if3 .left) (c .before .if4 .left) (c .if5 .left)
 
 pub standing-spec : {M : Type 1} → statement M
 standing-spec =

@@ -66,7 +66,8 @@ shared-slice-read-here c =
 returns : tie.Need-returns Inv-loop μ-loop
 returns c =
     let s = c .before .before .before .before .before .before in
-    rw (used-slots _ _ _ (s .pre .4)) (sym (find-here _ _ _ _ _ _ _ _ _ _ (s .pre .2) (s .pre .3) (c .before .before .before .loop .inv .2) (c .before .before .loop-test .taken) (c .if1 .taken)) ∙ c .before .before .before .loop .inv .4)
+    rw (used-slots _ _ _ (s .pre .4)) (sym (find-here _ _ _ _ _ _ _ _ _ _ (s .pre .2) (s .pre .3) (c .before .before .before .loop .inv .2) (c .before .before .loop-test .taken)
+    (c .if1 .taken)) ∙ c .before .before .before .loop .inv .4)
 
 add-wide : tie.Need-add-wide Inv-loop μ-loop
 add-wide c =
@@ -87,7 +88,10 @@ wide-requires : tie.Need-wide-requires Inv-loop μ-loop
 wide-requires c κs = tt
 
 add-before : tie.Need-add-before Inv-loop μ-loop
-add-before c = omega (arith, c .before .shared-slice-known4 .given (c .before .before .before .before .before .loop .p + c .before .before .before .before .before .before .before .before .args .effect))
+add-before c =
+    let the-loop = c .before .before .before .before .before .loop in
+    let args = c .before .before .before .before .before .before .before .before .args in
+    omega (arith, c .before .shared-slice-known4 .given (the-loop .p + args .effect))
 
 add-p-3 : tie.Need-add-p-3 Inv-loop μ-loop
 add-p-3 c =
@@ -112,7 +116,9 @@ loop-again c =
     )
 
 returns-2 : tie.Need-returns-2 Inv-loop μ-loop
-returns-2 c = rw (used-slots _ _ _ (c .before .before .before .before .pre .4)) (sym (find-none _ _ _ _ _ _ _ _ _ (c .loop-test .left)) ∙ c .before .loop .inv .4)
+returns-2 c =
+    let pre = c .before .before .before .before .pre in
+    rw (used-slots _ _ _ (pre .4)) (sym (find-none _ _ _ _ _ _ _ _ _ (c .loop-test .left)) ∙ c .before .loop .inv .4)
 
 pub find-spec : {M : Type 1} → statement M
 find-spec =

@@ -54,7 +54,9 @@ mul-if1 : tie.Need-mul-if1 Inv-loop μ-loop
 mul-if1 c = omega (arith, turn (c))
 
 shared-slice-read-if1 : tie.Need-shared-slice-read-if1 Inv-loop μ-loop
-shared-slice-read-if1 c = omega (arith, turn (c .before), c .before .before .before .pre .0)
+shared-slice-read-if1 c =
+    let pre = c .before .before .before .pre in
+    omega (arith, turn (c .before), pre .0)
 
 loop-less : tie.Need-loop-less Inv-loop μ-loop
 loop-less c = omega arith
@@ -73,8 +75,12 @@ loop-again-2 : tie.Need-loop-again-2 Inv-loop μ-loop
 loop-again-2 c =
     let s = c .before .before .before .before in
     let l = c .before .before .before .loop in
-    let t = turn (c .before .before) in
-    (omega arith, omega (arith, t), l .inv .2 ∙ index-back _ _ _ _ _ (l .p - s .args .g .stride) _ (omega (arith, s .pre .0)) (omega (arith, t)) (c .before .before .loop-test .taken) (l .inv .0) (c .if1 .left))
+    let t = turn (c .before .before) in (
+      omega arith,
+      omega (arith, t),
+      l .inv .2
+          ∙ index-back _ _ _ _ _ (l .p - s .args .g .stride) _ (omega (arith, s .pre .0)) (omega (arith, t)) (c .before .before .loop-test .taken) (l .inv .0) (c .if1 .left),
+    )
 
 returns : tie.Need-returns Inv-loop μ-loop
 returns c =

@@ -33,10 +33,15 @@ shared-slice-read-if1 : tie.Need-shared-slice-read-if1 Inv-loop μ-loop
 shared-slice-read-if1 c = turn (c .before)
 
 returns : tie.Need-returns Inv-loop μ-loop
-returns c = sym (index-here _ _ _ _ _ _ _ (omega (arith, c .before .before .before .before .pre .0)) (c .before .before .before .loop .inv .1) (c .before .before .loop-test .taken) (c .if1 .taken)) ∙ c .before .before .before .loop .inv .2
+returns c =
+    let pre = c .before .before .before .before .pre in
+    let the-loop = c .before .before .before .loop in
+    sym (index-here _ _ _ _ _ _ _ (omega (arith, pre .0)) (the-loop .inv .1) (c .before .before .loop-test .taken) (c .if1 .taken)) ∙ the-loop .inv .2
 
 add-p : tie.Need-add-p Inv-loop μ-loop
-add-p c = omega (arith, turn (c .before .before), c .before .before .before .before .pre .0)
+add-p c =
+    let pre = c .before .before .before .before .pre in
+    omega (arith, turn (c .before .before), pre .0)
 
 add-k : tie.Need-add-k Inv-loop μ-loop
 add-k c = omega arith
@@ -47,8 +52,12 @@ loop-less c = omega arith
 loop-again : tie.Need-loop-again Inv-loop μ-loop
 loop-again c =
     let s = c .before .before .before .before in
-    let l = c .before .before .before .loop in
-    (omega arith, omega (arith, one-more (l .k) (s .args .g .stride)), sym (index-on _ _ _ _ _ _ _ (omega (arith, s .pre .0)) (l .inv .1) (c .before .before .loop-test .taken) (c .if1 .left)) ∙ l .inv .2)
+    let l = c .before .before .before .loop in (
+      omega arith,
+      omega (arith, one-more (l .k) (s .args .g .stride)),
+      sym
+          (index-on _ _ _ _ _ _ _ (omega (arith, s .pre .0)) (l .inv .1) (c .before .before .loop-test .taken) (c .if1 .left)) ∙ l .inv .2,
+    )
 
 returns-2 : tie.Need-returns-2 Inv-loop μ-loop
 returns-2 c = sym (index-none _ _ _ _ _ _ (c .loop-test .left)) ∙ c .before .loop .inv .2

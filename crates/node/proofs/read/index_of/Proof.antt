@@ -16,7 +16,9 @@ index-near-requires c κs =
     (s .pre .0, s .pre .1, s .pre .2)
 
 returns : tie.Need-returns
-returns c = rw (used-slots _ _ _ (c .before .before .before .before .pre .2)) (c .index-near .ensures)
+returns c =
+    let pre = c .before .before .before .before .pre in
+    rw (used-slots _ _ _ (pre .2)) (c .index-near .ensures)
 
 index-far-requires : tie.Need-index-far-requires
 index-far-requires c κs =
@@ -24,7 +26,9 @@ index-far-requires c κs =
     (s .pre .0, s .pre .1, s .pre .2)
 
 returns-2 : tie.Need-returns-2
-returns-2 c = rw (used-slots _ _ _ (c .before .before .before .before .pre .2)) (c .index-far .ensures)
+returns-2 c =
+    let pre = c .before .before .before .before .pre in
+    rw (used-slots _ _ _ (pre .2)) (c .index-far .ensures)
 
 pub index-of-spec : {M : Type 1} → statement M
 index-of-spec =

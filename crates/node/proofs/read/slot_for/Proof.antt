@@ -28,7 +28,9 @@ loop-holds c =
     (omega (arith, s .pre .0), simp length-set (s .pre .2), rw sub-zero (totals-first _ _ (s .args .x .now) _ (omega (arith, s .pre .0))))
 
 add-loop : tie.Need-add-loop Inv-loop μ-loop
-add-loop c = omega (arith, c .before .before .before .pre .0)
+add-loop c =
+    let pre = c .before .before .before .pre in
+    omega (arith, pre .0)
 
 start-requires : tie.Need-start-requires Inv-loop μ-loop
 start-requires c κs =
@@ -39,22 +41,33 @@ cast-x : tie.Need-cast-x Inv-loop μ-loop
 cast-x c = omega arith
 
 add-x : tie.Need-add-x Inv-loop μ-loop
-add-x c = omega (arith, c .before .before .before .before .before .pre .0)
+add-x c =
+    let pre = c .before .before .before .before .before .pre in
+    omega (arith, pre .0)
 
 mul-x : tie.Need-mul-x Inv-loop μ-loop
-mul-x c = omega (arith, c .before .before .before .before .before .pre .0)
+mul-x c =
+    let pre = c .before .before .before .before .before .pre in
+    omega (arith, pre .0)
 
 slice-write-x-2 : tie.Need-slice-write-x-2 Inv-loop μ-loop
 slice-write-x-2 c = omega arith
 
 add-v : tie.Need-add-v Inv-loop μ-loop
-add-v c = omega (arith, c .before .before .before .before .before .pre .0)
+add-v c =
+    let pre = c .before .before .before .before .before .pre in
+    omega (arith, pre .0)
 
 loop-less : tie.Need-loop-less Inv-loop μ-loop
 loop-less c = omega arith
 
 loop-again : tie.Need-loop-again Inv-loop μ-loop
-loop-again c = (omega arith, simp length-set (c .before .before .loop .inv .1), rw (c .start .ensures .0, start-all) (totals-more _ _ _ _ (c .before .before .loop .inv .1) (c .before .loop-test .taken) ∙ c .before .before .loop .inv .2))
+loop-again c = (
+  omega arith,
+  simp length-set (c .before .before .loop .inv .1),
+  rw (c .start .ensures .0, start-all)
+      (totals-more _ _ _ _ (c .before .before .loop .inv .1) (c .before .loop-test .taken) ∙ c .before .before .loop .inv .2),
+)
 
 same-length : tie.Need-same-length Inv-loop μ-loop
 same-length c = omega arith

@@ -19,8 +19,12 @@ abbrev μ-loop : tie.MeasureT-loop
 μ-loop node view i stride sum₀ p₀ k₀ sum p k = i - k
 
 -- the word of a turn lies in the node
-turn : (c : tie.In-loop Inv-loop μ-loop) → 3 + c .before .loop .k * c .before .before .before .args .g .stride + (c .before .before .before .args .view + 1) < length (c .before .before .before .args .node .now)
-turn c = omega (arith, c .before .before .before .pre .0, in-row (c .before .loop .k) (c .before .before .before .args .g .fan) (c .before .before .before .args .g .stride) (c .before .before .before .args .view + 1) (omega arith) (omega arith))
+turn : (c : tie.In-loop Inv-loop μ-loop) → 3 + c .before .loop .k * c .before .before .before .args .g .stride + (c .before .before .before .args .view + 1) < length
+    (c .before .before .before .args .node .now)
+turn c =
+    let pre = c .before .before .before .pre in
+    let args = c .before .before .before .args in
+    omega (arith, pre .0, in-row (c .before .loop .k) (args .g .fan) (args .g .stride) (args .view + 1) (omega arith) (omega arith))
 
 add-p : tie.Need-add-p Inv-loop μ-loop
 add-p c = omega arith
@@ -41,7 +45,9 @@ wide-requires : tie.Need-wide-requires Inv-loop μ-loop
 wide-requires c κs = tt
 
 add-sum : tie.Need-add-sum Inv-loop μ-loop
-add-sum c = omega (arith, c .before .shared-slice-known2 .given (c .before .before .before .loop .p))
+add-sum c =
+    let the-loop = c .before .before .before .loop in
+    omega (arith, c .before .shared-slice-known2 .given (the-loop .p))
 
 add-p-3 : tie.Need-add-p-3 Inv-loop μ-loop
 add-p-3 c = omega (arith, turn (c .before .before))
@@ -55,8 +61,13 @@ loop-less c = omega arith
 loop-again : tie.Need-loop-again Inv-loop μ-loop
 loop-again c =
     let s = c .before .before .before .before .before in
-    let l = c .before .before .before .loop in
-    (omega arith, omega (arith, one-more (l .k) (s .args .g .stride)), omega (arith, c .before .shared-slice-known2 .given (l .p)), total-more _ _ _ _ _ _ _ _ (s .pre .2) (l .inv .1) (l .inv .3) (c .wide .ensures))
+    let l = c .before .before .before .loop in (
+      omega arith,
+      omega (arith, one-more (l .k) (s .args .g .stride)),
+      omega (arith, c .before .shared-slice-known2 .given (l .p)),
+      total-more _ _ _ _ _ _ _ _ (s .pre .2)
+          (l .inv .1) (l .inv .3) (c .wide .ensures),
+    )
 
 returns : tie.Need-returns Inv-loop μ-loop
 unfolding nodeOf

@@ -35,7 +35,9 @@ start-requires-2 : tie.Need-start-requires-2
 start-requires-2 c κs = search needs
 
 returns-2 : tie.Need-returns-2
-returns-2 c = (c .start2 .ensures .0 ∙ ap (total (c .before .before .before .before .args .view)) (fewer _ _ _ (c .before .if1 .left)), c .start2 .ensures .1)
+returns-2 c =
+    let args = c .before .before .before .before .args in
+    (c .start2 .ensures .0 ∙ ap (total (args .view)) (fewer _ _ _ (c .before .if1 .left)), c .start2 .ensures .1)
 
 pub used-total-spec : {M : Type 1} → statement M
 used-total-spec =

@@ -137,7 +137,10 @@ same-length-3 : tie.Need-same-length-3
 same-length-3 c = search needs
 
 returns : tie.Need-returns
-returns c = by-call _ _ _ (c .before .before .before .before .before .before .before .before .before .before .before .before .call .given .1) _ _ _ _ _ (c .before .before .before .before .before .before .before .reset .ensures) _ (c .outcome .ensures)
+returns c =
+    let call = c .before .before .before .before .before .before .before .before .before .before .before .before .call in
+    let reset = c .before .before .before .before .before .before .before .reset in
+    by-call _ _ _ (call .given .1) _ _ _ _ _ (reset .ensures) _ (c .outcome .ensures)
 
 same-length-4 : tie.Need-same-length-4
 same-length-4 c = search needs
@@ -149,7 +152,10 @@ same-length-6 : tie.Need-same-length-6
 same-length-6 c = search needs
 
 returns-2 : tie.Need-returns-2
-returns-2 c = by-call _ _ _ (c .before .before .before .before .before .before .before .before .before .before .before .before .call2 .given .1) _ _ _ _ _ (c .before .before .before .before .before .before .before .insert .ensures) _ (c .inserted .ensures)
+returns-2 c =
+    let call2 = c .before .before .before .before .before .before .before .before .before .before .before .before .call2 in
+    let insert = c .before .before .before .before .before .before .before .insert in
+    by-call _ _ _ (call2 .given .1) _ _ _ _ _ (insert .ensures) _ (c .inserted .ensures)
 
 same-length-7 : tie.Need-same-length-7
 same-length-7 c = search needs
@@ -161,7 +167,10 @@ same-length-9 : tie.Need-same-length-9
 same-length-9 c = search needs
 
 returns-3 : tie.Need-returns-3
-returns-3 c = by-call _ _ _ (c .before .before .before .before .before .before .before .before .before .before .before .before .call3 .given .1) _ _ _ _ _ (c .before .before .before .before .before .before .before .add .ensures) _ (c .added .ensures)
+returns-3 c =
+    let call3 = c .before .before .before .before .before .before .before .before .before .before .before .before .call3 in
+    let add = c .before .before .before .before .before .before .before .add in
+    by-call _ _ _ (call3 .given .1) _ _ _ _ _ (add .ensures) _ (c .added .ensures)
 
 same-length-10 : tie.Need-same-length-10
 same-length-10 c = search needs
@@ -173,7 +182,10 @@ same-length-12 : tie.Need-same-length-12
 same-length-12 c = search needs
 
 returns-4 : tie.Need-returns-4
-returns-4 c = by-call _ _ _ (c .before .before .before .before .before .before .before .before .before .before .before .before .call4 .given .1) _ _ _ _ _ (c .before .before .before .before .before .before .before .split-entry .ensures) _ (c .divided .ensures)
+returns-4 c =
+    let call4 = c .before .before .before .before .before .before .before .before .before .before .before .before .call4 in
+    let split-entry = c .before .before .before .before .before .before .before .split-entry in
+    by-call _ _ _ (call4 .given .1) _ _ _ _ _ (split-entry .ensures) _ (c .divided .ensures)
 
 same-length-13 : tie.Need-same-length-13
 same-length-13 c = search needs
@@ -185,7 +197,10 @@ same-length-15 : tie.Need-same-length-15
 same-length-15 c = search needs
 
 returns-5 : tie.Need-returns-5
-returns-5 c = by-call _ _ _ (c .before .before .before .before .before .before .before .before .before .before .call5 .given .1) _ _ _ _ _ (c .before .before .before .before .before .set-lengths .ensures) _ (c .outcome2 .ensures)
+returns-5 c =
+    let call5 = c .before .before .before .before .before .before .before .before .before .before .call5 in
+    let set-lengths = c .before .before .before .before .before .set-lengths in
+    by-call _ _ _ (call5 .given .1) _ _ _ _ _ (set-lengths .ensures) _ (c .outcome2 .ensures)
 
 same-length-16 : tie.Need-same-length-16
 same-length-16 c = search needs
@@ -197,7 +212,10 @@ same-length-18 : tie.Need-same-length-18
 same-length-18 c = search needs
 
 returns-6 : tie.Need-returns-6
-returns-6 c = by-call _ _ _ (c .before .before .before .before .before .before .before .before .before .before .call6 .given .1) _ _ _ _ _ (c .before .before .before .before .before .update .ensures) _ (c .updated .ensures)
+returns-6 c =
+    let call6 = c .before .before .before .before .before .before .before .before .before .before .call6 in
+    let update = c .before .before .before .before .before .update in
+    by-call _ _ _ (call6 .given .1) _ _ _ _ _ (update .ensures) _ (c .updated .ensures)
 
 same-length-19 : tie.Need-same-length-19
 same-length-19 c = search needs
@@ -209,7 +227,9 @@ same-length-21 : tie.Need-same-length-21
 same-length-21 c = search needs
 
 returns-7 : tie.Need-returns-7
-returns-7 c = by-call _ _ _ (c .before .before .before .before .before .before .call7 .given .1) _ _ _ _ _ (c .before .locate .ensures) _ (c .looked .ensures)
+returns-7 c =
+    let call7 = c .before .before .before .before .before .before .call7 in
+    by-call _ _ _ (call7 .given .1) _ _ _ _ _ (c .before .locate .ensures) _ (c .looked .ensures)
 
 same-length-22 : tie.Need-same-length-22
 same-length-22 c = search needs
@@ -221,7 +241,9 @@ same-length-24 : tie.Need-same-length-24
 same-length-24 c = search needs
 
 returns-8 : tie.Need-returns-8
-returns-8 c = by-call _ _ _ (c .before .before .before .before .before .before .call8 .given .1) _ _ _ _ _ (c .before .entry-to-char-index .ensures) _ (c .number .ensures)
+returns-8 c =
+    let call8 = c .before .before .before .before .before .before .call8 in
+    by-call _ _ _ (call8 .given .1) _ _ _ _ _ (c .before .entry-to-char-index .ensures) _ (c .number .ensures)
 
 same-length-25 : tie.Need-same-length-25
 same-length-25 c = search needs
@@ -233,7 +255,9 @@ same-length-27 : tie.Need-same-length-27
 same-length-27 c = search needs
 
 returns-9 : tie.Need-returns-9
-returns-9 c = by-call _ _ _ (c .before .before .before .before .before .before .call9 .given .1) _ _ _ _ _ (c .before .next .ensures) _ (c .following .ensures)
+returns-9 c =
+    let call9 = c .before .before .before .before .before .before .call9 in
+    by-call _ _ _ (call9 .given .1) _ _ _ _ _ (c .before .next .ensures) _ (c .following .ensures)
 
 same-length-28 : tie.Need-same-length-28
 same-length-28 c = search needs
@@ -245,7 +269,9 @@ same-length-30 : tie.Need-same-length-30
 same-length-30 c = search needs
 
 returns-10 : tie.Need-returns-10
-returns-10 c = by-call _ _ _ (c .before .before .before .before .before .before .call10 .given .1) _ _ _ _ _ (c .before .cmp .ensures) _ (c .compared .ensures)
+returns-10 c =
+    let call10 = c .before .before .before .before .before .before .call10 in
+    by-call _ _ _ (call10 .given .1) _ _ _ _ _ (c .before .cmp .ensures) _ (c .compared .ensures)
 
 same-length-31 : tie.Need-same-length-31
 same-length-31 c = search needs
@@ -257,7 +283,9 @@ same-length-33 : tie.Need-same-length-33
 same-length-33 c = search needs
 
 returns-11 : tie.Need-returns-11
-returns-11 c = by-call _ _ _ (c .before .before .before .before .before .before .call11 .given .1) _ _ _ _ _ (c .before .lengths .ensures) _ (c .measured .ensures)
+returns-11 c =
+    let call11 = c .before .before .before .before .before .before .call11 in
+    by-call _ _ _ (call11 .given .1) _ _ _ _ _ (c .before .lengths .ensures) _ (c .measured .ensures)
 
 same-length-34 : tie.Need-same-length-34
 same-length-34 c = search needs
@@ -269,7 +297,9 @@ same-length-36 : tie.Need-same-length-36
 same-length-36 c = search needs
 
 returns-12 : tie.Need-returns-12
-returns-12 c = by-call _ _ _ (c .before .before .before .before .before .enum-told .given .1) _ _ _ _ _ (c .before .len .ensures) _ (c .number2 .ensures)
+returns-12 c =
+    let the-enum-told = c .before .before .before .before .before .enum-told in
+    by-call _ _ _ (the-enum-told .given .1) _ _ _ _ _ (c .before .len .ensures) _ (c .number2 .ensures)
 
 same-length-37 : tie.Need-same-length-37
 same-length-37 c = search needs
@@ -281,7 +311,9 @@ same-length-39 : tie.Need-same-length-39
 same-length-39 c = search needs
 
 returns-13 : tie.Need-returns-13
-returns-13 c = by-call _ _ _ (c .before .before .before .before .before .enum-told2 .given .1) _ _ _ _ _ (c .before .first .ensures) _ (c .named .ensures)
+returns-13 c =
+    let enum-told2 = c .before .before .before .before .before .enum-told2 in
+    by-call _ _ _ (enum-told2 .given .1) _ _ _ _ _ (c .before .first .ensures) _ (c .named .ensures)
 
 returns-14 : tie.Need-returns-14
 returns-14 c = by-none _ _ (c .before .enum-told3 .given .1) _ (c .refuse .ensures)

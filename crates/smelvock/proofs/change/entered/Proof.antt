@@ -29,7 +29,8 @@ returns : tie.Need-returns
 unfolding shared.enter
 returns c =
     let a = c .before .before .before .before .before .before .before .before .args in
-    reply-refused insertedOf insertedAnswer headAfter _ (given (a .head .now) (a .leaves .now) (a .inners .now) (a .homes .now)) _ _ (sym (c .before .before .bad-flag .ensures) ∙ c .before .if1 .taken) (c .refused-inserted .ensures)
+    reply-refused insertedOf insertedAnswer headAfter _ (given (a .head .now) (a .leaves .now) (a .inners .now) (a .homes .now)) _ _
+    (sym (c .before .before .bad-flag .ensures) ∙ c .before .if1 .taken) (c .refused-inserted .ensures)
 
 head-from-requires : tie.Need-head-from-requires
 head-from-requires c κs = good-flag _ _ (sym (c .before .before .bad-flag .ensures) ∙ c .before .if1 .left)
@@ -47,7 +48,10 @@ inserted-of-requires : tie.Need-inserted-of-requires
 inserted-of-requires c κs = search needs
 
 settle-requires : tie.Need-settle-requires
-settle-requires c κs = good-flag _ _ (sym (c .before .before .before .before .before .before .before .before .before .before .before .before .before .before .before .before .before .before .bad-flag .ensures) ∙ c .before .before .before .before .before .before .before .before .before .before .before .before .before .before .before .before .before .if1 .left)
+settle-requires c κs =
+    let bad-flag = c .before .before .before .before .before .before .before .before .before .before .before .before .before .before .before .before .before .before .bad-flag in
+    let if1 = c .before .before .before .before .before .before .before .before .before .before .before .before .before .before .before .before .before .if1 in
+    good-flag _ _ (sym (bad-flag .ensures) ∙ if1 .left)
 
 same-length-2 : tie.Need-same-length-2
 same-length-2 c = search needs
@@ -65,7 +69,8 @@ returns-2 : tie.Need-returns-2
 unfolding shared.enter
 returns-2 c =
     let a = c .before .before .before .before .before .before .before .before .before .before .before .before .before .before .before .before .before .before .before .before .before .before .before .before .before .before .before .args in
-    reply-settled insertedOf insertedAnswer (λ (q : FlatInserted). q .number) (λ x. refl) _ (given (a .head .now) (a .leaves .now) (a .inners .now) (a .homes .now)) _ _ _ _ _ _ _ _ (sym (c .before .before .before .before .before .before .before .before .before .before .before .before .before .before .before .before .before .before .before .before .before .bad-flag .ensures) ∙ c .before .before .before .before .before .before .before .before .before .before .before .before .before .before .before .before .before .before .before .before .if1 .left) (c .before .before .before .before .inserted-of .ensures) (c .before .before .settle .ensures) (c .before .before .before .before .before .before .before .before .before .before .before .before .enter .ensures ∙ ap₃ (λ (h : Head) (t : Target) (l : Lengths). put.enter (a .summed) (state h (a .leaves .now) (a .inners .now) (a .homes .now)) t l) (c .before .before .before .before .before .before .before .before .before .before .before .before .before .before .before .before .before .before .head-from .ensures) (c .before .before .before .before .before .before .before .before .before .before .before .before .before .before .target-from .ensures) (c .before .before .before .before .before .before .before .before .before .before .before .before .before .lengths-from .ensures))
+    reply-settled insertedOf insertedAnswer (λ (q : FlatInserted). q .number) (λ x. refl) _ (given (a .head .now) (a .leaves .now) (a .inners .now) (a .homes .now)) _ _ _ _ _ _ _ _
+    (sym (c .before .before .before .before .before .before .before .before .before .before .before .before .before .before .before .before .before .before .before .before .before .bad-flag .ensures) ∙ c .before .before .before .before .before .before .before .before .before .before .before .before .before .before .before .before .before .before .before .before .if1 .left) (c .before .before .before .before .inserted-of .ensures) (c .before .before .settle .ensures) (c .before .before .before .before .before .before .before .before .before .before .before .before .enter .ensures ∙ ap₃ (λ (h : Head) (t : Target) (l : Lengths). put.enter (a .summed) (state h (a .leaves .now) (a .inners .now) (a .homes .now)) t l) (c .before .before .before .before .before .before .before .before .before .before .before .before .before .before .before .before .before .before .head-from .ensures) (c .before .before .before .before .before .before .before .before .before .before .before .before .before .before .target-from .ensures) (c .before .before .before .before .before .before .before .before .before .before .before .before .before .lengths-from .ensures))
 
 pub entered-spec : {M : Type 1} → statement M
 entered-spec =

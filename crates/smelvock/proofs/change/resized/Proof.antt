@@ -29,7 +29,8 @@ returns : tie.Need-returns
 unfolding shared.resize
 returns c =
     let a = c .before .before .before .before .before .before .before .before .args in
-    reply-refused numberOf numberAnswer headAfter _ (given (a .head .now) (a .leaves .now) (a .inners .now) (a .homes .now)) _ _ (sym (c .before .before .bad-head .ensures) ∙ c .before .if1 .taken) (c .refused-number .ensures)
+    reply-refused numberOf numberAnswer headAfter _ (given (a .head .now) (a .leaves .now) (a .inners .now) (a .homes .now)) _ _
+    (sym (c .before .before .bad-head .ensures) ∙ c .before .if1 .taken) (c .refused-number .ensures)
 
 head-from-requires : tie.Need-head-from-requires
 head-from-requires c κs = good-head _ (sym (c .before .before .bad-head .ensures) ∙ c .before .if1 .left)
@@ -47,7 +48,10 @@ number-of-requires : tie.Need-number-of-requires
 number-of-requires c κs = search needs
 
 settle-requires : tie.Need-settle-requires
-settle-requires c κs = good-head _ (sym (c .before .before .before .before .before .before .before .before .before .before .before .before .before .before .before .bad-head .ensures) ∙ c .before .before .before .before .before .before .before .before .before .before .before .before .before .before .if1 .left)
+settle-requires c κs =
+    let bad-head = c .before .before .before .before .before .before .before .before .before .before .before .before .before .before .before .bad-head in
+    let if1 = c .before .before .before .before .before .before .before .before .before .before .before .before .before .before .if1 in
+    good-head _ (sym (bad-head .ensures) ∙ if1 .left)
 
 same-length-2 : tie.Need-same-length-2
 same-length-2 c = search needs
@@ -62,7 +66,15 @@ returns-2 : tie.Need-returns-2
 unfolding shared.resize
 returns-2 c =
     let a = c .before .before .before .before .before .before .before .before .before .before .before .before .before .before .before .before .before .before .before .before .before .before .before .before .args in
-    reply-settled numberOf numberAnswer (λ (q : FlatNumber). q .number) (λ x. refl) _ (given (a .head .now) (a .leaves .now) (a .inners .now) (a .homes .now)) _ _ _ _ _ _ _ _ (sym (c .before .before .before .before .before .before .before .before .before .before .before .before .before .before .before .before .before .before .bad-head .ensures) ∙ c .before .before .before .before .before .before .before .before .before .before .before .before .before .before .before .before .before .if1 .left) (c .before .before .before .before .number-of .ensures) (c .before .before .settle .ensures) (c .before .before .before .before .before .before .before .before .before .before .resize .ensures ∙ ap₃ (λ (h : Head) (k : Cursor) (l : Lengths). size.resize (a .summed) (state h (a .leaves .now) (a .inners .now) (a .homes .now)) k l) (c .before .before .before .before .before .before .before .before .before .before .before .before .before .before .before .head-from .ensures) (c .before .before .before .before .before .before .before .before .before .before .before .before .cursor-from .ensures) (c .before .before .before .before .before .before .before .before .before .before .before .lengths-from .ensures))
+    reply-settled numberOf numberAnswer (λ (q : FlatNumber). q .number) (λ x. refl) _ (given (a .head .now) (a .leaves .now) (a .inners .now) (a .homes .now)) _ _ _ _ _ _ _ _
+    (sym (c .before .before .before .before .before .before .before .before .before .before .before .before .before .before .before .before .before .before .bad-head .ensures)
+    ∙ c .before .before .before .before .before .before .before .before .before .before .before .before .before .before .before .before .before .if1 .left)
+    (c .before .before .before .before .number-of .ensures) (c .before .before .settle .ensures)
+    (c .before .before .before .before .before .before .before .before .before .before .resize .ensures
+    ∙ ap₃ (λ (h : Head) (k : Cursor) (l : Lengths). size.resize (a .summed) (state h (a .leaves .now) (a .inners .now) (a .homes .now)) k l)
+    (c .before .before .before .before .before .before .before .before .before .before .before .before .before .before .before .head-from .ensures)
+    (c .before .before .before .before .before .before .before .before .before .before .before .before .cursor-from .ensures)
+    (c .before .before .before .before .before .before .before .before .before .before .before .lengths-from .ensures))
 
 pub resized-spec : {M : Type 1} → statement M
 resized-spec =

@@ -23,7 +23,8 @@ same-length-4 c = search needs
 returns : tie.Need-returns
 returns c =
     let a = c .before .before .before .before .before .before .before .before .before .before .before .before .before .before .before .before .before .args in
-    enter-add (given (a .head .now) (a .leaves .now) (a .inners .now) (a .homes .now)) (a .end) (a .before) (a .lengths) _ _ _ _ _ (c .before .before .before .before .before .before .before .before .entered .ensures)
+    enter-add (given (a .head .now) (a .leaves .now) (a .inners .now) (a .homes .now)) (a .end) (a .before) (a .lengths) _ _ _ _ _
+    (c .before .before .before .before .before .before .before .before .entered .ensures)
 
 pub smelvock-add-spec : {M : Type 1} → statement M
 smelvock-add-spec = tie.close (tie.spec entered-requires same-length same-length-2 same-length-3 same-length-4 returns)

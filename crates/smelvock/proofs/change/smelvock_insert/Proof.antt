@@ -24,7 +24,8 @@ same-length-4 c = search needs
 returns : tie.Need-returns
 returns c =
     let a = c .before .before .before .before .before .before .before .before .before .before .before .before .before .before .before .before .before .args in
-    c .before .before .before .before .before .before .before .before .entered .ensures ∙ enter-insert (given (a .head .now) (a .leaves .now) (a .inners .now) (a .homes .now)) (a .end) (a .before) (a .lengths)
+    c .before .before .before .before .before .before .before .before .entered .ensures
+    ∙ enter-insert (given (a .head .now) (a .leaves .now) (a .inners .now) (a .homes .now)) (a .end) (a .before) (a .lengths)
 
 pub smelvock-insert-spec : {M : Type 1} → statement M
 smelvock-insert-spec = tie.close (tie.spec entered-requires same-length same-length-2 same-length-3 same-length-4 returns)

@@ -32,7 +32,8 @@ returns : tie.Need-returns
 unfolding flat.splitEntry
 returns c =
     let a = c .before .before .before .before .before .before .before .before .args in
-    reply-refused dividedOf dividedAnswer headAfter _ (given (a .head .now) (a .leaves .now) (a .inners .now) (a .homes .now)) _ _ (sym (c .before .before .bad-flag .ensures) ∙ c .before .if1 .taken) (c .refused-divided .ensures)
+    reply-refused dividedOf dividedAnswer headAfter _ (given (a .head .now) (a .leaves .now) (a .inners .now) (a .homes .now)) _ _
+    (sym (c .before .before .bad-flag .ensures) ∙ c .before .if1 .taken) (c .refused-divided .ensures)
 
 head-from-requires : tie.Need-head-from-requires
 head-from-requires c κs = good-flag _ _ (sym (c .before .before .bad-flag .ensures) ∙ c .before .if1 .left)
@@ -50,7 +51,10 @@ divided-of-requires : tie.Need-divided-of-requires
 divided-of-requires c κs = search needs
 
 settle-requires : tie.Need-settle-requires
-settle-requires c κs = good-flag _ _ (sym (c .before .before .before .before .before .before .before .before .before .before .before .before .before .before .before .before .before .before .bad-flag .ensures) ∙ c .before .before .before .before .before .before .before .before .before .before .before .before .before .before .before .before .before .if1 .left)
+settle-requires c κs =
+    let bad-flag = c .before .before .before .before .before .before .before .before .before .before .before .before .before .before .before .before .before .before .bad-flag in
+    let if1 = c .before .before .before .before .before .before .before .before .before .before .before .before .before .before .before .before .before .if1 in
+    good-flag _ _ (sym (bad-flag .ensures) ∙ if1 .left)
 
 same-length-2 : tie.Need-same-length-2
 same-length-2 c = search needs
@@ -68,7 +72,8 @@ returns-2 : tie.Need-returns-2
 unfolding flat.splitEntry
 returns-2 c =
     let a = c .before .before .before .before .before .before .before .before .before .before .before .before .before .before .before .before .before .before .before .before .before .before .before .before .before .before .before .args in
-    reply-settled dividedOf dividedAnswer (λ (q : FlatDivided). q .number) (λ x. refl) _ (given (a .head .now) (a .leaves .now) (a .inners .now) (a .homes .now)) _ _ _ _ _ _ _ _ (sym (c .before .before .before .before .before .before .before .before .before .before .before .before .before .before .before .before .before .before .before .before .before .bad-flag .ensures) ∙ c .before .before .before .before .before .before .before .before .before .before .before .before .before .before .before .before .before .before .before .before .if1 .left) (c .before .before .before .before .divided-of .ensures) (c .before .before .settle .ensures) (c .before .before .before .before .before .before .before .before .before .before .before .before .split-entry .ensures ∙ ap₃ (λ (h : Head) (k : Cursor) (l : Lengths). calls.splitEntry base (state h (a .leaves .now) (a .inners .now) (a .homes .now)) k (listOf l) (eqb (a .before) 1)) (c .before .before .before .before .before .before .before .before .before .before .before .before .before .before .before .before .before .before .head-from .ensures) (c .before .before .before .before .before .before .before .before .before .before .before .before .before .before .cursor-from .ensures) (c .before .before .before .before .before .before .before .before .before .before .before .before .before .lengths-from .ensures))
+    reply-settled dividedOf dividedAnswer (λ (q : FlatDivided). q .number) (λ x. refl) _ (given (a .head .now) (a .leaves .now) (a .inners .now) (a .homes .now)) _ _ _ _ _ _ _ _
+    (sym (c .before .before .before .before .before .before .before .before .before .before .before .before .before .before .before .before .before .before .before .before .before .bad-flag .ensures) ∙ c .before .before .before .before .before .before .before .before .before .before .before .before .before .before .before .before .before .before .before .before .if1 .left) (c .before .before .before .before .divided-of .ensures) (c .before .before .settle .ensures) (c .before .before .before .before .before .before .before .before .before .before .before .before .split-entry .ensures ∙ ap₃ (λ (h : Head) (k : Cursor) (l : Lengths). calls.splitEntry base (state h (a .leaves .now) (a .inners .now) (a .homes .now)) k (listOf l) (eqb (a .before) 1)) (c .before .before .before .before .before .before .before .before .before .before .before .before .before .before .before .before .before .before .head-from .ensures) (c .before .before .before .before .before .before .before .before .before .before .before .before .before .before .cursor-from .ensures) (c .before .before .before .before .before .before .before .before .before .before .before .before .before .lengths-from .ensures))
 
 pub smelvock-split-entry-spec : {M : Type 1} → statement M
 smelvock-split-entry-spec =

@@ -36,7 +36,8 @@ returns-2 : tie.Need-returns-2
 unfolding flat.audit
 returns-2 c =
     let a = c .before .before .before .before .before .before .before .before .before .args in
-    answer-good numberOf _ _ _ _ (sym (c .before .before .before .before .bad-head .ensures) ∙ c .before .before .before .if1 .left) (c .number-of-verdict .ensures) (ap verdictAnswer (c .before .audit .ensures ∙ ap (λ (h : Head). checks.audit base (state h (a .leaves .now) (a .inners .now) (a .homes .now))) (c .before .before .head-from .ensures)))
+    answer-good numberOf _ _ _ _ (sym (c .before .before .before .before .bad-head .ensures) ∙ c .before .before .before .if1 .left) (c .number-of-verdict .ensures)
+    (ap verdictAnswer (c .before .audit .ensures ∙ ap (λ (h : Head). checks.audit base (state h (a .leaves .now) (a .inners .now) (a .homes .now))) (c .before .before .head-from .ensures)))
 
 pub smelvock-audit-spec : {M : Type 1} → statement M
 smelvock-audit-spec =

@@ -30,7 +30,8 @@ returns : tie.Need-returns
 unfolding flat.locate
 returns c =
     let a = c .before .before .before .before .before .before .before .before .args in
-    reply-refused locatedOf locatedAnswer headAfter _ (given (a .head .now) (a .leaves .now) (a .inners .now) (a .homes .now)) _ _ (sym (c .before .before .bad-flag .ensures) ∙ c .before .if1 .taken) (c .refused-located .ensures)
+    reply-refused locatedOf locatedAnswer headAfter _ (given (a .head .now) (a .leaves .now) (a .inners .now) (a .homes .now)) _ _
+    (sym (c .before .before .bad-flag .ensures) ∙ c .before .if1 .taken) (c .refused-located .ensures)
 
 head-from-requires : tie.Need-head-from-requires
 head-from-requires c κs = good-flag _ _ (sym (c .before .before .bad-flag .ensures) ∙ c .before .if1 .left)
@@ -45,7 +46,10 @@ located-of-requires : tie.Need-located-of-requires
 located-of-requires c κs = search needs
 
 settle-requires : tie.Need-settle-requires
-settle-requires c κs = good-flag _ _ (sym (c .before .before .before .before .before .before .before .before .bad-flag .ensures) ∙ c .before .before .before .before .before .before .before .if1 .left)
+settle-requires c κs =
+    let bad-flag = c .before .before .before .before .before .before .before .before .bad-flag in
+    let if1 = c .before .before .before .before .before .before .before .if1 in
+    good-flag _ _ (sym (bad-flag .ensures) ∙ if1 .left)
 
 same-length-2 : tie.Need-same-length-2
 same-length-2 c = search needs
@@ -54,7 +58,12 @@ returns-2 : tie.Need-returns-2
 unfolding flat.locate
 returns-2 c =
     let a = c .before .before .before .before .before .before .before .before .before .before .before .before .before .before .before .before .before .args in
-    reply-settled locatedOf locatedAnswer (λ (q : FlatLocated). q .number) (λ x. refl) _ (given (a .head .now) (a .leaves .now) (a .inners .now) (a .homes .now)) _ _ _ _ _ _ _ _ (sym (c .before .before .before .before .before .before .before .before .before .before .before .bad-flag .ensures) ∙ c .before .before .before .before .before .before .before .before .before .before .if1 .left) (c .before .before .before .before .located-of .ensures) (c .before .before .settle .ensures) (c .before .before .before .before .before .before .locate .ensures ∙ ap₂ (λ (h : Head) (v : View). calls.locate base (state h (a .leaves .now) (a .inners .now) (a .homes .now)) (viewNumber v) (a .index)) (c .before .before .before .before .before .before .before .before .head-from .ensures) (c .before .before .before .before .before .before .before .view-from .ensures))
+    reply-settled locatedOf locatedAnswer (λ (q : FlatLocated). q .number) (λ x. refl) _ (given (a .head .now) (a .leaves .now) (a .inners .now) (a .homes .now)) _ _ _ _ _ _ _ _
+    (sym (c .before .before .before .before .before .before .before .before .before .before .before .bad-flag .ensures)
+    ∙ c .before .before .before .before .before .before .before .before .before .before .if1 .left) (c .before .before .before .before .located-of .ensures)
+    (c .before .before .settle .ensures) (c .before .before .before .before .before .before .locate .ensures
+    ∙ ap₂ (λ (h : Head) (v : View). calls.locate base (state h (a .leaves .now) (a .inners .now) (a .homes .now)) (viewNumber v) (a .index))
+    (c .before .before .before .before .before .before .before .before .head-from .ensures) (c .before .before .before .before .before .before .before .view-from .ensures))
 
 pub smelvock-locate-spec : {M : Type 1} → statement M
 smelvock-locate-spec =

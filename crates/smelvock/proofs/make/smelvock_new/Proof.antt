@@ -24,7 +24,8 @@ returns : tie.Need-returns
 unfolding flat.make
 returns c =
     let a = c .before .before .before .before .before .args in
-    reply-refused numberAlone outcomeAnswer (λ (n : ℕ) (h : Head) (w : List ℕ). headWords h) _ (given (a .head .now) (a .leaves .now) (a .inners .now) (a .homes .now)) _ _ (ap not (ne-eqb (length (a .head .now)) 15 (c .if1 .taken))) refl
+    reply-refused numberAlone outcomeAnswer (λ (n : ℕ) (h : Head) (w : List ℕ). headWords h) _ (given (a .head .now) (a .leaves .now) (a .inners .now) (a .homes .now)) _ _
+    (ap not (ne-eqb (length (a .head .now)) 15 (c .if1 .taken))) refl
 
 lengths-from-requires : tie.Need-lengths-from-requires
 lengths-from-requires c κs = search needs
@@ -54,7 +55,13 @@ returns-2 : tie.Need-returns-2
 unfolding flat.make
 returns-2 c =
     let a = c .before .before .before .before .before .before .before .before .before .before .before .before .before .before .before .before .before .before .before .before .before .before .args in
-    reply-good numberAlone outcomeAnswer (λ (n : ℕ) (h : Head) (w : List ℕ). headWords h) _ (given (a .head .now) (a .leaves .now) (a .inners .now) (a .homes .now)) _ _ _ _ _ _ _ _ (ap not (eq-eqb (length (a .head .now)) 15 (c .before .before .before .before .before .before .before .before .before .before .before .before .before .before .before .before .before .if1 .left))) (c .outcome-of .ensures) (c .before .before .before .put-head .ensures) (c .before .before .before .before .before .before .before .before .before .before .before .before .new .ensures ∙ ap (λ (l : Lengths). calls.make base (a .fan) (a .limit) (listOf l) (a .leaves .now) (a .inners .now) (a .homes .now)) (c .before .before .before .before .before .before .before .before .before .before .before .before .before .before .before .before .lengths-from .ensures))
+    reply-good numberAlone outcomeAnswer (λ (n : ℕ) (h : Head) (w : List ℕ). headWords h) _ (given (a .head .now) (a .leaves .now) (a .inners .now) (a .homes .now)) _ _ _ _ _ _ _ _
+    (ap not (eq-eqb (length (a .head .now)) 15
+    (c .before .before .before .before .before .before .before .before .before .before .before .before .before .before .before .before .before .if1 .left)))
+    (c .outcome-of .ensures) (c .before .before .before .put-head .ensures)
+    (c .before .before .before .before .before .before .before .before .before .before .before .before .new .ensures
+    ∙ ap (λ (l : Lengths). calls.make base (a .fan) (a .limit) (listOf l) (a .leaves .now) (a .inners .now) (a .homes .now))
+    (c .before .before .before .before .before .before .before .before .before .before .before .before .before .before .before .before .lengths-from .ensures))
 
 pub smelvock-new-spec : {M : Type 1} → statement M
 smelvock-new-spec =

@@ -43,7 +43,10 @@ outcome-of-requires : tie.Need-outcome-of-requires
 outcome-of-requires c κs = search needs
 
 settle-requires : tie.Need-settle-requires
-settle-requires c κs = good-head _ (sym (c .before .before .before .before .before .before .before .before .before .before .before .before .before .before .before .before .before .bad-head .ensures) ∙ c .before .before .before .before .before .before .before .before .before .before .before .before .before .before .before .before .if1 .left)
+settle-requires c κs =
+    let bad-head = c .before .before .before .before .before .before .before .before .before .before .before .before .before .before .before .before .before .bad-head in
+    let if1 = c .before .before .before .before .before .before .before .before .before .before .before .before .before .before .before .before .if1 in
+    good-head _ (sym (bad-head .ensures) ∙ if1 .left)
 
 same-length-2 : tie.Need-same-length-2
 same-length-2 c = search needs
@@ -61,7 +64,8 @@ returns-2 : tie.Need-returns-2
 unfolding flat.reset
 returns-2 c =
     let a = c .before .before .before .before .before .before .before .before .before .before .before .before .before .before .before .before .before .before .before .before .before .before .before .before .before .before .args in
-    reply-settled numberAlone outcomeAnswer (λ (q : ℕ). q) (λ x. refl) _ (given (a .head .now) (a .leaves .now) (a .inners .now) (a .homes .now)) _ _ _ _ _ _ _ _ (sym (c .before .before .before .before .before .before .before .before .before .before .before .before .before .before .before .before .before .before .before .before .bad-head .ensures) ∙ c .before .before .before .before .before .before .before .before .before .before .before .before .before .before .before .before .before .before .before .if1 .left) (c .before .before .before .before .outcome-of .ensures) (c .before .before .settle .ensures) (c .before .before .before .before .before .before .before .before .before .before .before .before .reset .ensures ∙ ap₂ (λ (h : Head) (l : Lengths). calls.reset base (state h (a .leaves .now) (a .inners .now) (a .homes .now)) (listOf l)) (c .before .before .before .before .before .before .before .before .before .before .before .before .before .before .before .before .before .head-from .ensures) (c .before .before .before .before .before .before .before .before .before .before .before .before .before .before .before .before .lengths-from .ensures))
+    reply-settled numberAlone outcomeAnswer (λ (q : ℕ). q) (λ x. refl) _ (given (a .head .now) (a .leaves .now) (a .inners .now) (a .homes .now)) _ _ _ _ _ _ _ _
+    (sym (c .before .before .before .before .before .before .before .before .before .before .before .before .before .before .before .before .before .before .before .before .bad-head .ensures) ∙ c .before .before .before .before .before .before .before .before .before .before .before .before .before .before .before .before .before .before .before .if1 .left) (c .before .before .before .before .outcome-of .ensures) (c .before .before .settle .ensures) (c .before .before .before .before .before .before .before .before .before .before .before .before .reset .ensures ∙ ap₂ (λ (h : Head) (l : Lengths). calls.reset base (state h (a .leaves .now) (a .inners .now) (a .homes .now)) (listOf l)) (c .before .before .before .before .before .before .before .before .before .before .before .before .before .before .before .before .before .head-from .ensures) (c .before .before .before .before .before .before .before .before .before .before .before .before .before .before .before .before .lengths-from .ensures))
 
 pub smelvock-reset-spec : {M : Type 1} → statement M
 smelvock-reset-spec =

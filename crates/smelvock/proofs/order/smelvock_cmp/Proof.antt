@@ -43,7 +43,10 @@ returns-2 : tie.Need-returns-2
 unfolding flat.cmp
 returns-2 c =
     let a = c .before .before .before .before .before .before .before .before .before .before .before .args in
-    answer-good numberOf _ _ _ _ (sym (c .before .before .before .before .before .before .bad-head .ensures) ∙ c .before .before .before .before .before .if1 .left) (c .number-of-compared .ensures) (ap comparedAnswer (c .before .cmp .ensures ∙ ap₃ (λ (h : Head) (j : Cursor) (k : Cursor). calls.cmp base (state h (a .leaves .now) (a .inners .now) (a .homes .now)) j k) (c .before .before .before .before .head-from .ensures) (c .before .before .before .cursor-from .ensures) (c .before .before .cursor-from2 .ensures)))
+    answer-good numberOf _ _ _ _ (sym (c .before .before .before .before .before .before .bad-head .ensures) ∙ c .before .before .before .before .before .if1 .left)
+    (c .number-of-compared .ensures) (ap comparedAnswer
+    (c .before .cmp .ensures ∙ ap₃ (λ (h : Head) (j : Cursor) (k : Cursor). calls.cmp base (state h (a .leaves .now) (a .inners .now) (a .homes .now)) j k)
+    (c .before .before .before .before .head-from .ensures) (c .before .before .before .cursor-from .ensures) (c .before .before .cursor-from2 .ensures)))
 
 pub smelvock-cmp-spec : {M : Type 1} → statement M
 smelvock-cmp-spec =

@@ -36,7 +36,8 @@ returns-2 : tie.Need-returns-2
 unfolding flat.first
 returns-2 c =
     let a = c .before .before .before .before .before .before .before .before .before .args in
-    answer-good standingOf _ _ _ _ (sym (c .before .before .before .before .bad-head .ensures) ∙ c .before .before .before .if1 .left) (c .standing-of .ensures) (ap standingAnswer (c .before .first .ensures ∙ ap (λ (h : Head). calls.first base (state h (a .leaves .now) (a .inners .now) (a .homes .now))) (c .before .before .head-from .ensures)))
+    answer-good standingOf _ _ _ _ (sym (c .before .before .before .before .bad-head .ensures) ∙ c .before .before .before .if1 .left) (c .standing-of .ensures)
+    (ap standingAnswer (c .before .first .ensures ∙ ap (λ (h : Head). calls.first base (state h (a .leaves .now) (a .inners .now) (a .homes .now))) (c .before .before .head-from .ensures)))
 
 pub smelvock-first-spec : {M : Type 1} → statement M
 smelvock-first-spec =

@@ -40,7 +40,10 @@ returns-2 : tie.Need-returns-2
 unfolding flat.next
 returns-2 c =
     let a = c .before .before .before .before .before .before .before .before .before .before .args in
-    answer-good standingOf _ _ _ _ (sym (c .before .before .before .before .before .bad-head .ensures) ∙ c .before .before .before .before .if1 .left) (c .standing-of-next .ensures) (ap nextAnswer (c .before .next .ensures ∙ ap₂ (λ (h : Head) (k : Cursor). calls.nextAfter base (state h (a .leaves .now) (a .inners .now) (a .homes .now)) k) (c .before .before .before .head-from .ensures) (c .before .before .cursor-from .ensures)))
+    answer-good standingOf _ _ _ _ (sym (c .before .before .before .before .before .bad-head .ensures) ∙ c .before .before .before .before .if1 .left)
+    (c .standing-of-next .ensures) (ap nextAnswer
+    (c .before .next .ensures ∙ ap₂ (λ (h : Head) (k : Cursor). calls.nextAfter base (state h (a .leaves .now) (a .inners .now) (a .homes .now)) k)
+    (c .before .before .before .head-from .ensures) (c .before .before .cursor-from .ensures)))
 
 pub smelvock-next-spec : {M : Type 1} → statement M
 smelvock-next-spec =

@@ -45,7 +45,10 @@ returns-2 : tie.Need-returns-2
 unfolding flat.entryToCharIndex
 returns-2 c =
     let a = c .before .before .before .before .before .before .before .before .before .before .before .args in
-    answer-good numberOf _ _ _ _ (sym (c .before .before .before .before .before .before .bad-flag .ensures) ∙ c .before .before .before .before .before .if1 .left) (c .number-of .ensures) (ap numberAnswer (c .before .entry-to-char-index .ensures ∙ ap₃ (λ (h : Head) (v : View) (k : Cursor). calls.entryToCharIndex base (state h (a .leaves .now) (a .inners .now) (a .homes .now)) (viewNumber v) k) (c .before .before .before .before .head-from .ensures) (c .before .before .before .view-from .ensures) (c .before .before .cursor-from .ensures)))
+    answer-good numberOf _ _ _ _ (sym (c .before .before .before .before .before .before .bad-flag .ensures) ∙ c .before .before .before .before .before .if1 .left)
+    (c .number-of .ensures) (ap numberAnswer (c .before .entry-to-char-index .ensures
+    ∙ ap₃ (λ (h : Head) (v : View) (k : Cursor). calls.entryToCharIndex base (state h (a .leaves .now) (a .inners .now) (a .homes .now)) (viewNumber v) k)
+    (c .before .before .before .before .head-from .ensures) (c .before .before .before .view-from .ensures) (c .before .before .cursor-from .ensures)))
 
 pub smelvock-entry-to-char-index-spec : {M : Type 1} → statement M
 smelvock-entry-to-char-index-spec =

@@ -40,7 +40,9 @@ returns-2 : tie.Need-returns-2
 unfolding flat.id
 returns-2 c =
     let a = c .before .before .before .before .before .before .before .before .before .before .args in
-    answer-good numberOf _ _ _ _ (sym (c .before .before .before .before .before .bad-head .ensures) ∙ c .before .before .before .before .if1 .left) (c .number-of-named .ensures) (ap namedAnswer (c .before .id .ensures ∙ ap₂ (λ (h : Head) (k : Cursor). calls.id base (state h (a .leaves .now) (a .inners .now) (a .homes .now)) k) (c .before .before .before .head-from .ensures) (c .before .before .cursor-from .ensures)))
+    answer-good numberOf _ _ _ _ (sym (c .before .before .before .before .before .bad-head .ensures) ∙ c .before .before .before .before .if1 .left) (c .number-of-named .ensures)
+    (ap namedAnswer (c .before .id .ensures ∙ ap₂ (λ (h : Head) (k : Cursor). calls.id base (state h (a .leaves .now) (a .inners .now) (a .homes .now)) k)
+    (c .before .before .before .head-from .ensures) (c .before .before .cursor-from .ensures)))
 
 pub smelvock-id-spec : {M : Type 1} → statement M
 smelvock-id-spec =

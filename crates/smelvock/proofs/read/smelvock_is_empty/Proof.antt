@@ -31,7 +31,11 @@ number-of-verdict-requires c κs = search needs
 
 returns-2 : tie.Need-returns-2
 unfolding flat.isEmpty
-returns-2 c = answer-good numberOf _ _ _ _ (sym (c .before .before .before .before .bad-head .ensures) ∙ c .before .before .before .if1 .left) (c .number-of-verdict .ensures) (ap verdictAnswer (c .before .is-empty .ensures ∙ ap calls.isEmpty (c .before .before .head-from .ensures)))
+returns-2 c =
+    let bad-head = c .before .before .before .before .bad-head in
+    let if1 = c .before .before .before .if1 in
+    answer-good numberOf _ _ _ _ (sym (bad-head .ensures) ∙ if1 .left) (c .number-of-verdict .ensures)
+    (ap verdictAnswer (c .before .is-empty .ensures ∙ ap calls.isEmpty (c .before .before .head-from .ensures)))
 
 pub smelvock-is-empty-spec : {M : Type 1} → statement M
 smelvock-is-empty-spec =

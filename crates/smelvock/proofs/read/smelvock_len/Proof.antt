@@ -31,7 +31,10 @@ number-of-requires c κs = search needs
 
 returns-2 : tie.Need-returns-2
 unfolding flat.len
-returns-2 c = answer-good numberOf _ _ _ _ (sym (c .before .before .before .before .bad-head .ensures) ∙ c .before .before .before .if1 .left) (c .number-of .ensures) (ap numberAnswer (c .before .len .ensures ∙ ap calls.len (c .before .before .head-from .ensures)))
+returns-2 c =
+    let bad-head = c .before .before .before .before .bad-head in
+    let if1 = c .before .before .before .if1 in
+    answer-good numberOf _ _ _ _ (sym (bad-head .ensures) ∙ if1 .left) (c .number-of .ensures) (ap numberAnswer (c .before .len .ensures ∙ ap calls.len (c .before .before .head-from .ensures)))
 
 pub smelvock-len-spec : {M : Type 1} → statement M
 smelvock-len-spec =

@@ -39,7 +39,9 @@ returns-2 : tie.Need-returns-2
 unfolding flat.lengths
 returns-2 c =
     let a = c .before .before .before .before .before .before .before .before .before .before .args in
-    answer-good measuredOf _ _ _ _ (sym (c .before .before .before .before .before .bad-head .ensures) ∙ c .before .before .before .before .if1 .left) (c .measured-of .ensures) (c .before .lengths .ensures ∙ ap₂ (λ (h : Head) (k : Cursor). calls.lengthsOf base (state h (a .leaves .now) (a .inners .now) (a .homes .now)) k) (c .before .before .before .head-from .ensures) (c .before .before .cursor-from .ensures))
+    answer-good measuredOf _ _ _ _ (sym (c .before .before .before .before .before .bad-head .ensures) ∙ c .before .before .before .before .if1 .left) (c .measured-of .ensures)
+    (c .before .lengths .ensures ∙ ap₂ (λ (h : Head) (k : Cursor). calls.lengthsOf base (state h (a .leaves .now) (a .inners .now) (a .homes .now)) k)
+    (c .before .before .before .head-from .ensures) (c .before .before .cursor-from .ensures))
 
 pub smelvock-lengths-spec : {M : Type 1} → statement M
 smelvock-lengths-spec =

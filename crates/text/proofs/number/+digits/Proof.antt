@@ -35,19 +35,27 @@ digits-slice-write-out : (t : ℕ) → digits-lts.Need-slice-write-out (digits-b
 digits-slice-write-out t c = omega (arith, c .before .if1 .left)
 
 digits-add-result : (t : ℕ) → digits-lts.Need-add-result (digits-below t, digits.Post) (digits-at t) digits.Post
-digits-add-result t c = record { fits = omega (arith, c .before .before .before .good .0 .0) }
+digits-add-result t c =
+    let good = c .before .before .before .good in
+    record { fits = omega (arith, good .0 .0) }
 
 digits-same-length : (t : ℕ) → digits-lts.Need-same-length (digits-below t, digits.Post) (digits-at t) digits.Post
-digits-same-length t c = length-set (c .before .before .before .args .out .now) _ _
+digits-same-length t c =
+    let args = c .before .before .before .args in
+    length-set (args .out .now) _ _
 
 digits-returns-2 : (t : ℕ) → digits-lts.Need-returns-2 (digits-below t, digits.Post) (digits-at t) digits.Post
-digits-returns-2 t c = last-digit (c .before .before .before .args .out .now) (c .before .before .before .args .at) (c .before .before .before .args .n) (c .before .before .before .args .most) (c .before .if1 .left) (c .if2 .taken)
+digits-returns-2 t c =
+    let args = c .before .before .before .args in
+    last-digit (args .out .now) (args .at) (args .n) (args .most) (c .before .if1 .left) (c .if2 .taken)
 
 digits-sub-digits : (t : ℕ) → digits-lts.Need-sub-digits (digits-below t, digits.Post) (digits-at t) digits.Post
 digits-sub-digits t c = omega (arith, c .before .before .if1 .left)
 
 digits-digits-requires : (t : ℕ) → digits-lts.Need-digits-requires (digits-below t, digits.Post) (digits-at t) digits.Post
-digits-digits-requires t c κs = (omega (arith, c .before .before .before .before .pre .0, c .before .before .if1 .left), omega (arith, c .before .before .before .before .pre .1, c .before .before .if1 .left))
+digits-digits-requires t c κs =
+    let pre = c .before .before .before .before .pre in
+    (omega (arith, pre .0, c .before .before .if1 .left), omega (arith, pre .1, c .before .before .if1 .left))
 
 digits-cast-out-2 : (t : ℕ) → digits-lts.Need-cast-out-2 (digits-below t, digits.Post) (digits-at t) digits.Post
 digits-cast-out-2 t c = search needs
@@ -56,16 +64,41 @@ digits-add-out-2 : (t : ℕ) → digits-lts.Need-add-out-2 (digits-below t, digi
 digits-add-out-2 t c = record { fits = omega arith }
 
 digits-slice-write-out-2 : (t : ℕ) → digits-lts.Need-slice-write-out-2 (digits-below t, digits.Post) (digits-at t) digits.Post
-digits-slice-write-out-2 t c = omega (arith, last-in (c .before .before .before .before .before .before .before .args .out .now) (c .before .before .digits .last .0) (c .before .before .before .before .before .before .before .args .at) (c .before .before .digits .result) (c .before .before .before .before .before .before .before .args .n / 10) (c .before .before .before .before .before .before .before .args .most) (c .before .before .before .before .before .if1 .left) (c .before .before .before .before .before .before .before .pre .1) (c .before .before .digits .ensures), c .before .before .digits .kept .0)
+digits-slice-write-out-2 t c =
+    let args = c .before .before .before .before .before .before .before .args in
+    let if1 = c .before .before .before .before .before .if1 in
+    let pre = c .before .before .before .before .before .before .before .pre in
+    omega (
+      arith,
+      last-in (args .out .now) (c .before .before .digits .last .0) (args .at) (c .before .before .digits .result) (args .n / 10) (args .most) (if1 .left) (pre .1)
+          (c .before .before .digits .ensures),
+      c .before .before .digits .kept .0,
+    )
 
 digits-add-result-2 : (t : ℕ) → digits-lts.Need-add-result-2 (digits-below t, digits.Post) (digits-at t) digits.Post
-digits-add-result-2 t c = record { fits = omega (arith, last-in (c .before .before .before .before .before .before .before .args .out .now) (c .before .before .digits .last .0) (c .before .before .before .before .before .before .before .args .at) (c .before .before .digits .result) (c .before .before .before .before .before .before .before .args .n / 10) (c .before .before .before .before .before .before .before .args .most) (c .before .before .before .before .before .if1 .left) (c .before .before .before .before .before .before .before .pre .1) (c .before .before .digits .ensures), c .before .before .before .before .before .before .before .good .0 .0) }
+digits-add-result-2 t c =
+    let args = c .before .before .before .before .before .before .before .args in
+    let if1 = c .before .before .before .before .before .if1 in
+    let pre = c .before .before .before .before .before .before .before .pre in
+    let good = c .before .before .before .before .before .before .before .good in
+    record {
+      fits = omega (
+        arith,
+        last-in (args .out .now) (c .before .before .digits .last .0) (args .at) (c .before .before .digits .result) (args .n / 10) (args .most)
+            (if1 .left) (pre .1) (c .before .before .digits .ensures),
+        good .0 .0,
+      );
+    }
 
 digits-same-length-2 : (t : ℕ) → digits-lts.Need-same-length-2 (digits-below t, digits.Post) (digits-at t) digits.Post
 digits-same-length-2 t c = length-set (c .before .before .digits .last .0) _ _ ∙ c .before .before .digits .kept .0
 
 digits-returns-3 : (t : ℕ) → digits-lts.Need-returns-3 (digits-below t, digits.Post) (digits-at t) digits.Post
-digits-returns-3 t c = one-more (c .before .before .before .before .before .before .before .args .out .now) (c .before .before .digits .last .0) (c .before .before .before .before .before .before .before .args .at) (c .before .before .digits .result) (c .before .before .before .before .before .before .before .args .n) (c .before .before .before .before .before .before .before .args .most) (c .before .before .before .before .before .if1 .left) (c .before .before .before .before .if2 .left) (c .before .before .digits .ensures)
+digits-returns-3 t c =
+    let args = c .before .before .before .before .before .before .before .args in
+    let if1 = c .before .before .before .before .before .if1 in
+    let if2 = c .before .before .before .before .if2 in
+    one-more (args .out .now) (c .before .before .digits .last .0) (args .at) (c .before .before .digits .result) (args .n) (args .most) (if1 .left) (if2 .left) (c .before .before .digits .ensures)
 
 pub +digits-spec : {M : Type 1} → statement M
 +digits-spec =

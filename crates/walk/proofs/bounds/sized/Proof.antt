@@ -15,10 +15,14 @@ cast-if2 : tie.Need-cast-if2
 cast-if2 c = omega (arith, c .len-of .ok)
 
 returns-2 : tie.Need-returns-2
-returns-2 c = sym (sized-full (c .before .before .before .before .args .g) _ _ (c .before .before .if1 .left) (omega (arith, c .before .len-of .ensures, c .if2 .taken)))
+returns-2 c =
+    let args = c .before .before .before .before .args in
+    sym (sized-full (args .g) _ _ (c .before .before .if1 .left) (omega (arith, c .before .len-of .ensures, c .if2 .taken)))
 
 returns-3 : tie.Need-returns-3
-returns-3 c = sym (sized-yes (c .before .before .before .before .args .g) _ _ (c .before .before .if1 .left) (omega (arith, c .before .len-of .ensures, c .if2 .left)))
+returns-3 c =
+    let args = c .before .before .before .before .args in
+    sym (sized-yes (args .g) _ _ (c .before .before .if1 .left) (omega (arith, c .before .len-of .ensures, c .if2 .left)))
 
 pub sized-spec : {M : Type 1} → statement M
 sized-spec = tie.close (tie.spec returns len-of-requires cast-if2 returns-2 returns-3)

@@ -23,7 +23,10 @@ turn : (c : tie.Else1 Inv-loop μ-loop) → inside (c .before .before .before .b
 turn c = sym (c .before .inside .ensures) ∙ not-false _ (c .if1 .left)
 
 room : (c : tie.Else1 Inv-loop μ-loop) → Area (c .before .before .before .before .before .before .args .g) (length (c .before .before .before .loop .inners))
-room c = rw (c .before .before .before .loop .inv .0) (c .before .before .before .before .before .before .pre .0)
+room c =
+    let the-loop = c .before .before .before .loop in
+    let pre = c .before .before .before .before .before .before .pre in
+    rw (the-loop .inv .0) (pre .0)
 
 loop-holds : tie.Need-loop-holds Inv-loop μ-loop
 loop-holds c = (refl, refl)
@@ -32,16 +35,25 @@ inside-requires : tie.Need-inside-requires Inv-loop μ-loop
 inside-requires c κs = tt
 
 same-length : tie.Need-same-length Inv-loop μ-loop
-same-length c = c .before .before .before .loop .inv .0
+same-length c =
+    let the-loop = c .before .before .before .loop in
+    the-loop .inv .0
 
 returns : tie.Need-returns Inv-loop μ-loop
-returns c = sym (raise-broken (c .before .before .before .before .before .before .args .g) _ _ _ _ _ (c .before .before .loop-test .taken) (sym (c .before .inside .ensures) ∙ not-true _ (c .if1 .taken))) ∙ c .before .before .before .loop .inv .1
+returns c =
+    let args = c .before .before .before .before .before .before .args in
+    let the-loop = c .before .before .before .loop in
+    sym (raise-broken (args .g) _ _ _ _ _ (c .before .before .loop-test .taken) (sym (c .before .inside .ensures) ∙ not-true _ (c .if1 .taken))) ∙ the-loop .inv .1
 
 parent-of-requires : tie.Need-parent-of-requires Inv-loop μ-loop
-parent-of-requires c κs = (room (c .before), in-both (c .before .before .before .before .before .before .before .args .g) _ _ (turn (c .before)) .0)
+parent-of-requires c κs =
+    let args = c .before .before .before .before .before .before .before .args in
+    (room (c .before), in-both (args .g) _ _ (turn (c .before)) .0)
 
 at-of-requires : tie.Need-at-of-requires Inv-loop μ-loop
-at-of-requires c κs = (room (c .before .before .before), in-both (c .before .before .before .before .before .before .before .before .before .args .g) _ _ (turn (c .before .before .before)) .0)
+at-of-requires c κs =
+    let args = c .before .before .before .before .before .before .before .before .before .args in
+    (room (c .before .before .before), in-both (args .g) _ _ (turn (c .before .before .before)) .0)
 
 raise-in-requires : tie.Need-raise-in-requires Inv-loop μ-loop
 raise-in-requires c κs =
@@ -57,14 +69,21 @@ loop-less c = omega arith
 
 loop-again : tie.Need-loop-again Inv-loop μ-loop
 loop-again c =
-    let l = c .before .before .before .before .before .before .before .before .before .before .before .loop in
-    (c .before .before .raise-in .kept .0 ∙ l .inv .0, rw (c .before .before .before .before .before .before .parent-of .ensures, c .before .before .before .before .at-of .ensures, c .before .before .raise-in .ensures) (sym (raise-on (c .before .before .before .before .before .before .before .before .before .before .before .before .before .before .args .g) _ _ _ _ _ (c .before .before .before .before .before .before .before .before .before .before .loop-test .taken) (turn (c .before .before .before .before .before .before .before .before))) ∙ l .inv .1))
+    let l = c .before .before .before .before .before .before .before .before .before .before .before .loop in (
+      c .before .before .raise-in .kept .0 ∙ l .inv .0,
+      rw
+          (c .before .before .before .before .before .before .parent-of .ensures, c .before .before .before .before .at-of .ensures, c .before .before .raise-in .ensures)
+          (sym (raise-on (c .before .before .before .before .before .before .before .before .before .before .before .before .before .before .args .g) _ _ _ _ _
+          (c .before .before .before .before .before .before .before .before .before .before .loop-test .taken) (turn (c .before .before .before .before .before .before .before .before))) ∙ l .inv .1),
+    )
 
 same-length-2 : tie.Need-same-length-2 Inv-loop μ-loop
 same-length-2 c = c .before .loop .inv .0
 
 returns-2 : tie.Need-returns-2 Inv-loop μ-loop
-returns-2 c = sym (raise-end (c .before .before .before .before .args .g) _ _ _ _ _ (c .loop-test .left)) ∙ c .before .loop .inv .1
+returns-2 c =
+    let args = c .before .before .before .before .args in
+    sym (raise-end (args .g) _ _ _ _ _ (c .loop-test .left)) ∙ c .before .loop .inv .1
 
 pub add-up-spec : {M : Type 1} → statement M
 add-up-spec =

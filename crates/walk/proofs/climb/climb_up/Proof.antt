@@ -24,7 +24,10 @@ turn : (c : tie.Else1 Inv-loop μ-loop) → inside (c .before .before .before .b
 turn c = sym (c .before .inside .ensures) ∙ not-false _ (c .if1 .left)
 
 room : (c : tie.Else1 Inv-loop μ-loop) → Area (c .before .before .before .before .before .before .args .g) (length (c .before .before .before .loop .inners))
-room c = rw (c .before .before .before .loop .inv .0) (c .before .before .before .before .before .before .pre .0)
+room c =
+    let the-loop = c .before .before .before .loop in
+    let pre = c .before .before .before .before .before .before .pre in
+    rw (the-loop .inv .0) (pre .0)
 
 loop-holds : tie.Need-loop-holds Inv-loop μ-loop
 loop-holds c = (refl, omega arith, omega arith, refl)
@@ -33,10 +36,15 @@ inside-requires : tie.Need-inside-requires Inv-loop μ-loop
 inside-requires c κs = tt
 
 same-length : tie.Need-same-length Inv-loop μ-loop
-same-length c = c .before .before .before .loop .inv .0
+same-length c =
+    let the-loop = c .before .before .before .loop in
+    the-loop .inv .0
 
 returns : tie.Need-returns Inv-loop μ-loop
-returns c = sym (climb-broken (c .before .before .before .before .before .before .args .g) _ _ _ _ _ _ _ (omega (arith, c .before .before .loop-test .taken)) (sym (c .before .inside .ensures) ∙ not-true _ (c .if1 .taken))) ∙ c .before .before .before .loop .inv .3
+returns c =
+    let args = c .before .before .before .before .before .before .args in
+    let the-loop = c .before .before .before .loop in
+    sym (climb-broken (args .g) _ _ _ _ _ _ _ (omega (arith, c .before .before .loop-test .taken)) (sym (c .before .inside .ensures) ∙ not-true _ (c .if1 .taken))) ∙ the-loop .inv .3
 
 start-in-requires : tie.Need-start-in-requires Inv-loop μ-loop
 start-in-requires c κs =
@@ -45,13 +53,21 @@ start-in-requires c κs =
     (room (c .before), t .0, s .pre .1, omega (arith, t .1))
 
 add-index : tie.Need-add-index Inv-loop μ-loop
-add-index c = omega (arith, c .before .before .before .before .before .loop .inv, c .before .before .before .before .before .before .before .before .pre)
+add-index c =
+    let the-loop = c .before .before .before .before .before .loop in
+    let pre = c .before .before .before .before .before .before .before .before .pre in
+    omega (arith, the-loop .inv, pre)
 
 parent-of-requires : tie.Need-parent-of-requires Inv-loop μ-loop
-parent-of-requires c κs = (room (c .before .before .before), in-both (c .before .before .before .before .before .before .before .before .before .args .g) _ _ (turn (c .before .before .before)) .0)
+parent-of-requires c κs =
+    let args = c .before .before .before .before .before .before .before .before .before .args in
+    (room (c .before .before .before), in-both (args .g) _ _ (turn (c .before .before .before)) .0)
 
 at-of-requires : tie.Need-at-of-requires Inv-loop μ-loop
-at-of-requires c κs = (room (c .before .before .before .before .before), in-both (c .before .before .before .before .before .before .before .before .before .before .before .args .g) _ _ (turn (c .before .before .before .before .before)) .0)
+at-of-requires c κs =
+    let before = c .before .before .before .before .before in
+    let args = c .before .before .before .before .before .before .before .before .before .before .before .args in
+    (room before, in-both (args .g) _ _ (turn before) .0)
 
 raise-in-requires : tie.Need-raise-in-requires Inv-loop μ-loop
 raise-in-requires c κs =
@@ -78,7 +94,9 @@ same-length-2 : tie.Need-same-length-2 Inv-loop μ-loop
 same-length-2 c = c .before .loop .inv .0
 
 returns-2 : tie.Need-returns-2 Inv-loop μ-loop
-returns-2 c = sym (climb-end (c .before .before .before .before .args .g) _ _ _ _ _ _ _ (c .loop-test .left)) ∙ c .before .loop .inv .3
+returns-2 c =
+    let args = c .before .before .before .before .args in
+    sym (climb-end (args .g) _ _ _ _ _ _ _ (c .loop-test .left)) ∙ c .before .loop .inv .3
 
 pub climb-up-spec : {M : Type 1} → statement M
 climb-up-spec =

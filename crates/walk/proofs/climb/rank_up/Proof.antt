@@ -27,7 +27,10 @@ inside-requires : tie.Need-inside-requires Inv-loop μ-loop
 inside-requires c κs = tt
 
 returns : tie.Need-returns Inv-loop μ-loop
-returns c = sym (rank-broken (c .before .before .before .before .before .args .g) _ _ _ _ _ _ (c .before .before .loop-test .taken) (sym (c .before .inside .ensures) ∙ not-true _ (c .if1 .taken))) ∙ c .before .before .before .loop .inv .2
+returns c =
+    let args = c .before .before .before .before .before .args in
+    let the-loop = c .before .before .before .loop in
+    sym (rank-broken (args .g) _ _ _ _ _ _ (c .before .before .loop-test .taken) (sym (c .before .inside .ensures) ∙ not-true _ (c .if1 .taken))) ∙ the-loop .inv .2
 
 start-in-requires : tie.Need-start-in-requires Inv-loop μ-loop
 start-in-requires c κs =
@@ -55,14 +58,20 @@ loop-less : tie.Need-loop-less Inv-loop μ-loop
 loop-less c = omega arith
 
 loop-again : tie.Need-loop-again Inv-loop μ-loop
-loop-again c = (
-  omega arith,
-  omega arith,
-  rw (c .before .parent-of .ensures, c .at-of .ensures, c .before .before .start-in .ensures .0) (sym (rank-on (c .before .before .before .before .before .before .before .before .args .g) _ _ _ _ _ _ (c .before .before .before .before .before .loop-test .taken) (turn (c .before .before .before))) ∙ c .before .before .before .before .before .before .loop .inv .2),
-)
+loop-again c =
+    let args = c .before .before .before .before .before .before .before .before .args in
+    let loop-test = c .before .before .before .before .before .loop-test in
+    let the-loop = c .before .before .before .before .before .before .loop in (
+      omega arith,
+      omega arith,
+      rw (c .before .parent-of .ensures, c .at-of .ensures, c .before .before .start-in .ensures .0)
+          (sym (rank-on (args .g) _ _ _ _ _ _ (loop-test .taken) (turn (c .before .before .before))) ∙ the-loop .inv .2),
+    )
 
 returns-2 : tie.Need-returns-2 Inv-loop μ-loop
-returns-2 c = sym (rank-end (c .before .before .before .args .g) _ _ _ _ _ _ (c .loop-test .left)) ∙ c .before .loop .inv .2
+returns-2 c =
+    let args = c .before .before .before .args in
+    sym (rank-end (args .g) _ _ _ _ _ _ (c .loop-test .left)) ∙ c .before .loop .inv .2
 
 pub rank-up-spec : {M : Type 1} → statement M
 rank-up-spec =

@@ -31,8 +31,11 @@ inside-requires c κs = tt
 
 returns : tie.Need-returns Inv-loop μ-loop
 returns c =
-    let l = c .before .before .before .loop in
-    (sym (steps-broken (c .before .before .before .before .before .args .g) _ _ _ _ _ (c .before .before .loop-test .taken) (sym (c .before .inside .ensures) ∙ not-true _ (c .if1 .taken))) ∙ l .inv .2, record { few = omega arith; places = l .inv .1 })
+    let l = c .before .before .before .loop in (
+      sym (steps-broken (c .before .before .before .before .before .args .g) _ _ _ _ _ (c .before .before .loop-test .taken)
+          (sym (c .before .inside .ensures) ∙ not-true _ (c .if1 .taken))) ∙ l .inv .2,
+      record { few = omega arith; places = l .inv .1 },
+    )
 
 sub-level : tie.Need-sub-level Inv-loop μ-loop
 sub-level c = omega arith
@@ -69,7 +72,10 @@ loop-again c =
     )
 
 returns-2 : tie.Need-returns-2 Inv-loop μ-loop
-returns-2 c = (all-steps _ _ _ (c .loop-test .left) ∙ sym (steps-end (c .before .before .before .args .g) _ _ _ _ _ (c .loop-test .left)) ∙ c .before .loop .inv .2, record { few = c .before .before .before .pre .1; places = c .before .loop .inv .1 })
+returns-2 c =
+    let args = c .before .before .before .args in
+    let pre = c .before .before .before .pre in
+    (all-steps _ _ _ (c .loop-test .left) ∙ sym (steps-end (args .g) _ _ _ _ _ (c .loop-test .left)) ∙ c .before .loop .inv .2, record { few = pre .1; places = c .before .loop .inv .1 })
 
 pub steps-up-spec : {M : Type 1} → statement M
 steps-up-spec =

@@ -25,7 +25,10 @@ held-requires : tie.Need-held-requires Inv-loop μ-loop
 held-requires c κs = tt
 
 returns : tie.Need-returns Inv-loop μ-loop
-returns c = sym (first-broken (c .before .before .before .before .before .args .g) _ _ _ (ltb-false _ _ (sym (c .before .held .ensures) ∙ not-true _ (c .if1 .taken)))) ∙ c .before .before .before .loop .inv
+returns c =
+    let args = c .before .before .before .before .before .args in
+    let the-loop = c .before .before .before .loop in
+    sym (first-broken (args .g) _ _ _ (ltb-false _ _ (sym (c .before .held .ensures) ∙ not-true _ (c .if1 .taken)))) ∙ the-loop .inv
 
 child-of-requires : tie.Need-child-of-requires Inv-loop μ-loop
 child-of-requires c κs =
@@ -39,16 +42,26 @@ loop-less : tie.Need-loop-less Inv-loop μ-loop
 loop-less c = omega arith
 
 loop-again : tie.Need-loop-again Inv-loop μ-loop
-loop-again c = rw (c .child-of .ensures) (sym (first-on (c .before .before .before .before .before .before .args .g) _ _ _ (c .before .before .before .loop-test .taken) (turn (c .before))) ∙ c .before .before .before .before .loop .inv)
+loop-again c =
+    let args = c .before .before .before .before .before .before .args in
+    let loop-test = c .before .before .before .loop-test in
+    let the-loop = c .before .before .before .before .loop in
+    rw (c .child-of .ensures) (sym (first-on (args .g) _ _ _ (loop-test .taken) (turn (c .before))) ∙ the-loop .inv)
 
 held-requires-2 : tie.Need-held-requires-2 Inv-loop μ-loop
 held-requires-2 c κs = tt
 
 returns-2 : tie.Need-returns-2 Inv-loop μ-loop
-returns-2 c = sym (first-broken (c .before .before .before .before .before .args .g) _ _ _ (ltb-false _ _ (sym (c .before .held2 .ensures) ∙ not-true _ (c .if2 .taken)))) ∙ c .before .before .before .loop .inv
+returns-2 c =
+    let args = c .before .before .before .before .before .args in
+    let the-loop = c .before .before .before .loop in
+    sym (first-broken (args .g) _ _ _ (ltb-false _ _ (sym (c .before .held2 .ensures) ∙ not-true _ (c .if2 .taken)))) ∙ the-loop .inv
 
 returns-3 : tie.Need-returns-3 Inv-loop μ-loop
-returns-3 c = sym (first-end (c .before .before .before .before .before .args .g) _ _ _ (c .before .before .loop-test .left) (ltb-true _ _ (sym (c .before .held2 .ensures) ∙ not-false _ (c .if2 .left)))) ∙ c .before .before .before .loop .inv
+returns-3 c =
+    let args = c .before .before .before .before .before .args in
+    let the-loop = c .before .before .before .loop in
+    sym (first-end (args .g) _ _ _ (c .before .before .loop-test .left) (ltb-true _ _ (sym (c .before .held2 .ensures) ∙ not-false _ (c .if2 .left)))) ∙ the-loop .inv
 
 pub first-down-spec : {M : Type 1} → statement M
 first-down-spec =

@@ -24,10 +24,15 @@ loop-holds : tie.Need-loop-holds Inv-loop μ-loop
 loop-holds c = refl
 
 sized-requires : tie.Need-sized-requires Inv-loop μ-loop
-sized-requires c κs = c .before .before .before .pre
+sized-requires c κs =
+    let pre = c .before .before .before .pre in
+    pre
 
 returns : tie.Need-returns Inv-loop μ-loop
-returns c = sym (last-broken (c .before .before .before .before .before .args .g) _ _ _ (c .before .before .loop-test .taken) (sym (c .before .sized .ensures) ∙ not-true _ (c .if1 .taken))) ∙ c .before .before .before .loop .inv
+returns c =
+    let args = c .before .before .before .before .before .args in
+    let the-loop = c .before .before .before .loop in
+    sym (last-broken (args .g) _ _ _ (c .before .before .loop-test .taken) (sym (c .before .sized .ensures) ∙ not-true _ (c .if1 .taken))) ∙ the-loop .inv
 
 len-of-requires : tie.Need-len-of-requires Inv-loop μ-loop
 len-of-requires c κs =
@@ -35,7 +40,11 @@ len-of-requires c κs =
     (s .pre, sized-in (s .args .g) _ _ (turn c) .0)
 
 returns-2 : tie.Need-returns-2 Inv-loop μ-loop
-returns-2 c = sym (last-none (c .before .before .before .before .before .before .before .args .g) _ _ _ (c .before .before .before .before .loop-test .taken) (turn (c .before .before)) (sym (c .before .len-of .ensures) ∙ c .if2 .taken)) ∙ c .before .before .before .before .before .loop .inv
+returns-2 c =
+    let args = c .before .before .before .before .before .before .before .args in
+    let loop-test = c .before .before .before .before .loop-test in
+    let the-loop = c .before .before .before .before .before .loop in
+    sym (last-none (args .g) _ _ _ (loop-test .taken) (turn (c .before .before)) (sym (c .before .len-of .ensures) ∙ c .if2 .taken)) ∙ the-loop .inv
 
 cast-child-of : tie.Need-cast-child-of Inv-loop μ-loop
 cast-child-of c = omega (arith, c .before .len-of .ok)
@@ -58,16 +67,23 @@ loop-less c = omega arith
 loop-again : tie.Need-loop-again Inv-loop μ-loop
 loop-again c =
     rw (c .child-of .ensures, c .before .before .len-of .ensures)
-    (sym (last-on (c .before .before .before .before .before .before .before .before .args .g) _ _ _ (c .before .before .before .before .before .loop-test .taken) (turn (c .before .before .before)) (omega (arith, c .before .before .len-of .ensures, c .before .if2 .left))) ∙ c .before .before .before .before .before .before .loop .inv)
+    (sym (last-on (c .before .before .before .before .before .before .before .before .args .g) _ _ _ (c .before .before .before .before .before .loop-test .taken)
+    (turn (c .before .before .before)) (omega (arith, c .before .before .len-of .ensures, c .before .if2 .left))) ∙ c .before .before .before .before .before .before .loop .inv)
 
 held-requires : tie.Need-held-requires Inv-loop μ-loop
 held-requires c κs = tt
 
 returns-3 : tie.Need-returns-3 Inv-loop μ-loop
-returns-3 c = sym (last-out (c .before .before .before .before .before .args .g) _ _ _ (c .before .before .loop-test .left) (ltb-false _ _ (sym (c .before .held .ensures) ∙ not-true _ (c .if3 .taken)))) ∙ c .before .before .before .loop .inv
+returns-3 c =
+    let args = c .before .before .before .before .before .args in
+    let the-loop = c .before .before .before .loop in
+    sym (last-out (args .g) _ _ _ (c .before .before .loop-test .left) (ltb-false _ _ (sym (c .before .held .ensures) ∙ not-true _ (c .if3 .taken)))) ∙ the-loop .inv
 
 returns-4 : tie.Need-returns-4 Inv-loop μ-loop
-returns-4 c = sym (last-end (c .before .before .before .before .before .args .g) _ _ _ (c .before .before .loop-test .left) (ltb-true _ _ (sym (c .before .held .ensures) ∙ not-false _ (c .if3 .left)))) ∙ c .before .before .before .loop .inv
+returns-4 c =
+    let args = c .before .before .before .before .before .args in
+    let the-loop = c .before .before .before .loop in
+    sym (last-end (args .g) _ _ _ (c .before .before .loop-test .left) (ltb-true _ _ (sym (c .before .held .ensures) ∙ not-false _ (c .if3 .left)))) ∙ the-loop .inv
 
 pub last-down-spec : {M : Type 1} → statement M
 last-down-spec =

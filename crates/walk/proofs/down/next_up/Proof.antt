@@ -25,10 +25,15 @@ loop-holds : tie.Need-loop-holds Inv-loop μ-loop
 loop-holds c = (omega arith, refl)
 
 sized-requires : tie.Need-sized-requires Inv-loop μ-loop
-sized-requires c κs = c .before .before .before .pre .0
+sized-requires c κs =
+    let pre = c .before .before .before .pre in
+    pre .0
 
 returns : tie.Need-returns Inv-loop μ-loop
-returns c = sym (next-broken (c .before .before .before .before .before .args .g) _ _ _ _ _ (c .before .before .loop-test .taken) (sym (c .before .sized .ensures) ∙ not-true _ (c .if1 .taken))) ∙ c .before .before .before .loop .inv .1
+returns c =
+    let args = c .before .before .before .before .before .args in
+    let the-loop = c .before .before .before .loop in
+    sym (next-broken (args .g) _ _ _ _ _ (c .before .before .loop-test .taken) (sym (c .before .sized .ensures) ∙ not-true _ (c .if1 .taken))) ∙ the-loop .inv .1
 
 len-of-requires : tie.Need-len-of-requires Inv-loop μ-loop
 len-of-requires c κs =
@@ -36,7 +41,11 @@ len-of-requires c κs =
     (s .pre .0, sized-in (s .args .g) _ _ (turn c) .0)
 
 returns-2 : tie.Need-returns-2 Inv-loop μ-loop
-returns-2 c = sym (next-past (c .before .before .before .before .before .before .before .args .g) _ _ _ _ _ (c .before .before .before .before .loop-test .taken) (omega (arith, c .before .len-of .ensures, c .if2 .taken))) ∙ c .before .before .before .before .before .loop .inv .1
+returns-2 c =
+    let args = c .before .before .before .before .before .before .before .args in
+    let loop-test = c .before .before .before .before .loop-test in
+    let the-loop = c .before .before .before .before .before .loop in
+    sym (next-past (args .g) _ _ _ _ _ (loop-test .taken) (omega (arith, c .before .len-of .ensures, c .if2 .taken))) ∙ the-loop .inv .1
 
 add-if3 : tie.Need-add-if3 Inv-loop μ-loop
 add-if3 c = omega (arith, c .before .len-of .ok)
@@ -54,12 +63,16 @@ child-of-requires c κs =
     (s .pre .0, t .0, omega (arith, t .1, c .before .before .len-of .ensures))
 
 first-down-requires : tie.Need-first-down-requires Inv-loop μ-loop
-first-down-requires c κs = c .before .before .before .before .before .before .before .before .before .pre .0
+first-down-requires c κs =
+    let pre = c .before .before .before .before .before .before .before .before .before .pre in
+    pre .0
 
 returns-3 : tie.Need-returns-3 Inv-loop μ-loop
 returns-3 c =
     rw (c .before .child-of .ensures) at (c .first-down .ensures)
-    ∙ sym (next-down (c .before .before .before .before .before .before .before .before .before .before .args .g) _ _ _ _ _ (c .before .before .before .before .before .before .before .loop-test .taken) (turn (c .before .before .before .before .before)) (omega (arith, c .before .before .before .before .len-of .ensures, c .before .before .if3 .taken))) ∙ c .before .before .before .before .before .before .before .before .loop .inv .1
+    ∙ sym (next-down (c .before .before .before .before .before .before .before .before .before .before .args .g) _ _ _ _ _
+    (c .before .before .before .before .before .before .before .loop-test .taken) (turn (c .before .before .before .before .before))
+    (omega (arith, c .before .before .before .before .len-of .ensures, c .before .before .if3 .taken))) ∙ c .before .before .before .before .before .before .before .before .loop .inv .1
 
 parent-of-requires : tie.Need-parent-of-requires Inv-loop μ-loop
 parent-of-requires c κs =
@@ -81,14 +94,23 @@ loop-less : tie.Need-loop-less Inv-loop μ-loop
 loop-less c = omega arith
 
 loop-again : tie.Need-loop-again Inv-loop μ-loop
-loop-again c = (
-  omega arith,
-  rw (c .before .parent-of .ensures, c .at-of .ensures)
-      (sym (next-on (c .before .before .before .before .before .before .before .before .before .before .args .g) _ _ _ _ _ (c .before .before .before .before .before .before .before .loop-test .taken) (turn (c .before .before .before .before .before)) (omega (arith, c .before .before .before .before .len-of .ensures, c .before .before .before .if2 .left)) (omega (arith, c .before .before .before .before .len-of .ensures, c .before .before .if3 .left))) ∙ c .before .before .before .before .before .before .before .before .loop .inv .1),
-)
+loop-again c =
+    let args = c .before .before .before .before .before .before .before .before .before .before .args in
+    let loop-test = c .before .before .before .before .before .before .before .loop-test in
+    let before = c .before .before .before .before .before in
+    let len-of = c .before .before .before .before .len-of in
+    let if2 = c .before .before .before .if2 in
+    let the-loop = c .before .before .before .before .before .before .before .before .loop in (
+      omega arith,
+      rw (c .before .parent-of .ensures, c .at-of .ensures)
+          (sym (next-on (args .g) _ _ _ _ _ (loop-test .taken) (turn before) (omega (arith, len-of .ensures, if2 .left))
+          (omega (arith, len-of .ensures, c .before .before .if3 .left))) ∙ the-loop .inv .1),
+    )
 
 returns-4 : tie.Need-returns-4 Inv-loop μ-loop
-returns-4 c = sym (next-end (c .before .before .before .args .g) _ _ _ _ _ (c .loop-test .left)) ∙ c .before .loop .inv .1
+returns-4 c =
+    let args = c .before .before .before .args in
+    sym (next-end (args .g) _ _ _ _ _ (c .loop-test .left)) ∙ c .before .loop .inv .1
 
 pub next-up-spec : {M : Type 1} → statement M
 next-up-spec =
