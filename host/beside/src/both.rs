@@ -3,16 +3,20 @@
 use crate::port::{pair, side, Port};
 use crate::words::{head_of, raw_of};
 use oracle::calls::{entries, play};
+use oracle::cursors::{Held, Source};
 use oracle::record::Call;
 use oracle::row::Entry;
 use oracle::rust::{Reply, Rust, Subject};
 use oracle::state::{Head, State};
-use smelvock::{PrepareEffectTree, Refusal};
+use smelvock::{raw, Cursor, PrepareEffectTree, Refusal};
 use std::fmt::Debug;
 
+#[derive(Clone)]
 pub struct Both<const N: usize> {
     rust: Rust<N>,
     port: Port<N>,
+    /// The port's own cursors; lib.rs's are with its tree.
+    held: Held<Cursor>,
     /// The port's areas as they were before the call.
     before: [Vec<u32>; 3],
 }
@@ -26,7 +30,7 @@ impl<const N: usize> Both<N> {
     pub fn make(limit: u32, lengths: [u32; 2]) -> Self {
         let port = PrepareEffectTree::with_limit(limit, pair(lengths)).expect("fan and limit are good");
         let before = words(&port).map(|area| vec![0; area.len()]);
-        let mut both = Both { rust: Rust::make(limit, lengths), port: Port(port), before };
+        let mut both = Both { rust: Rust::make(limit, lengths), port: Port(port), held: Held::default(), before };
         both.same_words("make");
         both
     }
@@ -54,10 +58,27 @@ impl<const N: usize> Both<N> {
         self.port = Port(PrepareEffectTree::from_words(raw_of(head), leaves, inners, homes));
     }
 
+    /// The port's held cursors with other words in their place, likewise.
+    pub fn spoil_held(&mut self, spoil: impl Fn(&mut raw::Cursor)) {
+        self.held.spoil(|cursor| {
+            let mut words = raw::Cursor::from(*cursor);
+            spoil(&mut words);
+            *cursor = words.into();
+        });
+    }
+
+    /// What `char_index_to_entry`'s own export answers and the head that it leaves: `smelvock`'s call goes through `locate`'s export.
+    fn selected(&self, call: Call) -> Option<(raw::Selected, raw::Head)> {
+        let Call::Select { view, index } = call else { return None };
+        let mut head = self.port.0.head();
+        Some((raw::char_index_to_entry(&mut head, self.port.0.areas(), view as u32, index), head))
+    }
+
     /// What the port answers to a row call that is refused: the refusal of `cursor` or of the call itself.
-    fn refusal(&mut self, call: Call) -> Option<Refusal> {
-        let [first, second] = call.ids().map(|id| id.map(|id| self.port.0.cursor(id)));
-        if let Some(refusal) = [first, second].into_iter().flatten().find_map(Result::err) {
+    fn refusal(&mut self, call: Call, from: Source) -> Option<Refusal> {
+        let ([first, second], by_id) = (call.ids(), |id| self.port.0.cursor(id));
+        let first = self.held.handed(from).map(|(_, cursor)| Ok(cursor)).or_else(|| first.map(by_id));
+        if let Some(refusal) = [first, second.map(by_id)].into_iter().flatten().find_map(Result::err) {
             return Some(refusal);
         }
         let (tree, at) = (&mut self.port.0, first.and_then(Result::ok));
@@ -67,28 +88,37 @@ impl<const N: usize> Both<N> {
             Call::Split { lengths, before, .. } => tree.split_entry(at?, pair(lengths), before).err(),
             Call::Set { lengths, .. } => tree.set_lengths(at?, pair(lengths)).err(),
             Call::Update { lengths, .. } => tree.update(at?, pair(lengths)).err(),
-            Call::Lookup { view, index } => {
-                let located = tree.locate(side(view), index).err();
-                assert_eq!(tree.char_index_to_entry(side(view), index).err(), located);
-                located
-            }
+            Call::Lookup { view, index } => tree.locate(side(view), index).err(),
+            Call::Select { view, index } => tree.char_index_to_entry(side(view), index).err(),
             _ => None,
         }
     }
 }
 
 impl<const N: usize> Subject for Both<N> {
-    fn call(&mut self, call: Call) -> Reply {
-        let rust = play(&mut self.rust.tree, call);
-        let port = play(&mut self.port, call);
-        assert_eq!(port, rust, "N {N}, {call:?}");
+    fn call(&mut self, call: Call, from: Source) -> Reply {
+        let selected = self.selected(call);
+        let rust = self.rust.call(call, from);
+        let port = play(&mut self.port, &mut self.held, call, from);
+        assert_eq!(port, rust, "N {N}, {call:?} from {from:?}");
+        if let Some((raw::Selected { number, at, offset }, head)) = selected {
+            let held = self.held.last(0).map(|(_, cursor)| cursor.into());
+            assert_eq!(
+                (number, Some(at), offset, head),
+                (0, held, port.fields[1], self.port.0.head()),
+                "N {N}, {call:?}"
+            );
+        }
         self.same_words(call);
         rust
     }
 
-    fn refused(&mut self, call: Call, number: u8) {
-        let refusal = self.refusal(call);
-        assert_eq!(refusal.map(|refusal| refusal.number), Some(number as u32), "N {N}, {call:?}");
+    fn refused(&mut self, call: Call, from: Source, number: u8) {
+        if let Some((selected, head)) = self.selected(call) {
+            assert_eq!((selected.number, head), (number as u32, self.port.0.head()), "N {N}, {call:?}");
+        }
+        let refusal = self.refusal(call, from);
+        assert_eq!(refusal.map(|refusal| refusal.number), Some(number as u32), "N {N}, {call:?} from {from:?}");
         self.same_words(call);
     }
 
@@ -104,5 +134,9 @@ impl<const N: usize> Subject for Both<N> {
     fn entries(&self) -> Vec<Entry> {
         assert_eq!(self.port.0.audit(), Ok(true));
         entries(&self.port)
+    }
+
+    fn copy(&self) -> Box<dyn Subject> {
+        Box::new(self.clone())
     }
 }

@@ -4,6 +4,7 @@ use oracle::calls::Calls;
 use smelvock::{Cursor, Lengths, PrepareEffectTree, Refusal, View};
 use std::cmp::Ordering;
 
+#[derive(Clone)]
 pub struct Port<const N: usize>(pub PrepareEffectTree<N>);
 
 fn done<T>(answer: Result<T, Refusal>) -> T {

@@ -4,7 +4,9 @@
 use beside::exports::{Area, Export, Given, Tree, EXPORTS};
 use beside::port::pair;
 use beside::words::head_of;
+use oracle::at_fan;
 use oracle::audit::{audit, Verdict};
+use oracle::fans::FANS;
 use oracle::random::Random;
 use oracle::state::State;
 use smelvock::raw::word::{ENTRIES, FAN, LEAVES, LIMIT, PRESENT};
@@ -129,9 +131,9 @@ fn every_single_flipped_word() {
 fn chains_of_calls_on_damaged_trees() {
     let mut met = Met::default();
     let mut random = Random::new(4);
-    let trees = [sound::<4>(40), sound::<5>(40), sound::<8>(60), sound::<32>(80)];
+    let trees = FANS.map(|fan| at_fan!(fan, N => sound::<N>(34 + N as u32 * 3 / 2)));
     for _ in 0..3_000 * SCALE {
-        let mut tree = trees[random.below(4) as usize].clone();
+        let mut tree = trees[random.below(trees.len() as u64) as usize].clone();
         for _ in 0..1 + random.below(6) {
             let area = random.below(4) as usize;
             let length = [tree.leaves.words().len(), tree.inners.words().len(), tree.homes.words().len(), 15][area];

@@ -8,5 +8,5 @@ fn a_million_calls() {
     let said = String::from_utf8(ran.stdout).expect("text");
     let last = said.lines().last().unwrap_or_default();
     println!("long 1 7: {last}");
-    assert!(ran.status.success() && last.starts_with("1000000 calls, every answer, cursor and word alike"));
+    assert!(ran.status.success() && last.starts_with("1125000 calls, every answer, cursor and word alike"));
 }

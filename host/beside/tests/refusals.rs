@@ -3,6 +3,8 @@
 
 use beside::exports::{Area, Export, Given, Tree, EXPORTS};
 use beside::port::pair;
+use oracle::at_fan;
+use oracle::fans::FANS;
 use smelvock::raw::word::{FAN, LEAVES, LIMIT, PRESENT, ROOT};
 use smelvock::raw::{Cursor, Lengths};
 use smelvock::{PrepareEffectTree, View};
@@ -65,7 +67,8 @@ fn refused(number: u32, export: Export, tree: &Tree, given: &Given) {
 }
 
 fn at_each_fan(test: fn(Tree, Given)) {
-    for (tree, given) in [whole::<4>(), whole::<5>(), whole::<8>(), whole::<32>()] {
+    for fan in FANS {
+        let (tree, given) = at_fan!(fan, N => whole::<N>());
         test(tree, given);
     }
     println!("{} refusals played so far", PLAYED.load(Ordering::Relaxed));

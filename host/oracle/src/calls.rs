@@ -1,6 +1,7 @@
-//! lib.rs's public calls as a trait, so that one piece of code drives lib.rs and the port, and the row calls by id on them:
-//! each is `cursor(id)` and then the call of its kind.
+//! lib.rs's public calls as a trait, so that one piece of code drives lib.rs and the port, and the row calls on them: each is
+//! `cursor(id)`, or a cursor that an earlier call answered, and then the call of its kind.
 
+use crate::cursors::{Held, Source};
 use crate::record::Call;
 use crate::row::Entry;
 use crate::rust::{pair, side, Place, Reply, Seen};
@@ -92,13 +93,15 @@ impl<const N: usize> Calls for PrepareEffectTree<N> {
 /// What a call answers: the fields, and its cursors.
 type Answered<C> = ([u32; 3], [Option<C>; 2]);
 
-/// Plays a call that the row does not refuse.
-pub fn play<T: Calls>(tree: &mut T, call: Call) -> Reply {
-    let cursors = call.ids().map(|id| id.map(|id| tree.cursor(id)));
+/// Plays a call that the row does not refuse, and keeps the cursors that it answers.
+pub fn play<T: Calls>(tree: &mut T, held: &mut Held<T::Cursor>, call: Call, from: Source) -> Reply {
+    let ([first, second], by_id) = (call.ids(), |id| tree.cursor(id));
+    let cursors = [held.handed(from).map(|(_, cursor)| cursor).or_else(|| first.map(by_id)), second.map(by_id)];
     let given = cursors.map(|cursor| cursor.map(|cursor| seen(tree, cursor)));
     let (fields, got) = change(tree, call, cursors[0])
         .or_else(|| ask(tree, call, cursors))
         .expect("every call is a change or a question, and names the entries that it needs");
+    held.keep(call, got);
     Reply { fields, given, got: got.map(|cursor| cursor.map(|cursor| seen(tree, cursor))) }
 }
 
@@ -146,10 +149,17 @@ fn change<T: Calls>(tree: &mut T, call: Call, at: Option<T::Cursor>) -> Option<A
     })
 }
 
-/// The calls that only answer, lookup among them although it moves the finger.
+/// The calls that only answer, lookups among them although they move the finger.
 fn ask<T: Calls>(tree: &mut T, call: Call, given: [Option<T::Cursor>; 2]) -> Option<Answered<T::Cursor>> {
     let fields = match call {
-        Call::Lookup { view, index } => return Some(lookup(tree, view, index)),
+        Call::Lookup { view, index } => {
+            let (at, offset, effect) = tree.locate(view, index);
+            return Some(([tree.id(at), offset, effect], [Some(at), None]));
+        }
+        Call::Select { view, index } => {
+            let (at, offset) = tree.char_index_to_entry(view, index);
+            return Some(([tree.id(at), offset, 0], [Some(at), None]));
+        }
         Call::First => return Some(([tree.id(tree.first()), 0, 0], [Some(tree.first()), None])),
         Call::Next { .. } => {
             let next = tree.next(given[0]?);
@@ -168,12 +178,4 @@ fn ask<T: Calls>(tree: &mut T, call: Call, given: [Option<T::Cursor>; 2]) -> Opt
         _ => return None,
     };
     Some((fields, [None, None]))
-}
-
-/// `locate`; `char_index_to_entry` must answer the same less the effect position.
-fn lookup<T: Calls>(tree: &mut T, view: usize, index: u32) -> Answered<T::Cursor> {
-    let (at, offset, effect) = tree.locate(view, index);
-    let (again, same) = tree.char_index_to_entry(view, index);
-    assert_eq!((Place::of(again), same), (Place::of(at), offset));
-    ([tree.id(at), offset, effect], [Some(at), None])
 }

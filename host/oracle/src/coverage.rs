@@ -1,7 +1,9 @@
 //! What a run has met, counted, so that a test can assert that it met what it claims.
 
+use crate::cursors::{Giver, GIVERS, HANDED};
 use crate::record::Call;
 use crate::state::{Finger, Head};
+use std::collections::BTreeMap;
 
 #[derive(Clone, Default, PartialEq, Eq, Debug)]
 pub struct Coverage {
@@ -30,6 +32,17 @@ pub struct Coverage {
     pub checks: u64,
 }
 
+/// What a run has met of cursors handed from call to call.
+#[derive(Clone, Default, PartialEq, Eq, Debug)]
+pub struct CursorCoverage {
+    /// Cursors answered, by call.
+    pub answered: BTreeMap<Giver, u64>,
+    /// Calls answered that were handed a cursor, by the call that had answered it and by kind.
+    pub handed: BTreeMap<Giver, [u64; 14]>,
+    /// Calls refused that were handed one.
+    pub refused: u64,
+}
+
 impl Coverage {
     pub fn answered(&self) -> u64 {
         self.kinds.iter().sum()
@@ -51,13 +64,15 @@ impl Coverage {
     }
 
     /// Notes an answered call with the heads before and after it and the leaf of the entry it names.
-    pub fn note(&mut self, kind: u8, call: Call, leaf: Option<u32>, before: &Head, after: &Head) {
-        self.kinds[kind as usize] += 1;
+    pub fn note(&mut self, call: Call, leaf: Option<u32>, before: &Head, after: &Head) {
+        self.kinds[call.kind() as usize] += 1;
         self.most_levels = self.most_levels.max(after.levels);
         match call {
             Call::Reset { .. } => {}
-            Call::Lookup { view, index } => self.note_lookup(view as u32, index, before.finger, after.finger),
-            _ => self.note_change(kind, leaf, before, after),
+            Call::Lookup { view, index } | Call::Select { view, index } => {
+                self.note_lookup(view as u32, index, before.finger, after.finger)
+            }
+            _ => self.note_change(call.kind(), leaf, before, after),
         }
     }
 
@@ -96,12 +111,8 @@ impl Coverage {
 
 impl std::ops::AddAssign<&Coverage> for Coverage {
     fn add_assign(&mut self, other: &Coverage) {
-        for (sum, count) in self.kinds.iter_mut().zip(other.kinds) {
-            *sum += count;
-        }
-        for (sum, count) in self.refused.iter_mut().zip(other.refused) {
-            *sum += count;
-        }
+        add(&mut self.kinds, &other.kinds);
+        add(&mut self.refused, &other.refused);
         self.leaf_splits += other.leaf_splits;
         self.inner_splits += other.inner_splits;
         self.root_growths += other.root_growths;
@@ -115,5 +126,41 @@ impl std::ops::AddAssign<&Coverage> for Coverage {
         self.stayed += other.stayed;
         self.leaf_split_under_finger += other.leaf_split_under_finger;
         self.checks += other.checks;
+    }
+}
+
+impl CursorCoverage {
+    /// Whether every kind of call that takes a cursor was handed one of every call that answers one.
+    pub fn whole(&self) -> bool {
+        let whole = |kinds: &[u64; 14]| HANDED.iter().all(|&kind| kinds[kind as usize] > 0);
+        GIVERS.iter().all(|giver| self.handed.get(giver).is_some_and(whole))
+    }
+
+    /// Notes an answered call: the call that its cursor was from, where it was handed one, and the cursors that it answered.
+    pub fn note(&mut self, call: Call, from: Option<Giver>, got: [Option<u32>; 2]) {
+        if let Some(giver) = from {
+            self.handed.entry(giver).or_default()[call.kind() as usize] += 1;
+        }
+        for giver in call.givers().into_iter().zip(got).filter_map(|(giver, got)| got.and(giver)) {
+            *self.answered.entry(giver).or_default() += 1;
+        }
+    }
+}
+
+impl std::ops::AddAssign<&CursorCoverage> for CursorCoverage {
+    fn add_assign(&mut self, other: &CursorCoverage) {
+        for (&giver, count) in &other.answered {
+            *self.answered.entry(giver).or_default() += count;
+        }
+        for (&giver, kinds) in &other.handed {
+            add(self.handed.entry(giver).or_default(), kinds);
+        }
+        self.refused += other.refused;
+    }
+}
+
+fn add(sums: &mut [u64], counts: &[u64]) {
+    for (sum, count) in sums.iter_mut().zip(counts) {
+        *sum += count;
     }
 }

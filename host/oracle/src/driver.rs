@@ -1,8 +1,10 @@
-//! Plays one list of records on a subject (lib.rs) and on the plain row, and compares everything.
+//! Plays one list of calls on a subject (lib.rs) and on the plain row, and compares everything.
 
 use crate::audit::{audit, Verdict};
-use crate::coverage::Coverage;
-use crate::record::{Answer, Call, Record};
+use crate::coverage::{Coverage, CursorCoverage};
+use crate::cursors::{Held, Source, Step};
+use crate::lists::Lister;
+use crate::record::{Answer, Call};
 use crate::row::Row;
 use crate::rust::{Reply, Rust, Seen, Subject};
 use crate::state::NONE;
@@ -10,7 +12,6 @@ use crate::state::NONE;
 /// One call of a list as it went. A call that the row refuses has no reply: it is not played on the subject.
 #[derive(Clone, Copy, PartialEq, Eq, Debug)]
 pub struct Line {
-    pub record: Record,
     pub answer: Answer,
     pub reply: Option<Reply>,
 }
@@ -18,10 +19,14 @@ pub struct Line {
 /// Where subject and row part, and at which call of the list.
 pub type Parted = String;
 
+#[derive(Clone)]
 pub struct Driver<S: Subject> {
     pub subject: S,
     pub row: Row,
     pub coverage: Coverage,
+    pub cursors: CursorCoverage,
+    /// The entries of the cursors that the subject holds.
+    pub held: Held<u32>,
     /// Entries and audit are compared after every so many calls; 0 is never.
     check_every: u64,
 }
@@ -35,40 +40,51 @@ impl<const N: usize> Driver<Rust<N>> {
 
 impl<S: Subject> Driver<S> {
     pub fn beside(subject: S, row: Row, check_every: u64) -> Self {
-        Driver { subject, row, coverage: Coverage::default(), check_every }
+        let (coverage, cursors) = (Coverage::default(), CursorCoverage::default());
+        Driver { subject, row, coverage, cursors, held: Held::default(), check_every }
     }
 
-    pub fn play(&mut self, record: Record) -> Result<Line, Parted> {
-        let answer = self.row.play(&record);
-        let reply = match record.call().filter(|_| answer.number == 0) {
-            Some(call) => Some(self.answered(record, call, answer)?),
+    pub fn play(&mut self, step: impl Into<Step>) -> Result<Line, Parted> {
+        let Step { call, from } = step.into();
+        let answer = self.row.answer(call);
+        let reply = match call.filter(|_| answer.number == 0) {
+            Some(call) => Some(self.answered(call, from, answer)?),
             None => {
-                if let Some(call) = record.call() {
-                    self.subject.refused(call, answer.number);
+                if let Some(call) = call {
+                    self.subject.refused(call, from, answer.number);
                 }
                 self.coverage.refused[answer.number as usize] += 1;
+                self.cursors.refused += (from != Source::Id) as u64;
                 None
             }
         };
         if self.check_every != 0 && self.coverage.calls().is_multiple_of(self.check_every) {
             self.check()?;
         }
-        Ok(Line { record, answer, reply })
+        Ok(Line { answer, reply })
     }
 
-    pub fn play_all(&mut self, records: &[Record]) -> Result<(), Parted> {
-        records.iter().try_for_each(|&record| self.play(record).map(|_| ()))
+    pub fn play_all(&mut self, steps: &[impl Into<Step> + Copy]) -> Result<(), Parted> {
+        steps.iter().try_for_each(|&step| self.play(step).map(|_| ()))
+    }
+
+    /// Plays so many steps as the lister draws them.
+    pub fn play_drawn(&mut self, lister: &mut Lister, steps: u64) -> Result<(), Parted> {
+        (0..steps).try_for_each(|_| self.play(lister.step(&self.row, &self.held)).map(|_| ()))
     }
 
     /// A call that the row answered: the subject's fields and cursors must be the row's.
-    fn answered(&mut self, record: Record, call: Call, answer: Answer) -> Result<Reply, Parted> {
+    fn answered(&mut self, call: Call, from: Source, answer: Answer) -> Result<Reply, Parted> {
         let before = self.subject.head();
-        let reply = self.subject.call(call);
+        let reply = self.subject.call(call, from);
         let leaf = reply.given[0].map(|seen| seen.place.leaf);
-        self.coverage.note(record.kind, call, leaf, &before, &self.subject.head());
-        self.same("fields", reply.fields, answer.fields, call)?;
-        self.same("entries of the cursors given", reply.given.map(id), call.ids(), call)?;
-        self.same("entries of the cursors got", reply.got.map(id), meant(call, answer.fields), call)?;
+        self.coverage.note(call, leaf, &before, &self.subject.head());
+        let got = meant(call, answer.fields);
+        self.cursors.note(call, self.held.handed(from).map(|(giver, _)| giver), got);
+        self.held.keep(call, got);
+        self.same("fields", reply.fields, answer.fields, (call, from))?;
+        self.same("entries of the cursors given", reply.given.map(id), call.ids(), (call, from))?;
+        self.same("entries of the cursors got", reply.got.map(id), got, (call, from))?;
         Ok(reply)
     }
 
@@ -102,7 +118,8 @@ fn id(seen: Option<Seen>) -> Option<u32> {
 /// The entries at which the cursors that come out of a call must stand, given the row's answer.
 fn meant(call: Call, [first, ..]: [u32; 3]) -> [Option<u32>; 2] {
     match call {
-        Call::Insert { .. } | Call::Add { .. } | Call::Lookup { .. } | Call::First => [Some(first), None],
+        Call::Insert { .. } | Call::Add { .. } => [Some(first), None],
+        Call::Lookup { .. } | Call::Select { .. } | Call::First => [Some(first), None],
         Call::Next { .. } => [Some(first).filter(|&id| id != NONE), None],
         Call::Split { id, before: true, .. } => [Some(first), Some(id)],
         Call::Split { id, before: false, .. } => [Some(id), Some(first)],

@@ -6,12 +6,15 @@
 pub mod audit;
 pub mod calls;
 pub mod coverage;
+pub mod cursors;
 pub mod driver;
+pub mod fans;
 pub mod lists;
 pub mod patterns;
 pub mod random;
 pub mod record;
 pub mod row;
+pub mod runs;
 pub mod rust;
 pub mod state;
 pub mod stored;

@@ -1,8 +1,9 @@
 //! Random lists of records, drawn one by one with the row in sight, so that most calls are answered
-//! and the others miss by little.
+//! and the others miss by little; and of steps, some of which are handed a cursor of an earlier call.
 
+use crate::cursors::{Held, Source, Step, HANDED};
 use crate::random::Random;
-use crate::record::Record;
+use crate::record::{Call, Record};
 use crate::row::{Entry, Row};
 use crate::state::NONE;
 
@@ -36,6 +37,13 @@ pub const EVEN: [u64; 13] = [0, 10, 10, 10, 10, 10, 20, 10, 8, 8, 6, 2, 2];
 /// Lookups between changes, for the finger.
 pub const LOOKING: [u64; 13] = [0, 8, 6, 14, 6, 6, 60, 2, 2, 2, 1, 1, 1];
 
+/// The weights with a reset now and then.
+pub fn with_resets(weights: [u64; 13]) -> [u64; 13] {
+    let mut weights = weights.map(|weight| weight * 20);
+    weights[0] = 1;
+    weights
+}
+
 pub struct Lister {
     random: Random,
     style: Style,
@@ -52,15 +60,56 @@ impl Lister {
     /// The next record of a list that has brought the row where it is.
     pub fn draw(&mut self, row: &Row) -> Record {
         if self.random.percent(self.style.miss) {
-            return self.missing(row);
+            let entry = self.entry(row);
+            return self.missing(entry, row);
         }
         let kind = self.kind();
         self.good(kind, row)
     }
 
+    /// The next step of such a list: a record drawn; or, one time in four, a call that answers a cursor or a call that is handed
+    /// one of those held. Half of the lookups are by `char_index_to_entry`.
+    pub fn step(&mut self, row: &Row, held: &Held<u32>) -> Step {
+        let step = match self.random.below(8) {
+            0 => self.answering(row).into(),
+            1 => self.handed(row, held),
+            _ => self.draw(row).into(),
+        };
+        match step.call {
+            Some(Call::Lookup { view, index }) if self.random.percent(50) => Call::Select { view, index }.into(),
+            _ => step,
+        }
+    }
+
+    /// A call that answers a cursor, each as often as the others.
+    fn answering(&mut self, row: &Row) -> Record {
+        let kind = [7, 7, 13, 9, 4][self.random.below(5) as usize];
+        self.good(kind, row)
+    }
+
+    /// A call that is handed one of the last three cursors; it may miss by something else than its cursor.
+    fn handed(&mut self, row: &Row, held: &Held<u32>) -> Step {
+        let Some((from, id)) = held.last(self.random.below(3) as usize) else { return self.answering(row).into() };
+        self.focus = row.place(id).expect("an entry never goes while a cursor to it is held");
+        let entry = row.entries[self.focus];
+        let record = if self.random.percent(self.style.miss) {
+            self.missing(entry, row)
+        } else {
+            let kind = HANDED[self.random.below(HANDED.len() as u64) as usize];
+            self.good_at(kind, entry, row)
+        };
+        let call = record.call();
+        let named = call.is_some_and(|call| call.ids()[0] == Some(id));
+        Step { call, from: if named { from } else { Source::Id } }
+    }
+
     /// A record of that kind whose fields are good and whose entries exist.
     pub fn good(&mut self, kind: u8, row: &Row) -> Record {
         let entry = self.entry(row);
+        self.good_at(kind, entry, row)
+    }
+
+    fn good_at(&mut self, kind: u8, entry: Entry, row: &Row) -> Record {
         let before = if self.random.percent(10) { NONE } else { entry.id };
         match kind {
             1 => self.with_lengths(1, 0, row),
@@ -144,8 +193,7 @@ impl Lister {
 
     /// A record that misses: a missing id, the view's end, a split of too much, a total past u32, or
     /// a bad field.
-    fn missing(&mut self, row: &Row) -> Record {
-        let entry = self.entry(row);
+    fn missing(&mut self, entry: Entry, row: &Row) -> Record {
         let past = row.count() + self.random.below(2) as u32;
         let view = self.random.below(2) as u8;
         let too_much = [0, 1].map(|view| (u32::MAX - row.total(view)).saturating_add(1));

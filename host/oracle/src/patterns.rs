@@ -1,18 +1,27 @@
-//! Lists that random ones meet too seldom, on any subject. `make` gives a driver from a limit and the first entry's lengths.
+//! Lists that random ones meet too seldom, on any subject.
 
-use crate::coverage::Coverage;
+use crate::coverage::{Coverage, CursorCoverage};
+use crate::cursors::{Giver, Step, GIVERS, HANDED};
 use crate::driver::Driver;
-use crate::record::Record;
+use crate::fans::{Make, Setup, FANS};
+use crate::record::{Call, Record};
 use crate::rust::Subject;
 use crate::state::NONE;
 
-fn record(kind: u8, byte1: u8, a: u32, b: u32, c: u32) -> Record {
-    Record::new(kind, byte1, a, b, c)
+fn record(kind: u8, byte1: u8, a: u32, b: u32, c: u32) -> Step {
+    Record::new(kind, byte1, a, b, c).into()
 }
 
-/// Calls of all thirteen kinds around the entries `low` and `high`. Some are refused where the start
+fn select(view: usize, index: u32) -> Step {
+    Call::Select { view, index }.into()
+}
+
+/// The calls of short lists, around two entries.
+pub type Alphabet = fn(u32, u32) -> Vec<Step>;
+
+/// Calls of all thirteen kinds and a `char_index_to_entry` around the entries `low` and `high`. Some are refused where the start
 /// has no such entry or length.
-pub fn all_kinds(low: u32, high: u32) -> Vec<Record> {
+pub fn all_kinds(low: u32, high: u32) -> Vec<Step> {
     vec![
         record(1, 0, 0, 1, 2),
         record(2, 0, NONE, 1, 1),
@@ -25,6 +34,7 @@ pub fn all_kinds(low: u32, high: u32) -> Vec<Record> {
         record(7, 0, 0, 0, 0),
         record(7, 0, high, 0, 0),
         record(7, 1, low, 0, 0),
+        select(1, high),
         record(8, 0, high, 0, 0),
         record(8, 1, low, 0, 0),
         record(9, 0, low, 0, 0),
@@ -37,7 +47,7 @@ pub fn all_kinds(low: u32, high: u32) -> Vec<Record> {
 }
 
 /// The calls that move entries or the finger, fewer of them, for longer lists.
-pub fn movers(low: u32, high: u32) -> Vec<Record> {
+pub fn movers(low: u32, high: u32) -> Vec<Step> {
     vec![
         record(2, 0, low, 1, 2),
         record(3, 0, NONE, 0, 1),
@@ -51,7 +61,7 @@ pub fn movers(low: u32, high: u32) -> Vec<Record> {
 }
 
 /// How many entries a start has: one; a full leaf; a full root.
-pub fn starts(fan: u32) -> Vec<u32> {
+fn starts(fan: u32) -> Vec<u32> {
     let full_root = (fan - 1) * (fan / 2) + fan;
     if fan <= 8 {
         vec![1, fan, full_root]
@@ -62,8 +72,8 @@ pub fn starts(fan: u32) -> Vec<u32> {
 
 /// A tree of so many entries (2, 1), added at the end, whose finger was set at a prepare position.
 /// There is room for four more.
-pub fn started<S: Subject>(entries: u32, index: u32, make: impl Fn(u32, [u32; 2]) -> Driver<S>) -> Driver<S> {
-    let mut driver = make(entries + 4, [2, 1]);
+fn started(entries: u32, index: u32, setup: Setup) -> Driver<Box<dyn Subject>> {
+    let mut driver = setup.driver(entries + 4, [2, 1]);
     driver.play_all(&vec![record(3, 0, NONE, 2, 1); entries as usize - 1]).unwrap();
     driver.play(record(7, 0, index, 0, 0)).unwrap();
     driver.coverage = Coverage::default();
@@ -72,11 +82,11 @@ pub fn started<S: Subject>(entries: u32, index: u32, make: impl Fn(u32, [u32; 2]
 
 /// Plays every list of exactly `length` calls of the alphabet after that start. Entries and audit are
 /// compared at the end of each list.
-pub fn every_list<S: Subject>(start: impl Fn() -> Driver<S>, alphabet: &[Record], length: u32) -> Coverage {
+fn every_list(start: &Driver<Box<dyn Subject>>, alphabet: &[Step], length: u32) -> Coverage {
     let mut met = Coverage::default();
     let lists = alphabet.len().pow(length);
     for list in 0..lists {
-        let mut driver = start();
+        let mut driver = start.clone();
         let mut rest = list;
         for _ in 0..length {
             driver.play(alphabet[rest % alphabet.len()]).unwrap();
@@ -90,19 +100,15 @@ pub fn every_list<S: Subject>(start: impl Fn() -> Driver<S>, alphabet: &[Record]
 }
 
 /// Every list of 1 to `longest` calls, from each start with the finger in its first half or at its end.
-pub fn every_short_list<S: Subject>(
-    fan: u32,
-    alphabet: fn(u32, u32) -> Vec<Record>,
-    longest: u32,
-    make: impl Fn(u32, [u32; 2]) -> Driver<S>,
-) -> Coverage {
-    let mut met = Coverage::default();
+fn every_short_list(alphabet: Alphabet, longest: u32, setup: Setup) -> Coverage {
+    let (fan, mut met) = (setup.fan, Coverage::default());
     for entries in starts(fan) {
         let last = entries - 1;
-        for (index, length) in
-            [last / 2, last * 2].into_iter().flat_map(|index| (1..=longest).map(move |length| (index, length)))
-        {
-            met += &every_list(|| started(entries, index, &make), &alphabet(last / 2, last), length);
+        for index in [last / 2, last * 2] {
+            let start = started(entries, index, setup);
+            for length in 1..=longest {
+                met += &every_list(&start, &alphabet(last / 2, last), length);
+            }
         }
     }
     println!("fan {fan}, every list of up to {longest} calls: {} lists, {} calls, {met:?}", met.checks, met.calls());
@@ -110,17 +116,33 @@ pub fn every_short_list<S: Subject>(
     met
 }
 
+/// The same at each fan, from 46 starts in all: three at each fan up to 8, two at the others, each with two fingers.
+pub fn every_short_list_at_each_fan(alphabet: Alphabet, longest: u32, make: Make) -> Coverage {
+    let mut met = Coverage::default();
+    for fan in FANS {
+        met += &every_short_list(alphabet, longest, Setup { make, fan, check_every: 0 });
+    }
+    assert!(met.finger_whole() && met.leaf_split_under_finger > 0);
+    met
+}
+
+/// So many entries (1, 2), added at the end: their ids are their places.
+fn row_of(entries: u32, limit: u32, setup: Setup) -> Driver<Box<dyn Subject>> {
+    let mut driver = setup.driver(limit, [1, 2]);
+    driver.play_all(&vec![record(3, 0, NONE, 1, 2); entries as usize - 1]).unwrap();
+    driver
+}
+
 /// Lookup, then a split or insert that splits the very leaf, then lookups on both sides of it. A full
 /// leaf of entries (1, 2); the finger at each slot, the change before or within each slot, every
 /// kind of change, either view, and then lookups down and up the whole row.
-pub fn around_a_split<S: Subject>(fan: u32, make: impl Fn(u32, [u32; 2]) -> Driver<S>) -> Coverage {
-    let mut met = Coverage::default();
-    let fill = vec![record(3, 0, NONE, 1, 2); fan as usize - 1];
+pub fn around_a_split(setup: Setup) -> Coverage {
+    let (fan, mut met) = (setup.fan, Coverage::default());
+    let full = row_of(fan, 2 * fan, setup);
     for (looked, changed) in (0..fan * 2).flat_map(|looked| (0..=fan).map(move |changed| (looked, changed))) {
         for (kind, flag) in [(2, 0), (3, 0), (4, 0), (4, 1)] {
             let view = (looked % 2) as u8;
-            let mut driver = make(2 * fan, [1, 2]);
-            driver.play_all(&fill).unwrap();
+            let mut driver = full.clone();
             driver.play(record(7, view, (looked / 2) * (1 + view as u32), 0, 0)).unwrap();
             let at = if changed == fan { NONE } else { changed };
             driver.play(record(kind, flag, at, 1, 1)).unwrap();
@@ -140,9 +162,48 @@ pub fn around_a_split<S: Subject>(fan: u32, make: impl Fn(u32, [u32; 2]) -> Driv
     met
 }
 
+/// Each call that answers a cursor, at each slot of a leaf that is full or lacks one entry, and then each kind of call that is handed
+/// it: some cursors come out of a leaf split, others go into one. Entries (1, 2); lookups on both sides follow.
+pub fn handed_on(setup: Setup) -> CursorCoverage {
+    let (fan, mut met, mut cursors) = (setup.fan, Coverage::default(), CursorCoverage::default());
+    for (entries, giver) in [fan - 1, fan].into_iter().flat_map(|entries| GIVERS.map(|giver| (entries, giver))) {
+        let row = row_of(entries, entries + 2, setup);
+        for (slot, kind) in (0..entries).flat_map(|slot| HANDED.map(|kind| (slot, kind))) {
+            let Some(giving) = giving(giver, slot) else { continue };
+            let (mut driver, odd) = (row.clone(), (slot % 2) as u8);
+            driver.play(giving).unwrap();
+            let (from, id) = driver.held.last((giver == Giver::SplitFirst) as usize).expect("a cursor was answered");
+            let flag = if kind == 4 || kind == 8 { odd } else { 0 };
+            driver.play(Step { from, ..record(kind, flag, id, 0, (kind <= 6) as u32) }).unwrap();
+            for index in [slot, 0, entries - 1] {
+                driver.play(record(7, odd, index, 0, 0)).unwrap();
+            }
+            driver.check().unwrap();
+            met += &driver.coverage;
+            cursors += &driver.cursors;
+        }
+    }
+    println!("handed on, fan {fan}: {} calls, {cursors:?}", met.calls());
+    assert!(cursors.whole() && met.leaf_split_under_finger > 0);
+    cursors
+}
+
+/// The call that answers the cursor of that slot in a row of entries (1, 2) whose ids are their places. `first` has it for one slot,
+/// `next` for all others.
+pub fn giving(giver: Giver, slot: u32) -> Option<Step> {
+    let view = slot % 2;
+    match giver {
+        Giver::Locate => Some(record(7, view as u8, slot * (1 + view), 0, 0)),
+        Giver::CharIndexToEntry => Some(select(view as usize, slot * (1 + view))),
+        Giver::First => (slot == 0).then(|| record(13, 0, 0, 0, 0)),
+        Giver::Next => slot.checked_sub(1).map(|before| record(9, 0, before, 0, 0)),
+        Giver::SplitFirst | Giver::SplitSecond => Some(record(4, view as u8, slot, 0, 1)),
+    }
+}
+
 /// Fills a tree to its limit at the end, at the front, around the middle or by splits; one more is 8.
-pub fn fill<S: Subject>(limit: u32, way: u8, make: impl Fn(u32, [u32; 2]) -> Driver<S>) -> Coverage {
-    let mut driver = make(limit, [200, 200]);
+pub fn fill(limit: u32, way: u8, setup: Setup) -> Coverage {
+    let mut driver = setup.driver(limit, [200, 200]);
     for _ in 0..limit {
         let count = driver.row.count();
         let id = |place: u32| driver.row.entries[place as usize].id;
@@ -162,8 +223,8 @@ pub fn fill<S: Subject>(limit: u32, way: u8, make: impl Fn(u32, [u32; 2]) -> Dri
 
 /// Fills a tree at the end only, so that every node but the last of its level is left half full, with a comparison now and then;
 /// one more is 8.
-pub fn deep<S: Subject>(limit: u32, make: impl Fn(u32, [u32; 2]) -> Driver<S>) -> Coverage {
-    let mut driver = make(limit, [1, 1]);
+pub fn deep(limit: u32, setup: Setup) -> Coverage {
+    let mut driver = setup.driver(limit, [1, 1]);
     while driver.row.count() < limit {
         let last = driver.row.count() - 1;
         driver.play(record(3, 0, NONE, last % 3, 1)).unwrap();

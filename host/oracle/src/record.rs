@@ -1,5 +1,6 @@
 //! The 16-byte records and answers of document 01 ("Door and program").
 
+use crate::cursors::Giver;
 use crate::state::NONE;
 
 /// A record as it came: kind, byte 1 (a view or a flag), two bytes that must be 0, then three words.
@@ -13,7 +14,7 @@ pub struct Record {
     pub c: u32,
 }
 
-/// The call that a good record asks for. Lengths are a pair, prepare and effect; a view is 0 or 1.
+/// The call that a good record asks for, and `Select`. Lengths are a pair, prepare and effect; a view is 0 or 1.
 #[derive(Clone, Copy, PartialEq, Eq, Debug)]
 pub enum Call {
     Reset {
@@ -42,6 +43,11 @@ pub enum Call {
         lengths: [u32; 2],
     },
     Lookup {
+        view: usize,
+        index: u32,
+    },
+    /// `char_index_to_entry`, a lookup less the effect position. No record asks for it.
+    Select {
         view: usize,
         index: u32,
     },
@@ -140,7 +146,38 @@ impl Call {
             Call::Split { id, .. } | Call::Set { id, .. } | Call::Update { id, .. } => [Some(id), None],
             Call::Rank { id, .. } | Call::Next { id } | Call::Lengths { id } => [Some(id), None],
             Call::Compare { first, second } => [Some(first), Some(second)],
-            Call::Reset { .. } | Call::Lookup { .. } | Call::Count | Call::First => [None, None],
+            Call::Reset { .. } | Call::Lookup { .. } | Call::Select { .. } | Call::Count | Call::First => [None, None],
+        }
+    }
+
+    /// The kind of record that asks for it; a `Select` counts as a lookup.
+    pub fn kind(&self) -> u8 {
+        match self {
+            Call::Reset { .. } => 1,
+            Call::Insert { .. } => 2,
+            Call::Add { .. } => 3,
+            Call::Split { .. } => 4,
+            Call::Set { .. } => 5,
+            Call::Update { .. } => 6,
+            Call::Lookup { .. } | Call::Select { .. } => 7,
+            Call::Rank { .. } => 8,
+            Call::Next { .. } => 9,
+            Call::Compare { .. } => 10,
+            Call::Lengths { .. } => 11,
+            Call::Count => 12,
+            Call::First => 13,
+        }
+    }
+
+    /// The call again for each cursor that it answers, those of `split_entry` in order.
+    pub fn givers(&self) -> [Option<Giver>; 2] {
+        match self {
+            Call::Lookup { .. } => [Some(Giver::Locate), None],
+            Call::Select { .. } => [Some(Giver::CharIndexToEntry), None],
+            Call::First => [Some(Giver::First), None],
+            Call::Next { .. } => [Some(Giver::Next), None],
+            Call::Split { .. } => [Some(Giver::SplitFirst), Some(Giver::SplitSecond)],
+            _ => [None, None],
         }
     }
 }

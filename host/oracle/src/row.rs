@@ -26,7 +26,12 @@ impl Row {
 
     /// Plays one record. A refused call changes nothing and answers its number.
     pub fn play(&mut self, record: &Record) -> Answer {
-        match record.call().ok_or(10).and_then(|call| self.call(call)) {
+        self.answer(record.call())
+    }
+
+    /// Plays the call of a record; a record with a bad field asks for none.
+    pub fn answer(&mut self, call: Option<Call>) -> Answer {
+        match call.ok_or(10).and_then(|call| self.call(call)) {
             Ok(fields) => Answer { number: 0, fields },
             Err(number) => Answer { number, fields: [0; 3] },
         }
@@ -41,6 +46,7 @@ impl Row {
             Call::Set { id, lengths } => self.update(id, lengths).map(|_| [0; 3]),
             Call::Update { id, lengths } => self.update(id, lengths),
             Call::Lookup { view, index } => self.lookup(view, index),
+            Call::Select { view, index } => self.lookup(view, index).map(|[id, offset, _]| [id, offset, 0]),
             Call::Rank { view, id } => Ok([self.before(view, self.place(id)?), 0, 0]),
             Call::Next { id } => Ok([self.next(self.place(id)?), 0, 0]),
             Call::Compare { first, second } => self.compare(first, second),

@@ -1,10 +1,11 @@
 //! lib.rs as the subject of a run.
 
 use crate::calls::{entries, play};
+use crate::cursors::{Held, Source};
 use crate::record::Call;
 use crate::row::Entry;
 use crate::state::{Head, State};
-use crate::tree::{Lengths, PrepareEffectTree, View};
+use crate::tree::{Cursor, Lengths, PrepareEffectTree, View};
 use std::fmt::Debug;
 
 /// Where a cursor stands.
@@ -47,29 +48,64 @@ pub struct Reply {
 /// What is played beside the row.
 pub trait Subject {
     /// A call that the row does not refuse.
-    fn call(&mut self, call: Call) -> Reply;
+    fn call(&mut self, call: Call, from: Source) -> Reply;
     /// A call that the row refuses by that number; lib.rs has no answer to it.
-    fn refused(&mut self, _call: Call, _number: u8) {}
+    fn refused(&mut self, _call: Call, _from: Source, _number: u8) {}
     fn head(&self) -> Head;
     fn state(&self) -> State;
     /// The entries in order, by walking.
     fn entries(&self) -> Vec<Entry>;
+    fn copy(&self) -> Box<dyn Subject>;
 }
 
+impl Clone for Box<dyn Subject> {
+    fn clone(&self) -> Self {
+        (**self).copy()
+    }
+}
+
+impl Subject for Box<dyn Subject> {
+    fn call(&mut self, call: Call, from: Source) -> Reply {
+        (**self).call(call, from)
+    }
+
+    fn refused(&mut self, call: Call, from: Source, number: u8) {
+        (**self).refused(call, from, number)
+    }
+
+    fn head(&self) -> Head {
+        (**self).head()
+    }
+
+    fn state(&self) -> State {
+        (**self).state()
+    }
+
+    fn entries(&self) -> Vec<Entry> {
+        (**self).entries()
+    }
+
+    fn copy(&self) -> Box<dyn Subject> {
+        (**self).copy()
+    }
+}
+
+#[derive(Clone)]
 pub struct Rust<const N: usize> {
     pub tree: PrepareEffectTree<N>,
     pub limit: u32,
+    held: Held<Cursor>,
 }
 
 impl<const N: usize> Rust<N> {
     pub fn make(limit: u32, lengths: [u32; 2]) -> Self {
-        Rust { tree: PrepareEffectTree::new(pair(lengths)), limit }
+        Rust { tree: PrepareEffectTree::new(pair(lengths)), limit, held: Held::default() }
     }
 }
 
 impl<const N: usize> Subject for Rust<N> {
-    fn call(&mut self, call: Call) -> Reply {
-        play(&mut self.tree, call)
+    fn call(&mut self, call: Call, from: Source) -> Reply {
+        play(&mut self.tree, &mut self.held, call, from)
     }
 
     fn head(&self) -> Head {
@@ -82,6 +118,10 @@ impl<const N: usize> Subject for Rust<N> {
 
     fn entries(&self) -> Vec<Entry> {
         entries(&self.tree)
+    }
+
+    fn copy(&self) -> Box<dyn Subject> {
+        Box::new(self.clone())
     }
 }
 

@@ -1,10 +1,11 @@
 //! The lists kept in `docs/oracle/`: lib.rs's answers and cursors, call by call.
 
 use crate::coverage::Coverage;
-use crate::driver::{Driver, Line};
+use crate::driver::Line;
+use crate::fans::{rust, Setup};
 use crate::lists::{Lister, Sizes, Style, LOOKING};
 use crate::record::Record;
-use crate::rust::{Rust, Seen};
+use crate::rust::Seen;
 use crate::state::NONE;
 
 /// How one list comes about: a make, `adds` entries at the end, and then calls drawn, a reset among
@@ -58,12 +59,7 @@ pub fn stored() -> Vec<Stored> {
     PLANS
         .iter()
         .map(|plan| {
-            let list = match plan.fan {
-                4 => play::<4>(plan),
-                5 => play::<5>(plan),
-                8 => play::<8>(plan),
-                _ => play::<32>(plan),
-            };
+            let list = play(plan);
             let met = &list.coverage;
             assert!(met.all_kinds() && met.finger_whole() && met.leaf_splits > 0, "{}: {met:?}", list.name);
             assert!(plan.adds > 0 || met.leaf_split_under_finger > 0, "{}: {met:?}", list.name);
@@ -107,9 +103,9 @@ pub fn coverage_text(lists: &[Stored]) -> String {
     lists.iter().map(|list| format!("{}: {} calls, {:?}\n", list.name, list.coverage.calls(), list.coverage)).collect()
 }
 
-fn play<const N: usize>(plan: &Plan) -> Stored {
+fn play(plan: &Plan) -> Stored {
     let Plan { name, fan, limit, first: [prepare, effect], .. } = *plan;
-    let mut driver = Driver::<Rust<N>>::make(limit, plan.first, 1);
+    let mut driver = Setup { make: rust, fan, check_every: 1 }.driver(limit, plan.first);
     let mut lister =
         Lister::new(plan.seed, Style { weights: growing_looks(), sizes: Sizes::Small, close: 75, miss: 10 });
     let mut text = format!("make {fan} {limit} {prepare} {effect}\n");
@@ -121,7 +117,7 @@ fn play<const N: usize>(plan: &Plan) -> Stored {
             Some(_) => lister.draw(&driver.row),
         };
         let line = driver.play(record).expect("lib.rs and the row agree");
-        text += &line_text(&line);
+        text += &line_text(record, &line);
         records.extend(record.encode());
     }
     Stored { name, made: [fan, limit, prepare, effect], text, records, coverage: driver.coverage }
@@ -138,8 +134,8 @@ fn growing_looks() -> [u64; 13] {
 
 /// One line: a word, the record's five fields, the number and three fields of the answer, and the
 /// places of two cursors given and two cursors got.
-fn line_text(line: &Line) -> String {
-    let Record { kind, byte1, a, b, c, .. } = line.record;
+fn line_text(record: Record, line: &Line) -> String {
+    let Record { kind, byte1, a, b, c, .. } = record;
     let [x, y, z] = line.answer.fields;
     let word = if line.reply.is_some() { "call" } else { "refused" };
     let places = line.reply.map_or([None; 4], |reply| [reply.given[0], reply.given[1], reply.got[0], reply.got[1]]);

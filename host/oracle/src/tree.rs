@@ -14,6 +14,20 @@ impl<const N: usize> Node<N> {
     }
 }
 
+impl<const N: usize> Clone for Node<N> {
+    fn clone(&self) -> Self {
+        Node { ..*self }
+    }
+}
+
+/// Lists that begin alike are played on copies of one tree.
+impl<const N: usize> Clone for PrepareEffectTree<N> {
+    fn clone(&self) -> Self {
+        let [leaves, nodes] = [&self.leaves, &self.nodes].map(Vec::clone);
+        PrepareEffectTree { leaves, nodes, leaf_of_entry: self.leaf_of_entry.clone(), ..*self }
+    }
+}
+
 impl<const N: usize> Node<N> {
     /// Whether these are the node's words.
     fn same(&self, words: &[u32]) -> bool {

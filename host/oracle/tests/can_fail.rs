@@ -1,8 +1,11 @@
 //! The tests can fail: wrong trees played beside the row are caught, by full checks at once and by
 //! the answers alone in the end.
 
+use oracle::cursors::{Source, GIVERS, HANDED};
 use oracle::driver::{Driver, Parted};
+use oracle::fans::{rust, Setup};
 use oracle::lists::{Lister, Sizes, Style, LOOKING};
+use oracle::patterns::handed_on;
 use oracle::record::Call;
 use oracle::row::{Entry, Row};
 use oracle::rust::{Place, Reply, Rust, Seen, Subject};
@@ -10,6 +13,7 @@ use oracle::state::{Finger, Head, State};
 use std::panic::{catch_unwind, AssertUnwindSafe};
 
 /// lib.rs at fan 4 whose calls go through a wrong step, with what that step remembers.
+#[derive(Clone)]
 struct Mutant {
     rust: Rust<4>,
     wrong: Wrong,
@@ -17,11 +21,11 @@ struct Mutant {
     first_lookup: Option<Reply>,
 }
 
-type Wrong = fn(&mut Mutant, Call) -> Reply;
+type Wrong = fn(&mut Mutant, Call, Source) -> Reply;
 
 impl Subject for Mutant {
-    fn call(&mut self, call: Call) -> Reply {
-        (self.wrong)(self, call)
+    fn call(&mut self, call: Call, from: Source) -> Reply {
+        (self.wrong)(self, call, from)
     }
 
     fn head(&self) -> Head {
@@ -35,50 +39,54 @@ impl Subject for Mutant {
     fn entries(&self) -> Vec<Entry> {
         self.rust.entries()
     }
+
+    fn copy(&self) -> Box<dyn Subject> {
+        Box::new(self.clone())
+    }
 }
 
-fn right(tree: &mut Mutant, call: Call) -> Reply {
-    tree.rust.call(call)
+fn right(tree: &mut Mutant, call: Call, from: Source) -> Reply {
+    tree.rust.call(call, from)
 }
 
-fn swapped_split_flag(tree: &mut Mutant, call: Call) -> Reply {
+fn swapped_split_flag(tree: &mut Mutant, call: Call, from: Source) -> Reply {
     match call {
-        Call::Split { id, lengths, before } => tree.rust.call(Call::Split { id, lengths, before: !before }),
-        _ => right(tree, call),
+        Call::Split { id, lengths, before } => tree.rust.call(Call::Split { id, lengths, before: !before }, from),
+        _ => right(tree, call, from),
     }
 }
 
 /// Puts the finger back as it was before a change, where `stale` says so of it and the head after.
-fn keeps(tree: &mut Mutant, call: Call, stale: impl Fn(Finger, &Head) -> bool) -> Reply {
+fn keeps(tree: &mut Mutant, call: Call, from: Source, stale: impl Fn(Finger, &Head) -> bool) -> Reply {
     let old = tree.head().finger;
-    let reply = right(tree, call);
-    let change = !matches!(call, Call::Reset { .. } | Call::Lookup { .. });
+    let reply = right(tree, call, from);
+    let change = !matches!(call, Call::Reset { .. } | Call::Lookup { .. } | Call::Select { .. });
     if let Some(finger) = old.filter(|&finger| change && stale(finger, &tree.head())) {
         tree.rust.tree.put_finger(Some(finger));
     }
     reply
 }
 
-fn finger_kept(tree: &mut Mutant, call: Call) -> Reply {
-    keeps(tree, call, |_, _| true)
+fn finger_kept(tree: &mut Mutant, call: Call, from: Source) -> Reply {
+    keeps(tree, call, from, |_, _| true)
 }
 
-fn finger_kept_although_its_slot_left(tree: &mut Mutant, call: Call) -> Reply {
+fn finger_kept_although_its_slot_left(tree: &mut Mutant, call: Call, from: Source) -> Reply {
     let leaves = tree.head().leaf_count;
-    keeps(tree, call, |finger, head| head.leaf_count > leaves && finger.slot >= 2)
+    keeps(tree, call, from, |finger, head| head.leaf_count > leaves && finger.slot >= 2)
 }
 
-fn effect_position_plus_offset(tree: &mut Mutant, call: Call) -> Reply {
-    let mut reply = right(tree, call);
+fn effect_position_plus_offset(tree: &mut Mutant, call: Call, from: Source) -> Reply {
+    let mut reply = right(tree, call, from);
     if matches!(call, Call::Lookup { .. }) {
         reply.fields[2] += reply.fields[1];
     }
     reply
 }
 
-fn zero_length_entry_taken(tree: &mut Mutant, call: Call) -> Reply {
-    let mut reply = right(tree, call);
-    if let Call::Lookup { view, .. } = call {
+fn zero_length_entry_taken(tree: &mut Mutant, call: Call, from: Source) -> Reply {
+    let mut reply = right(tree, call, from);
+    if let Call::Lookup { view, .. } | Call::Select { view, .. } = call {
         let entries = tree.entries();
         let found = entries.iter().position(|entry| entry.id == reply.fields[0]).unwrap_or(0);
         if found > 0 && reply.fields[1] == 0 && entries[found - 1].lengths[view] == 0 {
@@ -88,8 +96,8 @@ fn zero_length_entry_taken(tree: &mut Mutant, call: Call) -> Reply {
     reply
 }
 
-fn guesses_after_the_first_lookup(tree: &mut Mutant, call: Call) -> Reply {
-    let reply = right(tree, call);
+fn guesses_after_the_first_lookup(tree: &mut Mutant, call: Call, from: Source) -> Reply {
+    let reply = right(tree, call, from);
     match call {
         Call::Lookup { .. } => *tree.first_lookup.get_or_insert(reply),
         _ => reply,
@@ -97,15 +105,15 @@ fn guesses_after_the_first_lookup(tree: &mut Mutant, call: Call) -> Reply {
 }
 
 /// The add's own entry is read where the first one stands.
-fn stores_nothing(tree: &mut Mutant, call: Call) -> Reply {
-    let Call::Add { .. } = call else { return right(tree, call) };
+fn stores_nothing(tree: &mut Mutant, call: Call, from: Source) -> Reply {
+    let Call::Add { .. } = call else { return right(tree, call, from) };
     let id = tree.head().entry_count;
     let seen = |id| Seen { place: Place { leaf: 0, slot: 0 }, id };
     Reply { fields: [id, 0, 0], given: call.ids().map(|id| id.map(seen)), got: [Some(seen(id)), None] }
 }
 
-fn count_forgets_splits(tree: &mut Mutant, call: Call) -> Reply {
-    let mut reply = right(tree, call);
+fn count_forgets_splits(tree: &mut Mutant, call: Call, from: Source) -> Reply {
+    let mut reply = right(tree, call, from);
     match call {
         Call::Split { .. } => tree.splits += 1,
         Call::Count => reply.fields[0] -= tree.splits,
@@ -114,23 +122,37 @@ fn count_forgets_splits(tree: &mut Mutant, call: Call) -> Reply {
     reply
 }
 
-fn none_from_every_next(tree: &mut Mutant, call: Call) -> Reply {
-    let mut reply = right(tree, call);
+fn none_from_every_next(tree: &mut Mutant, call: Call, from: Source) -> Reply {
+    let mut reply = right(tree, call, from);
     if matches!(call, Call::Next { .. }) {
         (reply.fields, reply.got) = ([u32::MAX, 0, 0], [None; 2]);
     }
     reply
 }
 
-fn set_forgets_the_effect_length(tree: &mut Mutant, call: Call) -> Reply {
-    let Call::Set { id, lengths: [prepare, _] } = call else { return right(tree, call) };
+fn set_forgets_the_effect_length(tree: &mut Mutant, call: Call, from: Source) -> Reply {
+    let Call::Set { id, lengths: [prepare, _] } = call else { return right(tree, call, from) };
     let own = tree.rust.tree.lengths(tree.rust.tree.cursor(id)).effect;
-    tree.rust.call(Call::Set { id, lengths: [prepare, own] })
+    tree.rust.call(Call::Set { id, lengths: [prepare, own] }, from)
+}
+
+fn hands_on_the_cursor_held_before(tree: &mut Mutant, call: Call, from: Source) -> Reply {
+    match from {
+        Source::Held(place) => tree.rust.call(call, Source::Held(place.saturating_sub(1))),
+        Source::Id => right(tree, call, from),
+    }
+}
+
+fn selects_in_the_other_view(tree: &mut Mutant, call: Call, from: Source) -> Reply {
+    match call {
+        Call::Select { view, index } => tree.rust.call(Call::Select { view: 1 - view, index }, from),
+        _ => right(tree, call, from),
+    }
 }
 
 /// Document 01's "Mistakes near to hand" and its clause c, as far as they are not about refusals:
-/// what is refused is the row's to say here, and is not played on the tree.
-const MUTANTS: [(&str, Wrong); 10] = [
+/// what is refused is the row's to say here, and is not played on the tree. Then a wrong cursor, and `char_index_to_entry`.
+const MUTANTS: [(&str, Wrong); 12] = [
     ("swapped split flag", swapped_split_flag),
     ("finger kept after every change", finger_kept),
     ("finger kept although its slot left with the upper half", finger_kept_although_its_slot_left),
@@ -141,6 +163,8 @@ const MUTANTS: [(&str, Wrong); 10] = [
     ("a count that forgets splits", count_forgets_splits),
     ("none from every next", none_from_every_next),
     ("set forgets the effect length", set_forgets_the_effect_length),
+    ("a call is handed the cursor held before", hands_on_the_cursor_held_before),
+    ("char_index_to_entry in the other view", selects_in_the_other_view),
 ];
 
 /// Plays a list of up to 3,000 calls; an error or a panic of lib.rs is a catch.
@@ -149,13 +173,7 @@ fn play(wrong: Wrong, check_every: u64) -> Result<u64, Parted> {
     let mutant = Mutant { rust: Rust::make(2_000, [2, 3]), wrong, splits: 0, first_lookup: None };
     let mut driver = Driver::beside(mutant, Row::make(2_000, [2, 3]), check_every);
     let mut lister = Lister::new(7, style);
-    let run = AssertUnwindSafe(|| {
-        for _ in 0..3_000 {
-            let record = lister.draw(&driver.row);
-            driver.play(record)?;
-        }
-        Ok(driver.coverage.calls())
-    });
+    let run = AssertUnwindSafe(|| driver.play_drawn(&mut lister, 3_000).map(|()| driver.coverage.calls()));
     catch_unwind(run).unwrap_or(Err("lib.rs panicked".into()))
 }
 
@@ -168,4 +186,16 @@ fn every_mutant_is_caught() {
         }
     }
     assert_eq!(play(right, 1), Ok(3_000), "what is not wrong passes");
+}
+
+/// A run is not whole if one kind of call is never handed the cursor of one call.
+#[test]
+fn what_is_never_handed_on_is_noticed() {
+    let whole = handed_on(Setup { make: rust, fan: 4, check_every: 0 });
+    assert!(whole.whole());
+    for (giver, kind) in GIVERS.into_iter().flat_map(|giver| HANDED.map(|kind| (giver, kind))) {
+        let mut met = whole.clone();
+        met.handed.get_mut(&giver).expect("its cursors were handed on")[kind as usize] = 0;
+        assert!(!met.whole(), "{giver:?}, kind {kind}");
+    }
 }

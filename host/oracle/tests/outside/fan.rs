@@ -23,10 +23,7 @@ fn like_the_row<const N: usize>(limit: u32) {
     for seed in 0..10 {
         let mut lister = Lister::new(seed, style);
         let mut driver = Driver::beside(Rust::<N>::make(limit, [3, 3]), Row::make(limit, [3, 3]), 0);
-        for _ in 0..2_000 {
-            let record = lister.draw(&driver.row);
-            driver.play(record).unwrap();
-        }
+        driver.play_drawn(&mut lister, 2_000).unwrap();
         assert_eq!(driver.subject.entries(), driver.row.entries);
         assert_eq!(audit(&driver.subject.state()), Verdict::Refused(1));
     }
