@@ -6,6 +6,7 @@ use area::word::raise_in;
 use area::word::start_in;
 use model::answer::Compared;
 use model::head::Path;
+use model::number::NodeNo;
 use model::shape::Shape;
 use model::way::Sum;
 ghost use mathlib.Core.Path.{_≡_};
@@ -19,13 +20,13 @@ ghost use Rattle.walk.specs.Raise.{raiseUp};
 ghost use Rattle.walk.specs.Steps.{stepsOf, Stepped};
 
 // sum and the lengths before place i of inner node k, and so on up (entry_to_char_index).
-pub fn rank_up(inners: &[u32], g: Shape, view: usize, left: u32, k: u32, i: u32, sum: u64) -> Sum
+pub fn rank_up(inners: &[u32], g: Shape, view: usize, left: u32, k: NodeNo, i: u32, sum: u64) -> Sum
     requires { ⌜ Area g (length (now inners)) × (view + 1 < g .stride) × (left ≤ 15) × (sum ≤ 137438953440) ⌝ }
-    ensures { λ r. ⌜ r ≡ rankUp g view left k i sum (now (inners .entry)) ⌝ }
+    ensures { λ r. ⌜ r ≡ rankUp g view left (k .0) i sum (now (inners .entry)) ⌝ }
 {
     let mut total = sum;
     let mut n = left;
-    let mut node = k;
+    let mut node = k.0;
     let mut at = i;
     while 0 < n {
         if !inside(g, node, at) {
@@ -47,16 +48,16 @@ pub fn climb_up(
     view: usize,
     delta: &[u32],
     left: u32,
-    k: u32,
+    k: NodeNo,
     i: u32,
     sum: u64,
 ) -> Sum
     requires { ⌜ Area g (length (now inners)) × (view + 1 < g .stride) × (length (now delta) + 1 ≡ g .stride) × (left ≤ 16) × (sum ≤ 137438953440) ⌝ }
-    ensures { λ r. ⌜ (r, now (inners .exit)) ≡ climbUp g view (now (delta .entry)) left k i sum (now (inners .entry)) ⌝ }
+    ensures { λ r. ⌜ (r, now (inners .exit)) ≡ climbUp g view (now (delta .entry)) left (k .0) i sum (now (inners .entry)) ⌝ }
 {
     let mut index = sum;
     let mut levels = left;
-    let mut node_id = k;
+    let mut node_id = k.0;
     let mut child = i;
     while 0 < levels {
         if !inside(g, node_id, child) {
@@ -74,12 +75,12 @@ pub fn climb_up(
 }
 
 // The same walk without the sum; whether it came to the root (add_to_ancestors).
-pub fn add_up(inners: &mut [u32], g: Shape, delta: &[u32], left: u32, k: u32, i: u32) -> bool
+pub fn add_up(inners: &mut [u32], g: Shape, delta: &[u32], left: u32, k: NodeNo, i: u32) -> bool
     requires { ⌜ Area g (length (now inners)) × (length (now delta) + 1 ≡ g .stride) ⌝ }
-    ensures { λ r. ⌜ (r, now (inners .exit)) ≡ raiseUp g (now (delta .entry)) left k i (now (inners .entry)) ⌝ }
+    ensures { λ r. ⌜ (r, now (inners .exit)) ≡ raiseUp g (now (delta .entry)) left (k .0) i (now (inners .entry)) ⌝ }
 {
     let mut n = left;
-    let mut node_id = k;
+    let mut node_id = k.0;
     let mut at = i;
     while 0 < n {
         if !inside(g, node_id, at) {
@@ -96,13 +97,13 @@ pub fn add_up(inners: &mut [u32], g: Shape, delta: &[u32], left: u32, k: u32, i:
 }
 
 // The places on the way up, the highest first; none where the way is broken (path).
-pub fn steps_up(inners: &[u32], g: Shape, left: u32, k: u32, i: u32) -> Path
+pub fn steps_up(inners: &[u32], g: Shape, left: u32, k: NodeNo, i: u32) -> Path
     requires { ⌜ Area g (length (now inners)) × (left ≤ 15) ⌝ }
-    ensures { λ r. ⌜ (stepsOf r ≡ stepsUp g left k i [] (now (inners .entry))) × Stepped r ⌝ }
+    ensures { λ r. ⌜ (stepsOf r ≡ stepsUp g left (k .0) i [] (now (inners .entry))) × Stepped r ⌝ }
 {
     let mut steps: [u8; 16] = [0; 16];
     let mut level = left as usize;
-    let mut node_id = k;
+    let mut node_id = k.0;
     let mut at = i;
     while 0 < level {
         if !inside(g, node_id, at) {

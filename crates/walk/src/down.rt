@@ -6,6 +6,7 @@ use area::word::child_of;
 use area::word::len_of;
 use area::word::parent_of;
 use model::number::LeafNo;
+use model::number::NodeNo;
 use model::shape::Shape;
 use model::way::Leaf;
 ghost use mathlib.Core.Path.{_≡_};
@@ -14,7 +15,7 @@ ghost use lib.ListN.{length};
 ghost use Rattle.model.specs.Climb.{firstDown, lastDown, nextUp};
 ghost use Rattle.area.specs.Area.{Area};
 
-// Down by the first slots (first).
+// Down by the first slots (first). Node k is a leaf where no levels are left, so its number has neither kind.
 pub fn first_down(inners: &[u32], g: Shape, left: u32, k: u32) -> Leaf
     requires { ⌜ Area g (length (now inners)) ⌝ }
     ensures { λ r. ⌜ r ≡ firstDown g left k (now (inners .entry)) ⌝ }
@@ -35,12 +36,12 @@ pub fn first_down(inners: &[u32], g: Shape, left: u32, k: u32) -> Leaf
 }
 
 // Down by the last slots in use (last_leaf).
-pub fn last_down(inners: &[u32], g: Shape, left: u32, k: u32) -> Leaf
+pub fn last_down(inners: &[u32], g: Shape, left: u32, k: NodeNo) -> Leaf
     requires { ⌜ Area g (length (now inners)) ⌝ }
-    ensures { λ r. ⌜ r ≡ lastDown g left k (now (inners .entry)) ⌝ }
+    ensures { λ r. ⌜ r ≡ lastDown g left (k .0) (now (inners .entry)) ⌝ }
 {
     let mut n = left;
-    let mut node = k;
+    let mut node = k.0;
     while 0 < n {
         if !sized(inners, g, node) {
             return Leaf::Broken;
@@ -59,13 +60,13 @@ pub fn last_down(inners: &[u32], g: Shape, left: u32, k: u32) -> Leaf
 }
 
 // Up to the first node with a later child, then down by the first slots (next).
-pub fn next_up(inners: &[u32], g: Shape, left: u32, k: u32, i: u32) -> Leaf
+pub fn next_up(inners: &[u32], g: Shape, left: u32, k: NodeNo, i: u32) -> Leaf
     requires { ⌜ Area g (length (now inners)) × (left ≤ 15) ⌝ }
-    ensures { λ r. ⌜ r ≡ nextUp g left 0 k i (now (inners .entry)) ⌝ }
+    ensures { λ r. ⌜ r ≡ nextUp g left 0 (k .0) i (now (inners .entry)) ⌝ }
 {
     let mut n = left;
     let mut climbed: u32 = 0;
-    let mut node = k;
+    let mut node = k.0;
     let mut at = i;
     while 0 < n {
         if !sized(inners, g, node) {

@@ -13,10 +13,10 @@ use Rattle.walk.proofs.climb.add_up.Statement.{statement}
 use Rattle.walk.proofs.climb.add_up.Tie as tie
 
 abbrev Inv-loop : tie.InvT-loop
-Inv-loop inners₀ g delta left k i n₀ node-id₀ at₀ inners n node-id at = (length inners ≡ length inners₀) × (raiseUp g delta n node-id at inners ≡ raiseUp g delta left k i inners₀)
+Inv-loop inners₀ g delta left i n₀ node-id₀ at₀ inners n node-id at = (length inners ≡ length inners₀) × (raiseUp g delta n node-id at inners ≡ raiseUp g delta left node-id₀ i inners₀)
 
 abbrev μ-loop : tie.MeasureT-loop
-μ-loop inners₀ g delta left k i n₀ node-id₀ at₀ inners n node-id at = n
+μ-loop inners₀ g delta left i n₀ node-id₀ at₀ inners n node-id at = n
 
 -- the place of a turn is inside, and the area is as long as it was
 turn : (c : tie.Else1 Inv-loop μ-loop) → inside (c .before .before .before .before .before .before .args .g) (c .before .before .before .loop .node-id) (c .before .before .before .loop .at) ≡ true

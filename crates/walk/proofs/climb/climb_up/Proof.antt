@@ -12,12 +12,12 @@ use Rattle.walk.proofs.climb.climb_up.Statement.{statement}
 use Rattle.walk.proofs.climb.climb_up.Tie as tie
 
 abbrev Inv-loop : tie.InvT-loop
-Inv-loop inners₀ g view delta left k i sum index₀ levels₀ node-id₀ child₀ inners index levels node-id child =
+Inv-loop inners₀ g view delta left i sum index₀ levels₀ node-id₀ child₀ inners index levels node-id child =
     (length inners ≡ length inners₀) × (levels ≤ left) × (index ≤ sum + (left - levels) * 137438953440)
-    × (climbUp g view delta levels node-id child index inners ≡ climbUp g view delta left k i sum inners₀)
+    × (climbUp g view delta levels node-id child index inners ≡ climbUp g view delta left node-id₀ i sum inners₀)
 
 abbrev μ-loop : tie.MeasureT-loop
-μ-loop inners₀ g view delta left k i sum index₀ levels₀ node-id₀ child₀ inners index levels node-id child = levels
+μ-loop inners₀ g view delta left i sum index₀ levels₀ node-id₀ child₀ inners index levels node-id child = levels
 
 -- the place of a turn is inside, and the area is as long as it was
 turn : (c : tie.Else1 Inv-loop μ-loop) → inside (c .before .before .before .before .before .before .args .g) (c .before .before .before .loop .node-id) (c .before .before .before .loop .child) ≡ true

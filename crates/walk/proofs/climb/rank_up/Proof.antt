@@ -10,11 +10,11 @@ use Rattle.walk.proofs.climb.rank_up.Statement.{statement}
 use Rattle.walk.proofs.climb.rank_up.Tie as tie
 
 abbrev Inv-loop : tie.InvT-loop
-Inv-loop inners g view left k i sum total₀ n₀ node₀ at₀ total n node at =
-    (n ≤ left) × (total ≤ sum + (left - n) * 137438953440) × (rankUp g view n node at total inners ≡ rankUp g view left k i sum inners)
+Inv-loop inners g view left i sum total₀ n₀ node₀ at₀ total n node at =
+    (n ≤ left) × (total ≤ sum + (left - n) * 137438953440) × (rankUp g view n node at total inners ≡ rankUp g view left node₀ i sum inners)
 
 abbrev μ-loop : tie.MeasureT-loop
-μ-loop inners g view left k i sum total₀ n₀ node₀ at₀ total n node at = n
+μ-loop inners g view left i sum total₀ n₀ node₀ at₀ total n node at = n
 
 -- the place of a turn is inside
 turn : (c : tie.Else1 Inv-loop μ-loop) → inside (c .before .before .before .before .before .args .g) (c .before .before .before .loop .node) (c .before .before .before .loop .at) ≡ true

@@ -13,11 +13,11 @@ use Rattle.walk.proofs.climb.steps_up.Statement.{statement}
 use Rattle.walk.proofs.climb.steps_up.Tie as tie
 
 abbrev Inv-loop : tie.InvT-loop
-Inv-loop inners g left k i steps₀ level₀ node-id₀ at₀ steps level node-id at =
-    (level ≤ left) × (length steps ≡ 16) × (stepsUp g level node-id at (part level (left - level) steps) inners ≡ stepsUp g left k i [] inners)
+Inv-loop inners g left i steps₀ level₀ node-id₀ at₀ steps level node-id at =
+    (level ≤ left) × (length steps ≡ 16) × (stepsUp g level node-id at (part level (left - level) steps) inners ≡ stepsUp g left node-id₀ i [] inners)
 
 abbrev μ-loop : tie.MeasureT-loop
-μ-loop inners g left k i steps₀ level₀ node-id₀ at₀ steps level node-id at = level
+μ-loop inners g left i steps₀ level₀ node-id₀ at₀ steps level node-id at = level
 
 -- the place of a turn is inside
 turn : (c : tie.Else1 Inv-loop μ-loop) → inside (c .before .before .before .before .before .args .g) (c .before .before .before .loop .node-id) (c .before .before .before .loop .at) ≡ true

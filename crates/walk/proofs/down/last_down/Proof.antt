@@ -10,10 +10,10 @@ use Rattle.walk.proofs.down.last_down.Statement.{statement}
 use Rattle.walk.proofs.down.last_down.Tie as tie
 
 abbrev Inv-loop : tie.InvT-loop
-Inv-loop inners g left k n₀ node₀ n node = lastDown g n node inners ≡ lastDown g left k inners
+Inv-loop inners g left n₀ node₀ n node = lastDown g n node inners ≡ lastDown g left node₀ inners
 
 abbrev μ-loop : tie.MeasureT-loop
-μ-loop inners g left k n₀ node₀ n node = n
+μ-loop inners g left n₀ node₀ n node = n
 
 -- the node of a turn is in the area and says no more slots than it has
 turn : (c : tie.Else1 Inv-loop μ-loop)

@@ -10,11 +10,11 @@ use Rattle.walk.proofs.down.next_up.Statement.{statement}
 use Rattle.walk.proofs.down.next_up.Tie as tie
 
 abbrev Inv-loop : tie.InvT-loop
-Inv-loop inners g left k i n₀ climbed₀ node₀ at₀ n climbed node at =
-    (n + climbed ≡ left) × (nextUp g n climbed node at inners ≡ nextUp g left 0 k i inners)
+Inv-loop inners g left i n₀ climbed₀ node₀ at₀ n climbed node at =
+    (n + climbed ≡ left) × (nextUp g n climbed node at inners ≡ nextUp g left 0 node₀ i inners)
 
 abbrev μ-loop : tie.MeasureT-loop
-μ-loop inners g left k i n₀ climbed₀ node₀ at₀ n climbed node at = n
+μ-loop inners g left i n₀ climbed₀ node₀ at₀ n climbed node at = n
 
 -- the node of a turn is in the area and says no more slots than it has
 turn : (c : tie.Else1 Inv-loop μ-loop)
