@@ -4,6 +4,7 @@ use area::word::len_of;
 use area::word::length_of;
 use model::head::Finger;
 use model::head::Held;
+use model::number::LeafNo;
 use model::shape::Found;
 use model::shape::Shape;
 use model::way::Search;
@@ -158,13 +159,13 @@ pub fn rewound(f: Finger) -> Finger
 }
 
 // What a change at a slot of a leaf leaves of the finger.
-pub fn changing(held: Held, leaf: u32, slot: u32) -> Held
-    ensures { λ r. ⌜ r ≡ changing leaf slot held ⌝ }
+pub fn changing(held: Held, leaf: LeafNo, slot: u32) -> Held
+    ensures { λ r. ⌜ r ≡ changing (leaf .0) slot held ⌝ }
 {
     match held {
         Held::Absent => Held::Absent,
         Held::At(f) => {
-            if f.leaf == leaf {
+            if f.leaf == leaf.0 {
                 if slot < f.slot {
                     Held::At(rewound(f))
                 } else {

@@ -4,6 +4,7 @@ use area::word::find_in;
 use area::word::len_of;
 use model::head::Finger;
 use model::number::LeafNo;
+use model::number::NodeNo;
 use model::shape::Found;
 use model::shape::Shape;
 use model::way::Descent;
@@ -12,7 +13,6 @@ use walk::bounds::sized;
 ghost use mathlib.Core.Path.{_≡_};
 ghost use Prim.Native.Nat.{_+_, _<_, _≤_};
 ghost use lib.ListN.{length};
-ghost use Rattle.model.specs.Climb.{leafNo};
 ghost use Rattle.model.specs.Locate.{descend, leafOf, fromRoot};
 ghost use Rattle.area.specs.Area.{Area};
 
@@ -23,14 +23,14 @@ pub fn descend(
     view: usize,
     effect: usize,
     levels: u32,
-    root: u32,
+    root: NodeNo,
     index: u32,
 ) -> Descent
     requires { ⌜ Area g (length (now inners)) × (view + 1 < g .stride) × (effect + 1 < g .stride) × (levels ≤ 15) ⌝ }
-    ensures { λ r. ⌜ r ≡ descend view effect g Descent.Nothing levels root index 0 (now (inners .entry)) ⌝ }
+    ensures { λ r. ⌜ r ≡ descend view effect g Descent.Nothing levels (root .0) index 0 (now (inners .entry)) ⌝ }
 {
     let mut n = levels;
-    let mut node = root;
+    let mut node = root.0;
     let mut rest = index;
     let mut sum: u64 = 0;
     while 0 < n {
@@ -59,29 +59,30 @@ fn search_leaf(
     view: usize,
     effect: usize,
     used: u32,
-    k: u32,
+    k: LeafNo,
     index: u32,
     rest: u32,
     sum: u64,
 ) -> Search
     requires { ⌜ Area g (length (now leaves)) × (view + 1 < g .stride) × (effect + 1 < g .stride) × (used ≤ g .nodes) × (rest ≤ index) ⌝ }
-    ensures { λ r. ⌜ r ≡ leafOf view effect g used index (now (leaves .entry)) (Descent.At (leafNo k) rest sum) ⌝ }
+    ensures { λ r. ⌜ r ≡ leafOf view effect g used index (now (leaves .entry)) (Descent.At k rest sum) ⌝ }
 {
     let fan = g.fan;
-    if k >= used {
+    let leaf = k.0;
+    if leaf >= used {
         return Search::Broken;
     }
-    let len = len_of(leaves, g, k);
+    let len = len_of(leaves, g, leaf);
     if len as usize > fan {
         return Search::Broken;
     }
-    let found = find_in(leaves, g, view, effect, k, 0, rest, 0);
+    let found = find_in(leaves, g, view, effect, leaf, 0, rest, 0);
     let Found::At(slot, offset, within) = found else {
         return Search::Broken;
     };
     let finger = Finger {
         view: view as u32,
-        leaf: k,
+        leaf: leaf,
         start: index - rest,
         effect: (sum % 4294967296) as u32,
         slot: slot as u32,
@@ -99,18 +100,17 @@ pub fn from_root(
     view: usize,
     effect: usize,
     levels: u32,
-    root: u32,
+    root: NodeNo,
     used: u32,
     index: u32,
 ) -> Search
     requires { ⌜ Area g (length (now leaves)) × Area g (length (now inners)) × (view + 1 < g .stride) × (effect + 1 < g .stride) × (levels ≤ 15) × (used ≤ g .nodes) ⌝ }
-    ensures { λ r. ⌜ r ≡ fromRoot view effect g levels root used index (now (leaves .entry)) (now (inners .entry)) ⌝ }
+    ensures { λ r. ⌜ r ≡ fromRoot view effect g levels (root .0) used index (now (leaves .entry)) (now (inners .entry)) ⌝ }
 {
     let way = descend(inners, g, view, effect, levels, root, index);
     match way {
         Descent::At(leaf, rest, sum) => {
-            let k = leaf.0;
-            search_leaf(leaves, g, view, effect, used, k, index, rest, sum)
+            search_leaf(leaves, g, view, effect, used, leaf, index, rest, sum)
         }
         Descent::Nothing => Search::Nothing,
         Descent::Broken => Search::Broken,

@@ -19,12 +19,12 @@ abbrev missAt : ℕ → ℕ → Descent
 missAt levels n = cond (ltb n levels) descent.Broken descent.Nothing
 
 abbrev Inv-loop : tie.InvT-loop
-Inv-loop inners g view effect levels root index n₀ node₀ rest₀ sum₀ n node rest sum =
+Inv-loop inners g view effect levels index n₀ node₀ rest₀ sum₀ n node rest sum =
     (n ≤ levels) × (sum ≤ (levels - n) * 137438953440)
-    × (descend view effect g (missAt levels n) n node rest sum inners ≡ descend view effect g descent.Nothing levels root index 0 inners)
+    × (descend view effect g (missAt levels n) n node rest sum inners ≡ descend view effect g descent.Nothing levels node₀ index 0 inners)
 
 abbrev μ-loop : tie.MeasureT-loop
-μ-loop inners g view effect levels root index n₀ node₀ rest₀ sum₀ n node rest sum = n
+μ-loop inners g view effect levels index n₀ node₀ rest₀ sum₀ n node rest sum = n
 
 -- the node of a turn is in the area and says no more slots than it has
 turn : (c : tie.Else1 Inv-loop μ-loop)

@@ -10,7 +10,7 @@ use Rattle.finger_search.proofs.search.search_leaf.Statement.{statement
 use Rattle.finger_search.proofs.search.search_leaf.Tie as tie
 
 -- the leaf says no more slots than it has
-filled : (c : tie.Else2) → nodeAt (c .before .before .before .before .args .g) (c .before .before .before .before .args .k)
+filled : (c : tie.Else2) → nodeAt (c .before .before .before .before .args .g) (c .before .before .before .before .args .k .0)
     (c .before .before .before .before .args .leaves .now) .len ≤ c .before .before .before .before .args .g .fan
 filled c = omega (arith, c .before .len-of .ensures, c .if2 .left)
 
@@ -21,7 +21,7 @@ found c =
     let a = c .before .before .before .before .before .before .before .before .args in
     let t = filled (c .before .before .before .before) in
     let e = sym (c .before .before .before .find-in .ensures .finds) ∙ c .before .found .given .1 in
-    let r = used-ranged (a .g) _ _ (a .k) 0 _ _ (a .leaves .now) t (omega arith) in
+    let r = used-ranged (a .g) _ _ (a .k .0) 0 _ _ (a .leaves .now) t (omega arith) in
     (omega (arith, t, r .slot _ _ _ e), r .offset _ _ _ e)
 
 returns : tie.Need-returns
@@ -54,29 +54,29 @@ returns-3 c =
     sym (leaf-miss _ _ (c .before .before .before .before .before .before .before .args .g) _ _ _ _ _ _ (c .before .before .before .before .before .if1 .left)
     (filled (c .before .before .before)) (sym (c .before .before .find-in .ensures .finds) ∙ c .enum-told .given .1))
 
-cast-t19 : tie.Need-cast-t19
-cast-t19 c =
+cast-t20 : tie.Need-cast-t20
+cast-t20 c =
     let pre = c .before .before .before .before .before .before .before .before .pre in
     omega (arith, pre .0 .shaped, pre .1)
 
-sub-t20 : tie.Need-sub-t20
-sub-t20 c =
+sub-t21 : tie.Need-sub-t21
+sub-t21 c =
     let pre = c .before .before .before .before .before .before .before .before .pre in
     omega (arith, pre .4)
 
-cast-t22 : tie.Need-cast-t22
-cast-t22 c = omega arith
-
 cast-t23 : tie.Need-cast-t23
-cast-t23 c =
+cast-t23 c = omega arith
+
+cast-t24 : tie.Need-cast-t24
+cast-t24 c =
     let pre = c .before .before .before .before .before .before .before .before .pre in
     omega (arith, found c, pre .0 .shaped)
 
-sub-t24 : tie.Need-sub-t24
-sub-t24 c = omega (arith, found c)
+sub-t25 : tie.Need-sub-t25
+sub-t25 c = omega (arith, found c)
 
-cast-t26 : tie.Need-cast-t26
-cast-t26 c = omega arith
+cast-t27 : tie.Need-cast-t27
+cast-t27 c = omega arith
 
 returns-4 : tie.Need-returns-4
 returns-4 c =
@@ -95,10 +95,10 @@ search-leaf-spec =
     enum-known-found
     enum-told
     returns-3
-    cast-t19
-    sub-t20
-    cast-t22
+    cast-t20
+    sub-t21
     cast-t23
-    sub-t24
-    cast-t26
+    cast-t24
+    sub-t25
+    cast-t27
     returns-4)
