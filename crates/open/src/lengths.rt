@@ -3,6 +3,8 @@ use area::word::length_of;
 use model::head::Head;
 use model::length::Lengths;
 use model::length::View;
+use model::number::LeafNo;
+use model::number::NodeNo;
 use model::shape::Shape;
 ghost use mathlib.Core.Path.{_≡_};
 ghost use mathlib.Core.Bool.{cond};
@@ -19,12 +21,12 @@ ghost use Rattle.node.specs.Shaped.{Shaped};
 ghost use Rattle.area.specs.Area.{Area};
 
 // The lengths in slot i of leaf k.
-pub fn lengths_at(leaves: &[u32], g: Shape, k: u32, i: u32) -> Lengths
-    requires { ⌜ Area g (length (now leaves)) × (g .stride ≡ 3) × (k < g .nodes) × (i < g .fan) ⌝ }
-    ensures { λ r. ⌜ lengths (getD (nodeAt g k (now (leaves .entry)) .slots) i []) ≡ listOf r ⌝ }
+pub fn lengths_at(leaves: &[u32], g: Shape, k: LeafNo, i: u32) -> Lengths
+    requires { ⌜ Area g (length (now leaves)) × (g .stride ≡ 3) × (k .0 < g .nodes) × (i < g .fan) ⌝ }
+    ensures { λ r. ⌜ lengths (getD (nodeAt g (k .0) (now (leaves .entry)) .slots) i []) ≡ listOf r ⌝ }
 {
-    let prepare = length_of(leaves, g, 0, k, i as usize);
-    let effect = length_of(leaves, g, 1, k, i as usize);
+    let prepare = length_of(leaves, g, 0, k.0, i as usize);
+    let effect = length_of(leaves, g, 1, k.0, i as usize);
     Lengths {
         prepare: prepare,
         effect: effect,
@@ -87,15 +89,15 @@ fn used_totals(node: &[u32], g: Shape) -> Totals
     }
 }
 
-// The totals of node k.
-fn totals_in(area: &[u32], g: Shape, k: u32) -> Totals
-    requires { ⌜ Area g (length (now area)) × (g .stride ≡ 3) × (k < g .nodes) ⌝ }
-    ensures { λ r. ⌜ (r .prepare ≡ total 0 (used (nodeAt g k (now (area .entry))))) × (r .effect ≡ total 1 (used (nodeAt g k (now (area .entry))))) × (r .prepare ≤ 137438953440) × (r .effect ≤ 137438953440) ⌝ }
+// The totals of inner node k.
+fn totals_in(inners: &[u32], g: Shape, k: NodeNo) -> Totals
+    requires { ⌜ Area g (length (now inners)) × (g .stride ≡ 3) × (k .0 < g .nodes) ⌝ }
+    ensures { λ r. ⌜ (r .prepare ≡ total 0 (used (nodeAt g (k .0) (now (inners .entry))))) × (r .effect ≡ total 1 (used (nodeAt g (k .0) (now (inners .entry))))) × (r .prepare ≤ 137438953440) × (r .effect ≤ 137438953440) ⌝ }
 {
     let size = g.size;
-    let a = k as usize * size;
+    let a = k.0 as usize * size;
     let e = a + size;
-    used_totals(&area[a..e], g)
+    used_totals(&inners[a..e], g)
 }
 
 // Whether the total in a view would pass u32 with new for old.
@@ -112,8 +114,7 @@ pub fn past(head: Head, inners: &[u32], g: Shape, old: Lengths, new: Lengths) ->
     requires { ⌜ (g ≡ shapeOf base head) × Area g (length (now inners)) × (head .root .0 < g .nodes) ⌝ }
     ensures { λ r. ⌜ r ≡ past base (state head [] (now (inners .entry)) []) (listOf old) (listOf new) .applies ⌝ }
 {
-    let root = head.root.0;
-    let t = totals_in(inners, g, root);
+    let t = totals_in(inners, g, head.root);
     if past_in(t.prepare, old, new, View::Prepare) {
         return true;
     }
