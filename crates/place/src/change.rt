@@ -69,15 +69,15 @@ pub fn with_entry(f: Held, h: Head) -> Head
 }
 
 // A room at slot i of leaf k, with so many leaves, and the inner nodes, levels and root of t.
-pub fn room_at(number: u32, leaves: u32, t: Top, k: u32, i: u32) -> Room
-    ensures { λ r. ⌜ r ≡ roomAt number leaves (topOf t) k i ⌝ }
+pub fn room_at(number: u32, leaves: u32, t: Top, k: LeafNo, i: u32) -> Room
+    ensures { λ r. ⌜ r ≡ roomAt number leaves (topOf t) (k .0) i ⌝ }
 {
     let root = t.root;
     Room {
         leaves: leaves,
         number: number,
         inners: t.inners,
-        leaf: LeafNo(k),
+        leaf: k,
         root: root,
         slot: i,
         levels: t.levels,
@@ -148,7 +148,7 @@ pub fn entered(r: Room, h: Head) -> Change
         };
     }
     let finger = after.finger;
-    let moved = changing(finger, leaf.0, r.slot);
+    let moved = changing(finger, leaf, r.slot);
     Change {
         number: 0,
         head: with_entry(moved, after),

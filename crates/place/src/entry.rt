@@ -13,6 +13,7 @@ use links::top::Top;
 use model::head::Head;
 use model::length::Lengths;
 use model::length::Slot;
+use model::number::LeafNo;
 use model::shape::Shape;
 ghost use mathlib.Core.Path.{_≡_};
 ghost use mathlib.Core.Bool.{cond};
@@ -30,16 +31,16 @@ ghost use Rattle.links.specs.Tops.{topOf};
 ghost use Rattle.place.specs.Room.{counted, headEntered, roomyIn, putBy, least};
 
 // Whether leaf k is in the area and has room, with at least w slots in use from slot i on.
-pub fn roomy(leaves: &[u32], g: Shape, k: u32, i: u32, w: u32) -> bool
+pub fn roomy(leaves: &[u32], g: Shape, k: LeafNo, i: u32, w: u32) -> bool
     requires { ⌜ Area g (length (now leaves)) × (w ≤ 1) ⌝ }
-    ensures { λ r. ⌜ r ≡ roomyIn g k i w (now (leaves .entry)) ⌝ }
+    ensures { λ r. ⌜ r ≡ roomyIn g (k .0) i w (now (leaves .entry)) ⌝ }
 {
     let nodes = g.nodes;
     let fan = g.fan;
-    if k as usize >= nodes {
+    if k.0 as usize >= nodes {
         return false;
     }
-    let len = len_of(leaves, g, k) as usize;
+    let len = len_of(leaves, g, k.0) as usize;
     if len < i as usize + w as usize {
         return false;
     }
@@ -52,24 +53,24 @@ fn put_slot(
     g: Shape,
     split: bool,
     before: bool,
-    k: u32,
+    k: LeafNo,
     i: u32,
     x: &[u32],
 ) -> bool
     requires { ⌜ Area g (length (now leaves)) × (length (now x) ≡ g .stride) ⌝ }
-    ensures { λ r. ⌜ (r ≡ roomyIn g k i (least split) (now (leaves .entry))) × (now (leaves .exit) ≡ cond r (putNode g k (putBy split before i (now (x .entry)) (nodeAt g k (now (leaves .entry)))) (now (leaves .entry))) (now (leaves .entry))) ⌝ }
+    ensures { λ r. ⌜ (r ≡ roomyIn g (k .0) i (least split) (now (leaves .entry))) × (now (leaves .exit) ≡ cond r (putNode g (k .0) (putBy split before i (now (x .entry)) (nodeAt g (k .0) (now (leaves .entry)))) (now (leaves .entry))) (now (leaves .entry))) ⌝ }
 {
     if split {
         if !roomy(leaves, g, k, i, 1) {
             return false;
         }
-        split_child(leaves, g, k, before, i as usize, x);
+        split_child(leaves, g, k.0, before, i as usize, x);
         return true;
     }
     if !roomy(leaves, g, k, i, 0) {
         return false;
     }
-    insert(leaves, g, k, i as usize, x);
+    insert(leaves, g, k.0, i as usize, x);
     true
 }
 
@@ -84,19 +85,19 @@ fn enter_slot(
     entries: u32,
     split: bool,
     before: bool,
-    k: u32,
+    k: LeafNo,
     i: u32,
     x: &[u32],
 ) -> Room
     requires { ⌜ Fits g (length (now leaves)) (length (now inners)) × (used ≤ g .nodes) × (t .inners ≤ g .nodes) × (1 ≤ t .levels) × (t .levels ≤ 15) × (entries < length (now homes)) × (length (now x) ≡ g .stride) ⌝ }
-    ensures { λ r. ⌜ ((h : Head) → change (r .number) (state (headEntered r entries h) (now (leaves .exit)) (now (inners .exit)) (now (homes .exit))) (r .leaf .0) (r .slot) ≡ entering g (λ j. putBy split before j (now (x .entry))) (least split) (makeRoom g (state (counted used (topOf t) entries h) (now (leaves .entry)) (now (inners .entry)) (now (homes .entry))) k i)) ⌝ }
+    ensures { λ r. ⌜ ((h : Head) → change (r .number) (state (headEntered r entries h) (now (leaves .exit)) (now (inners .exit)) (now (homes .exit))) (r .leaf .0) (r .slot) ≡ entering g (λ j. putBy split before j (now (x .entry))) (least split) (makeRoom g (state (counted used (topOf t) entries h) (now (leaves .entry)) (now (inners .entry)) (now (homes .entry))) (k .0) i)) ⌝ }
 {
     let r = make_room(leaves, inners, homes, g, used, t, entries, k, i);
     if r.number != 0 {
         return r;
     }
     let leaf = r.leaf;
-    if !put_slot(leaves, g, split, before, leaf.0, r.slot, x) {
+    if !put_slot(leaves, g, split, before, leaf, r.slot, x) {
         return astray(r);
     }
     homes[entries as usize] = leaf.0;
@@ -115,12 +116,12 @@ fn enter(
     entries: u32,
     split: bool,
     before: bool,
-    k: u32,
+    k: LeafNo,
     i: u32,
     lengths: Lengths,
 ) -> Room
     requires { ⌜ Fits g (length (now leaves)) (length (now inners)) × (used ≤ g .nodes) × (t .inners ≤ g .nodes) × (1 ≤ t .levels) × (t .levels ≤ 15) × (entries < length (now homes)) × (g .stride ≡ 3) ⌝ }
-    ensures { λ r. ⌜ ((h : Head) → change (r .number) (state (headEntered r entries h) (now (leaves .exit)) (now (inners .exit)) (now (homes .exit))) (r .leaf .0) (r .slot) ≡ entering g (λ j. putBy split before j (entries ∷ listOf lengths)) (least split) (makeRoom g (state (counted used (topOf t) entries h) (now (leaves .entry)) (now (inners .entry)) (now (homes .entry))) k i)) ⌝ }
+    ensures { λ r. ⌜ ((h : Head) → change (r .number) (state (headEntered r entries h) (now (leaves .exit)) (now (inners .exit)) (now (homes .exit))) (r .leaf .0) (r .slot) ≡ entering g (λ j. putBy split before j (entries ∷ listOf lengths)) (least split) (makeRoom g (state (counted used (topOf t) entries h) (now (leaves .entry)) (now (inners .entry)) (now (homes .entry))) (k .0) i)) ⌝ }
 {
     let slot = Slot::new(entries, lengths);
     let x: [u32; 3] = [slot.child, slot.prepare_len, slot.effect_len];
@@ -148,12 +149,12 @@ pub fn place(
     inners: &mut [u32],
     homes: &mut [u32],
     g: Shape,
-    k: u32,
+    k: LeafNo,
     i: u32,
     lengths: Lengths,
 ) -> Change
     requires { ⌜ Fits g (length (now leaves)) (length (now inners)) × (head .leaves ≤ g .nodes) × (head .inners ≤ g .nodes) × (1 ≤ head .levels) × (head .levels ≤ 15) × (head .entries < length (now homes)) × (head .entries < 4294967295) × (g .stride ≡ 3) ⌝ }
-    ensures { λ r. ⌜ change (r .number) (state (r .head) (now (leaves .exit)) (now (inners .exit)) (now (homes .exit))) (r .leaf .0) (r .slot) ≡ entering g (λ j. inserted j (head .entries ∷ listOf lengths)) 0 (makeRoom g (state head (now (leaves .entry)) (now (inners .entry)) (now (homes .entry))) k i) ⌝ }
+    ensures { λ r. ⌜ change (r .number) (state (r .head) (now (leaves .exit)) (now (inners .exit)) (now (homes .exit))) (r .leaf .0) (r .slot) ≡ entering g (λ j. inserted j (head .entries ∷ listOf lengths)) 0 (makeRoom g (state head (now (leaves .entry)) (now (inners .entry)) (now (homes .entry))) (k .0) i) ⌝ }
 {
     let t = top_of(head);
     let r = enter(
@@ -182,12 +183,12 @@ pub fn divide(
     homes: &mut [u32],
     g: Shape,
     before: bool,
-    k: u32,
+    k: LeafNo,
     i: u32,
     lengths: Lengths,
 ) -> Change
     requires { ⌜ Fits g (length (now leaves)) (length (now inners)) × (head .leaves ≤ g .nodes) × (head .inners ≤ g .nodes) × (1 ≤ head .levels) × (head .levels ≤ 15) × (head .entries < length (now homes)) × (head .entries < 4294967295) × (g .stride ≡ 3) ⌝ }
-    ensures { λ r. ⌜ change (r .number) (state (r .head) (now (leaves .exit)) (now (inners .exit)) (now (homes .exit))) (r .leaf .0) (r .slot) ≡ entering g (λ j. childSplit before j (head .entries ∷ listOf lengths)) 1 (makeRoom g (state head (now (leaves .entry)) (now (inners .entry)) (now (homes .entry))) k i) ⌝ }
+    ensures { λ r. ⌜ change (r .number) (state (r .head) (now (leaves .exit)) (now (inners .exit)) (now (homes .exit))) (r .leaf .0) (r .slot) ≡ entering g (λ j. childSplit before j (head .entries ∷ listOf lengths)) 1 (makeRoom g (state head (now (leaves .entry)) (now (inners .entry)) (now (homes .entry))) (k .0) i) ⌝ }
 {
     let t = top_of(head);
     let r = enter(

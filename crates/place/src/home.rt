@@ -1,6 +1,7 @@
 // Which leaf an entry lives in.
 use area::word::child_of;
 use area::word::len_of;
+use model::number::LeafNo;
 use model::shape::Shape;
 ghost use mathlib.Core.Path.{_≡_};
 ghost use Prim.Native.Nat.{_<_, _≤_};
@@ -11,18 +12,18 @@ ghost use Rattle.model.specs.Place.{rehome};
 ghost use Rattle.area.specs.Area.{Area};
 
 // The entries of leaf k learn that they live there; 9 for an id past the entry count.
-pub fn rehome(leaves: &[u32], homes: &mut [u32], g: Shape, entries: u32, k: u32) -> u32
-    requires { ⌜ Area g (length (now leaves)) × (k < g .nodes) × (nodeAt g k (now leaves) .len ≤ g .fan) × (entries ≤ length (now homes)) ⌝ }
-    ensures { λ r. ⌜ (r, now (homes .exit)) ≡ rehome entries k (used (nodeAt g k (now (leaves .entry)))) (now (homes .entry)) ⌝ }
+pub fn rehome(leaves: &[u32], homes: &mut [u32], g: Shape, entries: u32, k: LeafNo) -> u32
+    requires { ⌜ Area g (length (now leaves)) × (k .0 < g .nodes) × (nodeAt g (k .0) (now leaves) .len ≤ g .fan) × (entries ≤ length (now homes)) ⌝ }
+    ensures { λ r. ⌜ (r, now (homes .exit)) ≡ rehome entries (k .0) (used (nodeAt g (k .0) (now (leaves .entry)))) (now (homes .entry)) ⌝ }
 {
-    let len = len_of(leaves, g, k) as usize;
+    let len = len_of(leaves, g, k.0) as usize;
     let mut i: usize = 0;
     while i < len {
-        let id = child_of(leaves, g, k, i);
+        let id = child_of(leaves, g, k.0, i);
         if entries <= id {
             return 9;
         }
-        homes[id as usize] = k;
+        homes[id as usize] = k.0;
         i += 1;
     }
     0

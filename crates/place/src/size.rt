@@ -7,6 +7,8 @@ use area::write::set_lengths;
 use finger_search::finger::changing;
 use model::head::Head;
 use model::length::Lengths;
+use model::number::LeafNo;
+use model::number::NodeNo;
 use model::shape::Shape;
 use model::way::Sum;
 use walk::climb::add_up;
@@ -25,11 +27,11 @@ ghost use Rattle.walk.specs.Raise.{raiseUp};
 ghost use Rattle.place.specs.Asked.{askedWay};
 
 // Other lengths in slot i of leaf k; the head as it is then.
-pub fn replace(head: Head, leaves: &mut [u32], g: Shape, k: u32, i: u32, ls: &[u32]) -> Head
-    requires { ⌜ Area g (length (now leaves)) × (k < g .nodes) × (i < g .fan) × (length (now ls) + 1 ≡ g .stride) ⌝ }
-    ensures { λ r. ⌜ ((xs hs : List ℕ) → change 0 (state r (now (leaves .exit)) xs hs) k i ≡ replace g (state head (now (leaves .entry)) xs hs) k i (now (ls .entry))) ⌝ }
+pub fn replace(head: Head, leaves: &mut [u32], g: Shape, k: LeafNo, i: u32, ls: &[u32]) -> Head
+    requires { ⌜ Area g (length (now leaves)) × (k .0 < g .nodes) × (i < g .fan) × (length (now ls) + 1 ≡ g .stride) ⌝ }
+    ensures { λ r. ⌜ ((xs hs : List ℕ) → change 0 (state r (now (leaves .exit)) xs hs) (k .0) i ≡ replace g (state head (now (leaves .entry)) xs hs) (k .0) i (now (ls .entry))) ⌝ }
 {
-    set_lengths(leaves, g, k, i as usize, ls);
+    set_lengths(leaves, g, k.0, i as usize, ls);
     let finger = head.finger;
     let moved = changing(finger, k, i);
     with_finger(moved, head)
@@ -43,16 +45,16 @@ fn climb(
     effect: usize,
     delta: &[u32],
     levels: u32,
-    k: u32,
+    k: LeafNo,
     i: u32,
 ) -> Sum
-    requires { ⌜ Area g (length (now leaves)) × Area g (length (now inners)) × (effect + 1 < g .stride) × (length (now delta) + 1 ≡ g .stride) × (levels ≤ 16) × (k < g .nodes) × (i < g .fan) ⌝ }
-    ensures { λ r. ⌜ (r, now (inners .exit)) ≡ climbUp g effect (now (delta .entry)) levels (nodeAt g k (now (leaves .entry)) .parent) (nodeAt g k (now (leaves .entry)) .at) (start effect i (nodeAt g k (now (leaves .entry)))) (now (inners .entry)) ⌝ }
+    requires { ⌜ Area g (length (now leaves)) × Area g (length (now inners)) × (effect + 1 < g .stride) × (length (now delta) + 1 ≡ g .stride) × (levels ≤ 16) × (k .0 < g .nodes) × (i < g .fan) ⌝ }
+    ensures { λ r. ⌜ (r, now (inners .exit)) ≡ climbUp g effect (now (delta .entry)) levels (nodeAt g (k .0) (now (leaves .entry)) .parent) (nodeAt g (k .0) (now (leaves .entry)) .at) (start effect i (nodeAt g (k .0) (now (leaves .entry)))) (now (inners .entry)) ⌝ }
 {
-    let sum = start_in(leaves, g, effect, k, i);
-    let parent = parent_of(leaves, g, k);
-    let at = at_of(leaves, g, k);
-    climb_up(inners, g, effect, delta, levels, parent, at, sum)
+    let sum = start_in(leaves, g, effect, k.0, i);
+    let parent = parent_of(leaves, g, k.0);
+    let at = at_of(leaves, g, k.0);
+    climb_up(inners, g, effect, delta, levels, NodeNo(parent), at, sum)
 }
 
 // The same without the sum; whether the way came to the root (add_to_ancestors).
@@ -62,14 +64,14 @@ fn add_to_ancestors(
     g: Shape,
     delta: &[u32],
     levels: u32,
-    k: u32,
+    k: LeafNo,
 ) -> bool
-    requires { ⌜ Area g (length (now leaves)) × Area g (length (now inners)) × (length (now delta) + 1 ≡ g .stride) × (k < g .nodes) ⌝ }
-    ensures { λ r. ⌜ (r, now (inners .exit)) ≡ raiseUp g (now (delta .entry)) levels (nodeAt g k (now (leaves .entry)) .parent) (nodeAt g k (now (leaves .entry)) .at) (now (inners .entry)) ⌝ }
+    requires { ⌜ Area g (length (now leaves)) × Area g (length (now inners)) × (length (now delta) + 1 ≡ g .stride) × (k .0 < g .nodes) ⌝ }
+    ensures { λ r. ⌜ (r, now (inners .exit)) ≡ raiseUp g (now (delta .entry)) levels (nodeAt g (k .0) (now (leaves .entry)) .parent) (nodeAt g (k .0) (now (leaves .entry)) .at) (now (inners .entry)) ⌝ }
 {
-    let parent = parent_of(leaves, g, k);
-    let at = at_of(leaves, g, k);
-    add_up(inners, g, delta, levels, parent, at)
+    let parent = parent_of(leaves, g, k.0);
+    let at = at_of(leaves, g, k.0);
+    add_up(inners, g, delta, levels, NodeNo(parent), at)
 }
 
 // The same sizes with the stride as a constant, so that the compiler knows it.
@@ -93,12 +95,12 @@ pub fn way_up(
     g: Shape,
     delta: Lengths,
     levels: u32,
-    k: u32,
+    k: LeafNo,
     i: u32,
     summed: bool,
 ) -> Sum
-    requires { ⌜ Area g (length (now leaves)) × Area g (length (now inners)) × (g .stride ≡ 3) × (levels ≤ 16) × (k < g .nodes) × (i < g .fan) ⌝ }
-    ensures { λ r. ⌜ (r, now (inners .exit)) ≡ askedWay summed (climbUp g 1 (listOf delta) levels (nodeAt g k (now (leaves .entry)) .parent) (nodeAt g k (now (leaves .entry)) .at) (start 1 i (nodeAt g k (now (leaves .entry)))) (now (inners .entry))) ⌝ }
+    requires { ⌜ Area g (length (now leaves)) × Area g (length (now inners)) × (g .stride ≡ 3) × (levels ≤ 16) × (k .0 < g .nodes) × (i < g .fan) ⌝ }
+    ensures { λ r. ⌜ (r, now (inners .exit)) ≡ askedWay summed (climbUp g 1 (listOf delta) levels (nodeAt g (k .0) (now (leaves .entry)) .parent) (nodeAt g (k .0) (now (leaves .entry)) .at) (start 1 i (nodeAt g (k .0) (now (leaves .entry)))) (now (inners .entry))) ⌝ }
 {
     let ls: [u32; 2] = [delta.prepare, delta.effect];
     let s = fixed(g);

@@ -16,7 +16,7 @@ use Rattle.place.proofs.entry.enter.Tie as tie
 abbrev entered : tie.Start → Head → Shape → Slot → Change
 entered a h g x =
     entering g (λ j. putBy (a .args .split) (a .args .before) j (x .child ∷ x .«prepare_len» ∷ x .«effect_len» ∷ [])) (least (a .args .split))
-    (makeRoom g (state (counted (a .args .used) (topOf (a .args .t)) (a .args .entries) h) (a .args .leaves .now) (a .args .inners .now) (a .args .homes .now)) (a .args .k) (a .args .i))
+    (makeRoom g (state (counted (a .args .used) (topOf (a .args .t)) (a .args .entries) h) (a .args .leaves .now) (a .args .inners .now) (a .args .homes .now)) (a .args .k .0) (a .args .i))
 
 new-requires : tie.Need-new-requires
 new-requires c κs = search needs

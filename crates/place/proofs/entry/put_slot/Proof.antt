@@ -18,13 +18,13 @@ returns : tie.Need-returns
 returns c =
     let args = c .before .before .before .before .before .before .args in
     let if1 = c .before .before .before .if1 in
-    put-none (args .g) (args .split) (args .before) true _ (args .k) (args .i) (args .x .now) (args .leaves .now) (if1 .taken) (c .before .roomy .ensures) (not-true _ (c .if2 .taken))
+    put-none (args .g) (args .split) (args .before) true _ (args .k .0) (args .i) (args .x .now) (args .leaves .now) (if1 .taken) (c .before .roomy .ensures) (not-true _ (c .if2 .taken))
 
 split-child-requires : tie.Need-split-child-requires
 split-child-requires c κs =
     let args = c .before .before .before .before .before .before .before .args in
     let pre = c .before .before .before .before .before .before .before .pre in
-    let z = roomy (args .g) (args .k) (args .i) 1 (args .leaves .now) (sym (c .before .before .roomy .ensures) ∙ not-false _ (c .before .if2 .left)) in (pre .0, z .leaf, omega arith, z .room, pre .1)
+    let z = roomy (args .g) (args .k .0) (args .i) 1 (args .leaves .now) (sym (c .before .before .roomy .ensures) ∙ not-false _ (c .before .if2 .left)) in (pre .0, z .leaf, omega arith, z .room, pre .1)
 
 same-length-2 : tie.Need-same-length-2
 same-length-2 c = search needs
@@ -35,7 +35,7 @@ returns-2 c =
     let if1 = c .before .before .before .before .before .before .before .if1 in
     let the-roomy = c .before .before .before .before .before .roomy in
     let if2 = c .before .before .before .before .if2 in
-    put-done (args .g) (args .split) (args .before) true _ (args .k) (args .i) (args .x .now) (args .leaves .now) (if1 .taken) (the-roomy .ensures) (not-false _ (if2 .left)) _
+    put-done (args .g) (args .split) (args .before) true _ (args .k .0) (args .i) (args .x .now) (args .leaves .now) (if1 .taken) (the-roomy .ensures) (not-false _ (if2 .left)) _
     (c .before .before .split-child .ensures)
 
 roomy-requires-2 : tie.Need-roomy-requires-2
@@ -48,13 +48,13 @@ returns-3 : tie.Need-returns-3
 returns-3 c =
     let args = c .before .before .before .before .before .before .args in
     let if1 = c .before .before .before .if1 in
-    put-none (args .g) (args .split) (args .before) false _ (args .k) (args .i) (args .x .now) (args .leaves .now) (if1 .left) (c .before .roomy2 .ensures) (not-true _ (c .if3 .taken))
+    put-none (args .g) (args .split) (args .before) false _ (args .k .0) (args .i) (args .x .now) (args .leaves .now) (if1 .left) (c .before .roomy2 .ensures) (not-true _ (c .if3 .taken))
 
 insert-requires : tie.Need-insert-requires
 insert-requires c κs =
     let args = c .before .before .before .before .before .before .before .args in
     let pre = c .before .before .before .before .before .before .before .pre in
-    let z = roomy (args .g) (args .k) (args .i) 0 (args .leaves .now) (sym (c .before .before .roomy2 .ensures) ∙ not-false _ (c .before .if3 .left)) in (pre .0, z .leaf, omega arith, z .room, pre .1)
+    let z = roomy (args .g) (args .k .0) (args .i) 0 (args .leaves .now) (sym (c .before .before .roomy2 .ensures) ∙ not-false _ (c .before .if3 .left)) in (pre .0, z .leaf, omega arith, z .room, pre .1)
 
 same-length-4 : tie.Need-same-length-4
 same-length-4 c = search needs
@@ -65,7 +65,7 @@ returns-4 c =
     let if1 = c .before .before .before .before .before .before .before .if1 in
     let roomy2 = c .before .before .before .before .before .roomy2 in
     let if3 = c .before .before .before .before .if3 in
-    put-done (args .g) (args .split) (args .before) false _ (args .k) (args .i) (args .x .now) (args .leaves .now) (if1 .left) (roomy2 .ensures) (not-false _ (if3 .left)) _
+    put-done (args .g) (args .split) (args .before) false _ (args .k .0) (args .i) (args .x .now) (args .leaves .now) (if1 .left) (roomy2 .ensures) (not-false _ (if3 .left)) _
     (c .before .before .insert .ensures)
 
 pub put-slot-spec : {M : Type 1} → statement M

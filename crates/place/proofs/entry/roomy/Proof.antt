@@ -5,6 +5,9 @@ use borrow.Author.Tests.{lt-ltb, le-ltb, le-leb, lt-leb}
 use Rattle.place.proofs.entry.roomy.Statement.{statement}
 use Rattle.place.proofs.entry.roomy.Tie as tie
 
+cast-if1 : tie.Need-cast-if1
+cast-if1 c = search needs
+
 returns : tie.Need-returns
 returns c = rw (le-ltb _ _ (c .if1 .taken))
 
@@ -24,4 +27,4 @@ returns-3 : tie.Need-returns-3
 returns-3 c = rw (lt-ltb _ _ (c .before .before .if1 .left), le-leb _ _ (rw (c .before .len-of .ensures) at (c .if2 .left)), c .before .len-of .ensures)
 
 pub roomy-spec : {M : Type 1} → statement M
-roomy-spec = tie.close (tie.spec returns len-of-requires cast-len add-if2 returns-2 returns-3)
+roomy-spec = tie.close (tie.spec cast-if1 returns len-of-requires cast-len add-if2 returns-2 returns-3)

@@ -13,7 +13,7 @@ use Rattle.place.proofs.home.rehome.Tie as tie
 
 abbrev Inv-loop : tie.InvT-loop
 Inv-loop leaves homes₀ g entries k len i₀ homes i =
-    (i ≤ len) × (length homes ≡ length homes₀) × (rehome entries k (drop i (used (nodeAt g k leaves))) homes ≡ rehome entries k (used (nodeAt g k leaves)) homes₀)
+    (i ≤ len) × (length homes ≡ length homes₀) × (rehome entries (k .0) (drop i (used (nodeAt g (k .0) leaves))) homes ≡ rehome entries (k .0) (used (nodeAt g (k .0) leaves)) homes₀)
 
 abbrev μ-loop : tie.MeasureT-loop
 μ-loop leaves homes₀ g entries k len i₀ homes i = len - i

@@ -12,7 +12,7 @@ room-at-requires c κs = search needs
 
 returns : tie.Need-returns
 returns c =
-    let args = c .before .before .before .before .before .args in
+    let args = c .before .before .before .before .before .before .args in
     λ h. at-room _ _ h _ _ _ (c .room-at .ensures)
     (room-unused (args .g) _ _ _ (counted (args .used) (topOf (args .t)) (args .entries) h) (args .leaves .now) (args .inners .now) (args .homes .now) refl (c .before .if1 .taken))
 
@@ -30,7 +30,7 @@ same-length c = search needs
 
 returns-2 : tie.Need-returns-2
 returns-2 c =
-    let args = c .before .before .before .before .before .before .before .before .args in
+    let args = c .before .before .before .before .before .before .before .before .before .args in
     let if1 = c .before .before .before .before .if1 in
     λ h. at-room _ _ h _ _ _ (c .room-at2 .ensures)
     (room-past (args .g) _ _ _ (counted (args .used) (topOf (args .t)) (args .entries) h) (args .leaves .now) (args .inners .now) (args .homes .now)
@@ -44,7 +44,7 @@ same-length-2 c = search needs
 
 returns-3 : tie.Need-returns-3
 returns-3 c =
-    let args = c .before .before .before .before .before .before .before .before .before .args in
+    let args = c .before .before .before .before .before .before .before .before .before .before .args in
     let len-of = c .before .before .before .len-of in
     let if1 = c .before .before .before .before .before .if1 in
     λ h. at-room _ _ h _ _ _ (c .room-at3 .ensures)
@@ -59,7 +59,7 @@ same-length-3 c = search needs
 
 returns-4 : tie.Need-returns-4
 returns-4 c =
-    let args = c .before .before .before .before .before .before .before .before .before .before .args in
+    let args = c .before .before .before .before .before .before .before .before .before .before .before .args in
     let len-of = c .before .before .before .before .len-of in
     let if1 = c .before .before .before .before .before .before .if1 in
     let if2 = c .before .before .before .if2 in
@@ -81,7 +81,7 @@ same-length-6 c = search needs
 
 returns-5 : tie.Need-returns-5
 returns-5 c =
-    let args = c .before .before .before .before .before .before .before .before .before .before .before .before .before .before .before .before .before .before .before .args in
+    let args = c .before .before .before .before .before .before .before .before .before .before .before .before .before .before .before .before .before .before .before .before .args in
     let len-of = c .before .before .before .before .before .before .before .before .before .before .before .before .before .len-of in
     let if1 = c .before .before .before .before .before .before .before .before .before .before .before .before .before .before .before .if1 in
     let if2 = c .before .before .before .before .before .before .before .before .before .before .before .before .if2 in

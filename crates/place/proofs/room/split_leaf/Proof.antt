@@ -18,19 +18,22 @@ returns c =
     λ h. at-room _ _ h _ _ _ (c .room-at .ensures)
     (split-none (args .g) _ _ (counted (args .used) (topOf (args .t)) (args .entries) h) (args .leaves .now) (args .inners .now) (args .homes .now) (c .before .if1 .taken))
 
+cast-split-off : tie.Need-cast-split-off
+cast-split-off c = search needs
+
 split-off-requires : tie.Need-split-off-requires
 split-off-requires c κs =
-    let pre = c .before .before .before .before .before .pre in
-    let args = c .before .before .before .before .before .args in
-    (pre .0 .shaped, pre .1, node-end (args .g) (args .used) _ (c .before .if1 .left) (pre .0 .leaves))
+    let pre = c .before .before .before .before .before .before .pre in
+    let args = c .before .before .before .before .before .before .args in
+    (pre .0 .shaped, pre .1, node-end (args .g) (args .used) _ (c .before .before .if1 .left) (pre .0 .leaves))
 
 rehome-requires : tie.Need-rehome-requires
 rehome-requires c κs =
-    let args = c .before .before .before .before .before .before .before .before .before .before .args in
-    let pre = c .before .before .before .before .before .before .before .before .before .before .pre in
-    let if1 = c .before .before .before .before .before .before .if1 in
+    let args = c .before .before .before .before .before .before .before .before .before .before .before .args in
+    let pre = c .before .before .before .before .before .before .before .before .before .before .before .pre in
+    let if1 = c .before .before .before .before .before .before .before .if1 in
     let split-off = c .before .before .before .before .split-off in
-    let z = (halves (args .g) (args .k) (args .used) (args .leaves .now) _ (pre .0 .shaped .words) (omega (arith, pre .0 .shaped)) (pre .1)
+    let z = (halves (args .g) (args .k .0) (args .used) (args .leaves .now) _ (pre .0 .shaped .words) (omega (arith, pre .0 .shaped)) (pre .1)
     (node-end (args .g) (args .used) _ (if1 .left) (pre .0 .leaves)) (split-off .ensures)) in (record { shaped = pre .0 .shaped; room = rw (z .long) (pre .0 .leaves) }, if1 .left, few z, pre .5)
 
 room-at-requires-2 : tie.Need-room-at-requires-2
@@ -44,14 +47,14 @@ same-length-2 c = search needs
 
 returns-2 : tie.Need-returns-2
 returns-2 c =
-    let args = c .before .before .before .before .before .before .before .before .before .before .before .before .before .before .before .args in
-    let pre = c .before .before .before .before .before .before .before .before .before .before .before .before .before .before .before .pre in
-    let if1 = c .before .before .before .before .before .before .before .before .before .before .before .if1 in
+    let args = c .before .before .before .before .before .before .before .before .before .before .before .before .before .before .before .before .args in
+    let pre = c .before .before .before .before .before .before .before .before .before .before .before .before .before .before .before .before .pre in
+    let if1 = c .before .before .before .before .before .before .before .before .before .before .before .before .if1 in
     let split-off = c .before .before .before .before .before .before .before .before .before .split-off in
     let rehome = c .before .before .before .before .rehome in
     λ h. at-room _ _ h _ _ _ (c .room-at2 .ensures)
     (split-lost (args .g) _ _ (counted (args .used) (topOf (args .t)) (args .entries) h) (args .leaves .now) (args .inners .now) (args .homes .now) _ _ _
-    (halves (args .g) (args .k) (args .used) (args .leaves .now) _ (pre .0 .shaped .words) (omega (arith, pre .0 .shaped)) (pre .1)
+    (halves (args .g) (args .k .0) (args .used) (args .leaves .now) _ (pre .0 .shaped .words) (omega (arith, pre .0 .shaped)) (pre .1)
     (node-end (args .g) (args .used) _ (if1 .left) (pre .0 .leaves)) (split-off .ensures)) (if1 .left) (rehome .ensures) (c .before .if2 .taken))
 
 parent-of-requires : tie.Need-parent-of-requires
@@ -65,8 +68,8 @@ add-child-requires c κs = search needs
 
 add-room-at : tie.Need-add-room-at
 add-room-at c =
-    let if1 = c .before .before .before .before .before .before .before .before .before .before .before .before .before .before .before .before .before .before .before .before .before .if1 in
-    let pre = c .before .before .before .before .before .before .before .before .before .before .before .before .before .before .before .before .before .before .before .before .before .before .before .before .before .pre in
+    let if1 = c .before .before .before .before .before .before .before .before .before .before .before .before .before .before .before .before .before .before .before .before .before .before .if1 in
+    let pre = c .before .before .before .before .before .before .before .before .before .before .before .before .before .before .before .before .before .before .before .before .before .before .before .before .before .before .pre in
     omega (arith, if1 .left, pre .0 .shaped)
 
 room-at-requires-3 : tie.Need-room-at-requires-3
@@ -86,9 +89,9 @@ same-length-5 c = search needs
 
 returns-3 : tie.Need-returns-3
 returns-3 c =
-    let args = c .before .before .before .before .before .before .before .before .before .before .before .before .before .before .before .before .before .before .before .before .before .before .before .before .before .before .args in
-    let pre = c .before .before .before .before .before .before .before .before .before .before .before .before .before .before .before .before .before .before .before .before .before .before .before .before .before .before .pre in
-    let if1 = c .before .before .before .before .before .before .before .before .before .before .before .before .before .before .before .before .before .before .before .before .before .before .if1 in
+    let args = c .before .before .before .before .before .before .before .before .before .before .before .before .before .before .before .before .before .before .before .before .before .before .before .before .before .before .before .args in
+    let pre = c .before .before .before .before .before .before .before .before .before .before .before .before .before .before .before .before .before .before .before .before .before .before .before .before .before .before .before .pre in
+    let if1 = c .before .before .before .before .before .before .before .before .before .before .before .before .before .before .before .before .before .before .before .before .before .before .before .if1 in
     let split-off = c .before .before .before .before .before .before .before .before .before .before .before .before .before .before .before .before .before .before .before .before .split-off in
     let rehome = c .before .before .before .before .before .before .before .before .before .before .before .before .before .before .before .rehome in
     let if2 = c .before .before .before .before .before .before .before .before .before .before .before .before .if2 in
@@ -96,19 +99,19 @@ returns-3 c =
     let add-child = c .before .before .before .before .before .before .before .add-child in
     λ h. at-room _ _ h _ _ _ (c .room-at3 .ensures)
     (split-low (args .g) _ _ (counted (args .used) (topOf (args .t)) (args .entries) h) (args .leaves .now) (args .inners .now) (args .homes .now) _ _ _
-    (halves (args .g) (args .k) (args .used) (args .leaves .now) _ (pre .0 .shaped .words) (omega (arith, pre .0 .shaped)) (pre .1)
+    (halves (args .g) (args .k .0) (args .used) (args .leaves .now) _ (pre .0 .shaped .words) (omega (arith, pre .0 .shaped)) (pre .1)
     (node-end (args .g) (args .used) _ (if1 .left) (pre .0 .leaves)) (split-off .ensures)) (if1 .left) (rehome .ensures) _ _ (if2 .left)
     (rw (parent-of .ensures) at (add-child .ensures)) refl (c .before .if3 .taken))
 
 add-room-at-2 : tie.Need-add-room-at-2
 add-room-at-2 c =
-    let if1 = c .before .before .before .before .before .before .before .before .before .before .before .before .before .before .before .before .before .before .before .before .before .if1 in
-    let pre = c .before .before .before .before .before .before .before .before .before .before .before .before .before .before .before .before .before .before .before .before .before .before .before .before .before .pre in
+    let if1 = c .before .before .before .before .before .before .before .before .before .before .before .before .before .before .before .before .before .before .before .before .before .before .if1 in
+    let pre = c .before .before .before .before .before .before .before .before .before .before .before .before .before .before .before .before .before .before .before .before .before .before .before .before .before .before .pre in
     omega (arith, if1 .left, pre .0 .shaped)
 
 cast-room-at : tie.Need-cast-room-at
 cast-room-at c =
-    let pre = c .before .before .before .before .before .before .before .before .before .before .before .before .before .before .before .before .before .before .before .before .before .before .before .before .before .pre in
+    let pre = c .before .before .before .before .before .before .before .before .before .before .before .before .before .before .before .before .before .before .before .before .before .before .before .before .before .before .pre in
     omega (arith, pre .0 .shaped)
 
 sub-room-at : tie.Need-sub-room-at
@@ -131,9 +134,9 @@ same-length-8 c = search needs
 
 returns-4 : tie.Need-returns-4
 returns-4 c =
-    let args = c .before .before .before .before .before .before .before .before .before .before .before .before .before .before .before .before .before .before .before .before .before .before .before .before .before .before .args in
-    let pre = c .before .before .before .before .before .before .before .before .before .before .before .before .before .before .before .before .before .before .before .before .before .before .before .before .before .before .pre in
-    let if1 = c .before .before .before .before .before .before .before .before .before .before .before .before .before .before .before .before .before .before .before .before .before .before .if1 in
+    let args = c .before .before .before .before .before .before .before .before .before .before .before .before .before .before .before .before .before .before .before .before .before .before .before .before .before .before .before .args in
+    let pre = c .before .before .before .before .before .before .before .before .before .before .before .before .before .before .before .before .before .before .before .before .before .before .before .before .before .before .before .pre in
+    let if1 = c .before .before .before .before .before .before .before .before .before .before .before .before .before .before .before .before .before .before .before .before .before .before .before .if1 in
     let split-off = c .before .before .before .before .before .before .before .before .before .before .before .before .before .before .before .before .before .before .before .before .split-off in
     let rehome = c .before .before .before .before .before .before .before .before .before .before .before .before .before .before .before .rehome in
     let if2 = c .before .before .before .before .before .before .before .before .before .before .before .before .if2 in
@@ -141,7 +144,7 @@ returns-4 c =
     let add-child = c .before .before .before .before .before .before .before .add-child in
     λ h. at-room _ _ h _ _ _ (c .room-at4 .ensures)
     (split-high (args .g) _ _ (counted (args .used) (topOf (args .t)) (args .entries) h) (args .leaves .now) (args .inners .now) (args .homes .now) _ _ _
-    (halves (args .g) (args .k) (args .used) (args .leaves .now) _ (pre .0 .shaped .words) (omega (arith, pre .0 .shaped)) (pre .1)
+    (halves (args .g) (args .k .0) (args .used) (args .leaves .now) _ (pre .0 .shaped .words) (omega (arith, pre .0 .shaped)) (pre .1)
     (node-end (args .g) (args .used) _ (if1 .left) (pre .0 .leaves)) (split-off .ensures)) (if1 .left) (rehome .ensures) _ _ (if2 .left)
     (rw (parent-of .ensures) at (add-child .ensures)) refl (c .before .if3 .left))
 
@@ -151,6 +154,7 @@ split-leaf-spec =
     (tie.spec
     room-at-requires
     returns
+    cast-split-off
     split-off-requires
     rehome-requires
     room-at-requires-2

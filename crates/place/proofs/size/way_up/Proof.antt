@@ -20,12 +20,12 @@ use Rattle.place.proofs.size.way_up.Tie as tie
 -- the two ways up by such sizes
 abbrev climbed : tie.Start → Shape → Sum × List ℕ
 climbed a g =
-    let m = nodeAt g (a .args .k) (a .args .leaves .now) in
+    let m = nodeAt g (a .args .k .0) (a .args .leaves .now) in
     climbUp g 1 (listOf (a .args .delta)) (a .args .levels) (m .parent) (m .at) (start 1 (a .args .i) m) (a .args .inners .now)
 
 abbrev raised : tie.Start → Shape → Bool × List ℕ
 raised a g =
-    let m = nodeAt g (a .args .k) (a .args .leaves .now) in
+    let m = nodeAt g (a .args .k .0) (a .args .leaves .now) in
     raiseUp g (listOf (a .args .delta)) (a .args .levels) (m .parent) (m .at) (a .args .inners .now)
 
 fixed-requires : tie.Need-fixed-requires
