@@ -74,35 +74,35 @@ pub fn lengths(head: Head, leaves: &[u32], inners: &[u32], homes: &[u32], at: Cu
     match open_at(head, leaves, inners, homes, at) {
         Opened::Refused(n) => Measured::Refused(n),
         Opened::Good(g) => {
-            let own = lengths_at(leaves, g, at.leaf.0, at.slot);
+            let own = lengths_at(leaves, g, at.leaf, at.slot);
             Measured::Are(own)
         }
     }
 }
 
 // The slot of leaf k that holds the entry id.
-fn slot_of(leaves: &[u32], g: Shape, k: u32, id: u32) -> Place
-    requires { ⌜ Area g (length (now leaves)) × (k < g .nodes) × (nodeAt g k (now leaves) .len ≤ g .fan) ⌝ }
-    ensures { λ r. ⌜ r ≡ indexFrom id 0 (used (nodeAt g k (now (leaves .entry)))) ⌝ }
+fn slot_of(leaves: &[u32], g: Shape, k: LeafNo, id: EntryId) -> Place
+    requires { ⌜ Area g (length (now leaves)) × (k .0 < g .nodes) × (nodeAt g (k .0) (now leaves) .len ≤ g .fan) ⌝ }
+    ensures { λ r. ⌜ r ≡ indexFrom (id .0) 0 (used (nodeAt g (k .0) (now (leaves .entry)))) ⌝ }
 {
     let size = g.size;
-    let a = k as usize * size;
+    let a = k.0 as usize * size;
     let e = a + size;
-    node::read::index_of(&leaves[a..e], g, id)
+    node::read::index_of(&leaves[a..e], g, id.0)
 }
 
 // The cursor of the entry id, where leaf k holds it.
-fn cursor_in(leaves: &[u32], g: Shape, k: u32, id: u32, stamp: u32) -> Standing
-    requires { ⌜ Area g (length (now leaves)) × (k < g .nodes) ⌝ }
-    ensures { λ r. ⌜ r ≡ cursorIn g (now (leaves .entry)) k id stamp ⌝ }
+fn cursor_in(leaves: &[u32], g: Shape, k: LeafNo, id: EntryId, stamp: u32) -> Standing
+    requires { ⌜ Area g (length (now leaves)) × (k .0 < g .nodes) ⌝ }
+    ensures { λ r. ⌜ r ≡ cursorIn g (now (leaves .entry)) (k .0) (id .0) stamp ⌝ }
 {
     let fan = g.fan;
-    if len_of(leaves, g, k) as usize > fan {
+    if len_of(leaves, g, k.0) as usize > fan {
         return Standing::Refused(9);
     }
     match slot_of(leaves, g, k, id) {
         Place::Slot(i) => Standing::At(Cursor {
-            leaf: LeafNo(k),
+            leaf: k,
             slot: i as u32,
             stamp: stamp,
         }),
@@ -126,7 +126,7 @@ pub fn cursor(head: Head, leaves: &[u32], inners: &[u32], homes: &[u32], id: Ent
             if k >= head.leaves {
                 return Standing::Refused(9);
             }
-            cursor_in(leaves, g, k, i, entries)
+            cursor_in(leaves, g, LeafNo(k), id, entries)
         }
     }
 }

@@ -25,8 +25,8 @@ slot-of-requires c κs =
 enum-known-i : tie.Need-enum-known-i
 enum-known-i c = search needs
 
-cast-t14 : tie.Need-cast-t14
-cast-t14 c =
+cast-t13 : tie.Need-cast-t13
+cast-t13 c =
     let args = c .before .before .before .before .before .before .before .args in
     let pre = c .before .before .before .before .before .before .before .pre in
     let len-of = c .before .before .before .before .before .len-of in
@@ -61,7 +61,7 @@ cursor-in-spec =
     returns
     slot-of-requires
     enum-known-i
-    cast-t14
+    cast-t13
     enum-told
     returns-2
     returns-3)

@@ -10,8 +10,11 @@ use Rattle.calls_read.proofs.read.slot_of.Statement.{statement}
 use Rattle.calls_read.proofs.read.slot_of.Tie as tie
 
 -- the node ends within the area
-inside : (c : tie.After-shared-slice-known) → c .before .args .k * c .before .args .g .size + c .before .args .g .size ≤ length (c .before .args .leaves .now)
-inside c = node-end (c .before .args .g) (c .before .args .k) (length (c .before .args .leaves .now)) (c .before .pre .1) (c .before .pre .0 .room)
+inside : (c : tie.After-struct-known) → c .before .before .args .k .0 * c .before .before .args .g .size + c .before .before .args .g .size ≤ length (c .before .before .args .leaves .now)
+inside c = node-end (c .before .before .args .g) (c .before .before .args .k .0) (length (c .before .before .args .leaves .now)) (c .before .before .pre .1) (c .before .before .pre .0 .room)
+
+cast-a : tie.Need-cast-a
+cast-a c = search needs
 
 mul-a : tie.Need-mul-a
 mul-a c = omega (arith, inside c)
@@ -34,10 +37,10 @@ part-index-of-end c = omega (arith, inside c)
 index-of-requires : tie.Need-index-of-requires
 unfolding nodeOf
 index-of-requires c κs = (
-  c .before .before .pre .0 .shaped,
+  c .before .before .before .pre .0 .shaped,
   rw lent
-      (node-length (c .before .before .args .g) _ _ (c .before .before .pre .1) (c .before .before .pre .0 .room)),
-  rw lent (c .before .before .pre .2),
+      (node-length (c .before .before .before .args .g) _ _ (c .before .before .before .pre .1) (c .before .before .before .pre .0 .room)),
+  rw lent (c .before .before .before .pre .2),
 )
 
 returns : tie.Need-returns
@@ -47,6 +50,7 @@ pub slot-of-spec : {M : Type 1} → statement M
 slot-of-spec =
     tie.close
     (tie.spec
+    cast-a
     mul-a
     add-e
     mul-index-of
