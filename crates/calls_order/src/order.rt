@@ -12,6 +12,7 @@ use model::head::Head;
 use model::head::Path;
 use model::length::View;
 use model::number::LeafNo;
+use model::number::NodeNo;
 use model::shape::Shape;
 use model::way::Leaf;
 use model::way::Sum;
@@ -55,7 +56,7 @@ pub fn entry_to_char_index(
             let before = start_in(leaves, g, v, k, at.slot);
             let parent = parent_of(leaves, g, k);
             let place = at_of(leaves, g, k);
-            match rank_up(inners, g, v, head.levels, parent, place, before) {
+            match rank_up(inners, g, v, head.levels, NodeNo(parent), place, before) {
                 Sum::Is(n) => Number::Is((n % 4294967296) as u32),
                 Sum::Broken => Number::Refused(9),
             }
@@ -103,7 +104,7 @@ pub fn next(head: Head, leaves: &[u32], inners: &[u32], homes: &[u32], at: Curso
             }
             let parent = parent_of(leaves, g, k);
             let place = at_of(leaves, g, k);
-            match next_up(inners, g, head.levels, parent, place) {
+            match next_up(inners, g, head.levels, NodeNo(parent), place) {
                 Leaf::At(l) => Next::At(Cursor {
                     leaf: l,
                     slot: 0,
@@ -117,13 +118,13 @@ pub fn next(head: Head, leaves: &[u32], inners: &[u32], homes: &[u32], at: Curso
 }
 
 // The steps from the root down to leaf k; none where the way is broken.
-fn path(leaves: &[u32], inners: &[u32], g: Shape, levels: u32, k: u32) -> Path
-    requires { ⌜ Area g (length (now leaves)) × Area g (length (now inners)) × (k < g .nodes) × (levels ≤ 15) ⌝ }
-    ensures { λ r. ⌜ (stepsOf r ≡ stepsUp g levels (nodeAt g k (now (leaves .entry)) .parent) (nodeAt g k (now (leaves .entry)) .at) [] (now (inners .entry))) × Stepped r ⌝ }
+fn path(leaves: &[u32], inners: &[u32], g: Shape, levels: u32, k: LeafNo) -> Path
+    requires { ⌜ Area g (length (now leaves)) × Area g (length (now inners)) × (k .0 < g .nodes) × (levels ≤ 15) ⌝ }
+    ensures { λ r. ⌜ (stepsOf r ≡ stepsUp g levels (nodeAt g (k .0) (now (leaves .entry)) .parent) (nodeAt g (k .0) (now (leaves .entry)) .at) [] (now (inners .entry))) × Stepped r ⌝ }
 {
-    let parent = parent_of(leaves, g, k);
-    let place = at_of(leaves, g, k);
-    steps_up(inners, g, levels, parent, place)
+    let parent = parent_of(leaves, g, k.0);
+    let place = at_of(leaves, g, k.0);
+    steps_up(inners, g, levels, NodeNo(parent), place)
 }
 
 // Two slots of one leaf.
@@ -176,8 +177,8 @@ pub fn cmp(
             if a.leaf.0 == b.leaf.0 {
                 return by_slot(a.slot, b.slot);
             }
-            let x = path(leaves, inners, g, head.levels, a.leaf.0);
-            let y = path(leaves, inners, g, head.levels, b.leaf.0);
+            let x = path(leaves, inners, g, head.levels, a.leaf);
+            let y = path(leaves, inners, g, head.levels, b.leaf);
             by_path(x, y)
         }
     }

@@ -52,8 +52,8 @@ rank-up-requires c κs =
 enum-known-n-2 : tie.Need-enum-known-n-2
 enum-known-n-2 c = search needs
 
-cast-t20 : tie.Need-cast-t20
-cast-t20 c = search needs
+cast-t21 : tie.Need-cast-t21
+cast-t21 c = search needs
 
 enum-told : tie.Need-enum-told
 enum-told c = search needs
@@ -102,7 +102,7 @@ entry-to-char-index-spec =
     at-of-requires
     rank-up-requires
     enum-known-n-2
-    cast-t20
+    cast-t21
     enum-told
     returns
     returns-2
