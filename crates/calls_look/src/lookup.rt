@@ -95,7 +95,7 @@ pub fn locate(
                         v,
                         1,
                         head.levels,
-                        head.root.0,
+                        head.root,
                         head.leaves,
                         index,
                     );
