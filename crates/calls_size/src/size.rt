@@ -49,7 +49,7 @@ fn open_resize(
     match open_at(head, leaves, inners, homes, at) {
         Opened::Refused(n) => Opened::Refused(n),
         Opened::Good(g) => {
-            let old = lengths_at(leaves, g, at.leaf.0, at.slot);
+            let old = lengths_at(leaves, g, at.leaf, at.slot);
             if past(head, inners, g, old, lengths) {
                 return Opened::Refused(7);
             }
@@ -73,7 +73,7 @@ fn replace(head: Head, leaves: &mut [u32], g: Shape, at: Cursor, lengths: Length
     requires { ⌜ Area g (length (now leaves)) × (g .stride ≡ 3) × (at .leaf .0 < g .nodes) × (at .slot < g .fan) ⌝ }
     ensures { λ r. ⌜ ((xs hs : List ℕ) → (change 0 (state (r .head) (now (leaves .exit)) xs hs) (at .leaf .0) (at .slot), listOf (r .delta)) ≡ replaced g (state head (now (leaves .entry)) xs hs) at lengths) ⌝ }
 {
-    let k = at.leaf.0;
+    let k = at.leaf;
     let i = at.slot;
     let old = lengths_at(leaves, g, k, i);
     let ls: [u32; 2] = [lengths.prepare, lengths.effect];
@@ -106,7 +106,7 @@ pub fn resize(
             let r = replace(head, leaves, g, at, lengths);
             let after = r.head;
             let delta = r.delta;
-            let k = at.leaf.0;
+            let k = at.leaf;
             let i = at.slot;
             match way_up(leaves, inners, g, delta, head.levels, k, i, summed) {
                 Sum::Is(n) => NumberReply {

@@ -21,7 +21,7 @@ same-length c = search needs
 
 returns : tie.Need-returns
 returns c =
-    let args = c .before .before .before .before .before .before .before .before .before .args in
+    let args = c .before .before .before .before .before .before .before .before .before .before .args in
     let lengths-at = c .before .before .before .before .before .before .lengths-at in
     let the-replace = c .before .before .before .replace in
     λ xs hs. replaced-is (args .g) (args .head) _ (args .at) (args .lengths) _ (args .leaves .now) _ xs hs _ (lengths-at .ensures) (the-replace .ensures xs hs) (c .minus .ensures)

@@ -22,10 +22,10 @@ replace-requires c κs =
 
 way-up-requires : tie.Need-way-up-requires
 way-up-requires c κs =
-    let args = c .before .before .before .before .before .before .before .before .before .before .before .before .before .before .before .before .before .args in
-    let open-resize = c .before .before .before .before .before .before .before .before .before .before .before .open-resize in
-    let g = c .before .before .before .before .before .before .before .before .before .g in
-    let replace = c .before .before .before .before .before .before .replace in
+    let args = c .before .before .before .before .before .before .before .before .before .before .before .before .before .before .before .before .before .before .args in
+    let open-resize = c .before .before .before .before .before .before .before .before .before .before .before .before .open-resize in
+    let g = c .before .before .before .before .before .before .before .before .before .before .g in
+    let replace = c .before .before .before .before .before .before .before .replace in
     climb-in _ (args .at) _ (resize-stands _ (args .at) (args .lengths) _ _ (open-resize .ensures) (g .given .1)) _ (replace .kept .1 .0)
 
 enum-known-n-2 : tie.Need-enum-known-n-2
@@ -57,10 +57,10 @@ same-length-4 c = search needs
 
 returns-2 : tie.Need-returns-2
 returns-2 c =
-    let args = c .before .before .before .before .before .before .before .before .before .before .before .before .before .before .before .before .before .before .before .before .before .before .before .args in
-    let open-resize = c .before .before .before .before .before .before .before .before .before .before .before .before .before .before .before .before .before .open-resize in
-    let g = c .before .before .before .before .before .before .before .before .before .before .before .before .before .before .before .g in
-    let replace = c .before .before .before .before .before .before .before .before .before .before .before .before .replace in
+    let args = c .before .before .before .before .before .before .before .before .before .before .before .before .before .before .before .before .before .before .before .before .before .before .before .before .args in
+    let open-resize = c .before .before .before .before .before .before .before .before .before .before .before .before .before .before .before .before .before .before .open-resize in
+    let g = c .before .before .before .before .before .before .before .before .before .before .before .before .before .before .before .before .g in
+    let replace = c .before .before .before .before .before .before .before .before .before .before .before .before .before .replace in
     let way-up = c .before .before .before .before .before .way-up in
     size-whole _ (args .at) (args .lengths) (args .summed) _ (open-resize .ensures) _ (g .given .1) _ _ _ _ (replace .ensures _ _) _ (way-up .ensures) _ (c .before .n2 .given .1)
 
@@ -72,10 +72,10 @@ same-length-6 c = search needs
 
 returns-3 : tie.Need-returns-3
 returns-3 c =
-    let args = c .before .before .before .before .before .before .before .before .before .before .before .before .before .before .before .before .before .before .before .before .before .before .args in
-    let open-resize = c .before .before .before .before .before .before .before .before .before .before .before .before .before .before .before .before .open-resize in
-    let g = c .before .before .before .before .before .before .before .before .before .before .before .before .before .before .g in
-    let replace = c .before .before .before .before .before .before .before .before .before .before .before .replace in
+    let args = c .before .before .before .before .before .before .before .before .before .before .before .before .before .before .before .before .before .before .before .before .before .before .before .args in
+    let open-resize = c .before .before .before .before .before .before .before .before .before .before .before .before .before .before .before .before .before .open-resize in
+    let g = c .before .before .before .before .before .before .before .before .before .before .before .before .before .before .before .g in
+    let replace = c .before .before .before .before .before .before .before .before .before .before .before .before .replace in
     let way-up = c .before .before .before .before .way-up in
     size-broken _ (args .at) (args .lengths) (args .summed) _ (open-resize .ensures) _ (g .given .1) _ _ _ _ (replace .ensures _ _) _ (way-up .ensures) (c .enum-told .given .1)
 
