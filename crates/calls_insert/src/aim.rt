@@ -80,7 +80,7 @@ pub fn aim(head: Head, leaves: &[u32], inners: &[u32], g: Shape, before: Target)
                 slot: at.slot,
             }
         }
-        Target::End => match last_down(inners, g, head.levels, head.root.0) {
+        Target::End => match last_down(inners, g, head.levels, head.root) {
             Leaf::At(k) => Change {
                 number: 0,
                 head: head,

@@ -43,7 +43,7 @@ fn put(
     if r.number != 0 {
         return r;
     }
-    place(head, leaves, inners, homes, g, r.leaf.0, r.slot, lengths)
+    place(head, leaves, inners, homes, g, r.leaf, r.slot, lengths)
 }
 
 // The entry in its leaf and its lengths above it; its effect position is summed up on the way where that is asked for.
@@ -75,7 +75,7 @@ fn enter_open(
         g,
         lengths,
         after.levels,
-        r.leaf.0,
+        r.leaf,
         r.slot,
         summed,
     ) {
