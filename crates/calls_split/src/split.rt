@@ -37,7 +37,7 @@ fn open_split(
     match open_at(head, leaves, inners, homes, at) {
         Opened::Refused(n) => Opened::Refused(n),
         Opened::Good(g) => {
-            let own = lengths_at(leaves, g, at.leaf.0, at.slot);
+            let own = lengths_at(leaves, g, at.leaf, at.slot);
             if too_much(lengths, own) {
                 return Opened::Refused(6);
             }
@@ -50,11 +50,11 @@ fn open_split(
 }
 
 // The new entry's id, and the cursors of both entries in order, which bear the new count.
-fn divided_at(id: u32, leaf: LeafNo, slot: u32) -> Divided
-    requires { ⌜ (id < 4294967295) × (slot < 4294967295) ⌝ }
-    ensures { λ r. ⌜ r ≡ dividedAt id (leaf .0) slot ⌝ }
+fn divided_at(id: EntryId, leaf: LeafNo, slot: u32) -> Divided
+    requires { ⌜ (id .0 < 4294967295) × (slot < 4294967295) ⌝ }
+    ensures { λ r. ⌜ r ≡ dividedAt (id .0) (leaf .0) slot ⌝ }
 {
-    let stamp = id + 1;
+    let stamp = id.0 + 1;
     let first = Cursor {
         leaf: leaf,
         slot: slot,
@@ -65,7 +65,7 @@ fn divided_at(id: u32, leaf: LeafNo, slot: u32) -> Divided
         slot: slot + 1,
         stamp: stamp,
     };
-    Divided::At(EntryId(id), first, second)
+    Divided::At(id, first, second)
 }
 
 // The lengths leave the entry at a cursor for a new one, just before it or just after.
@@ -87,7 +87,7 @@ pub fn split_entry(
         },
         Opened::Good(g) => {
             let id = head.entries;
-            let k = at.leaf.0;
+            let k = at.leaf;
             let i = at.slot;
             let r = divide(head, leaves, inners, homes, g, before, k, i, lengths);
             if r.number != 0 {
@@ -100,7 +100,7 @@ pub fn split_entry(
             let leaf = r.leaf;
             DividedReply {
                 head: after,
-                answer: divided_at(id, leaf, r.slot),
+                answer: divided_at(EntryId(id), leaf, r.slot),
             }
         }
     }

@@ -15,9 +15,9 @@ enum-known-g c = search needs
 
 divide-requires : tie.Need-divide-requires
 divide-requires c κs =
-    let args = c .before .before .before .before .before .before .before .before .before .before .before .before .before .args in
-    let open-split = c .before .before .before .before .before .before .open-split in
-    let g = c .before .before .before .before .g in
+    let args = c .before .before .before .before .before .before .before .before .before .before .before .before .before .before .args in
+    let open-split = c .before .before .before .before .before .before .before .open-split in
+    let g = c .before .before .before .before .before .g in
     divide-in _ (args .at) (args .lengths) _ _ (open-split .ensures) (g .given .1)
 
 same-length : tie.Need-same-length
@@ -31,17 +31,17 @@ same-length-3 c = search needs
 
 returns : tie.Need-returns
 returns c =
-    let args = c .before .before .before .before .before .before .before .before .before .before .before .before .before .before .before .before .before .before .before .before .before .before .args in
-    let open-split = c .before .before .before .before .before .before .before .before .before .before .before .before .before .before .before .open-split in
-    let g = c .before .before .before .before .before .before .before .before .before .before .before .before .before .g in
+    let args = c .before .before .before .before .before .before .before .before .before .before .before .before .before .before .before .before .before .before .before .before .before .before .before .args in
+    let open-split = c .before .before .before .before .before .before .before .before .before .before .before .before .before .before .before .before .open-split in
+    let g = c .before .before .before .before .before .before .before .before .before .before .before .before .before .before .g in
     let divide = c .before .before .before .before .before .before .before .before .divide in
     entry-broken _ (args .at) (args .lengths) (args .before) _ (open-split .ensures) _ (g .given .1) _ (divide .ensures) (c .if1 .taken)
 
 divided-at-requires : tie.Need-divided-at-requires
 divided-at-requires c κs =
-    let args = c .before .before .before .before .before .before .before .before .before .before .before .before .before .before .before .before .before .before .before .before .before .before .before .before .args in
-    let open-split = c .before .before .before .before .before .before .before .before .before .before .before .before .before .before .before .before .before .open-split in
-    let g = c .before .before .before .before .before .before .before .before .before .before .before .before .before .before .before .g in
+    let args = c .before .before .before .before .before .before .before .before .before .before .before .before .before .before .before .before .before .before .before .before .before .before .before .before .before .args in
+    let open-split = c .before .before .before .before .before .before .before .before .before .before .before .before .before .before .before .before .before .before .open-split in
+    let g = c .before .before .before .before .before .before .before .before .before .before .before .before .before .before .before .before .g in
     let divide = c .before .before .before .before .before .before .before .before .before .before .divide in
     answer-in _ (args .at) (args .lengths) (args .before) _ (open-split .ensures) _ (g .given .1) _ (divide .ensures) (c .before .before .if1 .left)
 
@@ -71,9 +71,9 @@ same-length-9 c = search needs
 
 returns-3 : tie.Need-returns-3
 returns-3 c =
-    let args = c .before .before .before .before .before .before .before .before .before .before .before .before .before .before .before .before .before .before .before .before .before .before .before .before .before .args in
-    let open-split = c .before .before .before .before .before .before .before .before .before .before .before .before .before .before .before .before .before .before .open-split in
-    let g = c .before .before .before .before .before .before .before .before .before .before .before .before .before .before .before .before .g in
+    let args = c .before .before .before .before .before .before .before .before .before .before .before .before .before .before .before .before .before .before .before .before .before .before .before .before .before .before .args in
+    let open-split = c .before .before .before .before .before .before .before .before .before .before .before .before .before .before .before .before .before .before .before .open-split in
+    let g = c .before .before .before .before .before .before .before .before .before .before .before .before .before .before .before .before .before .g in
     let divide = c .before .before .before .before .before .before .before .before .before .before .before .divide in
     let if1 = c .before .before .before .if1 in
     entry-whole _ (args .at) (args .lengths) (args .before) _ (open-split .ensures) _ (g .given .1) _ (divide .ensures) (if1 .left) _ (c .divided-at .ensures)
