@@ -7,6 +7,9 @@ use area::word::len_of;
 use area::word::parent_of;
 use audit_node::nodes::is_filled;
 use model::head::Head;
+use model::number::EntryId;
+use model::number::LeafNo;
+use model::number::NodeNo;
 use model::shape::Shape;
 ghost use mathlib.Core.Path.{_≡_};
 ghost use mathlib.Core.List.{[]};
@@ -21,13 +24,13 @@ ghost use Rattle.audit_link.specs.Known.{Known};
 ghost use Rattle.audit_link.specs.Links.{entryBy};
 
 // Whether no slot of leaf k before slot i holds the id.
-fn is_new(leaves: &[u32], g: Shape, k: u32, i: u32, id: u32) -> bool
-    requires { ⌜ Area g (length (now leaves)) × (k < g .nodes) × (i < g .fan) ⌝ }
-    ensures { λ r. ⌜ r ≡ every (isOther (nodeAt g k (now (leaves .entry))) id) 0 i ⌝ }
+fn is_new(leaves: &[u32], g: Shape, k: LeafNo, i: u32, id: EntryId) -> bool
+    requires { ⌜ Area g (length (now leaves)) × (k .0 < g .nodes) × (i < g .fan) ⌝ }
+    ensures { λ r. ⌜ r ≡ every (isOther (nodeAt g (k .0) (now (leaves .entry))) (id .0)) 0 i ⌝ }
 {
     let mut j: u32 = 0;
     while j < i {
-        if child_of(leaves, g, k, j as usize) == id {
+        if child_of(leaves, g, k.0, j as usize) == id.0 {
             return false;
         }
         j += 1;
@@ -36,24 +39,24 @@ fn is_new(leaves: &[u32], g: Shape, k: u32, i: u32, id: u32) -> bool
 }
 
 // Whether the id in slot i of leaf k is below the count, lives in leaf k, and stands in no earlier slot.
-fn is_entry(leaves: &[u32], homes: &[u32], g: Shape, entries: u32, k: u32, i: u32) -> bool
-    requires { ⌜ Area g (length (now leaves)) × (entries ≤ length (now homes)) × (k < g .nodes) × (i < g .fan) ⌝ }
-    ensures { λ r. ⌜ r ≡ entryBy g entries (now (leaves .entry)) (now (homes .entry)) k i ⌝ }
+fn is_entry(leaves: &[u32], homes: &[u32], g: Shape, entries: u32, k: LeafNo, i: u32) -> bool
+    requires { ⌜ Area g (length (now leaves)) × (entries ≤ length (now homes)) × (k .0 < g .nodes) × (i < g .fan) ⌝ }
+    ensures { λ r. ⌜ r ≡ entryBy g entries (now (leaves .entry)) (now (homes .entry)) (k .0) i ⌝ }
 {
-    let id = child_of(leaves, g, k, i as usize);
+    let id = child_of(leaves, g, k.0, i as usize);
     if id >= entries {
         return false;
     }
-    if homes[id as usize] != k {
+    if homes[id as usize] != k.0 {
         return false;
     }
-    is_new(leaves, g, k, i, id)
+    is_new(leaves, g, k, i, EntryId(id))
 }
 
 // The same of each slot in use.
-fn are_entries(leaves: &[u32], homes: &[u32], g: Shape, entries: u32, k: u32, len: u32) -> bool
-    requires { ⌜ Area g (length (now leaves)) × (entries ≤ length (now homes)) × (k < g .nodes) × (len ≤ g .fan) ⌝ }
-    ensures { λ r. ⌜ r ≡ every (entryBy g entries (now (leaves .entry)) (now (homes .entry)) k) 0 len ⌝ }
+fn are_entries(leaves: &[u32], homes: &[u32], g: Shape, entries: u32, k: LeafNo, len: u32) -> bool
+    requires { ⌜ Area g (length (now leaves)) × (entries ≤ length (now homes)) × (k .0 < g .nodes) × (len ≤ g .fan) ⌝ }
+    ensures { λ r. ⌜ r ≡ every (entryBy g entries (now (leaves .entry)) (now (homes .entry)) (k .0)) 0 len ⌝ }
 {
     let mut i: u32 = 0;
     while i < len {
@@ -75,25 +78,32 @@ fn least_leaf(head: Head) -> u32
     head.fan / 2
 }
 
-pub fn is_leaf(head: Head, leaves: &[u32], inners: &[u32], homes: &[u32], g: Shape, k: u32) -> bool
-    requires { ⌜ Known head g (length (now leaves)) (length (now inners)) × (head .entries ≤ length (now homes)) × (k < head .leaves) ⌝ }
-    ensures { λ r. ⌜ r ≡ isLeaf base (state head (now (leaves .entry)) (now (inners .entry)) (now (homes .entry))) k ⌝ }
+pub fn is_leaf(
+    head: Head,
+    leaves: &[u32],
+    inners: &[u32],
+    homes: &[u32],
+    g: Shape,
+    k: LeafNo,
+) -> bool
+    requires { ⌜ Known head g (length (now leaves)) (length (now inners)) × (head .entries ≤ length (now homes)) × (k .0 < head .leaves) ⌝ }
+    ensures { λ r. ⌜ r ≡ isLeaf base (state head (now (leaves .entry)) (now (inners .entry)) (now (homes .entry))) (k .0) ⌝ }
 {
     let levels = head.levels;
     let used = head.inners;
     let entries = head.entries;
     let least = least_leaf(head);
-    if !is_filled(head, leaves, g, k, least) {
+    if !is_filled(head, leaves, g, k.0, least) {
         return false;
     }
-    let parent = parent_of(leaves, g, k);
-    let at = at_of(leaves, g, k);
-    if !is_held(inners, g, used, k, parent, at) {
+    let parent = parent_of(leaves, g, k.0);
+    let at = at_of(leaves, g, k.0);
+    if !is_held(inners, g, used, k.0, NodeNo(parent), at) {
         return false;
     }
-    if depth(inners, g, used, levels, parent) != levels {
+    if depth(inners, g, used, levels, NodeNo(parent)) != levels {
         return false;
     }
-    let len = len_of(leaves, g, k);
+    let len = len_of(leaves, g, k.0);
     are_entries(leaves, homes, g, entries, k, len)
 }

@@ -8,6 +8,7 @@ use audit_node::nodes::is_filled;
 use audit_node::nodes::total_in;
 use model::head::Head;
 use model::length::Slot;
+use model::number::NodeNo;
 use model::shape::Shape;
 ghost use mathlib.Core.Path.{_≡_};
 ghost use mathlib.Core.List.{[]};
@@ -22,15 +23,15 @@ ghost use Rattle.audit_link.specs.Known.{Known};
 ghost use Rattle.audit_link.specs.Links.{depthBy, heldBy, childBy, rootBy};
 
 // How many inner nodes stand from the root down to node k; more than levels where a climb doesn't end at the root.
-pub fn depth(inners: &[u32], g: Shape, used: u32, levels: u32, k: u32) -> u32
+pub fn depth(inners: &[u32], g: Shape, used: u32, levels: u32, k: NodeNo) -> u32
     requires { ⌜ Area g (length (now inners)) × (used ≤ g .nodes) × (levels ≤ 15) ⌝ }
-    ensures { λ r. ⌜ r ≡ depthBy g used (now (inners .entry)) levels k ⌝ }
+    ensures { λ r. ⌜ r ≡ depthBy g used (now (inners .entry)) levels (k .0) ⌝ }
 {
     let empty = Slot::EMPTY;
     let none = empty.child;
     let mut n = levels;
     let mut passed: u32 = 0;
-    let mut node = k;
+    let mut node = k.0;
     while 0 < n {
         if node == none {
             return passed;
@@ -48,53 +49,54 @@ pub fn depth(inners: &[u32], g: Shape, used: u32, levels: u32, k: u32) -> u32
     passed + 1
 }
 
-// Whether inner node parent holds k in its slot at.
-pub fn is_held(inners: &[u32], g: Shape, used: u32, k: u32, parent: u32, at: u32) -> bool
+// Whether inner node parent holds k, a leaf or an inner node, in its slot at.
+pub fn is_held(inners: &[u32], g: Shape, used: u32, k: u32, parent: NodeNo, at: u32) -> bool
     requires { ⌜ Area g (length (now inners)) × (used ≤ g .nodes) ⌝ }
-    ensures { λ r. ⌜ r ≡ heldBy g used (now (inners .entry)) k parent at ⌝ }
+    ensures { λ r. ⌜ r ≡ heldBy g used (now (inners .entry)) k (parent .0) at ⌝ }
 {
     let fan = g.fan;
-    if parent >= used {
+    let p = parent.0;
+    if p >= used {
         return false;
     }
-    let len = len_of(inners, g, parent);
+    let len = len_of(inners, g, p);
     if at >= len {
         return false;
     }
     if len as usize > fan {
         return false;
     }
-    child_of(inners, g, parent, at as usize) == k
+    child_of(inners, g, p, at as usize) == k
 }
 
 // Whether the child in slot i of inner node k, a node of low, is in use, knows its parent and place, and the slot has its totals.
-fn is_child(inners: &[u32], low: &[u32], g: Shape, used: u32, k: u32, i: u32) -> bool
-    requires { ⌜ Area g (length (now inners)) × Area g (length (now low)) × (used ≤ g .nodes) × (k < g .nodes) × (i < g .fan) × (g .stride ≡ 3) ⌝ }
-    ensures { λ r. ⌜ r ≡ childBy g used (now (low .entry)) (now (inners .entry)) k i ⌝ }
+fn is_child(inners: &[u32], low: &[u32], g: Shape, used: u32, k: NodeNo, i: u32) -> bool
+    requires { ⌜ Area g (length (now inners)) × Area g (length (now low)) × (used ≤ g .nodes) × (k .0 < g .nodes) × (i < g .fan) × (g .stride ≡ 3) ⌝ }
+    ensures { λ r. ⌜ r ≡ childBy g used (now (low .entry)) (now (inners .entry)) (k .0) i ⌝ }
 {
-    let child = child_of(inners, g, k, i as usize);
+    let child = child_of(inners, g, k.0, i as usize);
     if child >= used {
         return false;
     }
-    if parent_of(low, g, child) != k {
+    if parent_of(low, g, child) != k.0 {
         return false;
     }
     if at_of(low, g, child) != i {
         return false;
     }
-    if length_of(inners, g, 0, k, i as usize) as u64 != total_in(low, g, 0, child) {
+    if length_of(inners, g, 0, k.0, i as usize) as u64 != total_in(low, g, 0, child) {
         return false;
     }
-    if length_of(inners, g, 1, k, i as usize) as u64 != total_in(low, g, 1, child) {
+    if length_of(inners, g, 1, k.0, i as usize) as u64 != total_in(low, g, 1, child) {
         return false;
     }
     true
 }
 
 // The same of each slot in use.
-fn are_children(inners: &[u32], low: &[u32], g: Shape, used: u32, k: u32, len: u32) -> bool
-    requires { ⌜ Area g (length (now inners)) × Area g (length (now low)) × (used ≤ g .nodes) × (k < g .nodes) × (len ≤ g .fan) × (g .stride ≡ 3) ⌝ }
-    ensures { λ r. ⌜ r ≡ every (childBy g used (now (low .entry)) (now (inners .entry)) k) 0 len ⌝ }
+fn are_children(inners: &[u32], low: &[u32], g: Shape, used: u32, k: NodeNo, len: u32) -> bool
+    requires { ⌜ Area g (length (now inners)) × Area g (length (now low)) × (used ≤ g .nodes) × (k .0 < g .nodes) × (len ≤ g .fan) × (g .stride ≡ 3) ⌝ }
+    ensures { λ r. ⌜ r ≡ every (childBy g used (now (low .entry)) (now (inners .entry)) (k .0)) 0 len ⌝ }
 {
     let mut i: u32 = 0;
     while i < len {
@@ -107,10 +109,10 @@ fn are_children(inners: &[u32], low: &[u32], g: Shape, used: u32, k: u32, len: u
 }
 
 // How few slots inner node k may use.
-fn least_inner(head: Head, k: u32) -> u32
-    ensures { λ r. ⌜ r ≡ leastInner (stride base) (state head [] [] []) k ⌝ }
+fn least_inner(head: Head, k: NodeNo) -> u32
+    ensures { λ r. ⌜ r ≡ leastInner (stride base) (state head [] [] []) (k .0) ⌝ }
 {
-    if k != head.root.0 {
+    if k.0 != head.root.0 {
         return head.fan / 2;
     }
     if head.levels == 1 {
@@ -120,15 +122,15 @@ fn least_inner(head: Head, k: u32) -> u32
 }
 
 // Whether inner node k stands where it must: the root below nothing, any other node in its parent.
-fn is_below(head: Head, inners: &[u32], g: Shape, k: u32) -> bool
-    requires { ⌜ Area g (length (now inners)) × (head .inners ≤ g .nodes) × (k < g .nodes) ⌝ }
-    ensures { λ r. ⌜ r ≡ rootBy g head (now (inners .entry)) k ⌝ }
+fn is_below(head: Head, inners: &[u32], g: Shape, k: NodeNo) -> bool
+    requires { ⌜ Area g (length (now inners)) × (head .inners ≤ g .nodes) × (k .0 < g .nodes) ⌝ }
+    ensures { λ r. ⌜ r ≡ rootBy g head (now (inners .entry)) (k .0) ⌝ }
 {
     let empty = Slot::EMPTY;
-    let parent = parent_of(inners, g, k);
-    let at = at_of(inners, g, k);
-    if k != head.root.0 {
-        return is_held(inners, g, head.inners, k, parent, at);
+    let parent = parent_of(inners, g, k.0);
+    let at = at_of(inners, g, k.0);
+    if k.0 != head.root.0 {
+        return is_held(inners, g, head.inners, k.0, NodeNo(parent), at);
     }
     if parent != empty.child {
         return false;
@@ -136,9 +138,9 @@ fn is_below(head: Head, inners: &[u32], g: Shape, k: u32) -> bool
     at == 0
 }
 
-pub fn is_inner(head: Head, leaves: &[u32], inners: &[u32], g: Shape, k: u32) -> bool
-    requires { ⌜ Known head g (length (now leaves)) (length (now inners)) × (k < head .inners) ⌝ }
-    ensures { λ r. ⌜ r ≡ isInner base (state head (now (leaves .entry)) (now (inners .entry)) []) k ⌝ }
+pub fn is_inner(head: Head, leaves: &[u32], inners: &[u32], g: Shape, k: NodeNo) -> bool
+    requires { ⌜ Known head g (length (now leaves)) (length (now inners)) × (k .0 < head .inners) ⌝ }
+    ensures { λ r. ⌜ r ≡ isInner base (state head (now (leaves .entry)) (now (inners .entry)) []) (k .0) ⌝ }
 {
     let levels = head.levels;
     let d = depth(inners, g, head.inners, levels, k);
@@ -149,13 +151,13 @@ pub fn is_inner(head: Head, leaves: &[u32], inners: &[u32], g: Shape, k: u32) ->
         return false;
     }
     let least = least_inner(head, k);
-    if !is_filled(head, inners, g, k, least) {
+    if !is_filled(head, inners, g, k.0, least) {
         return false;
     }
     if !is_below(head, inners, g, k) {
         return false;
     }
-    let len = len_of(inners, g, k);
+    let len = len_of(inners, g, k.0);
     if d == levels {
         return are_children(inners, leaves, g, head.leaves, k, len);
     }

@@ -24,20 +24,20 @@ shared-slice-read-if2 c = search needs
 
 returns-2 : tie.Need-returns-2
 returns-2 c =
-    let args = c .before .before .before .before .before .before .args in
-    let child-of = c .before .before .before .child-of in
-    entry-away (args .g) _ (now (args .leaves)) (now (args .homes)) _ _ _ (child-of .ensures) (c .before .before .if1 .left) (c .if2 .taken)
+    let args = c .before .before .before .before .before .before .before .args in
+    let child-of = c .before .before .before .before .child-of in
+    entry-away (args .g) _ (now (args .leaves)) (now (args .homes)) _ _ _ (child-of .ensures) (c .before .before .before .if1 .left) (c .if2 .taken)
 
 is-new-requires : tie.Need-is-new-requires
 is-new-requires c κs =
-    let pre = c .before .before .before .before .before .before .pre in
+    let pre = c .before .before .before .before .before .before .before .pre in
     (pre .0, pre .2, pre .3)
 
 returns-3 : tie.Need-returns-3
 returns-3 c =
-    let args = c .before .before .before .before .before .before .before .args in
-    let child-of = c .before .before .before .before .child-of in
-    let if1 = c .before .before .before .if1 in
+    let args = c .before .before .before .before .before .before .before .before .args in
+    let child-of = c .before .before .before .before .before .child-of in
+    let if1 = c .before .before .before .before .if1 in
     entry-last (args .g) _ (now (args .leaves)) (now (args .homes)) _ _ _ (child-of .ensures) (if1 .left) (c .before .if2 .left) _ (c .is-new .ensures)
 
 pub is-entry-spec : {M : Type 1} → statement M

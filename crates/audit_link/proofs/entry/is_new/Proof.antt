@@ -13,13 +13,13 @@ use Rattle.audit_link.proofs.entry.is_new.Statement.{statement}
 use Rattle.audit_link.proofs.entry.is_new.Tie as tie
 
 abbrev Inv-loop : tie.InvT-loop
-Inv-loop leaves g k i id j₀ j = every (isOther (nodeAt g k leaves) id) j (i - j) ≡ every (isOther (nodeAt g k leaves) id) 0 i
+Inv-loop leaves g k i id j₀ j = every (isOther (nodeAt g (k .0) leaves) (id .0)) j (i - j) ≡ every (isOther (nodeAt g (k .0) leaves) (id .0)) 0 i
 
 abbrev μ-loop : tie.MeasureT-loop
 μ-loop leaves g k i id j₀ j = i - j
 
 loop-holds : tie.Need-loop-holds Inv-loop μ-loop
-loop-holds c = every-all (isOther (nodeAt (c .before .args .g) (c .before .args .k) (now (c .before .args .leaves))) (c .before .args .id)) _
+loop-holds c = every-all (isOther (nodeAt (c .before .args .g) (c .before .args .k .0) (now (c .before .args .leaves))) (c .before .args .id .0)) _
 
 cast-child-of : tie.Need-cast-child-of Inv-loop μ-loop
 cast-child-of c = search needs
@@ -31,10 +31,10 @@ child-of-requires c κs =
 
 returns : tie.Need-returns Inv-loop μ-loop
 returns c =
-    let args = c .before .before .before .before .before .args in
-    let the-loop = c .before .before .before .loop in
-    sym (every-stop (isOther (nodeAt (args .g) (args .k) (now (args .leaves))) (args .id)) _ _ (c .before .before .loop-test .taken)
-    (other-met (nodeAt (args .g) (args .k) (now (args .leaves))) (args .id) (the-loop .j) _ (c .before .child-of .ensures) (c .if1 .taken))) ∙ the-loop .inv
+    let args = c .before .before .before .before .before .before .args in
+    let the-loop = c .before .before .before .before .loop in
+    sym (every-stop (isOther (nodeAt (args .g) (args .k .0) (now (args .leaves))) (args .id .0)) _ _ (c .before .before .before .loop-test .taken)
+    (other-met (nodeAt (args .g) (args .k .0) (now (args .leaves))) (args .id .0) (the-loop .j) _ (c .before .before .child-of .ensures) (c .if1 .taken))) ∙ the-loop .inv
 
 add-j : tie.Need-add-j Inv-loop μ-loop
 add-j c = omega arith
@@ -44,15 +44,15 @@ loop-less c = omega arith
 
 loop-again : tie.Need-loop-again Inv-loop μ-loop
 loop-again c =
-    let args = c .before .before .before .before .before .args in
-    let the-loop = c .before .before .before .loop in
-    sym (every-on (isOther (nodeAt (args .g) (args .k) (now (args .leaves))) (args .id)) _ _ (c .before .before .loop-test .taken)
-    (other-passed (nodeAt (args .g) (args .k) (now (args .leaves))) (args .id) (the-loop .j) _ (c .before .child-of .ensures) (c .if1 .left))) ∙ the-loop .inv
+    let args = c .before .before .before .before .before .before .args in
+    let the-loop = c .before .before .before .before .loop in
+    sym (every-on (isOther (nodeAt (args .g) (args .k .0) (now (args .leaves))) (args .id .0)) _ _ (c .before .before .before .loop-test .taken)
+    (other-passed (nodeAt (args .g) (args .k .0) (now (args .leaves))) (args .id .0) (the-loop .j) _ (c .before .before .child-of .ensures) (c .if1 .left))) ∙ the-loop .inv
 
 returns-2 : tie.Need-returns-2 Inv-loop μ-loop
 returns-2 c =
     let args = c .before .before .before .args in
-    sym (every-end (isOther (nodeAt (args .g) (args .k) (now (args .leaves))) (args .id)) _ _ (c .loop-test .left)) ∙ c .before .loop .inv
+    sym (every-end (isOther (nodeAt (args .g) (args .k .0) (now (args .leaves))) (args .id .0)) _ _ (c .loop-test .left)) ∙ c .before .loop .inv
 
 pub is-new-spec : {M : Type 1} → statement M
 is-new-spec =

@@ -12,14 +12,14 @@ use Rattle.audit_link.proofs.link.are_children.Statement.{statement}
 use Rattle.audit_link.proofs.link.are_children.Tie as tie
 
 abbrev Inv-loop : tie.InvT-loop
-Inv-loop inners low g used k len i₀ i = every (childBy g used low inners k) i (len - i) ≡ every (childBy g used low inners k) 0 len
+Inv-loop inners low g used k len i₀ i = every (childBy g used low inners (k .0)) i (len - i) ≡ every (childBy g used low inners (k .0)) 0 len
 
 abbrev μ-loop : tie.MeasureT-loop
 μ-loop inners low g used k len i₀ i = len - i
 
 loop-holds : tie.Need-loop-holds Inv-loop μ-loop
 loop-holds c = every-all (childBy (c .before .before .args .g) (c .before .before .args .used) (now (c .before .before .args .low)) (now (c .before .before .args .inners))
-    (c .before .before .args .k)) _
+    (c .before .before .args .k .0)) _
 
 is-child-requires : tie.Need-is-child-requires Inv-loop μ-loop
 is-child-requires c κs =
@@ -30,7 +30,7 @@ returns : tie.Need-returns Inv-loop μ-loop
 returns c =
     let args = c .before .before .before .before .before .before .args in
     let the-loop = c .before .before .before .loop in
-    sym (every-stop (childBy (args .g) (args .used) (now (args .low)) (now (args .inners)) (args .k)) _ _ (c .before .before .loop-test .taken)
+    sym (every-stop (childBy (args .g) (args .used) (now (args .low)) (now (args .inners)) (args .k .0)) _ _ (c .before .before .loop-test .taken)
     (sym (c .before .is-child .ensures) ∙ not-true _ (c .if1 .taken))) ∙ the-loop .inv
 
 add-i : tie.Need-add-i Inv-loop μ-loop
@@ -43,13 +43,13 @@ loop-again : tie.Need-loop-again Inv-loop μ-loop
 loop-again c =
     let args = c .before .before .before .before .before .before .args in
     let the-loop = c .before .before .before .loop in
-    sym (every-on (childBy (args .g) (args .used) (now (args .low)) (now (args .inners)) (args .k)) _ _ (c .before .before .loop-test .taken)
+    sym (every-on (childBy (args .g) (args .used) (now (args .low)) (now (args .inners)) (args .k .0)) _ _ (c .before .before .loop-test .taken)
     (sym (c .before .is-child .ensures) ∙ not-false _ (c .if1 .left))) ∙ the-loop .inv
 
 returns-2 : tie.Need-returns-2 Inv-loop μ-loop
 returns-2 c =
     let args = c .before .before .before .before .args in
-    sym (every-end (childBy (args .g) (args .used) (now (args .low)) (now (args .inners)) (args .k)) _ _ (c .loop-test .left)) ∙ c .before .loop .inv
+    sym (every-end (childBy (args .g) (args .used) (now (args .low)) (now (args .inners)) (args .k .0)) _ _ (c .loop-test .left)) ∙ c .before .loop .inv
 
 pub are-children-spec : {M : Type 1} → statement M
 are-children-spec =

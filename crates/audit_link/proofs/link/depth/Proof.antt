@@ -10,11 +10,11 @@ use Rattle.audit_link.proofs.link.depth.Statement.{statement}
 use Rattle.audit_link.proofs.link.depth.Tie as tie
 
 abbrev Inv-loop : tie.InvT-loop
-Inv-loop inners g used levels k none n₀ passed₀ node₀ n passed node =
-    (n ≤ levels) × (passed + n ≡ levels) × (depthBy g used inners levels k ≡ passed + depthBy g used inners n node)
+Inv-loop inners g used levels none n₀ passed₀ node₀ n passed node =
+    (n ≤ levels) × (passed + n ≡ levels) × (depthBy g used inners levels node₀ ≡ passed + depthBy g used inners n node)
 
 abbrev μ-loop : tie.MeasureT-loop
-μ-loop inners g used levels k none n₀ passed₀ node₀ n passed node = n
+μ-loop inners g used levels none n₀ passed₀ node₀ n passed node = n
 
 loop-holds : tie.Need-loop-holds Inv-loop μ-loop
 loop-holds c = (omega arith, omega arith, omega arith)

@@ -12,28 +12,28 @@ at-of-requires c κs = search needs
 
 is-held-requires : tie.Need-is-held-requires
 is-held-requires c κs =
-    let pre = c .before .before .before .before .before .pre in
+    let pre = c .before .before .before .before .before .before .pre in
     (pre .0, pre .1)
 
 returns : tie.Need-returns
 returns c =
-    let args = c .before .before .before .before .before .before .args in
-    let parent-of = c .before .before .before .before .parent-of in
-    let at-of = c .before .before .before .at-of in
+    let args = c .before .before .before .before .before .before .before .args in
+    let parent-of = c .before .before .before .before .before .parent-of in
+    let at-of = c .before .before .before .before .at-of in
     below-other (args .g) (args .head) _ _ _ _ (parent-of .ensures) (at-of .ensures) (c .before .if1 .taken) _ (c .is-held .ensures)
 
 returns-2 : tie.Need-returns-2
 returns-2 c =
-    let args = c .before .before .before .before .before .before .before .args in
-    let parent-of = c .before .before .before .before .before .parent-of in
-    let at-of = c .before .before .before .before .at-of in
+    let args = c .before .before .before .before .before .before .before .before .args in
+    let parent-of = c .before .before .before .before .before .before .parent-of in
+    let at-of = c .before .before .before .before .before .at-of in
     below-parent (args .g) (args .head) _ _ _ _ (parent-of .ensures) (at-of .ensures) (c .before .before .if1 .left) (c .if2 .taken)
 
 returns-3 : tie.Need-returns-3
 returns-3 c =
-    let args = c .before .before .before .before .before .before .before .args in
-    let parent-of = c .before .before .before .before .before .parent-of in
-    let at-of = c .before .before .before .before .at-of in
+    let args = c .before .before .before .before .before .before .before .before .args in
+    let parent-of = c .before .before .before .before .before .before .parent-of in
+    let at-of = c .before .before .before .before .before .at-of in
     below-at (args .g) (args .head) _ _ _ _ (parent-of .ensures) (at-of .ensures) (c .before .before .if1 .left) (c .if2 .left)
 
 pub is-below-spec : {M : Type 1} → statement M

@@ -21,26 +21,26 @@ parent-of-requires c κs =
 
 returns-2 : tie.Need-returns-2
 returns-2 c =
-    let args = c .before .before .before .before .before .before .args in
-    let child-of = c .before .before .before .child-of in
-    child-parent (args .g) _ _ _ _ _ _ (child-of .ensures) (c .before .before .if1 .left) _ (c .before .parent-of .ensures) (c .if2 .taken)
+    let args = c .before .before .before .before .before .before .before .args in
+    let child-of = c .before .before .before .before .child-of in
+    child-parent (args .g) _ _ _ _ _ _ (child-of .ensures) (c .before .before .before .if1 .left) _ (c .before .before .parent-of .ensures) (c .if2 .taken)
 
 at-of-requires : tie.Need-at-of-requires
 at-of-requires c κs =
-    let pre = c .before .before .before .before .before .before .pre in
-    (pre .1, lt-of-lt-of-le (c .before .before .if1 .left) (pre .2))
+    let pre = c .before .before .before .before .before .before .before .pre in
+    (pre .1, lt-of-lt-of-le (c .before .before .before .if1 .left) (pre .2))
 
 returns-3 : tie.Need-returns-3
 returns-3 c =
-    let args = c .before .before .before .before .before .before .before .before .args in
-    let child-of = c .before .before .before .before .before .child-of in
-    let if1 = c .before .before .before .before .if1 in
-    let parent-of = c .before .before .before .parent-of in
+    let args = c .before .before .before .before .before .before .before .before .before .args in
+    let child-of = c .before .before .before .before .before .before .child-of in
+    let if1 = c .before .before .before .before .before .if1 in
+    let parent-of = c .before .before .before .before .parent-of in
     child-at (args .g) _ _ _ _ _ _ (child-of .ensures) (if1 .left) _ (parent-of .ensures) (c .before .before .if2 .left) _ (c .before .at-of .ensures) (c .if3 .taken)
 
 length-of-requires : tie.Need-length-of-requires
 length-of-requires c κs =
-    let pre = c .before .before .before .before .before .before .before .before .pre in
+    let pre = c .before .before .before .before .before .before .before .before .before .pre in
     (pre .0, rw (pre .5) (omega arith), pre .3, pre .4)
 
 cast-if4 : tie.Need-cast-if4
@@ -48,16 +48,16 @@ cast-if4 c = search needs
 
 total-in-requires : tie.Need-total-in-requires
 total-in-requires c κs =
-    let pre = c .before .before .before .before .before .before .before .before .before .pre in
-    let if1 = c .before .before .before .before .before .if1 in
+    let pre = c .before .before .before .before .before .before .before .before .before .before .pre in
+    let if1 = c .before .before .before .before .before .before .if1 in
     (pre .1, lt-of-lt-of-le (if1 .left) (pre .2), rw (pre .5) (omega arith))
 
 returns-4 : tie.Need-returns-4
 returns-4 c =
-    let args = c .before .before .before .before .before .before .before .before .before .before .before .args in
-    let child-of = c .before .before .before .before .before .before .before .before .child-of in
-    let if1 = c .before .before .before .before .before .before .before .if1 in
-    let parent-of = c .before .before .before .before .before .before .parent-of in
+    let args = c .before .before .before .before .before .before .before .before .before .before .before .before .args in
+    let child-of = c .before .before .before .before .before .before .before .before .before .child-of in
+    let if1 = c .before .before .before .before .before .before .before .before .if1 in
+    let parent-of = c .before .before .before .before .before .before .before .parent-of in
     let if2 = c .before .before .before .before .before .if2 in
     let at-of = c .before .before .before .before .at-of in
     let if3 = c .before .before .before .if3 in
@@ -66,7 +66,7 @@ returns-4 c =
 
 length-of-requires-2 : tie.Need-length-of-requires-2
 length-of-requires-2 c κs =
-    let pre = c .before .before .before .before .before .before .before .before .before .before .before .pre in
+    let pre = c .before .before .before .before .before .before .before .before .before .before .before .before .pre in
     (pre .0, rw (pre .5) (omega arith), pre .3, pre .4)
 
 cast-if5 : tie.Need-cast-if5
@@ -74,16 +74,16 @@ cast-if5 c = search needs
 
 total-in-requires-2 : tie.Need-total-in-requires-2
 total-in-requires-2 c κs =
-    let pre = c .before .before .before .before .before .before .before .before .before .before .before .before .pre in
-    let if1 = c .before .before .before .before .before .before .before .before .if1 in
+    let pre = c .before .before .before .before .before .before .before .before .before .before .before .before .before .pre in
+    let if1 = c .before .before .before .before .before .before .before .before .before .if1 in
     (pre .1, lt-of-lt-of-le (if1 .left) (pre .2), rw (pre .5) (omega arith))
 
 returns-5 : tie.Need-returns-5
 returns-5 c =
-    let args = c .before .before .before .before .before .before .before .before .before .before .before .before .before .before .args in
-    let child-of = c .before .before .before .before .before .before .before .before .before .before .before .child-of in
-    let if1 = c .before .before .before .before .before .before .before .before .before .before .if1 in
-    let parent-of = c .before .before .before .before .before .before .before .before .before .parent-of in
+    let args = c .before .before .before .before .before .before .before .before .before .before .before .before .before .before .before .args in
+    let child-of = c .before .before .before .before .before .before .before .before .before .before .before .before .child-of in
+    let if1 = c .before .before .before .before .before .before .before .before .before .before .before .if1 in
+    let parent-of = c .before .before .before .before .before .before .before .before .before .before .parent-of in
     let if2 = c .before .before .before .before .before .before .before .before .if2 in
     let at-of = c .before .before .before .before .before .before .before .at-of in
     let if3 = c .before .before .before .before .before .before .if3 in
@@ -95,10 +95,10 @@ returns-5 c =
 
 returns-6 : tie.Need-returns-6
 returns-6 c =
-    let args = c .before .before .before .before .before .before .before .before .before .before .before .before .before .before .args in
-    let child-of = c .before .before .before .before .before .before .before .before .before .before .before .child-of in
-    let if1 = c .before .before .before .before .before .before .before .before .before .before .if1 in
-    let parent-of = c .before .before .before .before .before .before .before .before .before .parent-of in
+    let args = c .before .before .before .before .before .before .before .before .before .before .before .before .before .before .before .args in
+    let child-of = c .before .before .before .before .before .before .before .before .before .before .before .before .child-of in
+    let if1 = c .before .before .before .before .before .before .before .before .before .before .before .if1 in
+    let parent-of = c .before .before .before .before .before .before .before .before .before .before .parent-of in
     let if2 = c .before .before .before .before .before .before .before .before .if2 in
     let at-of = c .before .before .before .before .before .before .before .at-of in
     let if3 = c .before .before .before .before .before .before .if3 in
