@@ -10,6 +10,8 @@ use model::answer::Verdict;
 use model::head::Finger;
 use model::head::Head;
 use model::head::Held;
+use model::number::LeafNo;
+use model::number::NodeNo;
 use model::shape::Shape;
 use model::way::Sum;
 use open::open::Opened;
@@ -58,11 +60,11 @@ fn is_finger(head: Head, leaves: &[u32], inners: &[u32], g: Shape, f: Finger) ->
     }
     let parent = parent_of(leaves, g, leaf);
     let at = at_of(leaves, g, leaf);
-    let start = rank_up(inners, g, view as usize, levels, parent, at, 0);
+    let start = rank_up(inners, g, view as usize, levels, NodeNo(parent), at, 0);
     if !is_sum(f.start, start) {
         return false;
     }
-    let effect = rank_up(inners, g, 1, levels, parent, at, 0);
+    let effect = rank_up(inners, g, 1, levels, NodeNo(parent), at, 0);
     if !is_sum(f.effect, effect) {
         return false;
     }
@@ -111,7 +113,7 @@ fn every_inner(head: Head, leaves: &[u32], inners: &[u32], g: Shape, count: u32)
 {
     let mut k: u32 = 0;
     while k < count {
-        if !is_inner(head, leaves, inners, g, k) {
+        if !is_inner(head, leaves, inners, g, NodeNo(k)) {
             return false;
         }
         k += 1;
@@ -132,7 +134,7 @@ fn every_leaf(
 {
     let mut k: u32 = 0;
     while k < count {
-        if !is_leaf(head, leaves, inners, homes, g, k) {
+        if !is_leaf(head, leaves, inners, homes, g, LeafNo(k)) {
             return false;
         }
         k += 1;
@@ -155,14 +157,14 @@ fn slots_used(leaves: &[u32], g: Shape, count: u32) -> u64
 }
 
 // The totals of the root within u32.
-fn totals(inners: &[u32], g: Shape, root: u32) -> bool
-    requires { ⌜ Area g (length (now inners)) × (root < g .nodes) × (g .stride ≡ 3) ⌝ }
-    ensures { λ r. ⌜ r ≡ inViews base (λ v. leb (total v (used (nodeAt g root (now (inners .entry))))) 4294967295) ⌝ }
+fn totals(inners: &[u32], g: Shape, root: NodeNo) -> bool
+    requires { ⌜ Area g (length (now inners)) × (root .0 < g .nodes) × (g .stride ≡ 3) ⌝ }
+    ensures { λ r. ⌜ r ≡ inViews base (λ v. leb (total v (used (nodeAt g (root .0) (now (inners .entry))))) 4294967295) ⌝ }
 {
-    if total_in(inners, g, 0, root) > 4294967295 {
+    if total_in(inners, g, 0, root.0) > 4294967295 {
         return false;
     }
-    if total_in(inners, g, 1, root) > 4294967295 {
+    if total_in(inners, g, 1, root.0) > 4294967295 {
         return false;
     }
     true
@@ -172,7 +174,6 @@ fn is_sound(head: Head, leaves: &[u32], inners: &[u32], homes: &[u32], g: Shape)
     requires { ⌜ (g ≡ shapeOf base head) × Area g (length (now leaves)) × Area g (length (now inners)) × (head .limit ≤ length (now homes)) ⌝ }
     ensures { λ r. ⌜ r ≡ isSound base (state head (now (leaves .entry)) (now (inners .entry)) (now (homes .entry))) ⌝ }
 {
-    let root = head.root.0;
     let finger = head.finger;
     if !counts(head, g) {
         return false;
@@ -186,7 +187,7 @@ fn is_sound(head: Head, leaves: &[u32], inners: &[u32], homes: &[u32], g: Shape)
     if slots_used(leaves, g, head.leaves) != head.entries as u64 {
         return false;
     }
-    if !totals(inners, g, root) {
+    if !totals(inners, g, head.root) {
         return false;
     }
     is_held_finger(head, leaves, inners, g, finger)
