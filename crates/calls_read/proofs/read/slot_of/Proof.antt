@@ -36,12 +36,14 @@ part-index-of-end c = omega (arith, inside c)
 
 index-of-requires : tie.Need-index-of-requires
 unfolding nodeOf
-index-of-requires c κs = (
-  c .before .before .before .pre .0 .shaped,
-  rw lent
-      (node-length (c .before .before .before .args .g) _ _ (c .before .before .before .pre .1) (c .before .before .before .pre .0 .room)),
-  rw lent (c .before .before .before .pre .2),
-)
+index-of-requires c κs =
+    let pre = c .before .before .before .pre in
+    let args = c .before .before .before .args in (
+      pre .0 .shaped,
+      rw lent
+          (node-length (args .g) _ _ (pre .1) (pre .0 .room)),
+      rw lent (pre .2),
+    )
 
 returns : tie.Need-returns
 returns c = rw lent at (c .index-of .ensures)
