@@ -59,6 +59,8 @@ module _ (ε : ℕ) (s s′ : Tree) (A : List ℕ) (k : ℕ) (B : List ℕ) (st 
         effect = r .effect ∙ ap (climb ε (s .body .leaf) (s .body .inner) (s .body .levels)) e ∙ starts ε ∙ ap (climb ε (s′ .body .leaf) (s′ .body .inner) (s′ .body .levels)) (sym e);
         within = refl;
         effectWithin = refl;
+        prepareStart = r .prepareStart ∙ ap (climb 0 (s .body .leaf) (s .body .inner) (s .body .levels)) e ∙ starts 0 ∙ ap (climb 0 (s′ .body .leaf) (s′ .body .inner) (s′ .body .levels)) (sym e);
+        prepareWithin = refl;
       }
 
   at-slot : (f : Finger) → f .leaf ≡ k → f .slot ≤ j → FingerRight ε s f → FingerRight ε s′ f
@@ -73,6 +75,8 @@ module _ (ε : ℕ) (s s′ : Tree) (A : List ℕ) (k : ℕ) (B : List ℕ) (st 
         effect = r .effect ∙ ap (climb ε (s .body .leaf) (s .body .inner) (s .body .levels)) e ∙ starts ε ∙ ap (climb ε (s′ .body .leaf) (s′ .body .inner) (s′ .body .levels)) (sym e);
         within = r .within ∙ ap (sumBy (len (f .view))) tk;
         effectWithin = r .effectWithin ∙ ap (sumBy (len ε)) tk;
+        prepareStart = r .prepareStart ∙ ap (climb 0 (s .body .leaf) (s .body .inner) (s .body .levels)) e ∙ starts 0 ∙ ap (climb 0 (s′ .body .leaf) (s′ .body .inner) (s′ .body .levels)) (sym e);
+        prepareWithin = r .prepareWithin ∙ ap (sumBy (len 0)) tk;
       }
 
   pub right-change : (h : Held) → Right ε s h → Right ε s′ (changing k j h)

@@ -23,6 +23,7 @@ pub record Looked (ε : ℕ) (s : Tree) (v x : ℕ) (f : Finger) (offset : ℕ) 
   pub sums : sumBy (len v) front + offset ≡ x
   pub inside : offset < len v (slotAt s (f .leaf) (f .slot))
   pub effect : f .effect + f .«effect_within» ≡ sumBy (len ε) front
+  pub prepare : f .prepare + f .«prepare_within» ≡ sumBy (len 0) front
 
 pub at-finger : (ε : ℕ) (s : Tree) → Body s → (v x : ℕ) (f : Finger) (offset : ℕ) → FingerRight ε s f → f .view ≡ v → f .start + f .within + offset ≡ x
     → offset < len v (slotAt s (f .leaf) (f .slot)) → Looked ε s v x f offset
@@ -37,10 +38,14 @@ at-finger ε s b v x f offset r vw sm lt = go (is-in (f .leaf) (order s) (b .lea
         let s1 : climb ε (s .body .leaf) (s .body .inner) (s .body .levels) (f .leaf) ≡ sumBy (len ε) F = climb-at s (i .before) (f .leaf) (i .after) (above s) b′ ε in
         let st : f .start ≡ climb v (s .body .leaf) (s .body .inner) (s .body .levels) (f .leaf) = r .start ∙ ap (λ (u : ℕ). climb u (s .body .leaf) (s .body .inner) (s .body .levels) (f .leaf)) vw in
         let wi : f .within ≡ sumBy (len v) (take (f .slot) l) = r .within ∙ ap (λ (u : ℕ). sumBy (len u) (take (f .slot) l)) vw in
+        let s0 : climb 0 (s .body .leaf) (s .body .inner) (s .body .levels) (f .leaf) ≡ sumBy (len 0) F = climb-at s (i .before) (f .leaf) (i .after) (above s) b′ 0 in
         let e1 = r .effect in
         let e2 = r .effectWithin in
+        let p1 = r .prepareStart in
+        let p2 = r .prepareWithin in
         let av : sumBy (len v) (F ++ take (f .slot) l) ≡ sumBy (len v) F + sumBy (len v) (take (f .slot) l) = sumBy-append (len v) F (take (f .slot) l) in
         let a1 : sumBy (len ε) (F ++ take (f .slot) l) ≡ sumBy (len ε) F + sumBy (len ε) (take (f .slot) l) = sumBy-append (len ε) F (take (f .slot) l) in
+        let a0 : sumBy (len 0) (F ++ take (f .slot) l) ≡ sumBy (len 0) F + sumBy (len 0) (take (f .slot) l) = sumBy-append (len 0) F (take (f .slot) l) in
         record {
           front = F ++ take (f .slot) l;
           behind = drop (suc (f .slot)) l ++ cat (s .body .leaf .slots) (i .after);
@@ -51,6 +56,7 @@ at-finger ε s b v x f offset r vw sm lt = go (is-in (f .leaf) (order s) (b .lea
           sums = omega arith;
           inside = lt;
           effect = omega arith;
+          prepare = omega arith;
         }
       where
         shape : (X T D Y : List Slot) → X ++ ((T ++ D) ++ Y) ≡ (X ++ T) ++ (D ++ Y)

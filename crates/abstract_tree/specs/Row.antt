@@ -7,6 +7,7 @@ use native.Mathlib.Omega.{arith}
 use borrow.Author.Tests.{eq-eqb, ne-eqb, lt-ltb, le-ltb, le-leb}
 use Rattle.model.specs.Lists.{sumBy, All}
 use Rattle.model.specs.declared.shape.Kind.{Kind}
+use Rattle.model.specs.Kind.{prepare}
 use Rattle.model.specs.Row.{Entry, before, from, found, lengthIn, total}
 
 abbrev pub Without : ℕ → List Entry → Type 0
@@ -36,13 +37,15 @@ module _ (i : ℕ) where
 
 module _ (K : Kind) (v index : ℕ) where
   -- the entry that holds the index
-  pub found-at : (s f : ℕ) (l : List Entry) (e : Entry) (m : List Entry) (offset : ℕ) → s + total v l + offset ≡ index → offset < lengthIn v e
-      → found K v index s f (l ++ e ∷ m) ≡ e .id ∷ offset ∷ (f + total (K .effect) l) ∷ []
+  pub found-at : (s f p : ℕ) (l : List Entry) (e : Entry) (m : List Entry) (offset : ℕ) → s + total v l + offset ≡ index → offset < lengthIn v e
+      → found K v index s f p (l ++ e ∷ m) ≡ e .id ∷ offset ∷ (f + total (K .effect) l) ∷ (p + total prepare l) ∷ []
   unfolding found sumBy
-  found-at s f [] e m offset q lt =
+  found-at s f p [] e m offset q lt =
       let a : index - s ≡ offset = omega arith in
       let b : f ≡ f + 0 = omega arith in
-      rw (le-leb s index (omega arith), lt-ltb index (s + lengthIn v e) (omega arith), a, ← b)
-  found-at s f (x ∷ l) e m offset q lt =
+      let c : p ≡ p + 0 = omega arith in
+      rw (le-leb s index (omega arith), lt-ltb index (s + lengthIn v e) (omega arith), a, ← b, ← c)
+  found-at s f p (x ∷ l) e m offset q lt =
       let a : f + lengthIn (K .effect) x + sumBy (lengthIn (K .effect)) l ≡ f + (lengthIn (K .effect) x + sumBy (lengthIn (K .effect)) l) = omega arith in
-      rw (le-leb s index (omega arith), le-ltb index (s + lengthIn v x) (omega arith), ← a) (found-at (s + lengthIn v x) (f + lengthIn (K .effect) x) l e m offset (omega arith) lt)
+      let b : p + lengthIn prepare x + sumBy (lengthIn prepare) l ≡ p + (lengthIn prepare x + sumBy (lengthIn prepare) l) = omega arith in
+      rw (le-leb s index (omega arith), le-ltb index (s + lengthIn v x) (omega arith), ← a, ← b) (found-at (s + lengthIn v x) (f + lengthIn (K .effect) x) (p + lengthIn prepare x) l e m offset (omega arith) lt)

@@ -72,7 +72,7 @@ pub record BodyAt (s : Tree) (C : List ℕ) (st : List (List ℕ)) : Type 0 wher
 abbrev pub Body : Tree → Type 0
 Body s = BodyAt s (order s) (above s)
 
--- the finger's four sums are those of the tree
+-- the finger's six sums are those of the tree; prepare is view 0
 pub record FingerRight (ε : ℕ) (s : Tree) (f : Finger) : Type 0 where
   pub leaf-in : f .leaf < s .leaves
   pub slot-in : f .slot < length (leafSlots s (f .leaf))
@@ -80,6 +80,8 @@ pub record FingerRight (ε : ℕ) (s : Tree) (f : Finger) : Type 0 where
   pub effect : f .effect ≡ climb ε (s .body .leaf) (s .body .inner) (s .body .levels) (f .leaf)
   pub within : f .within ≡ sumBy (len (f .view)) (take (f .slot) (leafSlots s (f .leaf)))
   pub effectWithin : f .«effect_within» ≡ sumBy (len ε) (take (f .slot) (leafSlots s (f .leaf)))
+  pub prepareStart : f .prepare ≡ climb 0 (s .body .leaf) (s .body .inner) (s .body .levels) (f .leaf)
+  pub prepareWithin : f .«prepare_within» ≡ sumBy (len 0) (take (f .slot) (leafSlots s (f .leaf)))
 
 abbrev pub Right : ℕ → Tree → Held → Type 0
 Right ε s held.Absent = Unit {0}

@@ -89,15 +89,16 @@ pub fn find_in(
     k: u32,
     from: usize,
     index: u32,
-    sum: u64,
+    effects: u64,
+    prepares: u64,
 ) -> Found
-    requires { ⌜ Area g (length (now area)) × (k < g .nodes) × (view + 1 < g .stride) × (effect + 1 < g .stride) × (nodeAt g k (now area) .len ≤ g .fan) × (from ≤ nodeAt g k (now area) .len) × (sum ≤ 281474976710656) ⌝ }
-    ensures { λ r. ⌜ FoundIn sum r (findFrom view effect from index sum (drop from (used (nodeAt g k (now (area .entry)))))) ⌝ }
+    requires { ⌜ Area g (length (now area)) × (k < g .nodes) × (view + 1 < g .stride) × (effect + 1 < g .stride) × (nodeAt g k (now area) .len ≤ g .fan) × (from ≤ nodeAt g k (now area) .len) × (effects ≤ 281474976710656) × (prepares ≤ 281474976710656) ⌝ }
+    ensures { λ r. ⌜ FoundIn effects prepares r (findFrom view effect from index effects prepares (drop from (used (nodeAt g k (now (area .entry)))))) ⌝ }
 {
     let size = g.size;
     let a = k as usize * size;
     let e = a + size;
-    node::read::find(&area[a..e], g, view, effect, from, index, sum)
+    node::read::find(&area[a..e], g, view, effect, from, index, effects, prepares)
 }
 
 // Lengths added to those in slot i of node k.

@@ -19,7 +19,7 @@ use open::open::open_areas;
 use walk::climb::rank_up;
 ghost use mathlib.Core.Path.{_≡_};
 ghost use mathlib.Core.List.{[]};
-ghost use Prim.Native.Nat.{_<_, _≤_};
+ghost use Prim.Native.Nat.{_+_, _<_, _≤_};
 ghost use lib.ListN.{length};
 ghost use lib.Dec.{leb};
 ghost use Rattle.model.specs.Kind.{base};
@@ -31,6 +31,7 @@ ghost use Rattle.model.specs.Audit.{every, inViews, isSum, isInner, isLeaf, isF
 ghost use Rattle.area.specs.Area.{Area};
 ghost use Rattle.audit_link.specs.Known.{Known};
 ghost use Rattle.audit.specs.Counts.{countsBy};
+ghost use Rattle.audit.specs.Part.{partBy};
 
 fn is_sum(n: u32, s: Sum) -> bool
     ensures { λ r. ⌜ r ≡ isSum n s ⌝ }
@@ -39,6 +40,31 @@ fn is_sum(n: u32, s: Sum) -> bool
         Sum::Is(m) => n as u64 == m,
         Sum::Broken => false,
     }
+}
+
+// Whether a leaf starts there in view, and that much stands before a slot of it.
+fn is_part(
+    leaves: &[u32],
+    inners: &[u32],
+    g: Shape,
+    levels: u32,
+    view: usize,
+    leaf: LeafNo,
+    slot: u32,
+    start: u32,
+    within: u32,
+) -> bool
+    requires { ⌜ Area g (length (now leaves)) × Area g (length (now inners)) × (levels ≤ 15) × (view + 1 < g .stride) × (leaf .0 < g .nodes) ⌝ }
+    ensures { λ r. ⌜ r ≡ partBy g levels view (nodeAt g (leaf .0) (now (leaves .entry))) slot start within (now (inners .entry)) ⌝ }
+{
+    let k = leaf.0;
+    let parent = parent_of(leaves, g, k);
+    let at = at_of(leaves, g, k);
+    let sum = rank_up(inners, g, view, levels, NodeNo(parent), at, 0);
+    if !is_sum(start, sum) {
+        return false;
+    }
+    within as u64 == start_any(leaves, g, view, k, slot)
 }
 
 fn is_finger(head: Head, leaves: &[u32], inners: &[u32], g: Shape, f: Finger) -> bool
@@ -58,20 +84,44 @@ fn is_finger(head: Head, leaves: &[u32], inners: &[u32], g: Shape, f: Finger) ->
     if slot >= len_of(leaves, g, leaf) {
         return false;
     }
-    let parent = parent_of(leaves, g, leaf);
-    let at = at_of(leaves, g, leaf);
-    let start = rank_up(inners, g, view as usize, levels, NodeNo(parent), at, 0);
-    if !is_sum(f.start, start) {
+    let v = view as usize;
+    if !is_part(
+        leaves,
+        inners,
+        g,
+        levels,
+        v,
+        LeafNo(leaf),
+        slot,
+        f.start,
+        f.within,
+    ) {
         return false;
     }
-    let effect = rank_up(inners, g, 1, levels, NodeNo(parent), at, 0);
-    if !is_sum(f.effect, effect) {
+    if !is_part(
+        leaves,
+        inners,
+        g,
+        levels,
+        1,
+        LeafNo(leaf),
+        slot,
+        f.effect,
+        f.effect_within,
+    ) {
         return false;
     }
-    if f.within as u64 != start_any(leaves, g, view as usize, leaf, slot) {
-        return false;
-    }
-    f.effect_within as u64 == start_any(leaves, g, 1, leaf, slot)
+    is_part(
+        leaves,
+        inners,
+        g,
+        levels,
+        0,
+        LeafNo(leaf),
+        slot,
+        f.prepare,
+        f.prepare_within,
+    )
 }
 
 fn is_held_finger(head: Head, leaves: &[u32], inners: &[u32], g: Shape, held: Held) -> bool

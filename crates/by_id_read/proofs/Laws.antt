@@ -135,7 +135,7 @@ module _ (s t : State) (v : View) (index : ℕ) (a : Located) (e : calls.reply t
   pub lookup-refused : (n : ℕ) → a ≡ located.Refused n → moved t (refused n) ≡ treeStep base s (row.lookup (viewNumber v) index)
   lookup-refused n d = lookup-by (located.Refused n) d (refused n) refl
 
-  pub lookup-at : (c : Cursor) (offset position : ℕ) → a ≡ located.At c offset position → (r x : Named) → r ≡ calls.id base t c → r ≡ x
-      → moved t (idAnswer x (offset ∷ position ∷ [])) ≡ treeStep base s (row.lookup (viewNumber v) index)
-  lookup-at c offset position d r x q dr =
-      lookup-by (located.At c offset position) d (idAnswer x (offset ∷ position ∷ [])) (ap (λ (y : Named). idAnswer y (offset ∷ position ∷ [])) (sym dr ∙ q))
+  pub lookup-at : (c : Cursor) (offset effect prepare : ℕ) → a ≡ located.At c offset effect prepare → (r x : Named) → r ≡ calls.id base t c → r ≡ x
+      → moved t (idAnswer x (offset ∷ effect ∷ prepare ∷ [])) ≡ treeStep base s (row.lookup (viewNumber v) index)
+  lookup-at c offset effect prepare d r x q dr =
+      lookup-by (located.At c offset effect prepare) d (idAnswer x (offset ∷ effect ∷ prepare ∷ [])) (ap (λ (y : Named). idAnswer y (offset ∷ effect ∷ prepare ∷ [])) (sym dr ∙ q))

@@ -7,7 +7,7 @@ use Rattle.by_id_read.specs.declared.answer.Following.{Following}
 use Rattle.by_id_read.specs.declared.answer.Following.the-variants as following
 
 abbrev pub lookedAnswer : Looked → Answer
-lookedAnswer (looked.At i offset position) = done (i .0 ∷ offset ∷ position ∷ [])
+lookedAnswer (looked.At i offset effect prepare) = done (i .0 ∷ offset ∷ effect ∷ prepare ∷ [])
 lookedAnswer (looked.Refused n) = refused n
 
 -- "none" is 4,294,967,295

@@ -4,7 +4,7 @@ use model::number::EntryId;
 
 // locate: the entry, the offset into it, and its effect position.
 pub enum Looked {
-    At(EntryId, u32, u32),
+    At(EntryId, u32, u32, u32),
     Refused(u32),
 }
 

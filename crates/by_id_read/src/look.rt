@@ -15,7 +15,7 @@ ghost use Rattle.model.specs.State.{state};
 ghost use Rattle.model.specs.ById.{treeStep};
 ghost use Rattle.by_id_read.specs.Answer.{lookedAnswer};
 
-// The entry that holds a position in a view, the offset into it, and its effect position.
+// The entry that holds a position in a view, the offset into it, and its effect and prepare positions.
 pub fn locate(
     head: Head,
     leaves: &[u32],
@@ -34,14 +34,14 @@ pub fn locate(
             head: kept,
             answer: Looked::Refused(n),
         },
-        Located::At(at, offset, position) => match id(kept, leaves, inners, homes, at) {
+        Located::At(at, offset, effect, prepare) => match id(kept, leaves, inners, homes, at) {
             Named::Refused(n) => LookedReply {
                 head: kept,
                 answer: Looked::Refused(n),
             },
             Named::Entry(i) => LookedReply {
                 head: kept,
-                answer: Looked::At(i, offset, position),
+                answer: Looked::At(i, offset, effect, prepare),
             },
         },
     }

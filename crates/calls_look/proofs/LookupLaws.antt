@@ -6,7 +6,7 @@ use Rattle.model.specs.Length.{viewNumber}
 use Rattle.model.specs.State.{State, state}
 use Rattle.model.specs.Locate.{servedBy, fromRoot}
 use Rattle.model.specs.Refuse.{shapeOf, opening}
-use Rattle.model.specs.Calls.{Reply, reply, byFinger, bySearch, locate, lessEffect, charIndexToEntry}
+use Rattle.model.specs.Calls.{Reply, reply, byFinger, bySearch, locate, lessPositions, charIndexToEntry}
 use Rattle.model.specs.declared.shape.Shape.{Shape}
 use Rattle.model.specs.declared.length.View.{View}
 use Rattle.model.specs.declared.head.Finger.{Finger}
@@ -64,10 +64,10 @@ module _ (s : State) where
         pub locate-again : r ≡ search.Nothing → (t : Search) → t ≡ rootBy w g → (x : LocatedReply) → x ≡ searchOf (s .head) t → replyOf x ≡ locate base s (viewNumber v) index
         locate-again eq t et x ex = by search.Nothing eq (replyOf x) (ap replyOf ex ∙ search-same t ∙ ap (bySearch s) et)
 
-    -- the effect position is left out
-    pub less-effect : (x : LocatedReply) → replyOf x ≡ locate base s (viewNumber v) index → (a : Located) → x .answer ≡ a
-        → reply (state (x .head) (s .leaves) (s .inners) (s .homes)) (lessEffect a) ≡ charIndexToEntry base s (viewNumber v) index
+    -- the two positions are left out
+    pub less-positions : (x : LocatedReply) → replyOf x ≡ locate base s (viewNumber v) index → (a : Located) → x .answer ≡ a
+        → reply (state (x .head) (s .leaves) (s .inners) (s .homes)) (lessPositions a) ≡ charIndexToEntry base s (viewNumber v) index
     unfolding charIndexToEntry
-    less-effect x e a ea =
-        ap (λ (y : Located). reply (state (x .head) (s .leaves) (s .inners) (s .homes)) (lessEffect y)) (sym ea)
-        ∙ ap (λ (y : Reply Located). reply (y .after) (lessEffect (y .answer))) e
+    less-positions x e a ea =
+        ap (λ (y : Located). reply (state (x .head) (s .leaves) (s .inners) (s .homes)) (lessPositions y)) (sym ea)
+        ∙ ap (λ (y : Reply Located). reply (y .after) (lessPositions (y .answer))) e

@@ -1,6 +1,6 @@
 -- The head and the answer of a lookup, as the code hands them back together. Assumes nothing.
 use Prim.Native.Nat.{ℕ}
-use Rattle.model.specs.Locate.{effectAt}
+use Rattle.model.specs.Locate.{effectAt, prepareAt}
 use Rattle.model.specs.Place.{withFinger}
 use Rattle.model.specs.Calls.{cursorAt}
 use Rattle.model.specs.declared.head.Head.{Head}
@@ -16,7 +16,7 @@ abbrev pub locatedReply : Head → Located → LocatedReply
 locatedReply h a = record { head = h; answer = a }
 
 abbrev pub hitOf : Head → Finger → ℕ → LocatedReply
-hitOf h f offset = locatedReply (withFinger (held.At f) h) (located.At (cursorAt (h .entries) (f .leaf) (f .slot)) offset (effectAt f))
+hitOf h f offset = locatedReply (withFinger (held.At f) h) (located.At (cursorAt (h .entries) (f .leaf) (f .slot)) offset (effectAt f) (prepareAt f))
 
 abbrev pub searchOf : Head → Search → LocatedReply
 searchOf h (search.At f offset) = hitOf h f offset

@@ -37,7 +37,8 @@ fn hit(head: Head, f: Finger, offset: u32) -> LocatedReply
         entries: head.entries,
         finger: Held::At(f),
     };
-    let position = (f.effect as u64 + f.effect_within as u64) % 4294967296;
+    let effect = (f.effect as u64 + f.effect_within as u64) % 4294967296;
+    let prepare = (f.prepare as u64 + f.prepare_within as u64) % 4294967296;
     let at = Cursor {
         leaf: LeafNo(f.leaf),
         slot: f.slot,
@@ -45,7 +46,7 @@ fn hit(head: Head, f: Finger, offset: u32) -> LocatedReply
     };
     LocatedReply {
         head: kept,
-        answer: Located::At(at, offset, position as u32),
+        answer: Located::At(at, offset, effect as u32, prepare as u32),
     }
 }
 
@@ -66,7 +67,7 @@ fn by_search(head: Head, found: Search) -> LocatedReply
     }
 }
 
-// The entry that holds a position in a view, the offset into it, and its effect position.
+// The entry that holds a position in a view, the offset into it, and its effect and prepare positions.
 pub fn locate(
     head: Head,
     leaves: &[u32],
@@ -110,7 +111,7 @@ pub fn locate(
     }
 }
 
-// The same without the effect position.
+// The same without the two positions.
 pub fn char_index_to_entry(
     head: Head,
     leaves: &[u32],
@@ -125,7 +126,7 @@ pub fn char_index_to_entry(
     let kept = r.head;
     let answer = r.answer;
     match answer {
-        Located::At(at, offset, position) => SelectedReply {
+        Located::At(at, offset, effect, prepare) => SelectedReply {
             head: kept,
             answer: Selected::At(at, offset),
         },

@@ -21,35 +21,41 @@ pub struct Stand {
     pub slot: usize,
     pub within: u32,
     pub effect_within: u32,
+    pub prepare_within: u32,
 }
 
 // Back from the finger's slot to the first that doesn't start past the index, which counts from the leaf's start.
 fn back(leaves: &[u32], g: Shape, view: usize, effect: usize, f: Finger, index: u32) -> Stand
     requires { ⌜ Area g (length (now leaves)) × (view + 1 < g .stride) × (effect + 1 < g .stride) × (f .leaf < g .nodes) × (nodeAt g (f .leaf) (now leaves) .len ≤ g .fan) × (f .slot < nodeAt g (f .leaf) (now leaves) .len) ⌝ }
-    ensures { λ r. ⌜ stand (r .slot) (r .within) (r .«effect_within») ≡ back view effect (used (nodeAt g (f .leaf) (now (leaves .entry)))) index (f .slot) (f .within) (f .«effect_within») ⌝ }
+    ensures { λ r. ⌜ stand (r .slot) (r .within) (r .«effect_within») (r .«prepare_within») ≡ back view effect (used (nodeAt g (f .leaf) (now (leaves .entry)))) index (f .slot) (f .within) (f .«effect_within») (f .«prepare_within») ⌝ }
 {
     let leaf = f.leaf;
     let mut slot = f.slot as usize;
     let mut within = f.within;
     let mut effect_within = f.effect_within;
+    let mut prepare_within = f.prepare_within;
     while 0 < slot {
         if within <= index {
             return Stand {
                 slot: slot,
                 within: within,
                 effect_within: effect_within,
+                prepare_within: prepare_within,
             };
         }
         slot -= 1;
         let length = length_of(leaves, g, view, leaf, slot);
         let effect_length = length_of(leaves, g, effect, leaf, slot);
+        let prepare_length = length_of(leaves, g, 0, leaf, slot);
         within = std::num::wrapping_sub_u32(within, length);
         effect_within = std::num::wrapping_sub_u32(effect_within, effect_length);
+        prepare_within = std::num::wrapping_sub_u32(prepare_within, prepare_length);
     }
     Stand {
         slot: slot,
         within: within,
         effect_within: effect_within,
+        prepare_within: prepare_within,
     }
 }
 
@@ -62,13 +68,14 @@ fn walked(leaves: &[u32], g: Shape, view: usize, effect: usize, f: Finger, index
     let b = back(leaves, g, view, effect, f, index);
     let from = b.slot;
     let within = b.within;
-    let sum = b.effect_within as u64;
+    let effects = b.effect_within as u64;
+    let prepares = b.prepare_within as u64;
     if index < within {
         return Search::Broken;
     }
     let rest = index - within;
-    let found = find_in(leaves, g, view, effect, leaf, from, rest, sum);
-    let Found::At(slot, offset, before) = found else {
+    let found = find_in(leaves, g, view, effect, leaf, from, rest, effects, prepares);
+    let Found::At(slot, offset, before, prior) = found else {
         return Search::Nothing;
     };
     let at = slot as u32;
@@ -80,6 +87,8 @@ fn walked(leaves: &[u32], g: Shape, view: usize, effect: usize, f: Finger, index
         slot: at,
         within: index - offset,
         effect_within: (before % 4294967296) as u32,
+        prepare: f.prepare,
+        prepare_within: (prior % 4294967296) as u32,
     };
     Search::At(finger, offset)
 }
@@ -147,6 +156,7 @@ fn rewind(f: &mut Finger)
     f.slot = 0;
     f.within = 0;
     f.effect_within = 0;
+    f.prepare_within = 0;
 }
 
 // The finger at its leaf's first slot.

@@ -16,7 +16,7 @@ ghost use lib.ListN.{length};
 ghost use Rattle.model.specs.Locate.{descend, leafOf, fromRoot};
 ghost use Rattle.area.specs.Area.{Area};
 
-// Down to the leaf that holds position index of view, with the effect lengths before it.
+// Down to the leaf that holds position index of view, with the effect and the prepare lengths before it.
 pub fn descend(
     inners: &[u32],
     g: Shape,
@@ -27,18 +27,19 @@ pub fn descend(
     index: u32,
 ) -> Descent
     requires { ⌜ Area g (length (now inners)) × (view + 1 < g .stride) × (effect + 1 < g .stride) × (levels ≤ 15) ⌝ }
-    ensures { λ r. ⌜ r ≡ descend view effect g Descent.Nothing levels (root .0) index 0 (now (inners .entry)) ⌝ }
+    ensures { λ r. ⌜ r ≡ descend view effect g Descent.Nothing levels (root .0) index 0 0 (now (inners .entry)) ⌝ }
 {
     let mut n = levels;
     let mut node = root.0;
     let mut rest = index;
-    let mut sum: u64 = 0;
+    let mut effects: u64 = 0;
+    let mut prepares: u64 = 0;
     while 0 < n {
         if !sized(inners, g, node) {
             return Descent::Broken;
         }
-        let found = find_in(inners, g, view, effect, node, 0, rest, sum);
-        let Found::At(slot, offset, before) = found else {
+        let found = find_in(inners, g, view, effect, node, 0, rest, effects, prepares);
+        let Found::At(slot, offset, before, prior) = found else {
             if n == levels {
                 return Descent::Nothing;
             }
@@ -46,13 +47,14 @@ pub fn descend(
         };
         node = child_of(inners, g, node, slot);
         rest = offset;
-        sum = before;
+        effects = before;
+        prepares = prior;
         n -= 1;
     }
-    Descent::At(LeafNo(node), rest, sum)
+    Descent::At(LeafNo(node), rest, effects, prepares)
 }
 
-// The slot of leaf k that holds the position left, and the finger there; sum is the effect lengths before the leaf, and `used` leaves are in use.
+// The slot of leaf k that holds the position left, and the finger there; effects and prepares are the lengths before the leaf, and `used` leaves are in use.
 fn search_leaf(
     leaves: &[u32],
     g: Shape,
@@ -62,10 +64,11 @@ fn search_leaf(
     k: LeafNo,
     index: u32,
     rest: u32,
-    sum: u64,
+    effects: u64,
+    prepares: u64,
 ) -> Search
     requires { ⌜ Area g (length (now leaves)) × (view + 1 < g .stride) × (effect + 1 < g .stride) × (used ≤ g .nodes) × (rest ≤ index) ⌝ }
-    ensures { λ r. ⌜ r ≡ leafOf view effect g used index (now (leaves .entry)) (Descent.At k rest sum) ⌝ }
+    ensures { λ r. ⌜ r ≡ leafOf view effect g used index (now (leaves .entry)) (Descent.At k rest effects prepares) ⌝ }
 {
     let fan = g.fan;
     let leaf = k.0;
@@ -76,18 +79,20 @@ fn search_leaf(
     if len as usize > fan {
         return Search::Broken;
     }
-    let found = find_in(leaves, g, view, effect, leaf, 0, rest, 0);
-    let Found::At(slot, offset, within) = found else {
+    let found = find_in(leaves, g, view, effect, leaf, 0, rest, 0, 0);
+    let Found::At(slot, offset, within, prepare_within) = found else {
         return Search::Broken;
     };
     let finger = Finger {
         view: view as u32,
         leaf: leaf,
         start: index - rest,
-        effect: (sum % 4294967296) as u32,
+        effect: (effects % 4294967296) as u32,
         slot: slot as u32,
         within: rest - offset,
         effect_within: (within % 4294967296) as u32,
+        prepare: (prepares % 4294967296) as u32,
+        prepare_within: (prepare_within % 4294967296) as u32,
     };
     Search::At(finger, offset)
 }
@@ -109,8 +114,19 @@ pub fn from_root(
 {
     let way = descend(inners, g, view, effect, levels, root, index);
     match way {
-        Descent::At(leaf, rest, sum) => {
-            search_leaf(leaves, g, view, effect, used, leaf, index, rest, sum)
+        Descent::At(leaf, rest, effects, prepares) => {
+            search_leaf(
+                leaves,
+                g,
+                view,
+                effect,
+                used,
+                leaf,
+                index,
+                rest,
+                effects,
+                prepares,
+            )
         }
         Descent::Nothing => Search::Nothing,
         Descent::Broken => Search::Broken,

@@ -140,26 +140,26 @@ module _ (g : Shape) (d k i : ℕ) (xs : List ℕ) where
       rw (lt-ltb k (g .nodes) (p .0), lt-ltb i (g .fan) (omega arith), lt-ltb i (nodeAt g k xs .len) l, le-leb (nodeAt g k xs .len) (g .fan) (p .1), le-ltb (i + 1) (nodeAt g k xs .len) m, one)
 
 -- to a position
-module _ (v e : ℕ) (g : Shape) (miss : Descent) (k rest s : ℕ) (xs : List ℕ) where
-  pub descend-end : (n : ℕ) → n ≤ 0 → descend v e g miss n k rest s xs ≡ descent.At (leafNo k) rest s
+module _ (v e : ℕ) (g : Shape) (miss : Descent) (k rest a b : ℕ) (xs : List ℕ) where
+  pub descend-end : (n : ℕ) → n ≤ 0 → descend v e g miss n k rest a b xs ≡ descent.At (leafNo k) rest a b
   unfolding descend
   descend-end zero h = refl
   descend-end (suc n) h = absurd (omega arith)
 
-  pub descend-broken : (n : ℕ) → 0 < n → sized g k xs ≡ false → descend v e g miss n k rest s xs ≡ descent.Broken
+  pub descend-broken : (n : ℕ) → 0 < n → sized g k xs ≡ false → descend v e g miss n k rest a b xs ≡ descent.Broken
   unfolding descend
   descend-broken zero h q = absurd (omega arith)
   descend-broken (suc n) h q = rw q
 
-  pub descend-miss : (n : ℕ) → 0 < n → sized g k xs ≡ true → findFrom v e 0 rest s (used (nodeAt g k xs)) ≡ Nothing → descend v e g miss n k rest s xs ≡ miss
+  pub descend-miss : (n : ℕ) → 0 < n → sized g k xs ≡ true → findFrom v e 0 rest a b (used (nodeAt g k xs)) ≡ Nothing → descend v e g miss n k rest a b xs ≡ miss
   unfolding descend
   descend-miss zero h q f = absurd (omega arith)
   descend-miss (suc n) h q f = rw (q, f)
 
-  pub descend-on : (n j o t : ℕ) → 0 < n → sized g k xs ≡ true → findFrom v e 0 rest s (used (nodeAt g k xs)) ≡ At j o t
-      → descend v e g miss n k rest s xs ≡ descend v e g descent.Broken (n - 1) (child (getD (nodeAt g k xs .slots) j [])) o t xs
+  pub descend-on : (n j o t u : ℕ) → 0 < n → sized g k xs ≡ true → findFrom v e 0 rest a b (used (nodeAt g k xs)) ≡ At j o t u
+      → descend v e g miss n k rest a b xs ≡ descend v e g descent.Broken (n - 1) (child (getD (nodeAt g k xs .slots) j [])) o t u xs
   unfolding descend
-  descend-on zero j o t h q f = absurd (omega arith)
-  descend-on (suc n) j o t h q f =
+  descend-on zero j o t u h q f = absurd (omega arith)
+  descend-on (suc n) j o t u h q f =
       let one : suc n - 1 ≡ n = omega arith in
       rw (q, f, one)

@@ -11,6 +11,7 @@ use lib.Seq.{length-take-le, drop-cons, getD-take, getD-drop}
 use lib.Dec.{ltb}
 use borrow.Author.Tests.{lt-ltb, le-ltb, ltb-true, ltb-false}
 use Rattle.model.specs.Lists.{All, part}
+use Rattle.model.specs.Kind.{prepare}
 use Rattle.model.specs.Node.{Node, nodeOf, child, slotsFrom, lengthIn, used, findFrom}
 use Rattle.model.specs.State.{nodeAt}
 use Rattle.model.specs.Locate.{descend, into}
@@ -55,33 +56,36 @@ columns-fit s (suc n) p c ws h f = (rw (getD-part p s c ws h) (f (p + c)), colum
 
 -- what was found: a slot passed in, and no more than the index is left
 pub record Ranged (k index count : ℕ) (r : Found) : Type 0 where
-  pub slot : (j o t : ℕ) → r ≡ At j o t → j < k + count
-  pub offset : (j o t : ℕ) → r ≡ At j o t → o ≤ index
+  pub slot : (j o t u : ℕ) → r ≡ At j o t u → j < k + count
+  pub offset : (j o t u : ℕ) → r ≡ At j o t u → o ≤ index
 
-not-found : (j o t : ℕ) → _≡_ {A = Found} Nothing (At j o t) → ⊥
-not-found j o t q = let z : _≡_ {A = ℕ} 0 1 = cc in omega arith
+not-found : (j o t u : ℕ) → _≡_ {A = Found} Nothing (At j o t u) → ⊥
+not-found j o t u q = let z : _≡_ {A = ℕ} 0 1 = cc in omega arith
 
-pub find-ranged : (v e k index sum : ℕ) (slots : List (List ℕ)) → Ranged k index (length slots) (findFrom v e k index sum slots)
+pub find-ranged : (v e k index a b : ℕ) (slots : List (List ℕ)) → Ranged k index (length slots) (findFrom v e k index a b slots)
 unfolding findFrom
-find-ranged v e k index sum [] = record { slot = λ j o t q. absurd (not-found j o t q); offset = λ j o t q. absurd (not-found j o t q) }
-find-ranged v e k index sum (x ∷ xs) = go (ltb index (lengthIn v x)) (find-ranged v e (k + 1) (index - lengthIn v x) (sum + lengthIn e x) xs)
+find-ranged v e k index a b [] = record { slot = λ j o t u q. absurd (not-found j o t u q); offset = λ j o t u q. absurd (not-found j o t u q) }
+find-ranged v e k index a b (x ∷ xs) = go (ltb index (lengthIn v x)) (find-ranged v e (k + 1) (index - lengthIn v x) (a + lengthIn e x) (b + lengthIn prepare x) xs)
   where
-    go : (b : Bool) → Ranged (k + 1) (index - lengthIn v x) (length xs) (findFrom v e (k + 1) (index - lengthIn v x) (sum + lengthIn e x) xs)
-        → Ranged k index (suc (length xs)) (cond b (At k index sum) (findFrom v e (k + 1) (index - lengthIn v x) (sum + lengthIn e x) xs))
-    go true r = record { slot = λ j o t q. let f : k ≡ j = cc in omega arith; offset = λ j o t q. let f : index ≡ o = cc in omega arith }
-    go false r = record { slot = λ j o t q. omega (arith, r .slot j o t q); offset = λ j o t q. omega (arith, r .offset j o t q) }
+    go : (c : Bool) → Ranged (k + 1) (index - lengthIn v x) (length xs) (findFrom v e (k + 1) (index - lengthIn v x) (a + lengthIn e x) (b + lengthIn prepare x) xs)
+        → Ranged k index (suc (length xs)) (cond c (At k index a b) (findFrom v e (k + 1) (index - lengthIn v x) (a + lengthIn e x) (b + lengthIn prepare x) xs))
+    go true r = record { slot = λ j o t u q. let f : k ≡ j = cc in omega arith; offset = λ j o t u q. let f : index ≡ o = cc in omega arith }
+    go false r = record { slot = λ j o t u q. omega (arith, r .slot j o t u q); offset = λ j o t u q. omega (arith, r .offset j o t u q) }
 
--- and at most a word was added for each slot
-pub find-before : (v e k index sum : ℕ) (slots : List (List ℕ)) → All (λ x. Word (lengthIn e x)) slots → (j o t : ℕ) → findFrom v e k index sum slots ≡ At j o t
-    → t ≤ sum + length slots * 4294967295
+-- and at most a word was added to each sum for each slot
+pub find-before : (v e k index a b : ℕ) (slots : List (List ℕ)) → All (λ x. Word (lengthIn e x)) slots → All (λ x. Word (lengthIn prepare x)) slots → (j o t u : ℕ)
+    → findFrom v e k index a b slots ≡ At j o t u → (t ≤ a + length slots * 4294967295) × (u ≤ b + length slots * 4294967295)
 unfolding findFrom All
-find-before v e k index sum [] w j o t q = absurd (not-found j o t q)
-find-before v e k index sum (x ∷ xs) w j o t q = go (ltb index (lengthIn v x)) (find-before v e (k + 1) (index - lengthIn v x) (sum + lengthIn e x) xs (w .1) j o t) q
+find-before v e k index a b [] w y j o t u q = absurd (not-found j o t u q)
+find-before v e k index a b (x ∷ xs) w y j o t u q =
+    go (ltb index (lengthIn v x)) (find-before v e (k + 1) (index - lengthIn v x) (a + lengthIn e x) (b + lengthIn prepare x) xs (w .1) (y .1) j o t u) q
   where
-    go : (b : Bool) → (findFrom v e (k + 1) (index - lengthIn v x) (sum + lengthIn e x) xs ≡ At j o t → t ≤ sum + lengthIn e x + length xs * 4294967295)
-        → cond b (At k index sum) (findFrom v e (k + 1) (index - lengthIn v x) (sum + lengthIn e x) xs) ≡ At j o t → t ≤ sum + suc (length xs) * 4294967295
-    go true r q = let f : sum ≡ t = cc in omega arith
-    go false r q = omega (arith, r q, w .0)
+    go : (c : Bool) → (findFrom v e (k + 1) (index - lengthIn v x) (a + lengthIn e x) (b + lengthIn prepare x) xs ≡ At j o t u
+        → (t ≤ a + lengthIn e x + length xs * 4294967295) × (u ≤ b + lengthIn prepare x + length xs * 4294967295))
+        → cond c (At k index a b) (findFrom v e (k + 1) (index - lengthIn v x) (a + lengthIn e x) (b + lengthIn prepare x) xs) ≡ At j o t u
+        → (t ≤ a + suc (length xs) * 4294967295) × (u ≤ b + suc (length xs) * 4294967295)
+    go true r q = let f : a ≡ t = cc in let g : b ≡ u = cc in (omega arith, omega arith)
+    go false r q = let z = r q in (omega (arith, z .0, w .0), omega (arith, z .1, y .0))
 
 -- the slots in use are as many as the node says, where it says no more than it has
 used-length : (g : Shape) (k : ℕ) (xs : List ℕ) → nodeAt g k xs .len ≤ g .fan → length (used (nodeAt g k xs)) ≡ nodeAt g k xs .len
@@ -89,45 +93,50 @@ unfolding nodeOf
 used-length g k xs h = length-take-le (getD (part (k * g .size) (g .size) xs) 0 0) (slotsFrom (g .stride) (g .fan) 3 (part (k * g .size) (g .size) xs)) (rw slots-length h)
 
 -- the same of the slots in use of a node, from slot `from` on
-module _ (g : Shape) (v e k from index sum : ℕ) (xs : List ℕ) (hl : nodeAt g k xs .len ≤ g .fan) where
+module _ (g : Shape) (v e k from index a b : ℕ) (xs : List ℕ) (hl : nodeAt g k xs .len ≤ g .fan) where
   left-length : length (drop from (used (nodeAt g k xs))) ≡ nodeAt g k xs .len - from
   left-length = length-drop from (used (nodeAt g k xs)) ∙ ap (λ (n : ℕ). n - from) (used-length g k xs hl)
 
-  pub used-ranged : from ≤ nodeAt g k xs .len → Ranged from index (nodeAt g k xs .len - from) (findFrom v e from index sum (drop from (used (nodeAt g k xs))))
-  used-ranged hf = rw left-length at (find-ranged v e from index sum (drop from (used (nodeAt g k xs))))
+  pub used-ranged : from ≤ nodeAt g k xs .len → Ranged from index (nodeAt g k xs .len - from) (findFrom v e from index a b (drop from (used (nodeAt g k xs))))
+  used-ranged hf = rw left-length at (find-ranged v e from index a b (drop from (used (nodeAt g k xs))))
 
-  pub used-before : e + 1 < g .stride → ((i : ℕ) → Word (getD xs i 0)) → (j o t : ℕ) → findFrom v e from index sum (drop from (used (nodeAt g k xs))) ≡ At j o t
-      → t ≤ sum + g .fan * 4294967295
+  fits : (c : ℕ) → c + 1 < g .stride → ((i : ℕ) → Word (getD xs i 0)) → All (λ x. Word (lengthIn c x)) (drop from (used (nodeAt g k xs)))
   unfolding nodeOf
-  used-before he w j o t q =
-      let fits = All-take (λ x. Word (lengthIn e x)) (nodeAt g k xs .len) (nodeAt g k xs .slots) (columns-fit (g .stride) (g .fan) 3 (e + 1) (part (k * g .size) (g .size) xs) he (part-fits (k * g .size) (g .size) xs w)) in
-      omega (arith, left-length, find-before v e from index sum (drop from (used (nodeAt g k xs))) (All-drop (λ x. Word (lengthIn e x)) from (used (nodeAt g k xs)) fits) j o t q)
+  fits c hc w =
+      All-drop (λ x. Word (lengthIn c x)) from (used (nodeAt g k xs))
+      (All-take (λ x. Word (lengthIn c x)) (nodeAt g k xs .len) (nodeAt g k xs .slots) (columns-fit (g .stride) (g .fan) 3 (c + 1) (part (k * g .size) (g .size) xs) hc (part-fits (k * g .size) (g .size) xs w)))
+
+  pub used-before : e + 1 < g .stride → ((i : ℕ) → Word (getD xs i 0)) → (j o t u : ℕ) → findFrom v e from index a b (drop from (used (nodeAt g k xs))) ≡ At j o t u
+      → (t ≤ a + g .fan * 4294967295) × (u ≤ b + g .fan * 4294967295)
+  used-before he w j o t u q =
+      let z = find-before v e from index a b (drop from (used (nodeAt g k xs))) (fits e he w) (fits prepare (omega arith) w) j o t u q in
+      (omega (arith, left-length, z .0), omega (arith, left-length, z .1))
 
 -- the position left after a descent is no more than the position asked for
 pub record Rests (index : ℕ) (d : Descent) : Type 0 where
-  pub rest : (l : LeafNo) (r t : ℕ) → d ≡ descent.At l r t → r ≤ index
+  pub rest : (l : LeafNo) (r t u : ℕ) → d ≡ descent.At l r t u → r ≤ index
 
-no-rest : (index : ℕ) (d : Descent) → ((l : LeafNo) (r t : ℕ) → d ≡ descent.At l r t → ⊥) → Rests index d
-no-rest index d never = record { rest = λ l r t q. absurd (never l r t q) }
+no-rest : (index : ℕ) (d : Descent) → ((l : LeafNo) (r t u : ℕ) → d ≡ descent.At l r t u → ⊥) → Rests index d
+no-rest index d never = record { rest = λ l r t u q. absurd (never l r t u q) }
 
 broken-rests : (index : ℕ) → Rests index descent.Broken
-broken-rests index = no-rest index descent.Broken (λ l r t q. let z : _≡_ {A = ℕ} 0 1 = cc in omega arith)
+broken-rests index = no-rest index descent.Broken (λ l r t u q. let z : _≡_ {A = ℕ} 0 1 = cc in omega arith)
 
 pub nothing-rests : (index : ℕ) → Rests index descent.Nothing
-nothing-rests index = no-rest index descent.Nothing (λ l r t q. let z : _≡_ {A = ℕ} 0 1 = cc in omega arith)
+nothing-rests index = no-rest index descent.Nothing (λ l r t u q. let z : _≡_ {A = ℕ} 0 1 = cc in omega arith)
 
-through : (go : ℕ → ℕ → ℕ → Descent) (miss : Descent) (m : Node) (index : ℕ) (f : Found) → ((j o t : ℕ) → f ≡ At j o t → o ≤ index) → ((c r t : ℕ) → Rests r (go c r t)) → Rests index miss
+through : (go : ℕ → ℕ → ℕ → ℕ → Descent) (miss : Descent) (m : Node) (index : ℕ) (f : Found) → ((j o t u : ℕ) → f ≡ At j o t u → o ≤ index) → ((c r t u : ℕ) → Rests r (go c r t u)) → Rests index miss
     → Rests index (into go miss m f)
-through go miss m index (At j o t) h on r = record { rest = λ l r u q. omega (arith, h j o t refl, on (child (getD (m .slots) j [])) o t .rest l r u q) }
+through go miss m index (At j o t u) h on r = record { rest = λ l r y z q. omega (arith, h j o t u refl, on (child (getD (m .slots) j [])) o t u .rest l r y z q) }
 through go miss m index Nothing h on r = r
 
-pub descend-rests : (v e : ℕ) (g : Shape) (miss : Descent) (n k index s : ℕ) (xs : List ℕ) → Rests index miss → Rests index (descend v e g miss n k index s xs)
+pub descend-rests : (v e : ℕ) (g : Shape) (miss : Descent) (n k index a b : ℕ) (xs : List ℕ) → Rests index miss → Rests index (descend v e g miss n k index a b xs)
 unfolding descend
-descend-rests v e g miss zero k index s xs h = record { rest = λ l r t q. let f : index ≡ r = cc in omega arith }
-descend-rests v e g miss (suc n) k index s xs h =
+descend-rests v e g miss zero k index a b xs h = record { rest = λ l r t u q. let f : index ≡ r = cc in omega arith }
+descend-rests v e g miss (suc n) k index a b xs h =
     either (sized g k xs)
-    (through (λ c r t. descend v e g descent.Broken n c r t xs) miss (nodeAt g k xs) index (findFrom v e 0 index s (used (nodeAt g k xs)))
-    (find-ranged v e 0 index s (used (nodeAt g k xs)) .offset) (λ c r t. descend-rests v e g descent.Broken n c r t xs (broken-rests r)) h)
+    (through (λ c r t u. descend v e g descent.Broken n c r t u xs) miss (nodeAt g k xs) index (findFrom v e 0 index a b (used (nodeAt g k xs)))
+    (find-ranged v e 0 index a b (used (nodeAt g k xs)) .offset) (λ c r t u. descend-rests v e g descent.Broken n c r t u xs (broken-rests r)) h)
   where
     either : (b : Bool) {d : Descent} → Rests index d → Rests index (cond b d descent.Broken)
     either true r = r

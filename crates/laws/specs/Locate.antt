@@ -8,6 +8,7 @@ use lib.ListN.{getD, drop}
 use lib.Seq.{getD-take}
 use lib.Dec.{ltb}
 use borrow.Author.Tests.{lt-ltb, le-ltb, lt-leb, le-leb, eq-eqb, ne-eqb}
+use Rattle.model.specs.Kind.{prepare}
 use Rattle.model.specs.Node.{Node, used, lengthIn, wrap, findFrom}
 use Rattle.model.specs.State.{nodeAt}
 use Rattle.model.specs.Climb.{leafNo}
@@ -24,70 +25,70 @@ pub used-at : (n : Node) (j : ℕ) → j < n .len → getD (used n) j [] ≡ get
 used-at n j h = getD-take (n .len) (n .slots) j [] h
 
 -- in the leaf: one that is not in use, one that says more slots than it has, no slot, or a slot that holds the index
-module _ (v e : ℕ) (g : Shape) (leaves k index rest s : ℕ) (ls : List ℕ) where
-  pub leaf-out : leaves ≤ k → leafOf v e g leaves index ls (descent.At (leafNo k) rest s) ≡ search.Broken
+module _ (v e : ℕ) (g : Shape) (leaves k index rest a b : ℕ) (ls : List ℕ) where
+  pub leaf-out : leaves ≤ k → leafOf v e g leaves index ls (descent.At (leafNo k) rest a b) ≡ search.Broken
   leaf-out o = rw (le-ltb k leaves o)
 
-  pub leaf-full : k < leaves → g .fan < nodeAt g k ls .len → leafOf v e g leaves index ls (descent.At (leafNo k) rest s) ≡ search.Broken
+  pub leaf-full : k < leaves → g .fan < nodeAt g k ls .len → leafOf v e g leaves index ls (descent.At (leafNo k) rest a b) ≡ search.Broken
   leaf-full o n = rw (lt-ltb k leaves o, lt-leb (nodeAt g k ls .len) (g .fan) n)
 
-  pub leaf-miss : k < leaves → nodeAt g k ls .len ≤ g .fan → findFrom v e 0 rest 0 (used (nodeAt g k ls)) ≡ Nothing → leafOf v e g leaves index ls (descent.At (leafNo k) rest s) ≡ search.Broken
+  pub leaf-miss : k < leaves → nodeAt g k ls .len ≤ g .fan → findFrom v e 0 rest 0 0 (used (nodeAt g k ls)) ≡ Nothing → leafOf v e g leaves index ls (descent.At (leafNo k) rest a b) ≡ search.Broken
   leaf-miss o n f = rw (lt-ltb k leaves o, le-leb (nodeAt g k ls .len) (g .fan) n, f)
 
-  pub leaf-found : (j o t : ℕ) → k < leaves → nodeAt g k ls .len ≤ g .fan → findFrom v e 0 rest 0 (used (nodeAt g k ls)) ≡ At j o t
-      → leafOf v e g leaves index ls (descent.At (leafNo k) rest s) ≡ search.At (finger v k (index - rest) (wrap s) j (rest - o) (wrap t)) o
-  leaf-found j o t l n f = rw (lt-ltb k leaves l, le-leb (nodeAt g k ls .len) (g .fan) n, f)
+  pub leaf-found : (j o t u : ℕ) → k < leaves → nodeAt g k ls .len ≤ g .fan → findFrom v e 0 rest 0 0 (used (nodeAt g k ls)) ≡ At j o t u
+      → leafOf v e g leaves index ls (descent.At (leafNo k) rest a b) ≡ search.At (finger v k (index - rest) (wrap a) j (rest - o) (wrap t) (wrap b) (wrap u)) o
+  leaf-found j o t u l n f = rw (lt-ltb k leaves l, le-leb (nodeAt g k ls .len) (g .fan) n, f)
 
 -- back from a slot: at the first slot, at a slot that doesn't start past the index, or one slot further back
-module _ (v e : ℕ) (slots : List (List ℕ)) (index w f : ℕ) where
-  pub back-first : (j : ℕ) → j ≤ 0 → back v e slots index j w f ≡ stand j w f
+module _ (v e : ℕ) (slots : List (List ℕ)) (index w f p : ℕ) where
+  pub back-first : (j : ℕ) → j ≤ 0 → back v e slots index j w f p ≡ stand j w f p
   unfolding back
   back-first zero h = refl
   back-first (suc j) h = absurd (omega arith)
 
-  pub back-here : (j : ℕ) → w ≤ index → back v e slots index j w f ≡ stand j w f
+  pub back-here : (j : ℕ) → w ≤ index → back v e slots index j w f p ≡ stand j w f p
   unfolding back
   back-here zero h = refl
   back-here (suc j) h = rw (le-ltb index w h)
 
   pub back-on : (j : ℕ) → 0 < j → index < w
-      → back v e slots index j w f ≡ back v e slots index (j - 1) (less w (lengthIn v (getD slots (j - 1) []))) (less f (lengthIn e (getD slots (j - 1) [])))
+      → back v e slots index j w f p ≡ back v e slots index (j - 1) (less w (lengthIn v (getD slots (j - 1) []))) (less f (lengthIn e (getD slots (j - 1) []))) (less p (lengthIn prepare (getD slots (j - 1) [])))
   unfolding back
   back-on zero h l = absurd (omega arith)
   back-on (suc j) h l =
       let one : suc j - 1 ≡ j = omega arith in
       rw (lt-ltb index w l, one)
 
--- the same over the slots in use of a node, with a and b the lengths of the slot before
-pub back-turn : (v e : ℕ) (n : Node) (index w f : ℕ) (j a b w′ f′ : ℕ) → 0 < j → j ≤ n .len → index < w → a ≡ lengthIn v (getD (n .slots) (j - 1) []) → b ≡ lengthIn e (getD (n .slots) (j - 1) [])
-    → w′ ≡ less w a → f′ ≡ less f b → back v e (used n) index j w f ≡ back v e (used n) index (j - 1) w′ f′
-back-turn v e n index w f j a b w′ f′ h hj l ea eb ew ef = back-on v e (used n) index w f j h l ∙ rw (used-at n (j - 1) (omega arith), ew, ef, ea, eb)
+-- the same over the slots in use of a node, with a, b and c the lengths of the slot before
+pub back-turn : (v e : ℕ) (n : Node) (index w f p : ℕ) (j a b c w′ f′ p′ : ℕ) → 0 < j → j ≤ n .len → index < w → a ≡ lengthIn v (getD (n .slots) (j - 1) []) → b ≡ lengthIn e (getD (n .slots) (j - 1) [])
+    → c ≡ lengthIn prepare (getD (n .slots) (j - 1) []) → w′ ≡ less w a → f′ ≡ less f b → p′ ≡ less p c → back v e (used n) index j w f p ≡ back v e (used n) index (j - 1) w′ f′ p′
+back-turn v e n index w f p j a b c w′ f′ p′ h hj l ea eb ec ew ef ep = back-on v e (used n) index w f p j h l ∙ rw (used-at n (j - 1) (omega arith), ew, ef, ep, ea, eb, ec)
 
-pub back-slot : (v e : ℕ) (slots : List (List ℕ)) (index j w f : ℕ) → back v e slots index j w f .slot ≤ j
+pub back-slot : (v e : ℕ) (slots : List (List ℕ)) (index j w f p : ℕ) → back v e slots index j w f p .slot ≤ j
 unfolding back
-back-slot v e slots index zero w f = omega arith
-back-slot v e slots index (suc j) w f =
-    go (ltb index w) (back-slot v e slots index j (less w (lengthIn v (getD slots j []))) (less f (lengthIn e (getD slots j []))))
+back-slot v e slots index zero w f p = omega arith
+back-slot v e slots index (suc j) w f p =
+    go (ltb index w) (back-slot v e slots index j (less w (lengthIn v (getD slots j []))) (less f (lengthIn e (getD slots j []))) (less p (lengthIn prepare (getD slots j []))))
   where
-    go : (b : Bool) → back v e slots index j (less w (lengthIn v (getD slots j []))) (less f (lengthIn e (getD slots j []))) .slot ≤ j
-        → cond b (back v e slots index j (less w (lengthIn v (getD slots j []))) (less f (lengthIn e (getD slots j [])))) (stand (suc j) w f) .slot ≤ suc j
+    go : (b : Bool) → back v e slots index j (less w (lengthIn v (getD slots j []))) (less f (lengthIn e (getD slots j []))) (less p (lengthIn prepare (getD slots j []))) .slot ≤ j
+        → cond b (back v e slots index j (less w (lengthIn v (getD slots j []))) (less f (lengthIn e (getD slots j []))) (less p (lengthIn prepare (getD slots j [])))) (stand (suc j) w f p) .slot ≤ suc j
     go true h = omega arith
     go false h = omega arith
 
--- from the slot b, w, x to which the finger goes back: it can't go back far enough, the leaf doesn't hold the index, or a slot does
-module _ (v e : ℕ) (f : Finger) (index : ℕ) (slots : List (List ℕ)) (b w x : ℕ) (h : stand b w x ≡ back v e slots index (f .slot) (f .within) (f .«effect_within»)) where
+-- from the slot b, w, x, y to which the finger goes back: it can't go back far enough, the leaf doesn't hold the index, or a slot does
+module _ (v e : ℕ) (f : Finger) (index : ℕ) (slots : List (List ℕ)) (b w x y : ℕ) (h : stand b w x y ≡ back v e slots index (f .slot) (f .within) (f .«effect_within») (f .«prepare_within»)) where
   pub walked-broken : index < w → walked v e f index slots ≡ search.Broken
   unfolding walked
   walked-broken l = rw (← h, lt-ltb index w l)
 
-  pub walked-miss : w ≤ index → findFrom v e b (index - w) x (drop b slots) ≡ Nothing → walked v e f index slots ≡ search.Nothing
+  pub walked-miss : w ≤ index → findFrom v e b (index - w) x y (drop b slots) ≡ Nothing → walked v e f index slots ≡ search.Nothing
   unfolding walked
   walked-miss l q = rw (← h, le-ltb index w l, q)
 
-  pub walked-found : (j o t : ℕ) → w ≤ index → findFrom v e b (index - w) x (drop b slots) ≡ At j o t
-      → walked v e f index slots ≡ search.At (finger (f .view) (f .leaf) (f .start) (f .effect) j (index - o) (wrap t)) o
+  pub walked-found : (j o t u : ℕ) → w ≤ index → findFrom v e b (index - w) x y (drop b slots) ≡ At j o t u
+      → walked v e f index slots ≡ search.At (finger (f .view) (f .leaf) (f .start) (f .effect) j (index - o) (wrap t) (f .prepare) (wrap u)) o
   unfolding walked
-  walked-found j o t l q = rw (← h, le-ltb index w l, q)
+  walked-found j o t u l q = rw (← h, le-ltb index w l, q)
 
 -- whether the finger serves: another view, an index before its leaf, a finger that points outside, or from its own slot
 module _ (v e : ℕ) (g : Shape) (f : Finger) (leaves index : ℕ) (ls : List ℕ) where

@@ -9,6 +9,7 @@ use lib.ListN.{length, getD, take, drop, set, drop-of-length-le}
 use lib.Seq.{take-all, take-suc-set}
 use borrow.Author.Tests.{lt-ltb, le-ltb, eq-eqb, ne-eqb}
 use Rattle.model.specs.Lists.{part, sumBy}
+use Rattle.model.specs.Kind.{prepare}
 use Rattle.model.specs.Node.{slotsFrom, total, totalsFrom, wrap, findFrom, indexFrom}
 use Rattle.model.specs.declared.shape.Found.the-variants.{At, Nothing}
 use Rattle.model.specs.declared.shape.Place.the-variants.{Slot, Missing}
@@ -31,24 +32,27 @@ pub past : (s n k p : ℕ) (ws : List ℕ) → n ≤ k → drop k (slotsFrom s n
 past s n k p ws h = drop-of-length-le (slotsFrom s n p ws) {i = k} (rw slots-length h)
 
 -- a position is in slot k, or further on, or in none: q is the word of slot k's first length
-module _ (s n p v e k index sum q : ℕ) (ws : List ℕ) (hv : v + 1 < s) (he : e + 1 < s) (hq : q ≡ p + k * s + 1) (hk : k < n) where
+module _ (s n p v e k index a b q : ℕ) (ws : List ℕ) (hv : v + 1 < s) (he : e + 1 < s) (hq : q ≡ p + k * s + 1) (hk : k < n) where
   word : (c : ℕ) → c + 1 < s → getD (part (p + k * s) s ws) (c + 1) 0 ≡ getD ws (q + c) 0
   word c h =
       let f : p + k * s + (c + 1) ≡ q + c = omega arith in
       getD-part (p + k * s) s (c + 1) ws h ∙ ap (λ (j : ℕ). getD ws j 0) f
 
-  pub find-here : index < getD ws (q + v) 0 → findFrom v e k index sum (drop k (slotsFrom s n p ws)) ≡ At k index sum
+  word-first : getD (part (p + k * s) s ws) (prepare + 1) 0 ≡ getD ws q 0
+  word-first = word prepare (omega arith) ∙ ap (λ (j : ℕ). getD ws j 0) (add-zero q)
+
+  pub find-here : index < getD ws (q + v) 0 → findFrom v e k index a b (drop k (slotsFrom s n p ws)) ≡ At k index a b
   unfolding findFrom
   find-here h = rw (slots-from s n k p ws hk, word v hv, lt-ltb index (getD ws (q + v) 0) h)
 
   pub find-on : getD ws (q + v) 0 ≤ index
-      → findFrom v e k index sum (drop k (slotsFrom s n p ws)) ≡ findFrom v e (k + 1) (index - getD ws (q + v) 0) (sum + getD ws (q + e) 0) (drop (k + 1) (slotsFrom s n p ws))
+      → findFrom v e k index a b (drop k (slotsFrom s n p ws)) ≡ findFrom v e (k + 1) (index - getD ws (q + v) 0) (a + getD ws (q + e) 0) (b + getD ws q 0) (drop (k + 1) (slotsFrom s n p ws))
   unfolding findFrom
-  find-on h = rw (slots-from s n k p ws hk, word v hv, word e he, le-ltb index (getD ws (q + v) 0) h)
+  find-on h = rw (slots-from s n k p ws hk, word v hv, word e he, word-first, le-ltb index (getD ws (q + v) 0) h)
 
-pub find-none : (s n p v e k index sum : ℕ) (ws : List ℕ) → n ≤ k → findFrom v e k index sum (drop k (slotsFrom s n p ws)) ≡ Nothing
+pub find-none : (s n p v e k index a b : ℕ) (ws : List ℕ) → n ≤ k → findFrom v e k index a b (drop k (slotsFrom s n p ws)) ≡ Nothing
 unfolding findFrom
-find-none s n p v e k index sum ws h = rw (past s n k p ws h)
+find-none s n p v e k index a b ws h = rw (past s n k p ws h)
 
 -- a child is in slot k, or further on, or in none: q is the word of slot k's child
 module _ (s n p c k q : ℕ) (ws : List ℕ) (hs : 0 < s) (hq : q ≡ p + k * s) (hk : k < n) where

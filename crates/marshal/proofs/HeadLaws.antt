@@ -1,4 +1,4 @@
--- The head's fifteen words: tested, and written one after the other. Assumes nothing.
+-- The head's seventeen words: tested, and written one after the other. Assumes nothing.
 use mathlib.Core.Path.{_≡_, refl, sym, ap, subst, _∙_}
 use mathlib.Core.Bool.{Bool, true, false, cond, not, _||_}
 use mathlib.Core.List.{List, _++_, append-nil}
@@ -13,13 +13,13 @@ use Rattle.model.specs.declared.head.Finger.{Finger}
 use Rattle.marshal.specs.Flat.{badHead, headWords, headAfter, wordsWith, presentOf, fingerOf}
 
 -- whether the words are good
-pub bad-length : (w : List ℕ) → (length w ≡ 15 → ⊥) → true ≡ badHead w
+pub bad-length : (w : List ℕ) → (length w ≡ 17 → ⊥) → true ≡ badHead w
 unfolding badHead
-bad-length w d = sym (ap (λ (t : Bool). not t || ltb 1 (getD w 7 0)) (ne-eqb (length w) 15 d))
+bad-length w d = sym (ap (λ (t : Bool). not t || ltb 1 (getD w 7 0)) (ne-eqb (length w) 17 d))
 
-pub flag-test : (w : List ℕ) → length w ≡ 15 → ltb 1 (getD w 7 0) ≡ badHead w
+pub flag-test : (w : List ℕ) → length w ≡ 17 → ltb 1 (getD w 7 0) ≡ badHead w
 unfolding badHead
-flag-test w e = sym (ap (λ (t : Bool). not t || ltb 1 (getD w 7 0)) (eq-eqb (length w) 15 e))
+flag-test w e = sym (ap (λ (t : Bool). not t || ltb 1 (getD w 7 0)) (eq-eqb (length w) 17 e))
 
 or-first : (a b : Bool) → (a || b) ≡ false → a ≡ false
 or-first true b e = e
@@ -29,22 +29,22 @@ not-first : (a b : Bool) → (not a || b) ≡ false → a ≡ true
 not-first true b e = refl
 not-first false b e = sym e
 
-pub good-head : (w : List ℕ) → badHead w ≡ false → length w ≡ 15
+pub good-head : (w : List ℕ) → badHead w ≡ false → length w ≡ 17
 unfolding badHead
-good-head w e = eqb-true (length w) 15 (not-first (eqb (length w) 15) (ltb 1 (getD w 7 0)) e)
+good-head w e = eqb-true (length w) 17 (not-first (eqb (length w) 17) (ltb 1 (getD w 7 0)) e)
 
-pub good-flag : (w : List ℕ) (t : Bool) → (badHead w || t) ≡ false → length w ≡ 15
+pub good-flag : (w : List ℕ) (t : Bool) → (badHead w || t) ≡ false → length w ≡ 17
 good-flag w t e = good-head w (or-first (badHead w) t e)
 
--- words written leave as many, and all fifteen are those written
-pub in-head : (w vs : List ℕ) (i : ℕ) → ltb i 15 ≡ true → length w ≡ 15 → i < length (sets w 0 vs)
-in-head w vs i t e = lt-length-sets w 0 vs (subst (λ (n : ℕ). i < n) (sym e) (ltb-true i 15 t))
+-- words written leave as many, and all seventeen are those written
+pub in-head : (w vs : List ℕ) (i : ℕ) → ltb i 17 ≡ true → length w ≡ 17 → i < length (sets w 0 vs)
+in-head w vs i t e = lt-length-sets w 0 vs (subst (λ (n : ℕ). i < n) (sym e) (ltb-true i 17 t))
 
 filled : (l vs : List ℕ) → length l ≡ length vs → sets l 0 vs ≡ vs
 filled l vs e =
     sets-eq vs l 0 (omega (arith, e)) ∙ ap (λ (r : List ℕ). vs ++ r) (drop-of-length-le l {i = 0 + length vs} (omega (arith, e))) ∙ append-nil vs
 
-pub written : (w : List ℕ) (h : Head) (present : ℕ) (f : Finger) → length w ≡ 15 → present ≡ presentOf (h .finger) → f ≡ fingerOf (h .finger)
+pub written : (w : List ℕ) (h : Head) (present : ℕ) (f : Finger) → length w ≡ 17 → present ≡ presentOf (h .finger) → f ≡ fingerOf (h .finger)
     → sets w 0 (wordsWith h present f) ≡ headWords h
 unfolding headWords
 written w h present f e p q =

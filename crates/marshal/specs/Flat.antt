@@ -28,13 +28,13 @@ use Rattle.marshal.specs.declared.flat.FlatDivided.{FlatDivided}
 
 -- what a host hands over ------------------------------------------------------------------------------------------------------------------
 
--- fifteen words; the eighth says whether there is a finger
+-- seventeen words; the eighth says whether there is a finger
 unfoldable pub badHead : List ℕ → Bool
-badHead w = not (eqb (length w) 15) || ltb 1 (getD w 7 0)
+badHead w = not (eqb (length w) 17) || ltb 1 (getD w 7 0)
 
 abbrev pub fingerFrom : List ℕ → Finger
 fingerFrom w =
-    record { view = getD w 8 0; leaf = getD w 9 0; start = getD w 10 0; effect = getD w 11 0; slot = getD w 12 0; within = getD w 13 0; «effect_within» = getD w 14 0 }
+    record { view = getD w 8 0; leaf = getD w 9 0; start = getD w 10 0; effect = getD w 11 0; slot = getD w 12 0; within = getD w 13 0; «effect_within» = getD w 14 0; prepare = getD w 15 0; «prepare_within» = getD w 16 0 }
 
 unfoldable pub heldFrom : List ℕ → Held
 heldFrom w = cond (eqb (getD w 7 0) 0) held.Absent (held.At (fingerFrom w))
@@ -64,12 +64,12 @@ presentOf (held.At f) = 1
 
 -- zeros where there is no finger
 abbrev pub fingerOf : Held → Finger
-fingerOf held.Absent = record { view = 0; leaf = 0; start = 0; effect = 0; slot = 0; within = 0; «effect_within» = 0 }
+fingerOf held.Absent = record { view = 0; leaf = 0; start = 0; effect = 0; slot = 0; within = 0; «effect_within» = 0; prepare = 0; «prepare_within» = 0 }
 fingerOf (held.At f) = f
 
 abbrev pub wordsWith : Head → ℕ → Finger → List ℕ
 wordsWith h present f =
-    h .fan ∷ h .limit ∷ h .root .0 ∷ h .levels ∷ h .leaves ∷ h .inners ∷ h .entries ∷ present ∷ f .view ∷ f .leaf ∷ f .start ∷ f .effect ∷ f .slot ∷ f .within ∷ f .«effect_within» ∷ []
+    h .fan ∷ h .limit ∷ h .root .0 ∷ h .levels ∷ h .leaves ∷ h .inners ∷ h .entries ∷ present ∷ f .view ∷ f .leaf ∷ f .start ∷ f .effect ∷ f .slot ∷ f .within ∷ f .«effect_within» ∷ f .prepare ∷ f .«prepare_within» ∷ []
 
 unfoldable pub headWords : Head → List ℕ
 headWords h = wordsWith h (presentOf (h .finger)) (fingerOf (h .finger))
@@ -95,7 +95,7 @@ abbrev pub selectedOf : Answer → FlatSelected
 selectedOf a = record { number = a .number; leaf = value 0 a; slot = value 1 a; stamp = value 2 a; offset = value 3 a }
 
 abbrev pub locatedOf : Answer → FlatLocated
-locatedOf a = record { number = a .number; leaf = value 0 a; slot = value 1 a; stamp = value 2 a; offset = value 3 a; position = value 4 a }
+locatedOf a = record { number = a .number; leaf = value 0 a; slot = value 1 a; stamp = value 2 a; offset = value 3 a; position = value 4 a; prepare = value 5 a }
 
 abbrev pub insertedOf : Answer → FlatInserted
 insertedOf a = record { number = a .number; id = value 0 a; position = value 1 a }

@@ -30,7 +30,7 @@ use Rattle.marshal.specs.declared.flat.FlatCursor.{FlatCursor}
 -- answers ---------------------------------------------------------------------------------------------------------------------------------
 
 -- number 0 and the values; audit's yes is 1, and after the last entry the leaf is 4,294,967,295
-pub record Reads (c d : Cursor) (i : EntryId) (l : Lengths) (n offset position : ℕ) : Type 0 where
+pub record Reads (c d : Cursor) (i : EntryId) (l : Lengths) (n offset position prepare : ℕ) : Type 0 where
   pub reset : outcomeAnswer outcome.Done .number ≡ 0
   pub len : numberOf (numberAnswer (number.Is n)) ≡ record { number = 0; value = n }
   pub id : numberOf (namedAnswer (named.Entry i)) ≡ record { number = 0; value = i .0 }
@@ -44,12 +44,12 @@ pub record Reads (c d : Cursor) (i : EntryId) (l : Lengths) (n offset position :
   pub next : standingOf (nextAnswer (following.At c)) ≡ record { number = 0; leaf = c .leaf .0; slot = c .slot; stamp = c .stamp }
   pub last : standingOf (nextAnswer following.Nothing) ≡ record { number = 0; leaf = 4294967295; slot = 0; stamp = 0 }
   pub select : selectedOf (selectedAnswer (selected.At c offset)) ≡ record { number = 0; leaf = c .leaf .0; slot = c .slot; stamp = c .stamp; offset = offset }
-  pub locate : locatedOf (locatedAnswer (located.At c offset position)) ≡ record { number = 0; leaf = c .leaf .0; slot = c .slot; stamp = c .stamp; offset = offset; position = position }
+  pub locate : locatedOf (locatedAnswer (located.At c offset position prepare)) ≡ record { number = 0; leaf = c .leaf .0; slot = c .slot; stamp = c .stamp; offset = offset; position = position; prepare = prepare }
   pub insert : insertedOf (insertedAnswer (inserted.At i position)) ≡ record { number = 0; id = i .0; position = position }
   pub split : dividedOf (dividedAnswer (divided.At i c d)) ≡ record { number = 0; id = i .0; leaf = c .leaf .0; slot = c .slot; stamp = c .stamp; «next_leaf» = d .leaf .0; «next_slot» = d .slot; «next_stamp» = d .stamp }
 
-pub reads : (c d : Cursor) (i : EntryId) (l : Lengths) (n offset position : ℕ) → Reads c d i l n offset position
-reads c d i l n offset position = record {
+pub reads : (c d : Cursor) (i : EntryId) (l : Lengths) (n offset position prepare : ℕ) → Reads c d i l n offset position prepare
+reads c d i l n offset position prepare = record {
   reset = refl;
   len = refl;
   id = refl;
@@ -79,7 +79,7 @@ pub record Refused (n : ℕ) : Type 0 where
   pub cursor : standingOf (standingAnswer (standing.Refused n)) ≡ record { number = n; leaf = 0; slot = 0; stamp = 0 }
   pub next : standingOf (nextAnswer (following.Refused n)) ≡ record { number = n; leaf = 0; slot = 0; stamp = 0 }
   pub select : selectedOf (selectedAnswer (selected.Refused n)) ≡ record { number = n; leaf = 0; slot = 0; stamp = 0; offset = 0 }
-  pub locate : locatedOf (locatedAnswer (located.Refused n)) ≡ record { number = n; leaf = 0; slot = 0; stamp = 0; offset = 0; position = 0 }
+  pub locate : locatedOf (locatedAnswer (located.Refused n)) ≡ record { number = n; leaf = 0; slot = 0; stamp = 0; offset = 0; position = 0; prepare = 0 }
   pub insert : insertedOf (insertedAnswer (inserted.Refused n)) ≡ record { number = n; id = 0; position = 0 }
   pub split : dividedOf (dividedAnswer (divided.Refused n)) ≡ record { number = n; id = 0; leaf = 0; slot = 0; stamp = 0; «next_leaf» = 0; «next_slot» = 0; «next_stamp» = 0 }
 

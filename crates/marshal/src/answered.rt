@@ -181,6 +181,7 @@ pub fn refused_located(n: u32) -> FlatLocated
         stamp: 0,
         offset: 0,
         position: 0,
+        prepare: 0,
     }
 }
 
@@ -188,7 +189,7 @@ pub fn located_of(a: Located) -> FlatLocated
     ensures { λ r. ⌜ r ≡ locatedOf (locatedAnswer a) ⌝ }
 {
     match a {
-        Located::At(c, offset, position) => {
+        Located::At(c, offset, effect, prepare) => {
             let leaf = c.leaf;
             FlatLocated {
                 number: 0,
@@ -196,7 +197,8 @@ pub fn located_of(a: Located) -> FlatLocated
                 slot: c.slot,
                 stamp: c.stamp,
                 offset: offset,
-                position: position,
+                position: effect,
+                prepare: prepare,
             }
         }
         Located::Refused(n) => refused_located(n),

@@ -1,4 +1,4 @@
-// What crosses the C boundary: plain words in structs of C's layout, and the head as fifteen words that the host lends: fan, limit,
+// What crosses the C boundary: plain words in structs of C's layout, and the head as seventeen words that the host lends: fan, limit,
 // root, levels, the counts of leaves, inner nodes and entries in use, 1 or 0 for a finger or none, and the finger's seven words.
 
 #[repr(C)]
@@ -58,6 +58,7 @@ pub struct FlatLocated {
     pub stamp: u32,
     pub offset: u32,
     pub position: u32,
+    pub prepare: u32,
 }
 
 // insert.

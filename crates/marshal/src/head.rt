@@ -1,4 +1,4 @@
-// The head in the fifteen words that a host lends.
+// The head in the seventeen words that a host lends.
 use model::head::Finger;
 use model::head::Head;
 use model::head::Held;
@@ -9,11 +9,11 @@ ghost use lib.Dec.{ltb};
 ghost use lib.ListN.{length};
 ghost use Rattle.marshal.specs.Flat.{badHead, heldFrom, headFrom, presentOf, fingerOf, headWords, headAfter};
 
-// Whether it isn't fifteen words, or has neither 0 nor 1 for its finger.
+// Whether it isn't seventeen words, or has neither 0 nor 1 for its finger.
 pub fn bad_head(head: &[u32]) -> bool
     ensures { λ r. ⌜ r ≡ badHead (now (head .entry)) ⌝ }
 {
-    if head.len() != 15 {
+    if head.len() != 17 {
         return true;
     }
     1 < head[7]
@@ -30,7 +30,7 @@ pub fn bad_flag(head: &[u32], flag: u32) -> bool
 }
 
 fn held_from(head: &[u32]) -> Held
-    requires { ⌜ length (now head) ≡ 15 ⌝ }
+    requires { ⌜ length (now head) ≡ 17 ⌝ }
     ensures { λ r. ⌜ r ≡ heldFrom (now (head .entry)) ⌝ }
 {
     if head[7] == 0 {
@@ -44,11 +44,13 @@ fn held_from(head: &[u32]) -> Held
         slot: head[12],
         within: head[13],
         effect_within: head[14],
+        prepare: head[15],
+        prepare_within: head[16],
     })
 }
 
 pub fn head_from(head: &[u32]) -> Head
-    requires { ⌜ length (now head) ≡ 15 ⌝ }
+    requires { ⌜ length (now head) ≡ 17 ⌝ }
     ensures { λ r. ⌜ r ≡ headFrom (now (head .entry)) ⌝ }
 {
     let finger = held_from(head);
@@ -86,13 +88,15 @@ fn finger_of(finger: Held) -> Finger
             slot: 0,
             within: 0,
             effect_within: 0,
+            prepare: 0,
+            prepare_within: 0,
         },
         Held::At(f) => f,
     }
 }
 
 pub fn put_head(head: &mut [u32], h: Head)
-    requires { ⌜ length (now head) ≡ 15 ⌝ }
+    requires { ⌜ length (now head) ≡ 17 ⌝ }
     ensures { λ _. ⌜ now (head .exit) ≡ headWords h ⌝ }
 {
     let root = h.root;
@@ -114,11 +118,13 @@ pub fn put_head(head: &mut [u32], h: Head)
     head[12] = f.slot;
     head[13] = f.within;
     head[14] = f.effect_within;
+    head[15] = f.prepare;
+    head[16] = f.prepare_within;
 }
 
 // The head after a call that answered so: a refused one leaves it.
 pub fn settle(head: &mut [u32], number: u32, h: Head)
-    requires { ⌜ length (now head) ≡ 15 ⌝ }
+    requires { ⌜ length (now head) ≡ 17 ⌝ }
     ensures { λ _. ⌜ now (head .exit) ≡ headAfter number h (now (head .entry)) ⌝ }
 {
     if number == 0 {

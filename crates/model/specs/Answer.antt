@@ -75,7 +75,7 @@ selectedAnswer (selected.At c offset) = done (cursorValues c ++ offset ∷ [])
 selectedAnswer (selected.Refused n) = refused n
 
 abbrev pub locatedAnswer : Located → Answer
-locatedAnswer (located.At c offset position) = done (cursorValues c ++ offset ∷ position ∷ [])
+locatedAnswer (located.At c offset effect prepare) = done (cursorValues c ++ offset ∷ effect ∷ prepare ∷ [])
 locatedAnswer (located.Refused n) = refused n
 
 abbrev pub insertedAnswer : Inserted → Answer

@@ -7,7 +7,7 @@ use lib.ListN.{getD}
 use lib.Dec.{ltb, leb, eqb}
 use Rattle.model.specs.Lists.{sumBy, range}
 use Rattle.model.specs.Node.{Node, none, child, lengthIn, total, used, start}
-use Rattle.model.specs.Kind.{stride}
+use Rattle.model.specs.Kind.{stride, prepare}
 use Rattle.model.specs.declared.shape.Kind.{Kind}
 use Rattle.model.specs.State.{State}
 use Rattle.model.specs.Climb.{rankUp}
@@ -99,6 +99,7 @@ module _ (K : Kind) (t : State) where
       ltb (f .view) (K .views) && ltb (f .leaf) (t .head .leaves) && ltb (f .slot) (n .len)
       && isSum (f .start) (leafStart (f .view) n) && isSum (f .effect) (leafStart (K .effect) n)
       && eqb (f .within) (start (f .view) (f .slot) n) && eqb (f .«effect_within») (start (K .effect) (f .slot) n)
+      && isSum (f .prepare) (leafStart prepare n) && eqb (f .«prepare_within») (start prepare (f .slot) n)
 
   abbrev pub isHeldFinger : Held → Bool
   isHeldFinger held.Absent = true

@@ -47,7 +47,7 @@ nextAnswer K s next′.Nothing = done (noEntry ∷ [])
 nextAnswer K s (next′.Refused n) = refused n
 
 abbrev pub locatedAnswer : Kind → State → Located → Answer
-locatedAnswer K s (located.At c offset position) = idAnswer (calls.id K s c) (offset ∷ position ∷ [])
+locatedAnswer K s (located.At c offset effect prepare) = idAnswer (calls.id K s c) (offset ∷ effect ∷ prepare ∷ [])
 locatedAnswer K s (located.Refused n) = refused n
 
 abbrev pub dividedAnswer : Divided → Answer

@@ -12,7 +12,7 @@ use Rattle.model.specs.Row.{Answer, done, refused}
 use Rattle.model.specs.Node.{Node, none, child, lengths, used, start, indexFrom, newNode, minus, wrap}
 use Rattle.model.specs.State.{State, state, headOf, shape, nodeAt, putNode}
 use Rattle.model.specs.Climb.{leafNo, rankUp, stepsUp, firstDown, lastDown, nextUp}
-use Rattle.model.specs.Locate.{servedBy, fromRoot, effectAt}
+use Rattle.model.specs.Locate.{servedBy, fromRoot, effectAt, prepareAt}
 use Rattle.model.specs.Place.{Change, change, withFinger, place, divide, replace, climb}
 use Rattle.model.specs.Refuse.{shapeOf, badSize, tooShort, opening, stale, atCursor, noSuchId, tooMuch, past, full}
 use Rattle.model.specs.declared.shape.Place.{Place}
@@ -194,7 +194,8 @@ entryToCharIndex K s v c =
 -- the finger found is kept
 abbrev pub hit : State → Finger → ℕ → Reply Located
 hit s f offset =
-    reply (state (withFinger (held.At f) (s .head)) (s .leaves) (s .inners) (s .homes)) (located.At (cursorAt (s .head .entries) (f .leaf) (f .slot)) offset (effectAt f))
+    reply (state (withFinger (held.At f) (s .head)) (s .leaves) (s .inners) (s .homes))
+    (located.At (cursorAt (s .head .entries) (f .leaf) (f .slot)) offset (effectAt f) (prepareAt f))
 
 -- 5: position at or past the view's total, which the root then doesn't hold
 abbrev pub bySearch : State → Search → Reply Located
@@ -216,13 +217,13 @@ locate K s v index =
     (byFinger s (servedBy v (K .effect) g (h .finger) (h .leaves) index (s .leaves))
     (fromRoot v (K .effect) g (h .levels) (h .root .0) (h .leaves) index (s .leaves) (s .inners)))
 
--- `locate` less the effect position
-abbrev pub lessEffect : Located → Selected
-lessEffect (located.At c offset position) = selected.At c offset
-lessEffect (located.Refused n) = selected.Refused n
+-- `locate` less the two positions
+abbrev pub lessPositions : Located → Selected
+lessPositions (located.At c offset effect prepare) = selected.At c offset
+lessPositions (located.Refused n) = selected.Refused n
 
 unfoldable pub charIndexToEntry : Kind → State → ℕ → ℕ → Reply Selected
-charIndexToEntry K s v index = let r = locate K s v index in reply (r .after) (lessEffect (r .answer))
+charIndexToEntry K s v index = let r = locate K s v index in reply (r .after) (lessPositions (r .answer))
 
 -- calls that change -------------------------------------------------------------------------------------------------------------------------
 

@@ -11,6 +11,10 @@ stride K = suc (K .views)
 abbrev pub viewsOf : Kind → List ℕ
 viewsOf K = range 0 (K .views)
 
+-- the view that every kind has, and in which a lookup always gives the entry's position too
+abbrev pub prepare : ℕ
+prepare = 0
+
 -- the full tree: prepare is view 0 and effect view 1
 abbrev pub base : Kind
 base = record { views = 2; effect = 1 }

@@ -4,6 +4,7 @@ use mathlib.Core.List.{List, []}
 use Prim.Native.Nat.{ℕ, zero, suc, _+_, _-_, _^_}
 use lib.ListN.{getD, drop}
 use lib.Dec.{ltb, leb, eqb}
+use Rattle.model.specs.Kind.{prepare}
 use Rattle.model.specs.Node.{Node, child, used, lengthIn, findFrom, wrap}
 use Rattle.model.specs.State.{nodeAt}
 use Rattle.model.specs.Climb.{leafNo}
@@ -18,13 +19,16 @@ use Rattle.model.specs.declared.way.Descent.the-variants as descent
 use Rattle.model.specs.declared.way.Search.{Search}
 use Rattle.model.specs.declared.way.Search.the-variants as search
 
-abbrev pub finger : ℕ → ℕ → ℕ → ℕ → ℕ → ℕ → ℕ → Finger
-finger view leaf start effect slot within effectWithin =
-    record { view = view; leaf = leaf; start = start; effect = effect; slot = slot; within = within; «effect_within» = effectWithin }
+abbrev pub finger : ℕ → ℕ → ℕ → ℕ → ℕ → ℕ → ℕ → ℕ → ℕ → Finger
+finger view leaf start effect slot within effectWithin prepare prepareWithin =
+    record { view = view; leaf = leaf; start = start; effect = effect; slot = slot; within = within; «effect_within» = effectWithin; prepare = prepare; «prepare_within» = prepareWithin }
 
--- the effect position of the slot at which a finger stands
+-- the effect and the prepare position of the slot at which a finger stands
 abbrev pub effectAt : Finger → ℕ
 effectAt f = wrap (f .effect + f .«effect_within»)
+
+abbrev pub prepareAt : Finger → ℕ
+prepareAt f = wrap (f .prepare + f .«prepare_within»)
 
 abbrev pub less : ℕ → ℕ → ℕ
 less a b = wrap (a + (2 ^ 32 - b))
@@ -34,33 +38,36 @@ pub record Stand : Type 0 where
   pub slot : ℕ
   pub within : ℕ
   pub effectWithin : ℕ
+  pub prepareWithin : ℕ
 
-abbrev pub stand : ℕ → ℕ → ℕ → Stand
-stand j w f = record { slot = j; within = w; effectWithin = f }
+abbrev pub stand : ℕ → ℕ → ℕ → ℕ → Stand
+stand j w f p = record { slot = j; within = w; effectWithin = f; prepareWithin = p }
 
--- on through the child found in node m, with the offset and the effect lengths before it
-abbrev pub into : (ℕ → ℕ → ℕ → Descent) → Descent → Node → Found → Descent
-into go miss m (At j offset before) = go (child (getD (m .slots) j [])) offset before
+-- on through the child found in node m, with the offset and the effect and prepare lengths before it
+abbrev pub into : (ℕ → ℕ → ℕ → ℕ → Descent) → Descent → Node → Found → Descent
+into go miss m (At j offset a b) = go (child (getD (m .slots) j [])) offset a b
 into go miss m Nothing = miss
 
 module _ (v e : ℕ) where
   -- back from a slot to the first that doesn't start past the index
-  unfoldable pub back : List (List ℕ) → ℕ → ℕ → ℕ → ℕ → Stand
-  back slots index zero within effectWithin = stand zero within effectWithin
-  back slots index (suc j) within effectWithin =
+  unfoldable pub back : List (List ℕ) → ℕ → ℕ → ℕ → ℕ → ℕ → Stand
+  back slots index zero within effectWithin prepareWithin = stand zero within effectWithin prepareWithin
+  back slots index (suc j) within effectWithin prepareWithin =
       let x = getD slots j [] in
-      cond (ltb index within) (back slots index j (less within (lengthIn v x)) (less effectWithin (lengthIn e x))) (stand (suc j) within effectWithin)
+      cond (ltb index within) (back slots index j (less within (lengthIn v x)) (less effectWithin (lengthIn e x)) (less prepareWithin (lengthIn prepare x)))
+      (stand (suc j) within effectWithin prepareWithin)
 
   -- the finger f moved to the slot found; index counts from its leaf's start
   abbrev pub movedTo : Finger → ℕ → Found → Search
-  movedTo f index (At j offset effectWithin) = search.At (finger (f .view) (f .leaf) (f .start) (f .effect) j (index - offset) (wrap effectWithin)) offset
+  movedTo f index (At j offset effectWithin prepareWithin) =
+      search.At (finger (f .view) (f .leaf) (f .start) (f .effect) j (index - offset) (wrap effectWithin) (f .prepare) (wrap prepareWithin)) offset
   movedTo f index Nothing = search.Nothing
 
   -- the finger serves from its own slot, back or on
   unfoldable pub walked : Finger → ℕ → List (List ℕ) → Search
   walked f index slots =
-      let b = back slots index (f .slot) (f .within) (f .«effect_within») in
-      cond (ltb index (b .within)) search.Broken (movedTo f index (findFrom v e (b .slot) (index - b .within) (b .effectWithin) (drop (b .slot) slots)))
+      let b = back slots index (f .slot) (f .within) (f .«effect_within») (f .«prepare_within») in
+      cond (ltb index (b .within)) search.Broken (movedTo f index (findFrom v e (b .slot) (index - b .within) (b .effectWithin) (b .prepareWithin) (drop (b .slot) slots)))
 
   module _ (g : Shape) where
     -- for its own view and an index at or past its start; leaves is how many are in use
@@ -75,35 +82,36 @@ module _ (v e : ℕ) where
     servedBy held.Absent leaves index ls = search.Nothing
     servedBy (held.At f) leaves index ls = served f leaves index ls
 
-    -- down n levels from inner node k, before which s stands in effect; miss is what a node answers that doesn't hold the index
-    unfoldable pub descend : Descent → ℕ → ℕ → ℕ → ℕ → List ℕ → Descent
-    descend miss zero k rest s xs = descent.At (leafNo k) rest s
-    descend miss (suc n) k rest s xs =
+    -- down n levels from inner node k, before which a stands in effect and b in prepare; miss is what a node answers that doesn't hold the index
+    unfoldable pub descend : Descent → ℕ → ℕ → ℕ → ℕ → ℕ → List ℕ → Descent
+    descend miss zero k rest a b xs = descent.At (leafNo k) rest a b
+    descend miss (suc n) k rest a b xs =
         let m = nodeAt g k xs in
         cond (ltb k (g .nodes) && leb (m .len) (g .fan))
-        (into (λ c r t. descend descent.Broken n c r t xs) miss m (findFrom v e 0 rest s (used m)))
+        (into (λ c r x y. descend descent.Broken n c r x y xs) miss m (findFrom v e 0 rest a b (used m)))
         descent.Broken
 
     -- the finger that the search from the root sets
-    abbrev pub setIn : ℕ → ℕ → ℕ → ℕ → Found → Search
-    setIn k index rest s (At j offset effectWithin) = search.At (finger v k (index - rest) (wrap s) j (rest - offset) (wrap effectWithin)) offset
-    setIn k index rest s Nothing = search.Broken
+    abbrev pub setIn : ℕ → ℕ → ℕ → ℕ → ℕ → Found → Search
+    setIn k index rest a b (At j offset effectWithin prepareWithin) =
+        search.At (finger v k (index - rest) (wrap a) j (rest - offset) (wrap effectWithin) (wrap b) (wrap prepareWithin)) offset
+    setIn k index rest a b Nothing = search.Broken
 
     -- in a leaf in use; leaves is how many are
     abbrev pub leafOf : ℕ → ℕ → List ℕ → Descent → Search
-    leafOf leaves index ls (descent.At k rest s) =
+    leafOf leaves index ls (descent.At k rest a b) =
         let m = nodeAt g (k .0) ls in
-        cond (ltb (k .0) leaves && leb (m .len) (g .fan)) (setIn (k .0) index rest s (findFrom v e 0 rest 0 (used m))) search.Broken
+        cond (ltb (k .0) leaves && leb (m .len) (g .fan)) (setIn (k .0) index rest a b (findFrom v e 0 rest 0 0 (used m))) search.Broken
     leafOf leaves index ls descent.Nothing = search.Nothing
     leafOf leaves index ls descent.Broken = search.Broken
 
     -- Nothing: the root doesn't hold the index, so it is at or past the total
     unfoldable pub fromRoot : ℕ → ℕ → ℕ → ℕ → List ℕ → List ℕ → Search
-    fromRoot levels root leaves index ls xs = leafOf leaves index ls (descend descent.Nothing levels root index 0 xs)
+    fromRoot levels root leaves index ls xs = leafOf leaves index ls (descend descent.Nothing levels root index 0 0 xs)
 
 -- `changing`: what a change at a slot of a leaf leaves of the finger
 abbrev pub rewound : Finger → Finger
-rewound f = finger (f .view) (f .leaf) (f .start) (f .effect) 0 0 0
+rewound f = finger (f .view) (f .leaf) (f .start) (f .effect) 0 0 0 (f .prepare) 0
 
 abbrev pub changing : ℕ → ℕ → Held → Held
 changing leaf slot held.Absent = held.Absent

@@ -6,6 +6,7 @@ use Prim.Native.Nat.{ℕ, zero, suc, _+_, _-_, _%_, _^_, _/_}
 use lib.ListN.{length, getD, take, drop, set, replicate}
 use lib.Dec.{ltb, eqb}
 use Rattle.model.specs.Lists.{part, sumBy}
+use Rattle.model.specs.Kind.{prepare}
 use Rattle.model.specs.declared.shape.Found.{Found}
 use Rattle.model.specs.declared.shape.Found.the-variants.{At, Nothing}
 use Rattle.model.specs.declared.shape.Place.{Place}
@@ -90,10 +91,12 @@ totalsFrom (suc k) v slots = wrap (total v slots) ∷ totalsFrom k (suc v) slots
 unfoldable pub slotFor : ℕ → ℕ → Node → List ℕ
 slotFor s k n = k ∷ totalsFrom (s - 1) 0 (n .slots)
 
--- `Node::find`: the first slot, counted from k, that holds position index of view v; the offset into it; sum and the lengths in view e before it
-unfoldable pub findFrom : ℕ → ℕ → ℕ → ℕ → ℕ → List (List ℕ) → Found
-findFrom v e k index sum [] = Nothing
-findFrom v e k index sum (x ∷ xs) = cond (ltb index (lengthIn v x)) (At k index sum) (findFrom v e (k + 1) (index - lengthIn v x) (sum + lengthIn e x) xs)
+-- `Node::find`: the first slot, counted from k, that holds position index of view v; the offset into it; a and the lengths in view e before it, b and those
+-- in prepare
+unfoldable pub findFrom : ℕ → ℕ → ℕ → ℕ → ℕ → ℕ → List (List ℕ) → Found
+findFrom v e k index a b [] = Nothing
+findFrom v e k index a b (x ∷ xs) =
+    cond (ltb index (lengthIn v x)) (At k index a b) (findFrom v e (k + 1) (index - lengthIn v x) (a + lengthIn e x) (b + lengthIn prepare x) xs)
 
 -- `Node::index_of`: the first slot, counted from k, that holds the child c
 unfoldable pub indexFrom : ℕ → ℕ → List (List ℕ) → Place

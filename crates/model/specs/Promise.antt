@@ -273,11 +273,11 @@ NextAt K s next.Nothing i = i ≡ noEntry
 NextAt K s (next.Refused n) i = ⊥
 
 abbrev pub LocatedAt : Kind → State → Located → Answer → Type 0
-LocatedAt K s (located.At c offset position) a = (i : ℕ) × (a ≡ done (i ∷ offset ∷ position ∷ [])) × At K s c i
+LocatedAt K s (located.At c offset effect prepare) a = (i : ℕ) × (a ≡ done (i ∷ offset ∷ effect ∷ prepare ∷ [])) × At K s c i
 LocatedAt K s (located.Refused n) a = a ≡ refused n
 
 abbrev pub SelectedAt : Kind → State → Selected → Answer → Type 0
-SelectedAt K s (selected.At c offset) a = (i : ℕ) × (position : ℕ) × (a ≡ done (i ∷ offset ∷ position ∷ [])) × At K s c i
+SelectedAt K s (selected.At c offset) a = (i : ℕ) × (effect : ℕ) × (prepare : ℕ) × (a ≡ done (i ∷ offset ∷ effect ∷ prepare ∷ [])) × At K s c i
 SelectedAt K s (selected.Refused n) a = a ≡ refused n
 
 -- the entry i divided: the new one has the id n and stands before it if so flagged, else after

@@ -5,7 +5,7 @@ use Prim.Native.Nat.{ℕ, _+_, _-_}
 use lib.ListN.{length, getD, drop}
 use lib.Dec.{ltb, leb, eqb}
 use Rattle.model.specs.Lists.{sumBy, some, Cause, cause, refusal}
-use Rattle.model.specs.Kind.{viewsOf}
+use Rattle.model.specs.Kind.{viewsOf, prepare}
 use Rattle.model.specs.declared.shape.Kind.{Kind}
 
 -- an entry: its id and a length in each view
@@ -103,11 +103,12 @@ divided flag i e es =
 abbrev pub changed : ℕ → List ℕ → List Entry → List Entry
 changed i ls es = before i es ++ entry i ls ∷ after i es
 
--- the one entry whose sum s of view lengths before it has s ≤ index < s + its length: its id, index - s and f, the sum of effect lengths before it
-unfoldable pub found : Kind → ℕ → ℕ → ℕ → ℕ → List Entry → List ℕ
-found K v index s f [] = []
-found K v index s f (e ∷ es) =
-    cond (leb s index && ltb index (s + lengthIn v e)) (e .id ∷ (index - s) ∷ f ∷ []) (found K v index (s + lengthIn v e) (f + lengthIn (K .effect) e) es)
+-- the one entry whose sum s of view lengths before it has s ≤ index < s + its length: its id, index - s and f, the sum of effect lengths before it,
+-- p that of prepare lengths
+unfoldable pub found : Kind → ℕ → ℕ → ℕ → ℕ → ℕ → List Entry → List ℕ
+found K v index s f p [] = []
+found K v index s f p (e ∷ es) =
+    cond (leb s index && ltb index (s + lengthIn v e)) (e .id ∷ (index - s) ∷ f ∷ p ∷ []) (found K v index (s + lengthIn v e) (f + lengthIn (K .effect) e) (p + lengthIn prepare e) es)
 
 -- 0, 1, 2: the first named stands before, is, or stands after the second
 unfoldable pub ordered : ℕ → ℕ → List Entry → ℕ
@@ -163,7 +164,7 @@ rowStep K r (setLengths i l) =
 rowStep K r (update i l) =
     let es = changed i l (r .entries) in
     unless r (noSuchId r i ∷ past K es ∷ []) es (done (total (K .effect) (before i (r .entries)) ∷ []))
-rowStep K r (lookup v index) = unless r (noSuchPosition r v index ∷ []) (r .entries) (done (found K v index 0 0 (r .entries)))
+rowStep K r (lookup v index) = unless r (noSuchPosition r v index ∷ []) (r .entries) (done (found K v index 0 0 0 (r .entries)))
 rowStep K r (rank v i) = unless r (noSuchId r i ∷ []) (r .entries) (done (total v (before i (r .entries)) ∷ []))
 rowStep K r (next i) = unless r (noSuchId r i ∷ []) (r .entries) (done (firstId (after i (r .entries)) ∷ []))
 rowStep K r (compare i j) = unless r (noSuchId r i ∷ noSuchId r j ∷ []) (r .entries) (done (ordered i j (r .entries) ∷ []))

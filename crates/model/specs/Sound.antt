@@ -8,7 +8,7 @@ use lib.ListN.{length, getD, take}
 use lib.Dec.{eqb}
 use Rattle.model.specs.Lists.{All, times, range}
 use Rattle.model.specs.Node.{Node, none, child, lengths, lengthIn, total, used, emptySlot, half}
-use Rattle.model.specs.Kind.{stride}
+use Rattle.model.specs.Kind.{stride, prepare}
 use Rattle.model.specs.declared.shape.Kind.{Kind}
 use Rattle.model.specs.Row.{Entry, entry}
 use Rattle.model.specs.State.{State, shape, nodeAt}
@@ -74,7 +74,7 @@ module _ (s : ℕ) (t : State) where
     pub high : n .len ≤ t .head .fan
     pub unused : (i : ℕ) → n .len ≤ i → i < t .head .fan → getD (n .slots) i [] ≡ emptySlot s
 
-  -- the finger's leaf and slot are in use, and its four sums are those of the tree
+  -- the finger's leaf and slot are in use, and its six sums are those of the tree
   pub record FingerAt (e : ℕ) (f : Finger) : Type 0 where
     pub view : suc (f .view) < s
     pub leaf : f .leaf < t .head .leaves
@@ -83,6 +83,8 @@ module _ (s : ℕ) (t : State) where
     pub effect : f .effect ≡ total e (slotsIn (until (f .leaf) leavesReached))
     pub within : f .within ≡ total (f .view) (take (f .slot) (used (leafIn (f .leaf))))
     pub effectWithin : f .«effect_within» ≡ total e (take (f .slot) (used (leafIn (f .leaf))))
+    pub prepareStart : f .prepare ≡ total prepare (slotsIn (until (f .leaf) leavesReached))
+    pub prepareWithin : f .«prepare_within» ≡ total prepare (take (f .slot) (used (leafIn (f .leaf))))
 
   abbrev pub FingerRight : ℕ → Held → Type 0
   FingerRight e held.Absent = Unit {0}

@@ -100,16 +100,16 @@ pub record Given : Type 0 where
 abbrev pub to : ℕ → Answer → Given
 to kind answer = record { kind = kind; answer = answer }
 
--- the six answers, a refusal among them, and one of three large values
+-- the six answers, a refusal among them, and one of four values: a record has room for three
 abbrev pub given : List Given
 given =
     to 1 (done [])
     ∷ to 2 (done (1 ∷ 3 ∷ []))
     ∷ to 2 (done (2 ∷ 0 ∷ []))
-    ∷ to 7 (done (0 ∷ 0 ∷ 5 ∷ []))
+    ∷ to 7 (done (0 ∷ 0 ∷ 5 ∷ 0 ∷ []))
     ∷ to 7 (refused 5)
     ∷ to 9 (done (noEntry ∷ []))
-    ∷ to 7 (done (67305985 ∷ 134678021 ∷ 202050057 ∷ []))
+    ∷ to 7 (done (67305985 ∷ 134678021 ∷ 202050057 ∷ 1 ∷ []))
     ∷ []
 
 abbrev pub written : List (List ℕ)

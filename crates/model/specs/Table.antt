@@ -32,7 +32,7 @@ abbrev pub p3 : Case
 p3 = case (called (insert 0 (pair 0 5))) (done (2 ∷ 0 ∷ [])) (2 ∷ 0 ∷ 1 ∷ []) (0 ∷ 0 ∷ [])
 
 abbrev pub p4 : Case
-p4 = case (called (lookup 0 0)) (done (0 ∷ 0 ∷ 5 ∷ [])) (2 ∷ 0 ∷ 1 ∷ []) (0 ∷ 0 ∷ [])
+p4 = case (called (lookup 0 0)) (done (0 ∷ 0 ∷ 5 ∷ 0 ∷ [])) (2 ∷ 0 ∷ 1 ∷ []) (0 ∷ 0 ∷ [])
 
 abbrev pub p5 : Case
 p5 = case (called (lookup 0 5)) (refused 5) (2 ∷ 0 ∷ 1 ∷ []) (0 ∷ 0 ∷ [])
@@ -41,7 +41,7 @@ abbrev pub p6 : Case
 p6 = case (called (next 1)) (done (4294967295 ∷ [])) (2 ∷ 0 ∷ 1 ∷ []) (0 ∷ 0 ∷ [])
 
 abbrev pub p7 : Case
-p7 = case (called (lookup 1 0)) (done (2 ∷ 0 ∷ 0 ∷ [])) (2 ∷ 0 ∷ 1 ∷ []) (0 ∷ 0 ∷ [])
+p7 = case (called (lookup 1 0)) (done (2 ∷ 0 ∷ 0 ∷ 0 ∷ [])) (2 ∷ 0 ∷ 1 ∷ []) (0 ∷ 0 ∷ [])
 
 abbrev pub p8 : Case
 p8 = case (called (lookup 1 8)) (refused 5) (2 ∷ 0 ∷ 1 ∷ []) (0 ∷ 0 ∷ [])

@@ -14,9 +14,9 @@ pub struct Kind {
     pub effect: usize,
 }
 
-// The slot that holds a position: slot, offset into it, and the effect lengths before it.
+// The slot that holds a position: slot, offset into it, and the effect and the prepare lengths before it.
 pub enum Found {
-    At(usize, u32, u64),
+    At(usize, u32, u64, u64),
     Nothing,
 }
 

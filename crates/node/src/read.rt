@@ -45,8 +45,8 @@ pub fn used_total(node: &[u32], g: Shape, view: usize) -> u64
     start(node, g, view, fan)
 }
 
-// The first slot from slot `from` on that holds position `index` of view, counted from there; `sum` and the effect
-// lengths before it (Node::find).
+// The first slot from slot `from` on that holds position `index` of view, counted from there; `effects` and the effect
+// lengths before it, `prepares` and the prepare lengths (Node::find).
 pub fn find(
     node: &[u32],
     g: Shape,
@@ -54,24 +54,27 @@ pub fn find(
     effect: usize,
     from: usize,
     index: u32,
-    sum: u64,
+    effects: u64,
+    prepares: u64,
 ) -> Found
-    requires { ⌜ Shaped g × (length (now node) ≡ g .size) × (view + 1 < g .stride) × (effect + 1 < g .stride) × (getD (now node) 0 0 ≤ g .fan) × (from ≤ getD (now node) 0 0) × (sum ≤ 2 ^ 48) ⌝ }
-    ensures { λ r. ⌜ r ≡ findFrom view effect from index sum (drop from (used (nodeOf (g .stride) (g .fan) (now (node .entry))))) ⌝ }
+    requires { ⌜ Shaped g × (length (now node) ≡ g .size) × (view + 1 < g .stride) × (effect + 1 < g .stride) × (getD (now node) 0 0 ≤ g .fan) × (from ≤ getD (now node) 0 0) × (effects ≤ 2 ^ 48) × (prepares ≤ 2 ^ 48) ⌝ }
+    ensures { λ r. ⌜ r ≡ findFrom view effect from index effects prepares (drop from (used (nodeOf (g .stride) (g .fan) (now (node .entry))))) ⌝ }
 {
     let stride = g.stride;
     let len = node[0] as usize;
     let mut rest = index;
-    let mut before = sum;
+    let mut before = effects;
+    let mut prior = prepares;
     let mut p = 3 + from * stride + 1;
     let mut k = from;
     while k < len {
         let here = node[p + view];
         if rest < here {
-            return Found::At(k, rest, before);
+            return Found::At(k, rest, before, prior);
         }
         rest -= here;
         before += wide(node[p + effect]);
+        prior += wide(node[p]);
         p += stride;
         k += 1;
     }

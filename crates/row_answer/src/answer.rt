@@ -136,7 +136,7 @@ pub fn looked(reply: LookedReply) -> Step
     let head = reply.head;
     let answer = reply.answer;
     match answer {
-        Looked::At(i, offset, position) => done(head, i.0, offset, position),
+        Looked::At(i, offset, effect, prepare) => done(head, i.0, offset, effect),
         Looked::Refused(n) => refuse(head, n),
     }
 }

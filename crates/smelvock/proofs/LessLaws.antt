@@ -9,7 +9,7 @@ use Rattle.model.specs.Kind.{base}
 use Rattle.model.specs.Row.{Answer, refused}
 use Rattle.model.specs.Answer.{outcomeAnswer, numberAnswer, namedAnswer, selectedAnswer, locatedAnswer, insertedAnswer}
 use Rattle.model.specs.Calls as calls
-use Rattle.model.specs.Calls.{Reply, reply, lessEffect}
+use Rattle.model.specs.Calls.{Reply, reply, lessPositions}
 use Rattle.model.specs.declared.answer.Number.{Number}
 use Rattle.model.specs.declared.answer.Number.the-variants as number
 use Rattle.model.specs.declared.answer.Inserted.{Inserted}
@@ -44,23 +44,23 @@ module _ {A B R Q : Type 0} (flat : Answer → R) (answer : A → Answer) (flat�
   less-by false g y =
       ap₂ (λ (q : Q) (n : ℕ). left q (headAfter n (y .after .head) (g .head)) (y .after .leaves) (y .after .inners) (y .after .homes)) (alike (y .answer)) (numbered (y .answer))
 
--- `locate` without the effect position
+-- `locate` without the two positions
 abbrev pub less : FlatLocated → FlatSelected
 less r = record { number = r .number; leaf = r .leaf; slot = r .slot; stamp = r .stamp; offset = r .offset }
 
-less-answer : (a : Located) → less (locatedOf (locatedAnswer a)) ≡ selectedOf (selectedAnswer (lessEffect a))
-less-answer (located.At c offset position) = refl
+less-answer : (a : Located) → less (locatedOf (locatedAnswer a)) ≡ selectedOf (selectedAnswer (lessPositions a))
+less-answer (located.At c offset effect prepare) = refl
 less-answer (located.Refused n) = refl
 
-less-number : (a : Located) → locatedAnswer a .number ≡ selectedAnswer (lessEffect a) .number
-less-number (located.At c offset position) = refl
+less-number : (a : Located) → locatedAnswer a .number ≡ selectedAnswer (lessPositions a) .number
+less-number (located.At c offset effect prepare) = refl
 less-number (located.Refused n) = refl
 
 pub less-left : (g : Given) (v index : ℕ) (r : FlatLocated) (w ls xs hs : List ℕ) → left r w ls xs hs ≡ locate g v index → left (less r) w ls xs hs ≡ charIndexToEntry g v index
 unfolding locate charIndexToEntry calls.charIndexToEntry
 less-left g v index r w ls xs hs e =
     ap (lessLeft less) e
-    ∙ less-by locatedOf locatedAnswer selectedOf selectedAnswer lessEffect less refl less-answer less-number (badHead (g .head) || ltb 1 v) g
+    ∙ less-by locatedOf locatedAnswer selectedOf selectedAnswer lessPositions less refl less-answer less-number (badHead (g .head) || ltb 1 v) g
     (calls.locate base (stateOf g) (viewNumber (viewFrom v)) index)
 
 -- other lengths: with the position, and without

@@ -1,5 +1,5 @@
 -- The exported calls that write the lent head, on the words that a host lends: model's call between the conversions.
--- A head that isn't fifteen words, and a flag or view that is neither 0 nor 1, are refused by 10 before anything else, with head and
+-- A head that isn't seventeen words, and a flag or view that is neither 0 nor 1, are refused by 10 before anything else, with head and
 -- areas as given. Assumes nothing.
 use mathlib.Core.Bool.{Bool, cond, not, _||_}
 use mathlib.Core.List.{List}
@@ -46,7 +46,7 @@ numberAlone a = a .number
 -- a refused make leaves a head of zeros
 unfoldable pub make : ℕ → ℕ → FlatLengths → Given → Left ℕ
 make fan limit l g =
-    leftBy numberAlone outcomeAnswer (λ n h w. headWords h) (not (eqb (length (g .head)) 15)) g (calls.make base fan limit (listOf (lengthsFrom l)) (g .leaves) (g .inners) (g .homes))
+    leftBy numberAlone outcomeAnswer (λ n h w. headWords h) (not (eqb (length (g .head)) 17)) g (calls.make base fan limit (listOf (lengthsFrom l)) (g .leaves) (g .inners) (g .homes))
 
 unfoldable pub reset : Given → FlatLengths → Left ℕ
 reset g l = leftBy numberAlone outcomeAnswer headAfter (badHead (g .head)) g (calls.reset base (stateOf g) (listOf (lengthsFrom l)))

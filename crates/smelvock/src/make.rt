@@ -26,7 +26,7 @@ pub extern "C" fn smelvock_new(
 ) -> u32
     ensures { λ r. ⌜ left r (now (head .exit)) (now (leaves .exit)) (now (inners .exit)) (now (homes .exit)) ≡ flat.make fan limit lengths (given (now (head .entry)) (now (leaves .entry)) (now (inners .entry)) (now (homes .entry))) ⌝ }
 {
-    if head.len() != 15 {
+    if head.len() != 17 {
         return 10;
     }
     let r = new(fan, limit, lengths_from(lengths), leaves, inners, homes);

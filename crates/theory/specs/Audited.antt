@@ -142,6 +142,8 @@ module _ (K : Kind) (t : State) (w : Sound K t) where
         effect = st (K .effect) (f .effect) (q .effect);
         within = q .within ∙ sym (start-at (stride K) (t .head .fan) (f .view) (f .slot) (leafIn (stride K) t k) td sl);
         effectWithin = q .effectWithin ∙ sym (start-at (stride K) (t .head .fan) (K .effect) (f .slot) (leafIn (stride K) t k) td sl);
+        prepareStart = st 0 (f .prepare) (q .prepareStart);
+        prepareWithin = q .prepareWithin ∙ sym (start-at (stride K) (t .head .fan) 0 (f .slot) (leafIn (stride K) t k) td sl);
       }
 
   sound-facts : SoundBy K t

@@ -93,7 +93,7 @@ selected-bare (selected.At c offset) = done-bare _
 selected-bare (selected.Refused n) = refused-bare n
 
 located-bare : (a : Located) → Bare (answer.locatedAnswer a)
-located-bare (located.At c offset position) = done-bare _
+located-bare (located.At c offset effect prepare) = done-bare _
 located-bare (located.Refused n) = refused-bare n
 
 inserted-bare : (a : Inserted) → Bare (insertedAnswer a)
@@ -121,7 +121,7 @@ module _ (K : Kind) (s : State) where
   following-bare (next.Refused n) = refused-bare n
 
   looked-bare : (t : State) (a : Located) → Bare (byId.locatedAnswer K t a)
-  looked-bare t (located.At c offset position) = id-bare (calls.id K t c) (offset ∷ position ∷ [])
+  looked-bare t (located.At c offset effect prepare) = id-bare (calls.id K t c) (offset ∷ effect ∷ prepare ∷ [])
   looked-bare t (located.Refused n) = refused-bare n
 
   parted-bare : (a : Divided) → Bare (byId.dividedAnswer a)

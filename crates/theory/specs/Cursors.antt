@@ -124,15 +124,15 @@ module _ (K : Kind) (ok : K .effect < K .views) (s : State) (w : Sound K s) wher
   locate-at v lv x = go (calls.locate K s v x .answer) (step-lookup K ok s w v lv x .same)
     where
       go : (a : Located) → locatedAnswer K (calls.locate K s v x .after) a ≡ rowStep K (rowOf K s) (row.lookup v x) .answer → LocatedAt K (calls.locate K s v x .after) a (rowStep K (rowOf K s) (row.lookup v x) .answer)
-      go (located.At c offset position) e = answered-at K (calls.locate K s v x .after) (step-lookup K ok s w v lv x .kept .sound) c (offset ∷ position ∷ []) (rowStep K (rowOf K s) (row.lookup v x) .answer) (looked-not-stale K (rowOf K s) v x) e
+      go (located.At c offset effect prepare) e = answered-at K (calls.locate K s v x .after) (step-lookup K ok s w v lv x .kept .sound) c (offset ∷ effect ∷ prepare ∷ []) (rowStep K (rowOf K s) (row.lookup v x) .answer) (looked-not-stale K (rowOf K s) v x) e
       go (located.Refused n) e = sym e
 
   pub select-at : (v : ℕ) (lv : v < K .views) (x : ℕ) → (let r = calls.charIndexToEntry K s v x in SelectedAt K (r .after) (r .answer) (rowStep K (rowOf K s) (row.lookup v x) .answer))
   unfolding calls.charIndexToEntry
   select-at v lv x = go (calls.locate K s v x .answer) (locate-at v lv x)
     where
-      go : (a : Located) → LocatedAt K (calls.locate K s v x .after) a (rowStep K (rowOf K s) (row.lookup v x) .answer) → SelectedAt K (calls.locate K s v x .after) (calls.lessEffect a) (rowStep K (rowOf K s) (row.lookup v x) .answer)
-      go (located.At c offset position) h = (h .0, position, h .1, h .2)
+      go : (a : Located) → LocatedAt K (calls.locate K s v x .after) a (rowStep K (rowOf K s) (row.lookup v x) .answer) → SelectedAt K (calls.locate K s v x .after) (calls.lessPositions a) (rowStep K (rowOf K s) (row.lookup v x) .answer)
+      go (located.At c offset effect prepare) h = (h .0, effect, prepare, h .1, h .2)
       go (located.Refused n) h = h
 
   pub split-at : (c : Cursor) (i : ℕ) → At K s c i → (l : List ℕ) (wl : length l ≡ K .views) (flag : Bool)

@@ -254,6 +254,8 @@ module _ (s : ℕ) (t : State) (e : ℕ) (w : SoundAt s t e) where
         effect = r .effect ∙ start-of k (r .leaf) e;
         within = r .within ∙ sum-take (f .view) (f .slot) (used (leafIn s t k));
         effectWithin = r .effectWithin ∙ sum-take e (f .slot) (used (leafIn s t k));
+        prepareStart = r .prepareStart ∙ start-of k (r .leaf) 0;
+        prepareWithin = r .prepareWithin ∙ sum-take 0 (f .slot) (used (leafIn s t k));
       }
 
   -- a sound state's tree is sound

@@ -93,6 +93,8 @@ module _ (K : Kind) (t : State) where
     pub effect : leafStart K t (K .effect) (leafIn (stride K) t (f .leaf)) ≡ sum.Is (f .effect)
     pub within : f .within ≡ node.start (f .view) (f .slot) (leafIn (stride K) t (f .leaf))
     pub effectWithin : f .«effect_within» ≡ node.start (K .effect) (f .slot) (leafIn (stride K) t (f .leaf))
+    pub prepareStart : leafStart K t 0 (leafIn (stride K) t (f .leaf)) ≡ sum.Is (f .prepare)
+    pub prepareWithin : f .«prepare_within» ≡ node.start 0 (f .slot) (leafIn (stride K) t (f .leaf))
 
   abbrev pub HandBy : Held → Type 0
   HandBy held.Absent = Unit {0}
@@ -232,7 +234,11 @@ module _ (K : Kind) (t : State) where
       let g : Bool = isSum (f .effect) (leafStart K t (K .effect) n) in
       let h : Bool = eqb (f .within) (node.start (f .view) (f .slot) n) in
       let i : Bool = eqb (f .«effect_within») (node.start (K .effect) (f .slot) n) in
-      let r1 = both (a && b && c && d && g && h) i e in
+      let j : Bool = isSum (f .prepare) (leafStart K t 0 n) in
+      let k : Bool = eqb (f .«prepare_within») (node.start 0 (f .slot) n) in
+      let q1 = both (a && b && c && d && g && h && i && j) k e in
+      let q2 = both (a && b && c && d && g && h && i) j (q1 .0) in
+      let r1 = both (a && b && c && d && g && h) i (q2 .0) in
       let r2 = both (a && b && c && d && g) h (r1 .0) in
       let r3 = both (a && b && c && d) g (r2 .0) in
       let r4 = both (a && b && c) d (r3 .0) in
@@ -246,6 +252,8 @@ module _ (K : Kind) (t : State) where
         effect = is-sum (f .effect) (leafStart K t (K .effect) n) (r3 .1);
         within = eqb-true (f .within) (node.start (f .view) (f .slot) n) (r2 .1);
         effectWithin = eqb-true (f .«effect_within») (node.start (K .effect) (f .slot) n) (r1 .1);
+        prepareStart = is-sum (f .prepare) (leafStart K t 0 n) (q2 .1);
+        prepareWithin = eqb-true (f .«prepare_within») (node.start 0 (f .slot) n) (q1 .1);
       }
 
   finger-test : (f : Finger) → FingerBy f → isFinger K t f ≡ true
@@ -258,10 +266,13 @@ module _ (K : Kind) (t : State) where
         lt-ltb (f .slot) (n .len) (h .slot),
         h .start,
         h .effect,
+        h .prepareStart,
         eq-eqb (f .start) (f .start) refl,
         eq-eqb (f .effect) (f .effect) refl,
+        eq-eqb (f .prepare) (f .prepare) refl,
         eq-eqb (f .within) (node.start (f .view) (f .slot) n) (h .within),
         eq-eqb (f .«effect_within») (node.start (K .effect) (f .slot) n) (h .effectWithin),
+        eq-eqb (f .«prepare_within») (node.start 0 (f .slot) n) (h .prepareWithin),
       )
 
   hand-by : (h : Held) → isHeldFinger K t h ≡ true → HandBy h

@@ -1,5 +1,5 @@
 -- The call `lookup` on a sound state answers what the row answers; the finger that it leaves is right.
-use mathlib.Core.Path.{_≡_, refl, sym, ap, _∙_, subst}
+use mathlib.Core.Path.{_≡_, refl, sym, ap, ap₂, _∙_, subst}
 use mathlib.Core.Logic.{_⊎_, inl, inr}
 use mathlib.Core.List.{List, [], _∷_, _++_, map}
 use Prim.Native.Nat.{ℕ, suc, _+_, _%_, _^_, _≤_, _<_}
@@ -11,7 +11,7 @@ use Rattle.model.specs.declared.shape.Kind.{Kind}
 use Rattle.model.specs.Lists.{sumBy, refusal}
 use Rattle.model.specs.Node.{child}
 use Rattle.model.specs.State.{State, state}
-use Rattle.model.specs.Locate.{finger, effectAt, servedBy, fromRoot}
+use Rattle.model.specs.Locate.{finger, effectAt, prepareAt, servedBy, fromRoot}
 use Rattle.model.specs.Place.{withFinger}
 use Rattle.model.specs.Row as row
 use Rattle.model.specs.Row.{Entry, done, refused, moved, found, rowStep}
@@ -94,7 +94,7 @@ module _ (K : Kind) (ok : K .effect < K .views) (t : State) (w : Sound K t) wher
       })
       (record {
         body = body-fingered f;
-        finger = record { leaf-in = r .leaf-in; slot-in = r .slot-in; start = r .start; effect = r .effect; within = r .within; effectWithin = r .effectWithin };
+        finger = record { leaf-in = r .leaf-in; slot-in = r .slot-in; start = r .start; effect = r .effect; within = r .within; effectWithin = r .effectWithin; prepareStart = r .prepareStart; prepareWithin = r .prepareWithin };
       })
 
   total-is : (v : ℕ) → v < K .views → row.total v (entriesOf K t) ≡ sumBy (len v) (tree.row (treeOf (stride K) t))
@@ -120,12 +120,16 @@ module _ (K : Kind) (ok : K .effect < K .views) (t : State) (w : Sound K t) wher
       let es : entriesOf K t ≡ map (entryFrom (K .views)) (k .front) ++ entryFrom (K .views) e ∷ map (entryFrom (K .views)) (k .behind) = entries-are K t w ∙ ap (map (entryFrom (K .views))) (k .row) ∙ split-entries (K .views) (k .front) e (k .behind) in
       let all : sumBy (len (K .effect)) (tree.row T) ≡ sumBy (len (K .effect)) (k .front) + sumBy (len (K .effect)) (e ∷ k .behind) = ap (sumBy (len (K .effect))) (k .row) ∙ sumBy-append (len (K .effect)) (k .front) (e ∷ k .behind) in
       let pos : (f .effect + f .«effect_within») % 2 ^ 32 ≡ sumBy (len (K .effect)) (k .front) = omega (arith, k .effect, body-of (stride K) t (K .effect) w .totals (K .effect)) in
+      let all0 : sumBy (len 0) (tree.row T) ≡ sumBy (len 0) (k .front) + sumBy (len 0) (e ∷ k .behind) = ap (sumBy (len 0)) (k .row) ∙ sumBy-append (len 0) (k .front) (e ∷ k .behind) in
+      let pre : (f .prepare + f .«prepare_within») % 2 ^ 32 ≡ sumBy (len 0) (k .front) = omega (arith, k .prepare, body-of (stride K) t (K .effect) w .totals 0) in
+      let tp : row.total 0 (map (entryFrom (K .views)) (k .front)) ≡ sumBy (len 0) (k .front) = total-entries (K .views) 0 (k .front) (let z = lv in omega arith) in
       let tv : row.total v (map (entryFrom (K .views)) (k .front)) ≡ sumBy (len v) (k .front) = total-entries (K .views) v (k .front) lv in
       let te : row.total (K .effect) (map (entryFrom (K .views)) (k .front)) ≡ sumBy (len (K .effect)) (k .front) = total-entries (K .views) (K .effect) (k .front) (ok) in
-      rw (row-passed (rowOf K t) (row.noSuchPosition (rowOf K t) v x ∷ []) (entriesOf K t) (done (found K v x 0 0 (entriesOf K t))) (rw (lt-leb (row.total v (entriesOf K t)) x (below-total v lv x f offset k)))) (record {
-        same = ap (λ (n : Named). idAnswer n (offset ∷ effectAt f ∷ [])) (id-at K t′ w′ (f .leaf) (f .slot) (k .right .leaf-in) lf)
-            ∙ ap (λ (p : ℕ). done (e .child ∷ offset ∷ p ∷ [])) (pos ∙ (let z : sumBy (len (K .effect)) (k .front) ≡ 0 + row.total (K .effect) (map (entryFrom (K .views)) (k .front)) = omega arith in z))
-            ∙ sym (ap (λ (l : List Entry). done (found K v x 0 0 l)) es ∙ ap done (found-at K v x 0 0 (map (entryFrom (K .views)) (k .front)) (entryFrom (K .views) e) (map (entryFrom (K .views)) (k .behind)) offset (omega (arith, k .sums))
+      rw (row-passed (rowOf K t) (row.noSuchPosition (rowOf K t) v x ∷ []) (entriesOf K t) (done (found K v x 0 0 0 (entriesOf K t))) (rw (lt-leb (row.total v (entriesOf K t)) x (below-total v lv x f offset k)))) (record {
+        same = ap (λ (n : Named). idAnswer n (offset ∷ effectAt f ∷ prepareAt f ∷ [])) (id-at K t′ w′ (f .leaf) (f .slot) (k .right .leaf-in) lf)
+            ∙ ap₂ (λ (p q : ℕ). done (e .child ∷ offset ∷ p ∷ q ∷ [])) (pos ∙ (let z : sumBy (len (K .effect)) (k .front) ≡ 0 + row.total (K .effect) (map (entryFrom (K .views)) (k .front)) = omega arith in z))
+            (pre ∙ (let z : sumBy (len 0) (k .front) ≡ 0 + row.total 0 (map (entryFrom (K .views)) (k .front)) = omega arith in z))
+            ∙ sym (ap (λ (l : List Entry). done (found K v x 0 0 0 l)) es ∙ ap done (found-at K v x 0 0 0 (map (entryFrom (K .views)) (k .front)) (entryFrom (K .views) e) (map (entryFrom (K .views)) (k .behind)) offset (omega (arith, k .sums))
             (subst (λ (n : ℕ). offset < n) (sym (getD-firsts (K .views) (e .lens) v lv)) (k .inside))));
         kept = record { sound = w′; entries = entries-are K t′ w′ ∙ sym (entries-are K t w); limit = refl };
       })
@@ -134,7 +138,7 @@ module _ (K : Kind) (ok : K .effect < K .views) (t : State) (w : Sound K t) wher
   lost-step : (v : ℕ) (lv : v < K .views) (x : ℕ) → sumBy (len v) (tree.row (treeOf (stride K) t)) ≤ x → Agrees K (moved t (refused 5)) (rowStep K (rowOf K t) (row.lookup v x))
   unfolding rowStep refusal
   lost-step v lv x le =
-      rw (row-stopped (rowOf K t) (row.noSuchPosition (rowOf K t) v x ∷ []) (entriesOf K t) (done (found K v x 0 0 (entriesOf K t))) 4 (rw (le-leb (row.total v (entriesOf K t)) x (omega (arith, total-is v lv, le)))))
+      rw (row-stopped (rowOf K t) (row.noSuchPosition (rowOf K t) v x ∷ []) (entriesOf K t) (done (found K v x 0 0 0 (entriesOf K t))) 4 (rw (le-leb (row.total v (entriesOf K t)) x (omega (arith, total-is v lv, le)))))
       (record { same = refl; kept = own K t w })
 
   by-search : (v : ℕ) (lv : v < K .views) (x : ℕ) (a b : Search) → (Got (stride K) (K .effect) t v x a) ⊎ (a ≡ search.Nothing)

@@ -81,9 +81,12 @@ module _ (s ε : ℕ) (t : State) (w : SoundAt s t ε) (v : ℕ) where
       ew : f .«effect_within» ≡ node.total ε (take (f .slot) (used (leafIn s t (f .leaf))))
       ew = r .effectWithin ∙ sym (sum-take ε (f .slot) (used (leafIn s t (f .leaf))))
 
-      hit : f .view ≡ v → f .start ≤ x → (q : Reached v ε (used (leafIn s t (f .leaf))) f (x - f .start)) → Looked ε (treeOf s t) v x (finger (f .view) (f .leaf) (f .start) (f .effect) (q .slot) (x - f .start - q .offset) (q .effectWithin)) (q .offset)
+      pw : f .«prepare_within» ≡ node.total 0 (take (f .slot) (used (leafIn s t (f .leaf))))
+      pw = r .prepareWithin ∙ sym (sum-take 0 (f .slot) (used (leafIn s t (f .leaf))))
+
+      hit : f .view ≡ v → f .start ≤ x → (q : Reached v ε (used (leafIn s t (f .leaf))) f (x - f .start)) → Looked ε (treeOf s t) v x (finger (f .view) (f .leaf) (f .start) (f .effect) (q .slot) (x - f .start - q .offset) (q .effectWithin) (f .prepare) (q .prepareWithin)) (q .offset)
       hit e le q =
-          at-finger ε (treeOf s t) (body-of s t ε w) v x (finger (f .view) (f .leaf) (f .start) (f .effect) (q .slot) (x - f .start - q .offset) (q .effectWithin)) (q .offset)
+          at-finger ε (treeOf s t) (body-of s t ε w) v x (finger (f .view) (f .leaf) (f .start) (f .effect) (q .slot) (x - f .start - q .offset) (q .effectWithin) (f .prepare) (q .prepareWithin)) (q .offset)
           (record {
             leaf-in = r .leaf-in;
             slot-in = omega (arith, q .slot-in, used-size (f .leaf));
@@ -91,6 +94,8 @@ module _ (s ε : ℕ) (t : State) (w : SoundAt s t ε) (v : ℕ) where
             effect = r .effect;
             within = (let z : x - f .start - q .offset ≡ node.total v (take (q .slot) (used (leafIn s t (f .leaf)))) = omega (arith, q .sums) in z) ∙ ap (λ (u : ℕ). node.total u (take (q .slot) (used (leafIn s t (f .leaf))))) (sym e) ∙ sum-take (f .view) (q .slot) (used (leafIn s t (f .leaf)));
             effectWithin = q .effect ∙ sum-take ε (q .slot) (used (leafIn s t (f .leaf)));
+            prepareStart = r .prepareStart;
+            prepareWithin = q .prepare ∙ sum-take 0 (q .slot) (used (leafIn s t (f .leaf)));
           })
           e (omega (arith, q .sums)) (subst (λ (y : Slot). q .offset < len v y) (sym (getD-slot (used (leafIn s t (f .leaf))) (q .slot) (q .slot-in))) (q .inside))
 
@@ -104,16 +109,16 @@ module _ (s ε : ℕ) (t : State) (w : SoundAt s t ε) (v : ℕ) where
 
           walk : Dec (x - f .start < node.total v (used (leafIn s t (f .leaf)))) → Got s ε t v x (served v ε (shapeIn s t) f (t .head .leaves) x (t .leaves)) ⊎ (served v ε (shapeIn s t) f (t .head .leaves) x (t .leaves) ≡ search.Nothing)
           walk (yes lt) =
-              let q : Reached v ε (used (leafIn s t (f .leaf))) f (x - f .start) = walk-hit v ε (used (leafIn s t (f .leaf))) (leaf-small v (f .leaf) (r .leaf-in)) (leaf-small ε (f .leaf) (r .leaf-in)) f (x - f .start) fits (wi e) ew lt in
+              let q : Reached v ε (used (leafIn s t (f .leaf))) f (x - f .start) = walk-hit v ε (used (leafIn s t (f .leaf))) (leaf-small v (f .leaf) (r .leaf-in)) (leaf-small ε (f .leaf) (r .leaf-in)) (leaf-small 0 (f .leaf) (r .leaf-in)) f (x - f .start) fits (wi e) ew pw lt in
               inl (record {
-                finger = finger (f .view) (f .leaf) (f .start) (f .effect) (q .slot) (x - f .start - q .offset) (q .effectWithin);
+                finger = finger (f .view) (f .leaf) (f .start) (f .effect) (q .slot) (x - f .start - q .offset) (q .effectWithin) (f .prepare) (q .prepareWithin);
                 offset = q .offset;
                 is = rw (eq-eqb (f .view) v e, le-leb (f .start) x (omega arith), lt-ltb (f .leaf) (t .head .leaves) (r .leaf-in), le-leb (leafIn s t (f .leaf) .len) (t .head .fan) (w .leaf-filled (f .leaf) (r .leaf-in) .high), lt-ltb (f .slot) (leafIn s t (f .leaf) .len) (omega (arith, r .slot-in, sz))) (q .is);
                 view = e;
                 looked = hit e (omega arith) q;
               })
           walk (no le) = inr (rw (eq-eqb (f .view) v e, le-leb (f .start) x (omega arith), lt-ltb (f .leaf) (t .head .leaves) (r .leaf-in), le-leb (leafIn s t (f .leaf) .len) (t .head .fan) (w .leaf-filled (f .leaf) (r .leaf-in) .high), lt-ltb (f .slot) (leafIn s t (f .leaf) .len) (omega (arith, r .slot-in, sz)))
-              (walk-miss v ε (used (leafIn s t (f .leaf))) (leaf-small v (f .leaf) (r .leaf-in)) (leaf-small ε (f .leaf) (r .leaf-in)) f (x - f .start) fits (wi e) ew (omega arith)))
+              (walk-miss v ε (used (leafIn s t (f .leaf))) (leaf-small v (f .leaf) (r .leaf-in)) (leaf-small ε (f .leaf) (r .leaf-in)) (leaf-small 0 (f .leaf) (r .leaf-in)) f (x - f .start) fits (wi e) ew pw (omega arith)))
 
   pub servedBy-is : (h : Held) → tree.Right ε (treeOf s t) h → (x : ℕ) → Got s ε t v x (servedBy v ε (shapeIn s t) h (t .head .leaves) x (t .leaves)) ⊎ (servedBy v ε (shapeIn s t) h (t .head .leaves) x (t .leaves) ≡ search.Nothing)
   servedBy-is held.Absent r x = inr refl
@@ -132,7 +137,7 @@ module _ (s ε : ℕ) (t : State) (w : SoundAt s t ε) (v : ℕ) where
       low = treeOf s t .body .leaf
 
       go : Arrived s t v ε (total (treeOf s t .body .leaf)) (t .head .root .0) (order (treeOf s t)) (t .head .levels) x → Got s ε t v x (fromRoot v ε (shapeIn s t) (t .head .levels) (t .head .root .0) (t .head .leaves) x (t .leaves) (t .inners))
-      go q = there (find-hit v ε 0 (q .r) 0 (used (leafIn s t (q .c))) (let z = sum-slots v (used (leafIn s t (q .c))) in let y = q .inside in omega arith))
+      go q = there (find-hit v ε 0 (q .r) 0 0 (used (leafIn s t (q .c))) (let z = sum-slots v (used (leafIn s t (q .c))) in let y = q .inside in omega arith))
         where
           lc : q .c < t .head .leaves
           lc = leaf-here (treeOf s t) (q .A) (q .c) (q .B) (above (treeOf s t)) (subst (λ (C : List ℕ). BodyAt (treeOf s t) C (above (treeOf s t))) (q .row) (body-of s t ε w))
@@ -140,7 +145,7 @@ module _ (s ε : ℕ) (t : State) (w : SoundAt s t ε) (v : ℕ) where
           cl : (u : ℕ) → climb u (treeOf s t .body .leaf) (treeOf s t .body .inner) (t .head .levels) (q .c) ≡ sumBy (λ c. total (treeOf s t .body .leaf) c u) (q .A)
           cl u = climb-at (treeOf s t) (q .A) (q .c) (q .B) (above (treeOf s t)) (subst (λ (C : List ℕ). BodyAt (treeOf s t) C (above (treeOf s t))) (q .row) (body-of s t ε w)) u ∙ sumBy-cat (len u) (treeOf s t .body .leaf .slots) (q .A)
 
-          there : Hit v ε 0 (q .r) 0 (used (leafIn s t (q .c))) → Got s ε t v x (fromRoot v ε (shapeIn s t) (t .head .levels) (t .head .root .0) (t .head .leaves) x (t .leaves) (t .inners))
+          there : Hit v ε 0 (q .r) 0 0 (used (leafIn s t (q .c))) → Got s ε t v x (fromRoot v ε (shapeIn s t) (t .head .levels) (t .head .root .0) (t .head .leaves) x (t .leaves) (t .inners))
           there h =
               let xs : List (List ℕ) = used (leafIn s t (q .c)) in
               let j : ℕ = length (h .front) in
@@ -150,15 +155,24 @@ module _ (s ε : ℕ) (t : State) (w : SoundAt s t ε) (v : ℕ) where
               let tot : sumBy (len ε) (tree.row (treeOf s t)) ≡ sumBy (λ c. total (treeOf s t .body .leaf) c ε) (q .A) + sumBy (len ε) (cat (treeOf s t .body .leaf .slots) (q .c ∷ q .B)) =
               ap (λ (C : List ℕ). sumBy (len ε) (cat (treeOf s t .body .leaf .slots) C)) (q .row) ∙ ap (sumBy (len ε)) (cat-append (treeOf s t .body .leaf .slots) (q .A) (q .c ∷ q .B)) ∙ sumBy-append (len ε) (cat (treeOf s t .body .leaf .slots) (q .A)) (cat (treeOf s t .body .leaf .slots) (q .c ∷ q .B))
               ∙ ap (λ (n : ℕ). n + sumBy (len ε) (cat (treeOf s t .body .leaf .slots) (q .c ∷ q .B))) (sumBy-cat (len ε) (treeOf s t .body .leaf .slots) (q .A)) in
+              let tot0 : sumBy (len 0) (tree.row (treeOf s t)) ≡ sumBy (λ c. total (treeOf s t .body .leaf) c 0) (q .A) + sumBy (len 0) (cat (treeOf s t .body .leaf .slots) (q .c ∷ q .B)) =
+              ap (λ (C : List ℕ). sumBy (len 0) (cat (treeOf s t .body .leaf .slots) C)) (q .row) ∙ ap (sumBy (len 0)) (cat-append (treeOf s t .body .leaf .slots) (q .A) (q .c ∷ q .B)) ∙ sumBy-append (len 0) (cat (treeOf s t .body .leaf .slots) (q .A)) (cat (treeOf s t .body .leaf .slots) (q .c ∷ q .B))
+              ∙ ap (λ (n : ℕ). n + sumBy (len 0) (cat (treeOf s t .body .leaf .slots) (q .c ∷ q .B))) (sumBy-cat (len 0) (treeOf s t .body .leaf .slots) (q .A)) in
+              let pf : node.total 0 (take j xs) ≡ node.total 0 (h .front) = ap (node.total 0) tk in
+              let sm0 : node.total 0 (h .front) < 4294967296 = (let z = leaf-small 0 (q .c) lc in let y = total-split 0 j xs in omega arith) in
+              let rp : q .p % 2 ^ 32 ≡ q .p = omega (arith, q .prepare, body-of s t ε w .totals 0) in
+              let rq : (0 + node.total 0 (h .front)) % 2 ^ 32 ≡ node.total 0 (h .front) = omega arith in
               let ef : node.total ε (take j xs) ≡ node.total ε (h .front) = ap (node.total ε) tk in
               let sm : node.total ε (h .front) < 4294967296 = (let z = leaf-small ε (q .c) lc in let y = total-split ε j xs in omega arith) in
               let ra : q .a % 2 ^ 32 ≡ q .a = omega (arith, q .effect, body-of s t ε w .totals ε) in
               let re : (0 + node.total ε (h .front)) % 2 ^ 32 ≡ node.total ε (h .front) = omega arith in
-              let f : Finger = finger v (q .c) (x - q .r) (q .a) j (q .r - h .offset) (node.total ε (h .front)) in
+              let f : Finger = finger v (q .c) (x - q .r) (q .a) j (q .r - h .offset) (node.total ε (h .front)) (q .p) (node.total 0 (h .front)) in
               record {
                 finger = f;
                 offset = h .offset;
-                is = ap (leafOf v ε (shapeIn s t) (t .head .leaves) x (t .leaves)) (q .got) ∙ rw (leaf-ok (q .c) lc, h .got) (ap₂ (λ (a b : ℕ). search.At (finger v (q .c) (x - q .r) a (0 + j) (q .r - h .offset) b) (h .offset)) ra re ∙ ap (λ (i : ℕ). search.At (finger v (q .c) (x - q .r) (q .a) i (q .r - h .offset) (node.total ε (h .front))) (h .offset)) (zero-add j));
+                is = ap (leafOf v ε (shapeIn s t) (t .head .leaves) x (t .leaves)) (q .got) ∙ rw (leaf-ok (q .c) lc, h .got) (ap₂ (λ (a b : ℕ). search.At (finger v (q .c) (x - q .r) a (0 + j) (q .r - h .offset) b (q .p % 2 ^ 32) ((0 + node.total 0 (h .front)) % 2 ^ 32)) (h .offset)) ra re
+                    ∙ ap₂ (λ (a b : ℕ). search.At (finger v (q .c) (x - q .r) (q .a) (0 + j) (q .r - h .offset) (node.total ε (h .front)) a b) (h .offset)) rp rq
+                    ∙ ap (λ (i : ℕ). search.At (finger v (q .c) (x - q .r) (q .a) i (q .r - h .offset) (node.total ε (h .front)) (q .p) (node.total 0 (h .front))) (h .offset)) (zero-add j));
                 view = refl;
                 looked = at-finger ε (treeOf s t) (body-of s t ε w) v x f (h .offset)
                     (record {
@@ -168,6 +182,8 @@ module _ (s ε : ℕ) (t : State) (w : SoundAt s t ε) (v : ℕ) where
                       effect = omega (arith, cl ε, q .effect);
                       within = (let z : q .r - h .offset ≡ node.total v (take j xs) = (let y : node.total v (take j xs) ≡ node.total v (h .front) = ap (node.total v) tk in omega (arith, h .sums)) in z) ∙ sum-take v j xs;
                       effectWithin = sym ef ∙ sum-take ε j xs;
+                      prepareStart = omega (arith, cl 0, q .prepare);
+                      prepareWithin = sym pf ∙ sum-take 0 j xs;
                     })
                     refl (omega (arith, q .sums, h .sums)) (subst (λ (y : Slot). h .offset < len v y) (sym (getD-slot xs j lj)) (subst (λ (y : List ℕ). h .offset < lengthIn v y) (sym gd) (h .inside)));
               }
@@ -179,9 +195,9 @@ module _ (s ε : ℕ) (t : State) (w : SoundAt s t ε) (v : ℕ) where
       lr : t .head .root .0 < t .head .inners
       lr = body-of s t ε w .fit .root-in
 
-      go : (n : ℕ) → t .head .levels ≡ n → leafOf v ε (shapeIn s t) (t .head .leaves) x (t .leaves) (descend v ε (shapeIn s t) descent.Nothing (t .head .levels) (t .head .root .0) x 0 (t .inners)) ≡ search.Nothing
+      go : (n : ℕ) → t .head .levels ≡ n → leafOf v ε (shapeIn s t) (t .head .leaves) x (t .leaves) (descend v ε (shapeIn s t) descent.Nothing (t .head .levels) (t .head .root .0) x 0 0 (t .inners)) ≡ search.Nothing
       go zero q = absurd (omega (arith, w .levels-least))
       go (suc n) q =
           let m : ℕ = node.total v (used (innerIn s t (t .head .root .0))) in
           let e : m ≡ sumBy (len v) (tree.row (treeOf s t)) = sym (sum-slots v (used (innerIn s t (t .head .root .0)))) ∙ total-is (treeOf s t) (body-of s t ε w) v in
-          rw (q, node-ok s t (neat-of s t ε w) v ε (t .head .root .0) lr, find-miss v ε 0 x 0 (used (innerIn s t (t .head .root .0))) (omega arith))
+          rw (q, node-ok s t (neat-of s t ε w) v ε (t .head .root .0) lr, find-miss v ε 0 x 0 0 (used (innerIn s t (t .head .root .0))) (omega arith))

@@ -15,7 +15,7 @@ use Rattle.model.specs.Lists.{Cause, cause, refusal, All}
 use Rattle.model.specs.Node.{none, child, lengths, used, findFrom, newNode, minus, wrap}
 use Rattle.model.specs.State.{State, state, headOf, shape, nodeAt}
 use Rattle.model.specs.Climb.{lastDown}
-use Rattle.model.specs.Locate.{back, movedTo, walked, served, servedBy, descend, setIn, leafOf, fromRoot, effectAt}
+use Rattle.model.specs.Locate.{back, movedTo, walked, served, servedBy, descend, setIn, leafOf, fromRoot, effectAt, prepareAt}
 use Rattle.model.specs.Place as place
 use Rattle.model.specs.Place.{Change}
 use Rattle.model.specs.Grow.{areas}
@@ -258,9 +258,9 @@ module _ (K : Kind) (s : State) where
       unless-leaves locatedAnswer located.Refused (λ n. refl) s (opening K s) _
       (λ e. finger-leaves (servedBy v (K .effect) (shapeOf K (s .head)) (h .finger) (h .leaves) x (s .leaves)) (fromRoot v (K .effect) (shapeOf K (s .head)) (h .levels) (h .root .0) (h .leaves) x (s .leaves) (s .inners)))
 
-  -- the number is the same without the effect position
-  less-number : (a : Located) → selectedAnswer (calls.lessEffect a) .number ≡ locatedAnswer a .number
-  less-number (located.At c offset position) = refl
+  -- the number is the same without the two positions
+  less-number : (a : Located) → selectedAnswer (calls.lessPositions a) .number ≡ locatedAnswer a .number
+  less-number (located.At c offset effect prepare) = refl
   less-number (located.Refused n) = refl
 
   select-leaves : (v x : ℕ) → Leaves (selectedAnswer (calls.charIndexToEntry K s v x .answer) .number) s (calls.charIndexToEntry K s v x .after)
@@ -300,8 +300,8 @@ module _ (K : Kind) (s : State) where
 
   module _ (v : ℕ) where
     moved-finds : (f : Finger) (index : ℕ) (r : Found) → f .leaf < s .head .leaves → nodeAt (shapeOf K (s .head)) (f .leaf) (s .leaves) .len ≤ s .head .fan
-        → ((j o t : ℕ) → r ≡ At j o t → j < nodeAt (shapeOf K (s .head)) (f .leaf) (s .leaves) .len) → Finds (movedTo v (K .effect) f index r)
-    moved-finds f index (At j o t) a b c = record { leaf = a; filled = b; slot = c j o t refl }
+        → ((j o t u : ℕ) → r ≡ At j o t u → j < nodeAt (shapeOf K (s .head)) (f .leaf) (s .leaves) .len) → Finds (movedTo v (K .effect) f index r)
+    moved-finds f index (At j o t u) a b c = record { leaf = a; filled = b; slot = c j o t u refl }
     moved-finds f index Nothing a b c = tt
 
     walked-finds : (f : Finger) (index : ℕ) → f .leaf < s .head .leaves → nodeAt (shapeOf K (s .head)) (f .leaf) (s .leaves) .len ≤ s .head .fan → f .slot < nodeAt (shapeOf K (s .head)) (f .leaf) (s .leaves) .len
@@ -309,11 +309,11 @@ module _ (K : Kind) (s : State) where
     unfolding walked
     walked-finds f index a b c =
         let slots = used (nodeAt (shapeOf K (s .head)) (f .leaf) (s .leaves)) in
-        let d = back v (K .effect) slots index (f .slot) (f .within) (f .«effect_within») in
-        let le : d .slot ≤ f .slot = back-slot v (K .effect) slots index (f .slot) (f .within) (f .«effect_within») in
-        by-test Finds (ltb index (d .within)) search.Broken (movedTo v (K .effect) f index (findFrom v (K .effect) (d .slot) (index - d .within) (d .effectWithin) (drop (d .slot) slots))) (λ _. tt)
-        (λ _. moved-finds f index (findFrom v (K .effect) (d .slot) (index - d .within) (d .effectWithin) (drop (d .slot) slots)) a b
-        (λ j o t q. let z = used-ranged (shapeOf K (s .head)) v (K .effect) (f .leaf) (d .slot) (index - d .within) (d .effectWithin) (s .leaves) b (omega arith) .slot j o t q in omega arith))
+        let d = back v (K .effect) slots index (f .slot) (f .within) (f .«effect_within») (f .«prepare_within») in
+        let le : d .slot ≤ f .slot = back-slot v (K .effect) slots index (f .slot) (f .within) (f .«effect_within») (f .«prepare_within») in
+        by-test Finds (ltb index (d .within)) search.Broken (movedTo v (K .effect) f index (findFrom v (K .effect) (d .slot) (index - d .within) (d .effectWithin) (d .prepareWithin) (drop (d .slot) slots))) (λ _. tt)
+        (λ _. moved-finds f index (findFrom v (K .effect) (d .slot) (index - d .within) (d .effectWithin) (d .prepareWithin) (drop (d .slot) slots)) a b
+        (λ j o t u q. let z = used-ranged (shapeOf K (s .head)) v (K .effect) (f .leaf) (d .slot) (index - d .within) (d .effectWithin) (d .prepareWithin) (s .leaves) b (omega arith) .slot j o t u q in omega arith))
 
     served-finds : (f : Finger) (x : ℕ) → Finds (served v (K .effect) (shapeOf K (s .head)) f (s .head .leaves) x (s .leaves))
     unfolding served
@@ -331,26 +331,26 @@ module _ (K : Kind) (s : State) where
     held-finds held.Absent x = tt
     held-finds (held.At f) x = served-finds f x
 
-    set-finds : (k index rest n : ℕ) (r : Found) → k < s .head .leaves → nodeAt (shapeOf K (s .head)) k (s .leaves) .len ≤ s .head .fan
-        → ((j o t : ℕ) → r ≡ At j o t → j < nodeAt (shapeOf K (s .head)) k (s .leaves) .len) → Finds (setIn v (K .effect) (shapeOf K (s .head)) k index rest n r)
-    set-finds k index rest n (At j o t) a b c = record { leaf = a; filled = b; slot = c j o t refl }
-    set-finds k index rest n Nothing a b c = tt
+    set-finds : (k index rest n p : ℕ) (r : Found) → k < s .head .leaves → nodeAt (shapeOf K (s .head)) k (s .leaves) .len ≤ s .head .fan
+        → ((j o t u : ℕ) → r ≡ At j o t u → j < nodeAt (shapeOf K (s .head)) k (s .leaves) .len) → Finds (setIn v (K .effect) (shapeOf K (s .head)) k index rest n p r)
+    set-finds k index rest n p (At j o t u) a b c = record { leaf = a; filled = b; slot = c j o t u refl }
+    set-finds k index rest n p Nothing a b c = tt
 
     leaf-finds : (x : ℕ) (d : Descent) → Finds (leafOf v (K .effect) (shapeOf K (s .head)) (s .head .leaves) x (s .leaves) d)
-    leaf-finds x (descent.At k rest n) =
+    leaf-finds x (descent.At k rest n p) =
         let m = nodeAt (shapeOf K (s .head)) (k .0) (s .leaves) in
-        by-test Finds (ltb (k .0) (s .head .leaves) && leb (m .len) (s .head .fan)) (setIn v (K .effect) (shapeOf K (s .head)) (k .0) x rest n (findFrom v (K .effect) 0 rest 0 (used m))) search.Broken
+        by-test Finds (ltb (k .0) (s .head .leaves) && leb (m .len) (s .head .fan)) (setIn v (K .effect) (shapeOf K (s .head)) (k .0) x rest n p (findFrom v (K .effect) 0 rest 0 0 (used m))) search.Broken
         (λ e. let t = every (ltb (k .0) (s .head .leaves)) (leb (m .len) (s .head .fan)) e in
         let b = leb-true (m .len) (s .head .fan) (t .1) in
-        set-finds (k .0) x rest n (findFrom v (K .effect) 0 rest 0 (used m)) (ltb-true (k .0) (s .head .leaves) (t .0)) b
-        (λ j o u q. let z = used-ranged (shapeOf K (s .head)) v (K .effect) (k .0) 0 rest 0 (s .leaves) b (omega arith) .slot j o u q in omega arith))
+        set-finds (k .0) x rest n p (findFrom v (K .effect) 0 rest 0 0 (used m)) (ltb-true (k .0) (s .head .leaves) (t .0)) b
+        (λ j o t u q. let z = used-ranged (shapeOf K (s .head)) v (K .effect) (k .0) 0 rest 0 0 (s .leaves) b (omega arith) .slot j o t u q in omega arith))
         (λ _. tt)
     leaf-finds x descent.Nothing = tt
     leaf-finds x descent.Broken = tt
 
     root-finds : (x : ℕ) → Finds (fromRoot v (K .effect) (shapeOf K (s .head)) (s .head .levels) (s .head .root .0) (s .head .leaves) x (s .leaves) (s .inners))
     unfolding fromRoot
-    root-finds x = leaf-finds x (descend v (K .effect) (shapeOf K (s .head)) descent.Nothing (s .head .levels) (s .head .root .0) x 0 (s .inners))
+    root-finds x = leaf-finds x (descend v (K .effect) (shapeOf K (s .head)) descent.Nothing (s .head .levels) (s .head .root .0) x 0 0 (s .inners))
 
   -- so its id is read
   id-read : (f : Finger) (offset : ℕ) (vs : List ℕ) → refusal (opening K s) ≡ 0 → Seen f
@@ -365,8 +365,8 @@ module _ (K : Kind) (s : State) where
 
   found-leaves : (a b : Search) → refusal (opening K s) ≡ 0 → Finds a → Finds b
       → Leaves (byId.locatedAnswer K (calls.byFinger s a b .after) (calls.byFinger s a b .answer) .number) s (calls.byFinger s a b .after)
-  found-leaves (search.At f offset) b e h k = finished _ s (calls.hit s f offset .after) (id-read f offset (offset ∷ effectAt f ∷ []) e h) refl refl refl
-  found-leaves search.Nothing (search.At f offset) e h k = finished _ s (calls.hit s f offset .after) (id-read f offset (offset ∷ effectAt f ∷ []) e k) refl refl refl
+  found-leaves (search.At f offset) b e h k = finished _ s (calls.hit s f offset .after) (id-read f offset (offset ∷ effectAt f ∷ prepareAt f ∷ []) e h) refl refl refl
+  found-leaves search.Nothing (search.At f offset) e h k = finished _ s (calls.hit s f offset .after) (id-read f offset (offset ∷ effectAt f ∷ prepareAt f ∷ []) e k) refl refl refl
   found-leaves search.Nothing search.Nothing e h k = unmoved 5 s
   found-leaves search.Nothing search.Broken e h k = unmoved 9 s
   found-leaves search.Broken b e h k = unmoved 9 s

@@ -40,11 +40,11 @@ module _ (K : Kind) (t : State) where
       let n = leafIn (stride K) t k in
       h .fan - n .len + 2 + (h .levels + 1) + cond (leb (n .len) (h .fan)) (sumBy (λ i. 2 + i) (range 0 (n .len))) 0
 
-  -- every node in use, the slots in use counted, the root's totals, the finger's sums by two climbs and two sums in its leaf
+  -- every node in use, the slots in use counted, the root's totals, the finger's sums by three climbs and three sums in its leaf
   unfoldable pub steps : ℕ
   steps =
       let h = t .head in
-      sumBy stepsInner (range 0 (h .inners)) + sumBy stepsLeaf (range 0 (h .leaves)) + h .leaves + K .views * h .fan + 2 * (h .fan + 1) * (h .levels + 1)
+      sumBy stepsInner (range 0 (h .inners)) + sumBy stepsLeaf (range 0 (h .leaves)) + h .leaves + K .views * h .fan + 3 * (h .fan + 1) * (h .levels + 1)
 
   -- a child that knows its place, charged to the node that it names as its parent
   abbrev charged : (ℕ → Node) → ℕ → ℕ → ℕ

@@ -106,7 +106,7 @@ grown x f l hf hl =
 
 -- inner nodes, leaves and the rest together; f the fan, l the levels, m inner nodes, n leaves, w the views
 pub all-most : (w f l m n a b : ℕ) → 4 ≤ f → 1 ≤ l → 1 ≤ m → a ≤ m * (l + 2 * f + 3) + (n + m) * (w * f) → b ≤ n * (l + 18 * f + 3)
-    → a + b + n + w * f + 2 * (f + 1) * (l + 1) ≤ (20 + w) * ((n + m) * f * l) + w * f
+    → a + b + n + w * f + 3 * (f + 1) * (l + 1) ≤ (20 + w) * ((n + m) * f * l) + w * f
 all-most w f l m n a b hf hl hm ha hb =
     let x = grown m f l hf hl in
     let y = grown n f l hf hl in

@@ -167,6 +167,8 @@ module _ (s : ℕ) (t : State) (e : ℕ) (n : Neat s t) (b : Body (treeOf s t)) 
     effect = r .effect ∙ start-is (f .leaf) (r .leaf-in) e;
     within = r .within ∙ sym (sum-take (f .view) (f .slot) (used (leafIn s t (f .leaf))));
     effectWithin = r .effectWithin ∙ sym (sum-take e (f .slot) (used (leafIn s t (f .leaf))));
+    prepareStart = r .prepareStart ∙ start-is (f .leaf) (r .leaf-in) 0;
+    prepareWithin = r .prepareWithin ∙ sym (sum-take 0 (f .slot) (used (leafIn s t (f .leaf))));
   }
 
 pub sound-up : (s : ℕ) (t : State) (e : ℕ) → Neat s t → tree.Sound e (treeOf s t) → SoundAt s t e

@@ -247,6 +247,8 @@ module _ (K : Kind) (t : State) (z : Sizes K (t .head .fan) (t .head .limit) (t 
         effect = leaf-sum k (K .effect) (r .leaf) (g .effect) (r .effect);
         within = r .within ∙ start-at (stride K) (t .head .fan) (g .view) (g .slot) (leafIn (stride K) t k) td (omega arith);
         effectWithin = r .effectWithin ∙ start-at (stride K) (t .head .fan) (K .effect) (g .slot) (leafIn (stride K) t k) td (omega arith);
+        prepareStart = leaf-sum k 0 (r .leaf) (g .prepare) (r .prepareStart);
+        prepareWithin = r .prepareWithin ∙ start-at (stride K) (t .head .fan) 0 (g .slot) (leafIn (stride K) t k) td (omega arith);
       }
 
   pub facts-sound : Sound K t

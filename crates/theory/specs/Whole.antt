@@ -61,7 +61,7 @@ unless-keeps r cs a = go (eqb (refusal cs) 0)
 
 lookup-keeps : (K : Kind) (r : Row) (c : Call) → isLookup c ≡ true → rowStep K r c .after ≡ r
 unfolding rowStep
-lookup-keeps K r (row.lookup v x) e = unless-keeps r (row.noSuchPosition r v x ∷ []) (done (row.found K v x 0 0 (r .entries)))
+lookup-keeps K r (row.lookup v x) e = unless-keeps r (row.noSuchPosition r v x ∷ []) (done (row.found K v x 0 0 0 (r .entries)))
 lookup-keeps K r (row.reset l) e = absurd (never e)
 lookup-keeps K r (row.insert i l) e = absurd (never e)
 lookup-keeps K r (row.add i l) e = absurd (never e)

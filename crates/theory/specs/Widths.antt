@@ -43,7 +43,7 @@ in-one e a = record { long = refl; small = (a, tt) }
 -- four inserts split the leaf; then lookups and a rank in the last view, and what the last view alone refuses, by 5, 6 and 7
 abbrev threeCalls : List Call
 threeCalls = row.insert noEntry (2 ∷ 0 ∷ 0 ∷ []) ∷ row.insert 0 (0 ∷ 5 ∷ 3 ∷ []) ∷ row.insert 1 (1 ∷ 1 ∷ 2 ∷ []) ∷ row.insert noEntry (4 ∷ 4 ∷ 0 ∷ [])
-    ∷ row.lookup 2 2 ∷ row.lookup 2 3 ∷ row.rank 2 1 ∷ row.lengths 2 ∷ row.lookup 2 6 ∷ row.split true 2 (0 ∷ 1 ∷ 4 ∷ []) ∷ row.setLengths 2 (0 ∷ 0 ∷ 4294967295 ∷ []) ∷ []
+    ∷ row.lookup 2 2 ∷ row.lookup 2 5 ∷ row.rank 2 1 ∷ row.lengths 2 ∷ row.lookup 2 6 ∷ row.split true 2 (0 ∷ 1 ∷ 4 ∷ []) ∷ row.setLengths 2 (0 ∷ 0 ∷ 4294967295 ∷ []) ∷ []
 
 abbrev oneCalls : List Call
 oneCalls = row.insert noEntry (0 ∷ []) ∷ row.insert 0 (5 ∷ []) ∷ row.lookup 0 6 ∷ row.rank 0 1 ∷ row.split false 2 (2 ∷ []) ∷ row.split false 2 (4 ∷ []) ∷ row.update 0 (4294967291 ∷ []) ∷ []
@@ -65,12 +65,12 @@ three-answered = whole three (omega arith) 4 5 (3 ∷ 3 ∷ 1 ∷ []) (replicate
 pub one-answered : answers (treeStep one) (make one 4 5 (3 ∷ []) (replicate 22 7) (replicate 22 7) (replicate 5 7) .after) oneCalls ≡ answers (rowStep one) (madeRow 5 (3 ∷ [])) oneCalls
 one-answered = whole one (omega arith) 4 5 (3 ∷ []) (replicate 22 7) (replicate 22 7) (replicate 5 7) (in-one 3 (omega arith)) oneMade oneCalls in-oneCalls .0
 
--- position 2 of the last view stands in id 2, position 3 in id 0
+-- position 2 of the last view stands in id 2, position 5 in id 3
 pub three-are : answers (rowStep three) (madeRow 5 (3 ∷ 3 ∷ 1 ∷ [])) threeCalls
-    ≡ done (1 ∷ 3 ∷ []) ∷ done (2 ∷ 0 ∷ []) ∷ done (3 ∷ 8 ∷ []) ∷ done (4 ∷ 9 ∷ []) ∷ done (2 ∷ 2 ∷ 0 ∷ []) ∷ done (0 ∷ 0 ∷ 5 ∷ []) ∷ done (6 ∷ []) ∷ done (0 ∷ 5 ∷ 3 ∷ []) ∷ refused 5 ∷ refused 6 ∷ refused 7 ∷ []
+    ≡ done (1 ∷ 3 ∷ []) ∷ done (2 ∷ 0 ∷ []) ∷ done (3 ∷ 8 ∷ []) ∷ done (4 ∷ 9 ∷ []) ∷ done (2 ∷ 2 ∷ 0 ∷ 0 ∷ []) ∷ done (3 ∷ 1 ∷ 8 ∷ 3 ∷ []) ∷ done (6 ∷ []) ∷ done (0 ∷ 5 ∷ 3 ∷ []) ∷ refused 5 ∷ refused 6 ∷ refused 7 ∷ []
 unfolding answers rowStep row.before row.from row.divided row.found row.ordered row.unless sumBy some range refusal zipWith
 three-are = refl
 
-pub one-are : answers (rowStep one) (madeRow 5 (3 ∷ [])) oneCalls ≡ done (1 ∷ 3 ∷ []) ∷ done (2 ∷ 0 ∷ []) ∷ done (0 ∷ 1 ∷ 5 ∷ []) ∷ done (8 ∷ []) ∷ done (3 ∷ []) ∷ refused 6 ∷ refused 7 ∷ []
+pub one-are : answers (rowStep one) (madeRow 5 (3 ∷ [])) oneCalls ≡ done (1 ∷ 3 ∷ []) ∷ done (2 ∷ 0 ∷ []) ∷ done (0 ∷ 1 ∷ 5 ∷ 5 ∷ []) ∷ done (8 ∷ []) ∷ done (3 ∷ []) ∷ refused 6 ∷ refused 7 ∷ []
 unfolding answers rowStep row.before row.from row.divided row.found row.ordered row.unless sumBy some range refusal zipWith
 one-are = refl

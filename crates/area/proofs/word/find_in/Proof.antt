@@ -37,7 +37,7 @@ unfolding nodeOf
 find-requires c κs =
     let s = c .before .before in
     rw lent
-    (s .pre .0 .shaped, length-part _ _ _ (inside (c .before)), s .pre .2, s .pre .3, s .pre .4, omega (arith, s .pre .5), s .pre .6)
+    (s .pre .0 .shaped, length-part _ _ _ (inside (c .before)), s .pre .2, s .pre .3, s .pre .4, omega (arith, s .pre .5), s .pre .6, s .pre .7)
 
 returns : tie.Need-returns
 returns c =
@@ -45,12 +45,9 @@ returns c =
     let e = rw lent at (c .find .ensures) in
     record {
       finds = e;
-      few = λ j o t q. omega (
-        arith,
-        s .pre .0 .shaped,
-        used-before (s .args .g) _ (s .args .effect) (s .args .k) (s .args .from) _ (s .args .sum) (s .args .area .now) (s .pre .4)
-            (s .pre .3) (λ i. omega (arith, c .before .before .shared-slice-known .given i)) j o t (sym e ∙ q),
-      );
+      few = λ j o t u q.
+          (let z = used-before (s .args .g) _ (s .args .effect) (s .args .k) (s .args .from) _ (s .args .effects) (s .args .prepares) (s .args .area .now) (s .pre .4) (s .pre .3) (λ i. omega (arith, c .before .before .shared-slice-known .given i)) j o t u (sym e ∙ q) in
+          (omega (arith, s .pre .0 .shaped, z .0), omega (arith, s .pre .0 .shaped, z .1)));
     }
 
 pub find-in-spec : {M : Type 1} → statement M

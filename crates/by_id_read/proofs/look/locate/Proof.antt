@@ -34,7 +34,7 @@ returns-2 c =
     let the-locate = c .before .before .before .before .before .before .before .before .locate in
     let answer2 = c .before .before .before .before .before .answer2 in
     let id = c .before .before .before .id in
-    lookup-at _ _ (args .view) _ _ (the-locate .ensures) _ _ _ (answer2 .given .1) _ _ (id .ensures) (c .before .n .given .1)
+    lookup-at _ _ (args .view) _ _ (the-locate .ensures) _ _ _ _ (answer2 .given .1) _ _ (id .ensures) (c .before .n .given .1)
 
 returns-3 : tie.Need-returns-3
 returns-3 c =
@@ -42,7 +42,7 @@ returns-3 c =
     let the-locate = c .before .before .before .before .before .before .before .before .locate in
     let answer2 = c .before .before .before .before .before .answer2 in
     let id = c .before .before .before .id in
-    lookup-at _ _ (args .view) _ _ (the-locate .ensures) _ _ _ (answer2 .given .1) _ _ (id .ensures) (c .before .i .given .1)
+    lookup-at _ _ (args .view) _ _ (the-locate .ensures) _ _ _ _ (answer2 .given .1) _ _ (id .ensures) (c .before .i .given .1)
 
 pub locate-spec : {M : Type 1} → statement M
 locate-spec =

@@ -1,4 +1,4 @@
--- The three stores put 0 into the finger's slot and its two prefixes and leave its other fields, and that is `rewound`.
+-- The four stores put 0 into the finger's slot and its three prefixes and leave its other fields, and that is `rewound`.
 -- A reference to a struct is proved by hand: the steps of the function's MIR, in its order. A comment [..] lists what is owned there; the numbers in the steps count in that list.
 use mathlib.Core.Path.{refl}
 use Prim.Native.Nat.{ℕ}
@@ -53,7 +53,7 @@ fields = T.the-type .parts
 abbrev vals : Finger → List Val
 vals h = LL.vals T.the-type T′.the-laws h
 
--- 0 in the fields 4, 5 and 6 (slot, within, effect_within) of a finger that lies in memory makes its rewound one
+-- 0 in the fields 4, 5, 6 and 8 (slot, within, effect_within, prepare_within) of a finger that lies in memory makes its rewound one
 made : (h : Finger) → Is T.the-row h (vals h) → Is T.the-row (rewound h) (vals (rewound h))
 made h was =
     let before = T.struct .as-values h in
@@ -61,7 +61,9 @@ made h was =
     let within = putAt fields 5 0 slot in
     let slot-is = is-put fields T′.the-laws 4 0 before (LL.owed T.the-type T′.the-laws h (vals h) was) (refl, lit< tt) in
     let within-is = is-put fields T′.the-laws 5 0 slot slot-is (refl, lit< tt) in
-    LL.owes T.the-type T′.the-laws (rewound h) (is-put fields T′.the-laws 6 0 within within-is (refl, lit< tt))
+    let effect-within = putAt fields 6 0 within in
+    let effect-within-is = is-put fields T′.the-laws 6 0 within within-is (refl, lit< tt) in
+    LL.owes T.the-type T′.the-laws (rewound h) (is-put fields T′.the-laws 8 0 effect-within effect-within-is (refl, lit< tt))
 
 -- the finger h is lent at the address (b, o), for the lifetime κ under the name γ
 module _ {M : Type 1} (𝓤 : URA M) (H : Heap 𝓤) (A : Atoms 𝓤) (W : Given 𝓤 H A) (at-mem : Memory → SProp 𝓤) (run : Routine → Fun 𝓤) (κ : Lft) (q : Share) (b o : ℕ) (γ : GName) (h : Finger) where
@@ -81,10 +83,11 @@ module _ {M : Type 1} (𝓤 : URA M) (H : Heap 𝓤) (A : Atoms 𝓤) (W : Given
       move ! (4 ∷ 5 ∷ 6 ∷ []) $ opens ! tt T.the-row {h = h} b o (λ vs. spelt ! T.the-row (Is T.the-row) (shows 𝓤 H A T.the-row) vals (LL.tells T.the-type T′.the-laws) fullShare h vs b o $
       move ! (1 ∷ []) $ facts ! T.the-row (Is T.the-row) (shows 𝓤 H A T.the-row) h (vals h) (λ was.
       -- [the finger in memory; the open borrow; h, the reference's half and the borrow's half; _1; _1's end; room for _0; ..]
-      -- the three stores, by the field's number
+      -- the four stores, by the field's number
       assigns ! (of-opd ! (lit ! tt)) (from ! (hop ! (look ! 4 refl) (fld ! refl (stop !)))) (store-in ! 0 (sub ! 4 refl (whole !)) (tt, record { fits = lit< tt })) $
       assigns ! (of-opd ! (lit ! tt)) (from ! (hop ! (look ! 4 refl) (fld ! refl (stop !)))) (store-in ! 0 (sub ! 5 refl (whole !)) (tt, record { fits = lit< tt })) $
       assigns ! (of-opd ! (lit ! tt)) (from ! (hop ! (look ! 4 refl) (fld ! refl (stop !)))) (store-in ! 0 (sub ! 6 refl (whole !)) (tt, record { fits = lit< tt })) $
+      assigns ! (of-opd ! (lit ! tt)) (from ! (hop ! (look ! 4 refl) (fld ! refl (stop !)))) (store-in ! 0 (sub ! 8 refl (whole !)) (tt, record { fits = lit< tt })) $
       -- _0 is ()
       assigns ! (of-opd ! (unit-lit !)) (from ! (stop !)) (init ! 6 refl (tt, tt)) $
       -- the borrow is closed at the rewound finger

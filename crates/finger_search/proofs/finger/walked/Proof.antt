@@ -19,37 +19,41 @@ from c =
       arith,
       ap (λ s. s .slot) (c .back .ensures),
       back-slot (a .view) (a .effect) (used (nodeAt (a .g) (a .f .leaf) (a .leaves .now))) (a .index) (a .f .slot) (a .f .within)
-          (a .f .«effect_within»),
+          (a .f .«effect_within») (a .f .«prepare_within»),
       c .before .before .pre .5,
     )
 
 -- what was found lies in the leaf, and no more than the index is left
 found : (c : tie.After-known-told)
-    → (c .before .found .given .0 .0 < c .before .before .before .before .before .before .before .before .args .g .fan)
-    × (c .before .found .given .0 .1 .0 ≤ c .before .before .before .before .before .before .before .before .args .index)
+    → (c .before .found .given .0 .0 < c .before .before .before .before .before .before .before .before .before .args .g .fan)
+    × (c .before .found .given .0 .1 .0 ≤ c .before .before .before .before .before .before .before .before .before .args .index)
 found c =
-    let s = c .before .before .before .before .before .before .before .before in
-    let b = c .before .before .before .before .before .before .back .result in
-    let f = from (c .before .before .before .before .before .before) in
+    let s = c .before .before .before .before .before .before .before .before .before in
+    let b = c .before .before .before .before .before .before .before .back .result in
+    let f = from (c .before .before .before .before .before .before .before) in
     let e = sym (c .before .before .before .find-in .ensures .finds) ∙ c .before .found .given .1 in
-    let r = used-ranged (s .args .g) _ _ (s .args .f .leaf) (b .slot) (s .args .index - b .within) _ (s .args .leaves .now) (s .pre .4) (omega arith) in
-    (omega (arith, f, s .pre .4, r .slot _ _ _ e), omega (arith, r .offset _ _ _ e))
+    let r = used-ranged (s .args .g) _ _ (s .args .f .leaf) (b .slot) (s .args .index - b .within) _ _ (s .args .leaves .now) (s .pre .4) (omega arith) in
+    (omega (arith, f, s .pre .4, r .slot _ _ _ _ e), omega (arith, r .offset _ _ _ _ e))
 
 back-requires : tie.Need-back-requires
 back-requires c κs = (c .before .pre .0, c .before .pre .1, c .before .pre .2, c .before .pre .3, c .before .pre .4, c .before .pre .5)
 
-cast-sum : tie.Need-cast-sum
-cast-sum c = search needs
+cast-effects : tie.Need-cast-effects
+cast-effects c = search needs
+
+cast-prepares : tie.Need-cast-prepares
+cast-prepares c = search needs
 
 returns : tie.Need-returns
 returns c =
-    let args = c .before .before .before .before .args in
-    sym (walked-broken _ _ (args .f) _ _ _ _ _ (c .before .before .back .ensures) (c .if1 .taken))
+    let args = c .before .before .before .before .before .args in
+    let back = c .before .before .before .back in
+    sym (walked-broken _ _ (args .f) _ _ _ _ _ _ (back .ensures) (c .if1 .taken))
 
 find-in-requires : tie.Need-find-in-requires
 find-in-requires c κs =
-    let s = c .before .before .before .before in
-    (s .pre .0, s .pre .3, s .pre .1, s .pre .2, s .pre .4, omega (arith, from (c .before .before)), omega (arith, c .before .before .back .ok))
+    let s = c .before .before .before .before .before in
+    (s .pre .0, s .pre .3, s .pre .1, s .pre .2, s .pre .4, omega (arith, from (c .before .before .before)), omega (arith, c .before .before .before .back .ok), omega (arith, c .before .before .before .back .ok))
 
 enum-known-found : tie.Need-enum-known-found
 enum-known-found c = search needs
@@ -59,42 +63,47 @@ enum-told c = search needs
 
 returns-2 : tie.Need-returns-2
 returns-2 c =
-    let args = c .before .before .before .before .before .before .before .args in
-    let back = c .before .before .before .before .before .back in
+    let args = c .before .before .before .before .before .before .before .before .args in
+    let back = c .before .before .before .before .before .before .back in
     let if1 = c .before .before .before .if1 in
-    sym (walked-miss _ _ (args .f) _ _ _ _ _ (back .ensures) (if1 .left) (sym (c .before .before .find-in .ensures .finds) ∙ c .enum-told .given .1))
+    sym (walked-miss _ _ (args .f) _ _ _ _ _ _ (back .ensures) (if1 .left) (sym (c .before .before .find-in .ensures .finds) ∙ c .enum-told .given .1))
 
 cast-at : tie.Need-cast-at
 cast-at c =
-    let pre = c .before .before .before .before .before .before .before .before .pre in
+    let pre = c .before .before .before .before .before .before .before .before .before .pre in
     omega (arith, found c, pre .0 .shaped)
 
-sub-t20 : tie.Need-sub-t20
-sub-t20 c = omega (arith, found c)
+sub-t22 : tie.Need-sub-t22
+sub-t22 c = omega (arith, found c)
 
-cast-t22 : tie.Need-cast-t22
-cast-t22 c = omega arith
+cast-t24 : tie.Need-cast-t24
+cast-t24 c = omega arith
+
+cast-t26 : tie.Need-cast-t26
+cast-t26 c = omega arith
 
 returns-3 : tie.Need-returns-3
 returns-3 c =
-    let args = c .before .before .before .before .before .before .before .before .args in
-    let back = c .before .before .before .before .before .before .back in
+    let args = c .before .before .before .before .before .before .before .before .before .args in
+    let back = c .before .before .before .before .before .before .before .back in
     let if1 = c .before .before .before .before .if1 in
     let find-in = c .before .before .before .find-in in
-    sym (walked-found _ _ (args .f) _ _ _ _ _ (back .ensures) _ _ _ (if1 .left) (sym (find-in .ensures .finds) ∙ c .before .found .given .1))
+    sym (walked-found _ _ (args .f) _ _ _ _ _ _ (back .ensures) _ _ _ _ (if1 .left) (sym (find-in .ensures .finds) ∙ c .before .found .given .1))
 
 pub walked-spec : {M : Type 1} → statement M
 walked-spec =
     tie.close
     (tie.spec
     back-requires
-    cast-sum
+    cast-effects
+    cast-prepares
     returns
     find-in-requires
     enum-known-found
     enum-told
     returns-2
     cast-at
-    sub-t20
-    cast-t22
+    sub-t22
+    cast-t24
+    cast-t26
     returns-3)

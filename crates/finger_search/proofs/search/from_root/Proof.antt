@@ -19,8 +19,7 @@ search-leaf-requires c κs =
       s .pre .2,
       s .pre .3,
       s .pre .5,
-      descend-rests _ _ (s .args .g) _ _ _ _ _ _ (nothing-rests _) .rest _ _ _
-          (sym (c .before .before .before .descend .ensures) ∙ c .before .way .given .1),
+      descend-rests _ _ (s .args .g) _ _ _ _ _ _ _ (nothing-rests _) .rest _ _ _ _ (sym (c .before .before .before .descend .ensures) ∙ c .before .way .given .1),
     )
 
 enum-told : tie.Need-enum-told

@@ -21,11 +21,11 @@ found c =
     let a = c .before .before .before .before .before .before .before .before .args in
     let t = filled (c .before .before .before .before) in
     let e = sym (c .before .before .before .find-in .ensures .finds) ∙ c .before .found .given .1 in
-    let r = used-ranged (a .g) _ _ (a .k .0) 0 _ _ (a .leaves .now) t (omega arith) in
-    (omega (arith, t, r .slot _ _ _ e), r .offset _ _ _ e)
+    let r = used-ranged (a .g) _ _ (a .k .0) 0 _ _ _ (a .leaves .now) t (omega arith) in
+    (omega (arith, t, r .slot _ _ _ _ e), r .offset _ _ _ _ e)
 
 returns : tie.Need-returns
-returns c = sym (leaf-out _ _ (c .before .before .args .g) _ _ _ _ _ _ (c .if1 .taken))
+returns c = sym (leaf-out _ _ (c .before .before .args .g) _ _ _ _ _ _ _ (c .if1 .taken))
 
 len-of-requires : tie.Need-len-of-requires
 len-of-requires c κs = (c .before .before .pre .0, omega (arith, c .if1 .left, c .before .before .pre .3))
@@ -36,12 +36,12 @@ cast-if2 c = omega (arith, c .len-of .ok)
 returns-2 : tie.Need-returns-2
 returns-2 c =
     let args = c .before .before .before .before .args in
-    sym (leaf-full _ _ (args .g) _ _ _ _ _ _ (c .before .before .if1 .left) (omega (arith, c .before .len-of .ensures, c .if2 .taken)))
+    sym (leaf-full _ _ (args .g) _ _ _ _ _ _ _ (c .before .before .if1 .left) (omega (arith, c .before .len-of .ensures, c .if2 .taken)))
 
 find-in-requires : tie.Need-find-in-requires
 find-in-requires c κs =
     let s = c .before .before .before .before in
-    (s .pre .0, omega (arith, c .before .before .if1 .left, s .pre .3), s .pre .1, s .pre .2, filled c, omega arith, omega arith)
+    (s .pre .0, omega (arith, c .before .before .if1 .left, s .pre .3), s .pre .1, s .pre .2, filled c, omega arith, omega arith, omega arith)
 
 enum-known-found : tie.Need-enum-known-found
 enum-known-found c = search needs
@@ -51,36 +51,42 @@ enum-told c = search needs
 
 returns-3 : tie.Need-returns-3
 returns-3 c =
-    sym (leaf-miss _ _ (c .before .before .before .before .before .before .before .args .g) _ _ _ _ _ _ (c .before .before .before .before .before .if1 .left)
+    sym (leaf-miss _ _ (c .before .before .before .before .before .before .before .args .g) _ _ _ _ _ _ _ (c .before .before .before .before .before .if1 .left)
     (filled (c .before .before .before)) (sym (c .before .before .find-in .ensures .finds) ∙ c .enum-told .given .1))
 
-cast-t20 : tie.Need-cast-t20
-cast-t20 c =
+cast-t22 : tie.Need-cast-t22
+cast-t22 c =
     let pre = c .before .before .before .before .before .before .before .before .pre in
     omega (arith, pre .0 .shaped, pre .1)
 
-sub-t21 : tie.Need-sub-t21
-sub-t21 c =
+sub-t23 : tie.Need-sub-t23
+sub-t23 c =
     let pre = c .before .before .before .before .before .before .before .before .pre in
     omega (arith, pre .4)
 
-cast-t23 : tie.Need-cast-t23
-cast-t23 c = omega arith
+cast-t25 : tie.Need-cast-t25
+cast-t25 c = omega arith
 
-cast-t24 : tie.Need-cast-t24
-cast-t24 c =
+cast-t26 : tie.Need-cast-t26
+cast-t26 c =
     let pre = c .before .before .before .before .before .before .before .before .pre in
     omega (arith, found c, pre .0 .shaped)
 
-sub-t25 : tie.Need-sub-t25
-sub-t25 c = omega (arith, found c)
+sub-t27 : tie.Need-sub-t27
+sub-t27 c = omega (arith, found c)
 
-cast-t27 : tie.Need-cast-t27
-cast-t27 c = omega arith
+cast-t29 : tie.Need-cast-t29
+cast-t29 c = omega arith
+
+cast-t31 : tie.Need-cast-t31
+cast-t31 c = omega arith
+
+cast-t33 : tie.Need-cast-t33
+cast-t33 c = omega arith
 
 returns-4 : tie.Need-returns-4
 returns-4 c =
-    sym (leaf-found _ _ (c .before .before .before .before .before .before .before .before .args .g) _ _ _ _ _ _ _ _ _
+    sym (leaf-found _ _ (c .before .before .before .before .before .before .before .before .args .g) _ _ _ _ _ _ _ _ _ _ _
     (c .before .before .before .before .before .before .if1 .left) (filled (c .before .before .before .before)) (sym (c .before .before .before .find-in .ensures .finds) ∙ c .before .found .given .1))
 
 pub search-leaf-spec : {M : Type 1} → statement M
@@ -95,10 +101,12 @@ search-leaf-spec =
     enum-known-found
     enum-told
     returns-3
-    cast-t20
-    sub-t21
-    cast-t23
-    cast-t24
-    sub-t25
-    cast-t27
+    cast-t22
+    sub-t23
+    cast-t25
+    cast-t26
+    sub-t27
+    cast-t29
+    cast-t31
+    cast-t33
     returns-4)

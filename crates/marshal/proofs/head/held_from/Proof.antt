@@ -37,11 +37,17 @@ shared-slice-read-t15 c = search needs
 shared-slice-read-t17 : tie.Need-shared-slice-read-t17
 shared-slice-read-t17 c = search needs
 
+shared-slice-read-t19 : tie.Need-shared-slice-read-t19
+shared-slice-read-t19 c = search needs
+
+shared-slice-read-t21 : tie.Need-shared-slice-read-t21
+shared-slice-read-t21 c = search needs
+
 returns-2 : tie.Need-returns-2
 unfolding heldFrom
 returns-2 c =
-    let args = c .before .before .before .before .before .before .before .before .before .args in
-    let if1 = c .before .before .before .before .before .before .before .if1 in
+    let args = c .before .before .before .before .before .before .before .before .before .before .before .args in
+    let if1 = c .before .before .before .before .before .before .before .before .before .if1 in
     sym (ap (λ (t : Bool). cond t Absent (At (fingerFrom (args .head .now)))) (ne-eqb (getD (args .head .now) 7 0) 0 (if1 .left)))
 
 pub held-from-spec : {M : Type 1} → statement M
@@ -57,4 +63,6 @@ held-from-spec =
     shared-slice-read-t13
     shared-slice-read-t15
     shared-slice-read-t17
+    shared-slice-read-t19
+    shared-slice-read-t21
     returns-2)

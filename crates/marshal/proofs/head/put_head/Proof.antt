@@ -1,4 +1,4 @@
--- `marshal::head::put_head`: fifteen words written to fifteen are those words.
+-- `marshal::head::put_head`: seventeen words written to seventeen are those words.
 use borrow.Author.Needs.{needs}
 use mathlib.Core.Path.{_≡_, refl}
 use mathlib.Core.Bool.{true}
@@ -6,7 +6,7 @@ use mathlib.Core.List.{List, [], _∷_}
 use Prim.Native.Nat.{ℕ, _<_}
 use lib.Dec.{ltb}
 use lib.ListN.{length}
-use lib.Seq.{sets}
+use lib.Seq.{sets, length-sets}
 use Rattle.marshal.proofs.HeadLaws.{in-head, written}
 use Rattle.marshal.proofs.head.put_head.Statement.{statement}
 use Rattle.marshal.proofs.head.put_head.Tie as tie
@@ -17,8 +17,8 @@ present-of-requires c κs = search needs
 finger-of-requires : tie.Need-finger-of-requires
 finger-of-requires c κs = search needs
 
--- the place after some words is within the fifteen, whatever was written to those
-inside : (c : tie.After-finger-of) (vs : List ℕ) → ltb (length vs) 15 ≡ true → length vs < length (sets (c .before .before .before .before .args .head .now) 0 vs)
+-- the place after some words is within the seventeen, whatever was written to those
+inside : (c : tie.After-finger-of) (vs : List ℕ) → ltb (length vs) 17 ≡ true → length vs < length (sets (c .before .before .before .before .args .head .now) 0 vs)
 inside c vs t =
     let args = c .before .before .before .before .args in
     let pre = c .before .before .before .before .pre in
@@ -69,8 +69,16 @@ slice-write-head-14 c = inside c (_ ∷ _ ∷ _ ∷ _ ∷ _ ∷ _ ∷ _ ∷ _ �
 slice-write-head-15 : tie.Need-slice-write-head-15
 slice-write-head-15 c = inside c (_ ∷ _ ∷ _ ∷ _ ∷ _ ∷ _ ∷ _ ∷ _ ∷ _ ∷ _ ∷ _ ∷ _ ∷ _ ∷ _ ∷ []) refl
 
+slice-write-head-16 : tie.Need-slice-write-head-16
+slice-write-head-16 c = inside c (_ ∷ _ ∷ _ ∷ _ ∷ _ ∷ _ ∷ _ ∷ _ ∷ _ ∷ _ ∷ _ ∷ _ ∷ _ ∷ _ ∷ _ ∷ []) refl
+
+slice-write-head-17 : tie.Need-slice-write-head-17
+slice-write-head-17 c = inside c (_ ∷ _ ∷ _ ∷ _ ∷ _ ∷ _ ∷ _ ∷ _ ∷ _ ∷ _ ∷ _ ∷ _ ∷ _ ∷ _ ∷ _ ∷ _ ∷ []) refl
+
 same-length : tie.Need-same-length
-same-length c = search needs
+same-length c =
+    let args = c .before .before .before .before .args in
+    length-sets (args .head .now) 0 (_ ∷ _ ∷ _ ∷ _ ∷ _ ∷ _ ∷ _ ∷ _ ∷ _ ∷ _ ∷ _ ∷ _ ∷ _ ∷ _ ∷ _ ∷ _ ∷ _ ∷ [])
 
 returns : tie.Need-returns
 returns c =
@@ -99,5 +107,7 @@ put-head-spec =
     slice-write-head-13
     slice-write-head-14
     slice-write-head-15
+    slice-write-head-16
+    slice-write-head-17
     same-length
     returns)

@@ -11,12 +11,12 @@ use Rattle.node.proofs.read.find.Statement.{statement}
 use Rattle.node.proofs.read.find.Tie as tie
 
 abbrev Inv-loop : tie.InvT-loop
-Inv-loop node view effect from index sum stride len rest₀ before₀ p₀ k₀ rest before p k =
-    (from ≤ k) × (k ≤ len) × (p ≡ 3 + k * stride + 1) × (before ≤ sum + (k - from) * 4294967296)
-    × (findFrom view effect k rest before (drop k (slotsFrom stride len 3 node)) ≡ findFrom view effect from index sum (drop from (slotsFrom stride len 3 node)))
+Inv-loop node view effect from index effects prepares stride len rest₀ before₀ prior₀ p₀ k₀ rest before prior p k =
+    (from ≤ k) × (k ≤ len) × (p ≡ 3 + k * stride + 1) × (before ≤ effects + (k - from) * 4294967296) × (prior ≤ prepares + (k - from) * 4294967296)
+    × (findFrom view effect k rest before prior (drop k (slotsFrom stride len 3 node)) ≡ findFrom view effect from index effects prepares (drop from (slotsFrom stride len 3 node)))
 
 abbrev μ-loop : tie.MeasureT-loop
-μ-loop node view effect from index sum stride len rest₀ before₀ p₀ k₀ rest before p k = len - k
+μ-loop node view effect from index effects prepares stride len rest₀ before₀ prior₀ p₀ k₀ rest before prior p k = len - k
 
 -- the words of a turn lie in the node
 turn : (c : tie.In-loop Inv-loop μ-loop) (v : ℕ) → v + 1 < c .before .before .before .before .args .g .stride → c .before .loop .p + v < length (c .before .before .before .before .args .node .now)
@@ -46,7 +46,7 @@ add-p-2 c =
     omega (arith, s .pre .0, rows-le (s .args .from) (s .args .g .fan) (s .args .g .stride) (omega arith))
 
 loop-holds : tie.Need-loop-holds Inv-loop μ-loop
-loop-holds c = (omega arith, omega arith, refl, omega arith, refl)
+loop-holds c = (omega arith, omega arith, refl, omega arith, omega arith, refl)
 
 add-here : tie.Need-add-here Inv-loop μ-loop
 add-here c =
@@ -66,8 +66,8 @@ shared-slice-read-here c =
 returns : tie.Need-returns Inv-loop μ-loop
 returns c =
     let s = c .before .before .before .before .before .before in
-    rw (used-slots _ _ _ (s .pre .4)) (sym (find-here _ _ _ _ _ _ _ _ _ _ (s .pre .2) (s .pre .3) (c .before .before .before .loop .inv .2) (c .before .before .loop-test .taken)
-    (c .if1 .taken)) ∙ c .before .before .before .loop .inv .4)
+    rw (used-slots _ _ _ (s .pre .4)) (sym (find-here _ _ _ _ _ _ _ _ _ _ _ (s .pre .2) (s .pre .3) (c .before .before .before .loop .inv .2) (c .before .before .loop-test .taken)
+    (c .if1 .taken)) ∙ c .before .before .before .loop .inv .5)
 
 add-wide : tie.Need-add-wide Inv-loop μ-loop
 add-wide c =
@@ -93,10 +93,28 @@ add-before c =
     let args = c .before .before .before .before .before .before .before .before .args in
     omega (arith, c .before .shared-slice-known4 .given (the-loop .p + args .effect))
 
+mul-wide-2 : tie.Need-mul-wide-2 Inv-loop μ-loop
+mul-wide-2 c =
+    let s = c .before .before .before .before .before .before .before .before in
+    omega (arith, turn (c .before .before .before .before) 0 (omega (arith, s .pre .3)))
+
+shared-slice-read-wide-2 : tie.Need-shared-slice-read-wide-2 Inv-loop μ-loop
+shared-slice-read-wide-2 c =
+    let s = c .before .before .before .before .before .before .before .before .before in
+    omega (arith, turn (c .before .before .before .before .before) 0 (omega (arith, s .pre .3)))
+
+wide-requires-2 : tie.Need-wide-requires-2 Inv-loop μ-loop
+wide-requires-2 c κs = tt
+
+add-prior : tie.Need-add-prior Inv-loop μ-loop
+add-prior c =
+    let the-loop = c .before .before .before .before .before .before .before .loop in
+    omega (arith, c .before .shared-slice-known5 .given (the-loop .p))
+
 add-p-3 : tie.Need-add-p-3 Inv-loop μ-loop
 add-p-3 c =
-    let s = c .before .before .before .before .before .before .before .before in
-    omega (arith, turn (c .before .before .before .before) (s .args .effect) (s .pre .3))
+    let s = c .before .before .before .before .before .before .before .before .before .before in
+    omega (arith, turn (c .before .before .before .before .before .before) (s .args .effect) (s .pre .3))
 
 add-k : tie.Need-add-k Inv-loop μ-loop
 add-k c = omega arith
@@ -106,19 +124,20 @@ loop-less c = omega arith
 
 loop-again : tie.Need-loop-again Inv-loop μ-loop
 loop-again c =
-    let s = c .before .before .before .before .before .before .before .before in
-    let l = c .before .before .before .before .before .loop in (
+    let s = c .before .before .before .before .before .before .before .before .before .before in
+    let l = c .before .before .before .before .before .before .before .loop in (
       omega arith,
       omega arith,
       omega (arith, one-more (l .k) (s .args .g .stride)),
-      omega (arith, c .before .shared-slice-known4 .given (l .p + s .args .effect)),
-      rw (c .wide .ensures) (sym (find-on _ _ _ _ _ _ _ _ _ _ (s .pre .2) (s .pre .3) (l .inv .2) (c .before .before .before .before .loop-test .taken) (c .before .before .if1 .left))) ∙ l .inv .4,
+      omega (arith, c .before .before .before .shared-slice-known4 .given (l .p + s .args .effect)),
+      omega (arith, c .before .shared-slice-known5 .given (l .p)),
+      rw (c .before .before .wide .ensures, c .wide2 .ensures) (sym (find-on _ _ _ _ _ _ _ _ _ _ _ (s .pre .2) (s .pre .3) (l .inv .2) (c .before .before .before .before .before .before .loop-test .taken) (c .before .before .before .before .if1 .left))) ∙ l .inv .5,
     )
 
 returns-2 : tie.Need-returns-2 Inv-loop μ-loop
 returns-2 c =
     let pre = c .before .before .before .before .pre in
-    rw (used-slots _ _ _ (pre .4)) (sym (find-none _ _ _ _ _ _ _ _ _ (c .loop-test .left)) ∙ c .before .loop .inv .4)
+    rw (used-slots _ _ _ (pre .4)) (sym (find-none _ _ _ _ _ _ _ _ _ _ (c .loop-test .left)) ∙ c .before .loop .inv .5)
 
 pub find-spec : {M : Type 1} → statement M
 find-spec =
@@ -141,6 +160,10 @@ find-spec =
     shared-slice-read-wide
     wide-requires
     add-before
+    mul-wide-2
+    shared-slice-read-wide-2
+    wide-requires-2
+    add-prior
     add-p-3
     add-k
     loop-less

@@ -1,4 +1,4 @@
--- `smelvock::make::smelvock_new`: 10 where the head is not fifteen words, else the call's head and answer in words.
+-- `smelvock::make::smelvock_new`: 10 where the head is not seventeen words, else the call's head and answer in words.
 use borrow.Author.Needs.{needs}
 use mathlib.Core.Path.{refl, ap, _∙_}
 use mathlib.Core.Bool.{not}
@@ -25,7 +25,7 @@ unfolding flat.make
 returns c =
     let a = c .before .before .before .before .before .args in
     reply-refused numberAlone outcomeAnswer (λ (n : ℕ) (h : Head) (w : List ℕ). headWords h) _ (given (a .head .now) (a .leaves .now) (a .inners .now) (a .homes .now)) _ _
-    (ap not (ne-eqb (length (a .head .now)) 15 (c .if1 .taken))) refl
+    (ap not (ne-eqb (length (a .head .now)) 17 (c .if1 .taken))) refl
 
 lengths-from-requires : tie.Need-lengths-from-requires
 lengths-from-requires c κs = search needs
@@ -56,7 +56,7 @@ unfolding flat.make
 returns-2 c =
     let a = c .before .before .before .before .before .before .before .before .before .before .before .before .before .before .before .before .before .before .before .before .before .before .args in
     reply-good numberAlone outcomeAnswer (λ (n : ℕ) (h : Head) (w : List ℕ). headWords h) _ (given (a .head .now) (a .leaves .now) (a .inners .now) (a .homes .now)) _ _ _ _ _ _ _ _
-    (ap not (eq-eqb (length (a .head .now)) 15
+    (ap not (eq-eqb (length (a .head .now)) 17
     (c .before .before .before .before .before .before .before .before .before .before .before .before .before .before .before .before .before .if1 .left)))
     (c .outcome-of .ensures) (c .before .before .before .put-head .ensures)
     (c .before .before .before .before .before .before .before .before .before .before .before .before .new .ensures
