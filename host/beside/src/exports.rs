@@ -165,7 +165,7 @@ impl Export {
         let (head, areas) = tree.looked();
         if self == Export::Locate {
             let r = raw::locate(head, areas, given.view, given.index);
-            return answer(r.number, &[r.at.leaf, r.at.slot, r.at.stamp, r.offset, r.position]);
+            return answer(r.number, &[r.at.leaf, r.at.slot, r.at.stamp, r.offset, r.position, r.prepare]);
         }
         let r = raw::char_index_to_entry(head, areas, given.view, given.index);
         answer(r.number, &[r.at.leaf, r.at.slot, r.at.stamp, r.offset])

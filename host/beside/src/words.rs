@@ -6,8 +6,8 @@ use smelvock::raw;
 /// The head as the oracle has it; a finger is there unless `present` is 0.
 pub fn head_of(head: raw::Head) -> Head {
     let [fan, limit, root, levels, leaf_count, inner_count, entry_count, present, finger @ ..] = head;
-    let [view, leaf, start, effect, slot, within, effect_within] = finger;
-    let finger = Finger { view, leaf, start, effect, slot, within, effect_within };
+    let [view, leaf, start, effect, slot, within, effect_within, prepare, prepare_within] = finger;
+    let finger = Finger { view, leaf, start, effect, slot, within, effect_within, prepare, prepare_within };
     let finger = (present != 0).then_some(finger);
     Head { fan, limit, root, levels, entry_count, leaf_count, inner_count, finger }
 }
@@ -16,9 +16,9 @@ pub fn head_of(head: raw::Head) -> Head {
 pub fn raw_of(head: Head) -> raw::Head {
     let Head { fan, limit, root, levels, entry_count, leaf_count, inner_count, finger } = head;
     let counts = [fan, limit, root, levels, leaf_count, inner_count, entry_count];
-    let finger = finger.map_or([0; 8], |finger| {
-        let Finger { view, leaf, start, effect, slot, within, effect_within } = finger;
-        [1, view, leaf, start, effect, slot, within, effect_within]
+    let finger = finger.map_or([0; 10], |finger| {
+        let Finger { view, leaf, start, effect, slot, within, effect_within, prepare, prepare_within } = finger;
+        [1, view, leaf, start, effect, slot, within, effect_within, prepare, prepare_within]
     });
     std::array::from_fn(|word| if word < 7 { counts[word] } else { finger[word - 7] })
 }

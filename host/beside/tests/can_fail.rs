@@ -49,9 +49,11 @@ fn a_changed_word_is_found_out() {
         assert!(!found_out(looked, |_, _| ()));
         assert!(found_out(looked, |head, _| head.finger = None));
         assert!(found_out(looked, |head, _| head.finger.as_mut().unwrap().effect_within += 1));
+        assert!(found_out(looked, |head, _| head.finger.as_mut().unwrap().prepare += 1));
+        assert!(found_out(looked, |head, _| head.finger.as_mut().unwrap().prepare_within += 1));
     }
     let _ = std::panic::take_hook();
-    println!("{words} words of the areas and eight changes of the head, each found out");
+    println!("{words} words of the areas and twelve changes of the head, each found out");
 }
 
 /// Whether a call of that kind is found out that is handed the cursor of such a call, changed in the port.

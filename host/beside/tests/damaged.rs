@@ -37,7 +37,7 @@ fn sound<const N: usize>(entries: u32) -> Tree {
 fn audited(tree: &Tree, given: &Given, met: &mut Met) {
     let answer = Export::Audit.play(&mut tree.clone(), given);
     let [leaves, inners, homes] = [&tree.leaves, &tree.inners, &tree.homes].map(|area| area.words().to_vec());
-    let head = tree.head.words().try_into().expect("fifteen words");
+    let head = tree.head.words().try_into().expect("seventeen words");
     let wanted = match audit(&State { head: head_of(head), leaves, inners, homes }) {
         _ if tree.word(PRESENT) > 1 => [10, 0],
         Verdict::Refused(number) => [number as u32, 0],
@@ -90,7 +90,7 @@ fn flip_every_word(mut tree: Tree, met: &mut Met) {
     let mut random = Random::new(3);
     let mut flips = 0;
     let areas = [tree.leaves.words().len(), tree.inners.words().len(), tree.homes.words().len()];
-    let places = (0..15).map(|at| (3, at)).chain((0..3).flat_map(|area| (0..areas[area]).map(move |at| (area, at))));
+    let places = (0..17).map(|at| (3, at)).chain((0..3).flat_map(|area| (0..areas[area]).map(move |at| (area, at))));
     for (area, at) in places {
         let word = *word(&mut tree, area, at);
         for other in others(word) {
@@ -136,7 +136,7 @@ fn chains_of_calls_on_damaged_trees() {
         let mut tree = trees[random.below(trees.len() as u64) as usize].clone();
         for _ in 0..1 + random.below(6) {
             let area = random.below(4) as usize;
-            let length = [tree.leaves.words().len(), tree.inners.words().len(), tree.homes.words().len(), 15][area];
+            let length = [tree.leaves.words().len(), tree.inners.words().len(), tree.homes.words().len(), 17][area];
             let at = random.below(length as u64) as usize;
             let value = [0, 1, 2, 4, 19, u32::MAX, random.word() as u32][random.below(7) as usize];
             *word(&mut tree, area, at) = value;
@@ -170,7 +170,7 @@ fn random_words() {
         };
         let words = nodes * (3 + 3 * fan);
         let [leaves, inners, homes] = [draw(words), draw(words), draw(limit)];
-        let finger: [u32; 6] = [0; 6].map(|_: u32| random.below(6) as u32);
+        let finger: [u32; 8] = [0; 8].map(|_: u32| random.below(6) as u32);
         let [root, used, inners_used] = [0; 3].map(|_: u32| random.below(nodes as u64 + 1) as u32);
         let (levels, entries) = (random.below(6) as u32, random.below(limit as u64 + 2) as u32);
         let (present, view) = (random.below(2) as u32, random.below(3) as u32);

@@ -61,7 +61,7 @@ fn refused(number: u32, export: Export, tree: &Tree, given: &Given) {
     let answer = export.play(&mut after, given);
     assert_eq!(answer.number, number, "{export:?} {given:?} on {:?}", tree.head);
     assert!(answer.values.iter().all(|&value| value == 0), "{export:?} {answer:?}");
-    let head = if export == New && number != 10 { Area::new(&[0; 15]) } else { tree.head.clone() };
+    let head = if export == New && number != 10 { Area::new(&[0; 17]) } else { tree.head.clone() };
     assert_eq!(after, Tree { head, ..tree.clone() }, "{export:?}");
     PLAYED.fetch_add(1, Ordering::Relaxed);
 }
@@ -238,9 +238,9 @@ fn a_view_or_flag_outside_its_values_is_10() {
 
 /// A head of fewer words, of more, and of none.
 #[test]
-fn a_head_that_is_not_fifteen_words_is_10() {
+fn a_head_that_is_not_seventeen_words_is_10() {
     at_each_fan(|tree, given| {
-        for words in [0, 1, 7, 8, 14, 16, 30] {
+        for words in [0, 1, 7, 8, 15, 16, 18, 34] {
             let head = tree.head.words().iter().copied().cycle().take(words).collect::<Vec<_>>();
             let tree = Tree { head: Area::new(&head), ..tree.clone() };
             EXPORTS.iter().for_each(|&export| refused(10, export, &tree, &given));

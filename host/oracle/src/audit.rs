@@ -1,7 +1,7 @@
 //! The audit of document 01, on arbitrary words: it ends and never panics. Each check is one phrase
 //! of the paragraph "Audit", and [`sound`] names them in the order in which they can be trusted.
 
-use crate::state::{Head, Node, State, EFFECT, NONE};
+use crate::state::{Head, Node, State, EFFECT, NONE, PREPARE};
 
 #[derive(Clone, Copy, PartialEq, Eq, Debug)]
 pub enum Verdict {
@@ -164,7 +164,7 @@ fn unused_slots_empty(state: &State) -> bool {
 }
 
 /// "A finger is right if absent, or if its leaf is in use, its slot is below that leaf's len, and
-/// its four sums are those of the tree". `leaves` are the leaves in order.
+/// its six sums are those of the tree". `leaves` are the leaves in order.
 fn finger_right(state: &State, leaves: &[u32]) -> bool {
     let Some(finger) = state.head.finger else { return true };
     let view = finger.view as usize;
@@ -176,6 +176,11 @@ fn finger_right(state: &State, leaves: &[u32]) -> bool {
         [sum[0] + total[0], sum[1] + total[1]]
     });
     let within = state.leaf(finger.leaf).sums(finger.slot);
-    [start[view], start[EFFECT], within[view], within[EFFECT]]
-        == [finger.start, finger.effect, finger.within, finger.effect_within].map(u64::from)
+    [view, EFFECT, PREPARE].map(|view| [start[view], within[view]])
+        == [
+            [finger.start, finger.within],
+            [finger.effect, finger.effect_within],
+            [finger.prepare, finger.prepare_within],
+        ]
+        .map(|sums| sums.map(u64::from))
 }

@@ -5,7 +5,7 @@ use crate::cursors::{Held, Source};
 use crate::record::Call;
 use crate::row::Entry;
 use crate::rust::{pair, side, Place, Reply, Seen};
-use crate::state::NONE;
+use crate::state::{NONE, PREPARE};
 use crate::tree::{Cursor, Lengths, PrepareEffectTree};
 use std::cmp::Ordering;
 use std::fmt::Debug;
@@ -25,6 +25,11 @@ pub trait Calls {
     fn cmp(&self, a: Self::Cursor, b: Self::Cursor) -> Ordering;
     fn char_index_to_entry(&mut self, view: usize, index: u32) -> (Self::Cursor, u32);
     fn locate(&mut self, view: usize, index: u32) -> (Self::Cursor, u32, u32);
+    /// `locate` with the entry's prepare position behind its effect position; lib.rs has it from the entry's rank.
+    fn locate_both(&mut self, view: usize, index: u32) -> (Self::Cursor, u32, u32, u32) {
+        let (at, offset, effect) = self.locate(view, index);
+        (at, offset, effect, self.entry_to_char_index(PREPARE, at))
+    }
     fn entry_to_char_index(&self, view: usize, at: Self::Cursor) -> u32;
     fn set_lengths(&mut self, at: Self::Cursor, lengths: [u32; 2]);
     fn update(&mut self, at: Self::Cursor, lengths: [u32; 2]) -> u32;
@@ -91,7 +96,7 @@ impl<const N: usize> Calls for PrepareEffectTree<N> {
 }
 
 /// What a call answers: the fields, and its cursors.
-type Answered<C> = ([u32; 3], [Option<C>; 2]);
+type Answered<C> = ([u32; 4], [Option<C>; 2]);
 
 /// Plays a call that the row does not refuse, and keeps the cursors that it answers.
 pub fn play<T: Calls>(tree: &mut T, held: &mut Held<T::Cursor>, call: Call, from: Source) -> Reply {
@@ -122,7 +127,7 @@ fn seen<T: Calls>(tree: &T, cursor: T::Cursor) -> Seen {
 
 /// The calls that change the tree.
 fn change<T: Calls>(tree: &mut T, call: Call, at: Option<T::Cursor>) -> Option<Answered<T::Cursor>> {
-    let silent = ([0; 3], [None, None]);
+    let silent = ([0; 4], [None, None]);
     Some(match call {
         Call::Reset { lengths } => {
             tree.reset(lengths);
@@ -130,21 +135,21 @@ fn change<T: Calls>(tree: &mut T, call: Call, at: Option<T::Cursor>) -> Option<A
         }
         Call::Insert { lengths, .. } => {
             let (id, effect) = tree.insert(at, lengths);
-            ([id, effect, 0], [Some(tree.cursor(id)), None])
+            ([id, effect, 0, 0], [Some(tree.cursor(id)), None])
         }
         Call::Add { lengths, .. } => {
             let id = tree.add(at, lengths);
-            ([id, 0, 0], [Some(tree.cursor(id)), None])
+            ([id, 0, 0, 0], [Some(tree.cursor(id)), None])
         }
         Call::Split { lengths, before, .. } => {
             let (id, cursors) = tree.split_entry(at?, lengths, before);
-            ([id, 0, 0], cursors.map(Some))
+            ([id, 0, 0, 0], cursors.map(Some))
         }
         Call::Set { lengths, .. } => {
             tree.set_lengths(at?, lengths);
             silent
         }
-        Call::Update { lengths, .. } => ([tree.update(at?, lengths), 0, 0], [None, None]),
+        Call::Update { lengths, .. } => ([tree.update(at?, lengths), 0, 0, 0], [None, None]),
         _ => return None,
     })
 }
@@ -153,27 +158,28 @@ fn change<T: Calls>(tree: &mut T, call: Call, at: Option<T::Cursor>) -> Option<A
 fn ask<T: Calls>(tree: &mut T, call: Call, given: [Option<T::Cursor>; 2]) -> Option<Answered<T::Cursor>> {
     let fields = match call {
         Call::Lookup { view, index } => {
-            let (at, offset, effect) = tree.locate(view, index);
-            return Some(([tree.id(at), offset, effect], [Some(at), None]));
+            let (at, offset, effect, prepare) = tree.locate_both(view, index);
+            assert_eq!(prepare, tree.entry_to_char_index(PREPARE, at), "the entry's own rank");
+            return Some(([tree.id(at), offset, effect, prepare], [Some(at), None]));
         }
         Call::Select { view, index } => {
             let (at, offset) = tree.char_index_to_entry(view, index);
-            return Some(([tree.id(at), offset, 0], [Some(at), None]));
+            return Some(([tree.id(at), offset, 0, 0], [Some(at), None]));
         }
-        Call::First => return Some(([tree.id(tree.first()), 0, 0], [Some(tree.first()), None])),
+        Call::First => return Some(([tree.id(tree.first()), 0, 0, 0], [Some(tree.first()), None])),
         Call::Next { .. } => {
             let next = tree.next(given[0]?);
-            return Some(([next.map_or(NONE, |next| tree.id(next)), 0, 0], [next, None]));
+            return Some(([next.map_or(NONE, |next| tree.id(next)), 0, 0, 0], [next, None]));
         }
-        Call::Rank { view, .. } => [tree.entry_to_char_index(view, given[0]?), 0, 0],
-        Call::Compare { .. } => [(tree.cmp(given[0]?, given[1]?) as i32 + 1) as u32, 0, 0],
+        Call::Rank { view, .. } => [tree.entry_to_char_index(view, given[0]?), 0, 0, 0],
+        Call::Compare { .. } => [(tree.cmp(given[0]?, given[1]?) as i32 + 1) as u32, 0, 0, 0],
         Call::Lengths { .. } => {
             let [prepare, effect] = tree.lengths(given[0]?);
-            [prepare, effect, 0]
+            [prepare, effect, 0, 0]
         }
         Call::Count => {
             assert!(!tree.is_empty());
-            [tree.len() as u32, 0, 0]
+            [tree.len() as u32, 0, 0, 0]
         }
         _ => return None,
     };

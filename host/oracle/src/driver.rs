@@ -116,7 +116,7 @@ fn id(seen: Option<Seen>) -> Option<u32> {
 }
 
 /// The entries at which the cursors that come out of a call must stand, given the row's answer.
-fn meant(call: Call, [first, ..]: [u32; 3]) -> [Option<u32>; 2] {
+fn meant(call: Call, [first, ..]: [u32; 4]) -> [Option<u32>; 2] {
     match call {
         Call::Insert { .. } | Call::Add { .. } => [Some(first), None],
         Call::Lookup { .. } | Call::Select { .. } | Call::First => [Some(first), None],

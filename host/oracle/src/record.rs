@@ -46,7 +46,7 @@ pub enum Call {
         view: usize,
         index: u32,
     },
-    /// `char_index_to_entry`, a lookup less the effect position. No record asks for it.
+    /// `char_index_to_entry`, a lookup less its two positions. No record asks for it.
     Select {
         view: usize,
         index: u32,
@@ -69,11 +69,11 @@ pub enum Call {
     First,
 }
 
-/// A number (0 when not refused) and three fields.
+/// A number (0 when not refused) and four fields, of which an answer record carries three.
 #[derive(Clone, Copy, PartialEq, Eq, Debug)]
 pub struct Answer {
     pub number: u8,
-    pub fields: [u32; 3],
+    pub fields: [u32; 4],
 }
 
 /// Which of byte 1, a, b and c a kind uses; no kind but 1 to 13 is known.
@@ -183,9 +183,10 @@ impl Call {
 }
 
 impl Answer {
-    /// The answer record: number, kind as given, two zero bytes, the three fields.
+    /// The answer record: number, kind as given, two zero bytes, the first three fields.
     pub fn encode(&self, kind: u8) -> [u8; 16] {
-        sixteen([self.number, kind, 0, 0], self.fields)
+        let [x, y, z, _] = self.fields;
+        sixteen([self.number, kind, 0, 0], [x, y, z])
     }
 }
 

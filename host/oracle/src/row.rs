@@ -16,8 +16,8 @@ pub struct Row {
     pub entries: Vec<Entry>,
 }
 
-/// The three fields of an answer, or the number of a refusal.
-type Reply = Result<[u32; 3], u8>;
+/// The fields of an answer, or the number of a refusal.
+type Reply = Result<[u32; 4], u8>;
 
 impl Row {
     pub fn make(limit: u32, lengths: [u32; 2]) -> Row {
@@ -33,7 +33,7 @@ impl Row {
     pub fn answer(&mut self, call: Option<Call>) -> Answer {
         match call.ok_or(10).and_then(|call| self.call(call)) {
             Ok(fields) => Answer { number: 0, fields },
-            Err(number) => Answer { number, fields: [0; 3] },
+            Err(number) => Answer { number, fields: [0; 4] },
         }
     }
 
@@ -41,24 +41,24 @@ impl Row {
         match call {
             Call::Reset { lengths } => self.reset(lengths),
             Call::Insert { before, lengths } => self.insert(before, lengths),
-            Call::Add { before, lengths } => self.insert(before, lengths).map(|[id, ..]| [id, 0, 0]),
+            Call::Add { before, lengths } => self.insert(before, lengths).map(|[id, ..]| [id, 0, 0, 0]),
             Call::Split { id, lengths, before } => self.split(id, lengths, before),
-            Call::Set { id, lengths } => self.update(id, lengths).map(|_| [0; 3]),
+            Call::Set { id, lengths } => self.update(id, lengths).map(|_| [0; 4]),
             Call::Update { id, lengths } => self.update(id, lengths),
             Call::Lookup { view, index } => self.lookup(view, index),
-            Call::Select { view, index } => self.lookup(view, index).map(|[id, offset, _]| [id, offset, 0]),
-            Call::Rank { view, id } => Ok([self.before(view, self.place(id)?), 0, 0]),
-            Call::Next { id } => Ok([self.next(self.place(id)?), 0, 0]),
+            Call::Select { view, index } => self.lookup(view, index).map(|[id, offset, ..]| [id, offset, 0, 0]),
+            Call::Rank { view, id } => Ok([self.before(view, self.place(id)?), 0, 0, 0]),
+            Call::Next { id } => Ok([self.next(self.place(id)?), 0, 0, 0]),
             Call::Compare { first, second } => self.compare(first, second),
-            Call::Lengths { id } => self.place(id).map(|place| self.entries[place].lengths).map(|[p, e]| [p, e, 0]),
-            Call::Count => Ok([self.count(), 0, 0]),
-            Call::First => Ok([self.entries[0].id, 0, 0]),
+            Call::Lengths { id } => self.place(id).map(|place| self.entries[place].lengths).map(|[p, e]| [p, e, 0, 0]),
+            Call::Count => Ok([self.count(), 0, 0, 0]),
+            Call::First => Ok([self.entries[0].id, 0, 0, 0]),
         }
     }
 
     fn reset(&mut self, lengths: [u32; 2]) -> Reply {
         self.entries = vec![Entry { id: 0, lengths }];
-        Ok([0; 3])
+        Ok([0; 4])
     }
 
     fn insert(&mut self, before: u32, lengths: [u32; 2]) -> Reply {
@@ -67,7 +67,7 @@ impl Row {
         self.room()?;
         let id = self.count();
         self.entries.insert(place, Entry { id, lengths });
-        Ok([id, self.before(EFFECT, place), 0])
+        Ok([id, self.before(EFFECT, place), 0, 0])
     }
 
     fn split(&mut self, id: u32, lengths: [u32; 2], before: bool) -> Reply {
@@ -80,14 +80,14 @@ impl Row {
         let new = self.count();
         self.entries[place].lengths = [own[PREPARE] - lengths[PREPARE], own[EFFECT] - lengths[EFFECT]];
         self.entries.insert(if before { place } else { place + 1 }, Entry { id: new, lengths });
-        Ok([new, 0, 0])
+        Ok([new, 0, 0, 0])
     }
 
     fn update(&mut self, id: u32, lengths: [u32; 2]) -> Reply {
         let place = self.place(id)?;
         self.totals_fit(self.entries[place].lengths, lengths)?;
         self.entries[place].lengths = lengths;
-        Ok([self.before(EFFECT, place), 0, 0])
+        Ok([self.before(EFFECT, place), 0, 0, 0])
     }
 
     fn lookup(&self, view: usize, index: u32) -> Reply {
@@ -95,7 +95,8 @@ impl Row {
         for (place, entry) in self.entries.iter().enumerate() {
             let end = start + entry.lengths[view] as u64;
             if (start..end).contains(&(index as u64)) {
-                return Ok([entry.id, (index as u64 - start) as u32, self.before(EFFECT, place)]);
+                let [effect, prepare] = [EFFECT, PREPARE].map(|view| self.before(view, place));
+                return Ok([entry.id, (index as u64 - start) as u32, effect, prepare]);
             }
             start = end;
         }
@@ -117,6 +118,7 @@ impl Row {
             } else {
                 2
             },
+            0,
             0,
             0,
         ])
@@ -170,7 +172,7 @@ pub fn rowrun(input: &[u8]) -> String {
     let mut printed = String::new();
     let (records, tail) = input.as_chunks::<16>();
     for record in records {
-        let Answer { number, fields: [x, y, z] } = row.play(&Record::decode(record));
+        let Answer { number, fields: [x, y, z, _] } = row.play(&Record::decode(record));
         printed += &format!("{number} {x} {y} {z}\n");
     }
     if !tail.is_empty() {

@@ -40,7 +40,7 @@ pub struct Seen {
 /// insert or add answers no cursor; what comes out there is `cursor(id)` of the new entry.
 #[derive(Clone, Copy, PartialEq, Eq, Debug)]
 pub struct Reply {
-    pub fields: [u32; 3],
+    pub fields: [u32; 4],
     pub given: [Option<Seen>; 2],
     pub got: [Option<Seen>; 2],
 }

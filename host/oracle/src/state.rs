@@ -21,6 +21,10 @@ pub struct Finger {
     pub within: u32,
     /// The effect lengths of the leaf's slots before `slot`.
     pub effect_within: u32,
+    /// Where the leaf starts in the prepare view.
+    pub prepare: u32,
+    /// The prepare lengths of the leaf's slots before `slot`.
+    pub prepare_within: u32,
 }
 
 #[derive(Clone, Copy, PartialEq, Eq, Debug)]

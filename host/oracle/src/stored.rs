@@ -132,11 +132,11 @@ fn growing_looks() -> [u64; 13] {
     weights
 }
 
-/// One line: a word, the record's five fields, the number and three fields of the answer, and the
+/// One line: a word, the record's five fields, the number and the first three fields of the answer, and the
 /// places of two cursors given and two cursors got.
 fn line_text(record: Record, line: &Line) -> String {
     let Record { kind, byte1, a, b, c, .. } = record;
-    let [x, y, z] = line.answer.fields;
+    let [x, y, z, _] = line.answer.fields;
     let word = if line.reply.is_some() { "call" } else { "refused" };
     let places = line.reply.map_or([None; 4], |reply| [reply.given[0], reply.given[1], reply.got[0], reply.got[1]]);
     format!(

@@ -66,7 +66,7 @@ impl<const N: usize> PrepareEffectTree<N> {
             entry_count: self.leaf_of_entry.len() as u32,
             leaf_count: self.leaves.len() as u32,
             inner_count: self.nodes.len() as u32,
-            finger: self.finger.map(|finger| finger.words()),
+            finger: self.finger.map(|finger| self.finger_words(finger)),
         }
     }
 
@@ -82,6 +82,23 @@ impl<const N: usize> PrepareEffectTree<N> {
         }
     }
 
+    /// The port's finger for this one: lib.rs keeps no prepare sums, so they are those of the tree, 0 for a leaf or slot that isn't there.
+    fn finger_words(&self, finger: Finger) -> state::Finger {
+        let Finger { view, leaf, start, effect, slot, within, effect_within } = finger;
+        let node = self.leaves.get(leaf as usize).filter(|node| slot < node.len as usize);
+        state::Finger {
+            view: if view == View::Prepare { 0 } else { 1 },
+            leaf,
+            start,
+            effect,
+            slot: slot as u32,
+            within,
+            effect_within,
+            prepare: node.map_or(0, |_| self.entry_to_char_index(View::Prepare, Cursor { leaf, slot: 0 })),
+            prepare_within: node.map_or(0, |node| node.start(View::Prepare, slot)),
+        }
+    }
+
     /// Puts a finger there that lib.rs would not have, for the tests that must fail.
     pub fn put_finger(&mut self, finger: Option<state::Finger>) {
         self.finger = finger.map(|finger| Finger {
@@ -93,20 +110,6 @@ impl<const N: usize> PrepareEffectTree<N> {
             within: finger.within,
             effect_within: finger.effect_within,
         });
-    }
-}
-
-impl Finger {
-    fn words(self) -> state::Finger {
-        state::Finger {
-            view: if self.view == View::Prepare { 0 } else { 1 },
-            leaf: self.leaf,
-            start: self.start,
-            effect: self.effect,
-            slot: self.slot as u32,
-            within: self.within,
-            effect_within: self.effect_within,
-        }
     }
 }
 

@@ -84,6 +84,14 @@ fn effect_position_plus_offset(tree: &mut Mutant, call: Call, from: Source) -> R
     reply
 }
 
+fn prepare_position_plus_offset(tree: &mut Mutant, call: Call, from: Source) -> Reply {
+    let mut reply = right(tree, call, from);
+    if matches!(call, Call::Lookup { .. }) {
+        reply.fields[3] += reply.fields[1];
+    }
+    reply
+}
+
 fn zero_length_entry_taken(tree: &mut Mutant, call: Call, from: Source) -> Reply {
     let mut reply = right(tree, call, from);
     if let Call::Lookup { view, .. } | Call::Select { view, .. } = call {
@@ -109,7 +117,7 @@ fn stores_nothing(tree: &mut Mutant, call: Call, from: Source) -> Reply {
     let Call::Add { .. } = call else { return right(tree, call, from) };
     let id = tree.head().entry_count;
     let seen = |id| Seen { place: Place { leaf: 0, slot: 0 }, id };
-    Reply { fields: [id, 0, 0], given: call.ids().map(|id| id.map(seen)), got: [Some(seen(id)), None] }
+    Reply { fields: [id, 0, 0, 0], given: call.ids().map(|id| id.map(seen)), got: [Some(seen(id)), None] }
 }
 
 fn count_forgets_splits(tree: &mut Mutant, call: Call, from: Source) -> Reply {
@@ -125,7 +133,7 @@ fn count_forgets_splits(tree: &mut Mutant, call: Call, from: Source) -> Reply {
 fn none_from_every_next(tree: &mut Mutant, call: Call, from: Source) -> Reply {
     let mut reply = right(tree, call, from);
     if matches!(call, Call::Next { .. }) {
-        (reply.fields, reply.got) = ([u32::MAX, 0, 0], [None; 2]);
+        (reply.fields, reply.got) = ([u32::MAX, 0, 0, 0], [None; 2]);
     }
     reply
 }
@@ -152,11 +160,12 @@ fn selects_in_the_other_view(tree: &mut Mutant, call: Call, from: Source) -> Rep
 
 /// Document 01's "Mistakes near to hand" and its clause c, as far as they are not about refusals:
 /// what is refused is the row's to say here, and is not played on the tree. Then a wrong cursor, and `char_index_to_entry`.
-const MUTANTS: [(&str, Wrong); 12] = [
+const MUTANTS: [(&str, Wrong); 13] = [
     ("swapped split flag", swapped_split_flag),
     ("finger kept after every change", finger_kept),
     ("finger kept although its slot left with the upper half", finger_kept_although_its_slot_left),
     ("effect position + offset", effect_position_plus_offset),
+    ("prepare position + offset", prepare_position_plus_offset),
     ("zero-length entry taken at its own position", zero_length_entry_taken),
     ("a lookup that guesses after the first", guesses_after_the_first_lookup),
     ("an add that stores nothing", stores_nothing),

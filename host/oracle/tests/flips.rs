@@ -72,6 +72,8 @@ fn flip_head(state: &mut State, met: &mut Verdicts) {
     flip(state, "finger's slot", met, |state| &mut finger(state).slot);
     flip(state, "finger's within", met, |state| &mut finger(state).within);
     flip(state, "finger's effect within", met, |state| &mut finger(state).effect_within);
+    flip(state, "finger's prepare", met, |state| &mut finger(state).prepare);
+    flip(state, "finger's prepare within", met, |state| &mut finger(state).prepare_within);
 }
 
 fn flip_everything(mut state: State, met: &mut Verdicts) {

@@ -16,7 +16,7 @@ fn number(record: Record) -> u8 {
     let mut row = full_row();
     let Answer { number, fields } = row.play(&record);
     if number != 0 {
-        assert_eq!((fields, row), ([0; 3], full_row()));
+        assert_eq!((fields, row), ([0; 4], full_row()));
     }
     number
 }
@@ -114,7 +114,7 @@ fn records_and_answers_are_sixteen_bytes() {
     let record = Record::decode(&bytes);
     assert_eq!(record, Record::new(4, 1, 0x0403_0201, 5, 0x8000_0000));
     assert_eq!(record.encode(), bytes);
-    let answer = Answer { number: 0, fields: [1, 256, NONE] };
+    let answer = Answer { number: 0, fields: [1, 256, NONE, 7] };
     assert_eq!(answer.encode(10), [0, 10, 0, 0, 1, 0, 0, 0, 0, 1, 0, 0, 255, 255, 255, 255]);
     let odd = [77, 3, 9, 9, 0, 0, 0, 0, 0, 0, 0, 0, 0, 0, 0, 0];
     assert_eq!(full_row().play(&Record::decode(&odd)).encode(77), [10, 77, 0, 0, 0, 0, 0, 0, 0, 0, 0, 0, 0, 0, 0, 0]);

@@ -8,20 +8,20 @@ use oracle::row::{rowrun, Row};
 use oracle::rust::{Place, Rust};
 use oracle::state::NONE;
 
-/// P2 to P12 as (kind, byte 1, a, b, c) and (number, three fields); P1 is the make.
-type Case = ((u8, u8, u32, u32, u32), (u8, [u32; 3]));
+/// P2 to P12 as (kind, byte 1, a, b, c) and (number, four fields); P1 is the make.
+type Case = ((u8, u8, u32, u32, u32), (u8, [u32; 4]));
 const CASES: [Case; 11] = [
-    ((2, 0, NONE, 2, 0), (0, [1, 3, 0])),
-    ((2, 0, 0, 0, 5), (0, [2, 0, 0])),
-    ((7, 0, 0, 0, 0), (0, [0, 0, 5])),
-    ((7, 0, 5, 0, 0), (5, [0, 0, 0])),
-    ((9, 0, 1, 0, 0), (0, [NONE, 0, 0])),
-    ((7, 1, 0, 0, 0), (0, [2, 0, 0])),
-    ((7, 1, 8, 0, 0), (5, [0, 0, 0])),
-    ((4, 1, 0, 1, 1), (0, [3, 0, 0])),
-    ((2, 0, 1, 1, 1), (0, [4, 8, 0])),
-    ((2, 0, NONE, 0, 0), (8, [0, 0, 0])),
-    ((4, 0, 0, 3, 0), (6, [0, 0, 0])),
+    ((2, 0, NONE, 2, 0), (0, [1, 3, 0, 0])),
+    ((2, 0, 0, 0, 5), (0, [2, 0, 0, 0])),
+    ((7, 0, 0, 0, 0), (0, [0, 0, 5, 0])),
+    ((7, 0, 5, 0, 0), (5, [0, 0, 0, 0])),
+    ((9, 0, 1, 0, 0), (0, [NONE, 0, 0, 0])),
+    ((7, 1, 0, 0, 0), (0, [2, 0, 0, 0])),
+    ((7, 1, 8, 0, 0), (5, [0, 0, 0, 0])),
+    ((4, 1, 0, 1, 1), (0, [3, 0, 0, 0])),
+    ((2, 0, 1, 1, 1), (0, [4, 8, 0, 0])),
+    ((2, 0, NONE, 0, 0), (8, [0, 0, 0, 0])),
+    ((4, 0, 0, 3, 0), (6, [0, 0, 0, 0])),
 ];
 
 #[test]
@@ -62,7 +62,7 @@ fn fan_and_limit_out_of_bounds_are_1() {
 fn a_full_view_takes_only_lengths_of_0() {
     let mut driver = Driver::<Rust<4>>::make(5, [u32::MAX, 0], 1);
     assert_eq!(driver.play(Record::new(2, 0, NONE, 1, 0)).unwrap().answer.number, 7);
-    assert_eq!(driver.play(Record::new(2, 0, NONE, 0, 0)).unwrap().answer.fields, [1, 0, 0]);
+    assert_eq!(driver.play(Record::new(2, 0, NONE, 0, 0)).unwrap().answer.fields, [1, 0, 0, 0]);
 }
 
 #[test]

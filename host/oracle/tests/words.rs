@@ -25,8 +25,18 @@ fn the_words_of_the_sheet_of_five_entries() {
     let head = state.head;
     assert_eq!([head.fan, head.limit, head.root, head.levels], [4, 6, 0, 1]);
     assert_eq!([head.entry_count, head.leaf_count, head.inner_count], [5, 2, 1]);
-    let finger = Finger { view: 0, leaf: 1, start: 1, effect: 6, slot: 2, within: 3, effect_within: 3 };
-    assert_eq!(head.finger, Some(finger));
+    let sums = Finger {
+        view: 0,
+        leaf: 1,
+        start: 1,
+        effect: 6,
+        slot: 2,
+        within: 3,
+        effect_within: 3,
+        prepare: 1,
+        prepare_within: 3,
+    };
+    assert_eq!(head.finger, Some(sums));
 }
 
 #[test]

@@ -1,6 +1,6 @@
 /* PrepareEffectTree through C linkage: libsmelvock.a, which `rt staticlib smelvock` writes, for x86-64 Linux.
  *
- * The caller lends a head of fifteen words and three areas of words, each as a pointer and its count. Fan 4 to 32, limit 1 to
+ * The caller lends a head of seventeen words and three areas of words, each as a pointer and its count. Fan 4 to 32, limit 1 to
  * 65,536. The leaf area and the inner area each need max(1, limit / (fan / 2)) nodes of 3 + 3 * fan words, homes needs limit
  * words. Head and areas may not overlap. A tree's head is made by smelvock_new or smelvock_reset and written by the calls.
  *
@@ -9,7 +9,7 @@
  *    2  an area is too short                  7  a view's total would pass 4,294,967,295
  *    3  the cursor is not current             8  the tree holds its limit
  *    4  no such entry                         9  a link of an unsound tree leads outside
- *    5  position at or past the total        10  a view or flag is neither 0 nor 1, or the head not fifteen words
+ *    5  position at or past the total        10  a view or flag is neither 0 nor 1, or the head not seventeen words
  * Refused: the other values are 0 and, but for 9, head and areas are as they were. */
 #ifndef SMELVOCK_H
 #define SMELVOCK_H
@@ -26,11 +26,11 @@ extern "C" {
 /* The leaf of the cursor after the last entry. */
 #define SMELVOCK_NONE 4294967295u
 
-/* The words of a head. The finger (present 0 or 1, then seven words) is a tree's memory of its last lookup; its words are of no
+/* The words of a head. The finger (present 0 or 1, then nine words) is a tree's memory of its last lookup; its words are of no
  * account where absent. */
 enum {
     SMELVOCK_FAN, SMELVOCK_LIMIT, SMELVOCK_ROOT, SMELVOCK_LEVELS, SMELVOCK_LEAVES, SMELVOCK_INNERS, SMELVOCK_ENTRIES,
-    SMELVOCK_PRESENT, SMELVOCK_FINGER, SMELVOCK_HEAD_WORDS = 15
+    SMELVOCK_PRESENT, SMELVOCK_FINGER, SMELVOCK_HEAD_WORDS = 17
 };
 
 /* An entry's place, current until the next insertion or split. */
@@ -65,7 +65,7 @@ typedef struct {
 typedef struct {
     uint32_t number;
     smelvock_cursor_at at;
-    uint32_t offset, position;
+    uint32_t offset, position, prepare;
 } smelvock_located;
 
 typedef struct {
@@ -106,7 +106,8 @@ smelvock_standing smelvock_next(SMELVOCK_HEAD, SMELVOCK_AREAS, smelvock_cursor_a
 /* value: 0, 1, 2 as a stands before, is or stands after b. */
 smelvock_number smelvock_cmp(SMELVOCK_HEAD, SMELVOCK_AREAS, smelvock_cursor_at a, smelvock_cursor_at b);
 
-/* The entry that holds a position of a view, and the offset into it; locate also its effect position. */
+/* The entry that holds a position of a view, and the offset into it; locate also its effect position
+ * (position) and its prepare position. */
 smelvock_selected smelvock_char_index_to_entry(SMELVOCK_HEAD_WRITTEN, SMELVOCK_AREAS, uint32_t view, uint32_t index);
 smelvock_located smelvock_locate(SMELVOCK_HEAD_WRITTEN, SMELVOCK_AREAS, uint32_t view, uint32_t index);
 

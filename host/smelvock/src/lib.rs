@@ -60,7 +60,7 @@ impl<const N: usize> PrepareEffectTree<N> {
         let fan = u32::try_from(N).unwrap_or(0);
         let [nodes, homes] = words(fan, limit);
         let mut tree =
-            PrepareEffectTree { head: [0; 15], leaves: vec![0; nodes], inners: vec![0; nodes], homes: vec![0; homes] };
+            PrepareEffectTree { head: [0; 17], leaves: vec![0; nodes], inners: vec![0; nodes], homes: vec![0; homes] };
         let (head, areas) = tree.parts();
         let number = raw::new(fan, limit, lengths.into(), head, areas);
         Refusal::unless(number, || tree)
@@ -135,16 +135,16 @@ impl<const N: usize> PrepareEffectTree<N> {
 
     /// Selects the entry holding position `index` of `view`, and the offset into it.
     pub fn char_index_to_entry(&mut self, view: View, index: u32) -> Result<(Cursor, u32), Refusal> {
-        let (at, offset, _) = self.locate(view, index)?;
+        let (at, offset, ..) = self.locate(view, index)?;
         Ok((at, offset))
     }
 
     /// Selects as [`char_index_to_entry`](Self::char_index_to_entry) does, also returning the
-    /// entry's position in the effect version.
-    pub fn locate(&mut self, view: View, index: u32) -> Result<(Cursor, u32, u32), Refusal> {
+    /// entry's positions in the effect and in the prepare version; lib.rs's has the first alone.
+    pub fn locate(&mut self, view: View, index: u32) -> Result<(Cursor, u32, u32, u32), Refusal> {
         let PrepareEffectTree { head, leaves, inners, homes } = self;
         let reply = raw::locate(head, Areas { leaves, inners, homes }, view as u32, index);
-        Refusal::unless(reply.number, || (reply.at.into(), reply.offset, reply.position))
+        Refusal::unless(reply.number, || (reply.at.into(), reply.offset, reply.position, reply.prepare))
     }
 
     /// Ranks an entry: its position in `view`.

@@ -2,8 +2,8 @@
 //! words for head and areas, however many, and any number for a view or a flag.
 
 /// What a tree keeps beside its areas, as the words that the exports are lent: fan, limit, root, levels, the counts of leaves, inner
-/// nodes and entries in use, 1 or 0 for a finger or none, and the finger's seven words.
-pub type Head = [u32; 15];
+/// nodes and entries in use, 1 or 0 for a finger or none, and the finger's nine words.
+pub type Head = [u32; 17];
 
 /// Where a head has its fan, limit, root and so on.
 pub mod word {
@@ -69,6 +69,7 @@ pub struct Located {
     pub at: Cursor,
     pub offset: u32,
     pub position: u32,
+    pub prepare: u32,
 }
 
 #[repr(C)]

@@ -29,7 +29,7 @@ impl fmt::Display for Refusal {
             7 => "a total would pass 4,294,967,295",
             8 => "the tree holds its limit",
             9 => "a link of the tree leads outside",
-            10 => "the head is not fifteen words, or a view or a flag is neither 0 nor 1",
+            10 => "the head is not seventeen words, or a view or a flag is neither 0 nor 1",
             _ => "records and output are unequally long, or not a multiple of 16",
         };
         write!(f, "refused by {}: {cause}", self.number)

@@ -7,17 +7,18 @@ use std::process::Command;
 const WANTED: &str = "new 0
 insert 0 1 3
 insert 0 2 0
-locate 0 0 0 5
-locate 5 0 0 0
+locate 0 0 0 5 0
+locate 5 0 0 0 0
 next 0 1
-locate 0 2 0 0
-locate 5 0 0 0
+locate 0 2 0 0 0
+locate 5 0 0 0 0
 split_entry 0 3 0 1 0 2
 insert 0 4 8
 cursor 1 1
 insert 8 0 0
 split_entry 6 0 0 0 0 0
 row 2 3 0 4 1
+locate 0 4 0 8 3
 char_index_to_entry 5 0 0 0
 update 0 5
 set_lengths 0
@@ -28,7 +29,7 @@ len 0 5
 is_empty 0 0
 audit 0 1
 view 2: 10
-14 words: 10
+16 words: 10
 short: 2
 reset 0 1 0
 add 0 1

@@ -25,7 +25,7 @@ static void insert(uint32_t end, smelvock_cursor_at before, smelvock_length leng
 static void locate(uint32_t view, uint32_t index) {
     smelvock_located r = smelvock_locate(HEAD, AREAS, view, index);
     uint32_t id = r.number ? 0 : smelvock_id(HEAD, AREAS, r.at).value;
-    printf("locate %u %u %u %u\n", r.number, id, r.offset, r.position);
+    printf("locate %u %u %u %u %u\n", r.number, id, r.offset, r.position, r.prepare);
 }
 
 static void split(uint32_t id, smelvock_length lengths) {
@@ -53,6 +53,7 @@ int main(void) {
         printf(" %u", smelvock_id(HEAD, AREAS, c).value);
     printf("\n");
 
+    locate(SMELVOCK_EFFECT, 8);
     smelvock_selected selected = smelvock_char_index_to_entry(HEAD, AREAS, SMELVOCK_EFFECT, 9);
     printf("char_index_to_entry %u %u %u %u\n", selected.number, selected.at.leaf, selected.at.slot, selected.offset);
     smelvock_number updated = smelvock_update(HEAD, AREAS, at(3), (smelvock_length){4, 2});
@@ -68,7 +69,7 @@ int main(void) {
     printf("is_empty %u %u\n", smelvock_is_empty(HEAD).number, smelvock_is_empty(HEAD).value);
     printf("audit %u %u\n", smelvock_audit(HEAD, AREAS).number, smelvock_audit(HEAD, AREAS).value);
     printf("view 2: %u\n", smelvock_locate(HEAD, AREAS, 2, 0).number);
-    printf("14 words: %u\n", smelvock_len(head, SMELVOCK_HEAD_WORDS - 1).number);
+    printf("16 words: %u\n", smelvock_len(head, SMELVOCK_HEAD_WORDS - 1).number);
     printf("short: %u\n", smelvock_first(HEAD, leaves, WORDS - 1, inners, WORDS, homes, LIMIT).number);
     uint32_t reset = smelvock_reset(HEAD, AREAS, (smelvock_length){1, 0});
     printf("reset %u %u %u\n", reset, head[SMELVOCK_ENTRIES], head[SMELVOCK_PRESENT]);
