@@ -26,6 +26,11 @@ pub column-word : (g : Shape) (k i c : ℕ) (xs : List ℕ) → i < g .fan → c
 unfolding nodeOf
 column-word g k i c xs h hc = column (g .stride) (g .fan) i 3 c (part (k * g .size) (g .size) xs) h hc
 
+-- a node has as many slots as the fan
+pub slots-are : (g : Shape) (k : ℕ) (xs : List ℕ) → length (nodeAt g k xs .slots) ≡ g .fan
+unfolding nodeOf
+slots-are g k xs = slots-length (g .stride) (g .fan) 3 _
+
 -- the slots in use are as many as the node says, where it says no more than it has
 pub used-length : (g : Shape) (k : ℕ) (xs : List ℕ) → nodeAt g k xs .len ≤ g .fan → length (used (nodeAt g k xs)) ≡ nodeAt g k xs .len
 unfolding nodeOf

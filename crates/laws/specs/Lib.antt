@@ -13,5 +13,7 @@ pub mod Fronts
 pub mod Grow
 pub mod Lens
 pub mod Locate
+pub mod Met
 pub mod Put
 pub mod Read
+pub mod Sheet

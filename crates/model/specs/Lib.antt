@@ -11,6 +11,9 @@ pub mod Place
 pub mod Answer
 pub mod Refuse
 pub mod Calls
+pub mod Numeral
+pub mod Sheet
+pub mod Print
 pub mod ById
 pub mod Record
 pub mod Sound
@@ -20,3 +23,4 @@ pub mod Spelling
 pub mod Promise
 pub mod Settled
 pub mod Spelled
+pub mod Paged

@@ -16,6 +16,7 @@ use Rattle.model.specs.Answer.{outcomeAnswer, numberAnswer, verdictAnswe
 use Rattle.model.specs.Refuse.{current}
 use Rattle.model.specs.Calls as calls
 use Rattle.model.specs.Calls.{entryId}
+use Rattle.model.specs.Print.{PrintLeaves}
 use Rattle.model.specs.ById.{treeStep}
 use Rattle.model.specs.Sound.{Sound, entriesOf}
 use Rattle.model.specs.declared.head.Cursor.{Cursor}
@@ -138,6 +139,7 @@ pub record Made (K : Kind) (fan limit : ℕ) (l ls xs hs : List ℕ) : Type 0 wh
 pub record Demand1 (K : Kind) : Type 0 where
   pub made : (fan limit : ℕ) (l ls xs hs : List ℕ) → Words K l → Made K fan limit l ls xs hs
   pub refused : (s : State) → Refusals K s
+  pub printed : (s : State) (page : List ℕ) → PrintLeaves K s page
   pub fixed : (s : State) → Fixes K s
   pub bare : Bares
 

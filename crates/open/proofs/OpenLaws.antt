@@ -56,7 +56,7 @@ module _ (fan limit : ℕ) (ls xs hs : List ℕ) (g : Shape) (b t : Bool) (eb : 
 abbrev pub areasOf : State → List Cause
 areasOf s = makeCauses base (s .head .fan) (s .head .limit) (s .leaves) (s .inners) (s .homes)
 
-areas-numbered : (s : State) → Numbered (areasOf s)
+pub areas-numbered : (s : State) → Numbered (areasOf s)
 unfolding All
 areas-numbered s = (omega arith, (omega arith, tt))
 

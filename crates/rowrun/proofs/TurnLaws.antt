@@ -1,11 +1,9 @@
 -- What bytes behind the kept ones are answered: the text fits its room, and fewer than sixteen bytes are kept. Assumes nothing.
-use mathlib.Core.Path.{_≡_, refl, sym, ap, _∙_, subst}
+use mathlib.Core.Path.{_≡_, sym, ap, _∙_, subst}
 use mathlib.Core.Bool.{Bool, true, false, cond}
 use mathlib.Core.List.{List}
-use Prim.Native.Nat.{ℕ, _+_, _-_, _*_, _/_, _<_, _≤_}
+use Prim.Native.Nat.{ℕ, _+_, _*_, _/_, _<_, _≤_}
 use native.Mathlib.Omega.{arith}
-use lib.ListN.{length, take, drop, length-drop}
-use lib.Seq.{length-take-le}
 use lib.Dec.{eqb}
 use borrow.Author.Tests.{eq-eqb, ne-eqb}
 use Rattle.model.specs.State.{State, state}
@@ -38,10 +36,6 @@ answered-short s t block b out o kept n rest end room e h k = go (eqb n 0) e
     go : (z : Bool) → fedOf t end o rest b ≡ cond z (fedOf s (put out 0 (tail kept) .0) (put out 0 (tail kept) .1) kept block) (feed s block (kept + n) out) → end ≤ room
     go true q = omega (arith, tail-short kept end out o (ap (λ (f : Fed). f .seen .written) q))
     go false q = omega (arith, fed-short s t block b out o rest (kept + n) end q)
-
--- what was read fits the block
-pub within : (kept n : ℕ) (block : List ℕ) → kept ≤ length block → n ≤ length (take (length block - kept) (drop kept block)) → kept + n ≤ length block
-within kept n block h k = omega (arith, length-drop kept block, length-take-le (length block - kept) (drop kept block) (omega (arith, length-drop kept block)))
 
 -- what is kept of a block that was answered
 pub kept-of : (r : Input) (s : State) (block : List ℕ) (kept : ℕ) (out ls xs hs b o : List ℕ) → Turned r s block kept out ls xs hs b o → (h : Head) (n : ℕ) → r ≡ input.More h n → n < 16

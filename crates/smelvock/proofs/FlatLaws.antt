@@ -7,10 +7,14 @@ use Rattle.model.specs.Row.{Answer, refused}
 use Rattle.model.specs.State.{state}
 use Rattle.model.specs.Calls.{Reply, reply}
 use Rattle.model.specs.declared.head.Head.{Head}
-use Rattle.marshal.specs.Flat.{headAfter}
+use Rattle.model.specs.Answer.{numberAnswer}
+use Rattle.model.specs.declared.answer.Number.{Number}
+use Rattle.marshal.specs.Flat.{headAfter, numberOf}
+use Rattle.marshal.specs.declared.flat.FlatNumber.{FlatNumber}
 use Rattle.smelvock.specs.Reads as reads
 use Rattle.smelvock.specs.Reads.{Given}
 use Rattle.smelvock.specs.Changes.{left, leftBy}
+use Rattle.smelvock.specs.Prints.{printedBy}
 
 pub ap₃ : {A : Type 0} {B : Type 0} {C : Type 0} {D : Type 0} (f : A → B → C → D) {a a′ : A} {b b′ : B} {c c′ : C} → a ≡ a′ → b ≡ b′ → c ≡ c′ → f a b c ≡ f a′ b′ c′
 ap₃ {B = B} {C = C} f {a′ = a′} {b = b} {c = c} p q r = ap (λ x. f x b c) p ∙ ap₂ (f a′) q r
@@ -40,3 +44,13 @@ module _ {A : Type 0} {R : Type 0} (flat : Answer → R) (answer : A → Answer)
       → reply (state h ls xs hs) a ≡ y → left r w ls xs hs ≡ leftBy flat answer headAfter bad g y
   reply-settled h a w ls xs hs b e f d =
       reply-good flat answer headAfter bad g r y h a w ls xs hs b e (f ∙ ap (λ (n : ℕ). headAfter n h (g .head)) (ap number e ∙ alike (answer a))) d
+
+-- what print leaves of the lent buffer
+module _ (bad : Bool) (f : FlatNumber) (page : List ℕ) (r : Number × List ℕ) where
+  pub print-refused : bad ≡ true → f ≡ numberOf (refused 10) → (f, page) ≡ printedBy bad page r
+  unfolding printedBy
+  print-refused b e = ap (λ (q : FlatNumber). (q, page)) e ∙ ap (λ (t : Bool). printedBy t page r) (sym b)
+
+  pub print-good : (a : Number) (new : List ℕ) → bad ≡ false → f ≡ numberOf (numberAnswer a) → (a, new) ≡ r → (f, new) ≡ printedBy bad page r
+  unfolding printedBy
+  print-good a new b e d = ap (λ (q : FlatNumber). (q, new)) e ∙ ap (printedBy false page) d ∙ ap (λ (t : Bool). printedBy t page r) (sym b)

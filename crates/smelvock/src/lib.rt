@@ -5,4 +5,5 @@ pub mod check;
 pub mod look;
 pub mod make;
 pub mod order;
+pub mod print;
 pub mod read;

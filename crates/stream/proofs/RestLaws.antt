@@ -1,8 +1,8 @@
--- Bytes moved to the start of a buffer one by one; a tail's line. Assumes nothing.
+-- Bytes moved to the start of a buffer one by one; a tail's line; bytes read behind those that are kept. Assumes nothing.
 use mathlib.Core.Bool.{Bool, true, false, cond}
 use mathlib.Core.Path.{_≡_, refl, sym, ap, _∙_, subst}
 use mathlib.Core.List.{List, [], _∷_, _++_}
-use Prim.Native.Nat.{ℕ, suc, _+_, _≤_, _<_}
+use Prim.Native.Nat.{ℕ, suc, _+_, _-_, _≤_, _<_}
 use native.Mathlib.Omega.{arith}
 use borrow.Author.Tests.{eq-eqb, ne-eqb}
 use lib.ListN.{length, take, drop, getD, set, length-drop}
@@ -60,3 +60,7 @@ tail-short stray r out o e = go (eqb stray 0) (behind out o 0 r (tail stray) e)
     go : (b : Bool) → r ≡ 0 + length (cond b [] (line (answerOf (refused 11)))) → r ≤ 44
     go true q = omega arith
     go false q = omega (arith, q, line-short (answerOf (refused 11)))
+
+-- what was read fits the block
+pub within : (kept n : ℕ) (block : List ℕ) → kept ≤ length block → n ≤ length (take (length block - kept) (drop kept block)) → kept + n ≤ length block
+within kept n block h k = omega (arith, length-drop kept block, length-take-le (length block - kept) (drop kept block) (omega (arith, length-drop kept block)))

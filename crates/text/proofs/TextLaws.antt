@@ -1,16 +1,16 @@
--- Text written piece by piece is the pieces written as one; a numeral of at most k digits isn't longer. Assumes nothing.
+-- Text written piece by piece is the pieces written as one. Assumes nothing.
 use mathlib.Core.Path.{_≡_, refl, sym, ap, ap₂, _∙_, subst}
-use mathlib.Core.Bool.{Bool, true, false, cond}
 use mathlib.Core.List.{List, [], _∷_, _++_}
 use Prim.Native.Nat.{ℕ, zero, suc, _+_, _-_, _/_, _%_, _≤_, _<_}
 use native.Mathlib.Nat.{add-zero, add-suc, suc-add}
 use native.Mathlib.Omega.{arith}
 use borrow.Author.Tests.{lt-ltb, le-ltb}
 use lib.ListN.{length, set, length-append}
-use lib.Dec.{ltb}
 use lib.Seq.{sets}
 use Rattle.records.specs.declared.answer.Answer.{Answer}
-use Rattle.text.specs.Text.{numeral, decimal, line, put}
+use Rattle.model.specs.Numeral.{numeral, decimal}
+use Rattle.laws.specs.Sheet.{numeral-short, decimal-short}
+use Rattle.text.specs.Text.{line, put}
 
 sets-append : (out : List ℕ) (at : ℕ) (xs ys : List ℕ) → sets (sets out at xs) (at + length xs) ys ≡ sets out at (xs ++ ys)
 sets-append out at [] ys = ap (λ (k : ℕ). sets out k ys) (add-zero at)
@@ -58,22 +58,9 @@ one-more out o at r n (suc most) k h e =
     let less : suc most - 1 ≡ most = omega arith in
     rw (le-ltb n 10 h) (put-one o r (48 + n % 10) ∙ put-more out o at r (numeral most (n / 10)) ((48 + n % 10) ∷ []) (subst (λ (j : ℕ). (r, o) ≡ put out at (numeral j (n / 10))) less e))
 
-pub numeral-short : (most n : ℕ) → length (numeral most n) ≤ most
-unfolding numeral
-numeral-short zero n = omega arith
-numeral-short (suc most) n = go (ltb n 10) (numeral-short most (n / 10))
-  where
-    go : (b : Bool) → length (numeral most (n / 10)) ≤ most → length (cond b ((48 + n) ∷ []) (numeral most (n / 10) ++ ((48 + n % 10) ∷ []))) ≤ suc most
-    go true h = omega arith
-    go false h = omega (arith, length-append (numeral most (n / 10)) ((48 + n % 10) ∷ []), h)
-
 -- the place behind all digits but the last is in the buffer
 pub last-in : (out o : List ℕ) (at r n most : ℕ) → (most ≡ 0 → ⊥) → at + most ≤ length out → (r, o) ≡ put out at (numeral (most - 1) n) → r < length out
 last-in out o at r n most k h e = omega (arith, behind out o at r (numeral (most - 1) n) e, numeral-short (most - 1) n, k, h)
-
-pub decimal-short : (n : ℕ) → length (decimal n) ≤ 10
-unfolding decimal
-decimal-short n = numeral-short 10 n
 
 -- a number and one byte behind it
 pub field-of : (out o : List ℕ) (at r n b : ℕ) → (r, o) ≡ put out at (decimal n) → (r + 1, set o r b) ≡ put out at (decimal n ++ (b ∷ []))

@@ -7,7 +7,8 @@ use Prim.Native.Nat.{ℕ, zero, suc, _+_, _-_, _*_, _%_, _/_, _^_, _<_}
 use native.Mathlib.Omega.{arith}
 use lib.Dec.{ltb}
 use Rattle.records.specs.declared.answer.Answer.{Answer}
-use Rattle.text.specs.Text.{numeral, decimal, line}
+use Rattle.model.specs.Numeral.{numeral, decimal}
+use Rattle.text.specs.Text.{line}
 
 -- the number that digits say, read behind those that say n
 unfoldable pub saidBy : ℕ → List ℕ → ℕ

@@ -5,7 +5,8 @@ ghost use mathlib.Core.Path.{_≡_};
 ghost use mathlib.Core.List.{[], _∷_, _++_};
 ghost use Prim.Native.Nat.{_+_, _≤_};
 ghost use lib.ListN.{length};
-ghost use Rattle.text.specs.Text.{decimal, line, put};
+ghost use Rattle.model.specs.Numeral.{decimal};
+ghost use Rattle.text.specs.Text.{line, put};
 
 // The digits of n and the byte behind them.
 fn field(out: &mut [u8], at: usize, n: u32, behind: u8) -> usize

@@ -2,7 +2,8 @@
 ghost use mathlib.Core.Path.{_≡_};
 ghost use Prim.Native.Nat.{_+_, _≤_};
 ghost use lib.ListN.{length};
-ghost use Rattle.text.specs.Text.{numeral, decimal, put};
+ghost use Rattle.model.specs.Numeral.{numeral, decimal};
+ghost use Rattle.text.specs.Text.{put};
 
 // The digits of n, at most `most` of them, from place `at` on; the place behind them.
 fn digits(out: &mut [u8], at: usize, n: u32, most: usize) -> usize

@@ -18,11 +18,13 @@ use Rattle.model.specs.ById.{treeStep}
 use Rattle.model.specs.Sound.{Sound}
 use Rattle.model.specs.Calls.{begun, make, cursor, locate}
 use Rattle.model.specs.Audit.{audit}
+use Rattle.model.specs.Print.{PrintsRow}
 use Rattle.model.specs.Promise.{Words, InWords, answers, finally, others, otherAnswers, StandsAt}
 use Rattle.model.specs.declared.head.Held.the-variants as held
 use Rattle.model.specs.declared.answer.Outcome.the-variants as outcome
 use Rattle.model.specs.declared.answer.Verdict.the-variants as verdict
 use Rattle.theory.specs.Whole.{whole, alike}
+use Rattle.theory.specs.Printed.{prints-row}
 use Rattle.theory.specs.Audited.{audit-exactly}
 use Rattle.theory.specs.Steps.{steps, audit-steps}
 use Rattle.theory.specs.Cursors.{cursor-at}
@@ -77,6 +79,12 @@ same-others = refl
 
 pub answered-alike : otherAnswers (treeStep base) start calls ≡ otherAnswers (treeStep base) start calls′
 answered-alike = alike base (omega arith) 5 (pair 3 3) first-words 4 areaWords areaWords (replicate 5 7) made 4 areaWords areaWords (replicate 5 7) made calls calls′ in-words in-words′ same-others
+
+-- and on the tree that the list leaves, print writes the sheet of the row
+pub printed : (page : List ℕ) → PrintsRow base (finally (treeStep base) start calls) (finally (rowStep base) (madeRow 5 (pair 3 3)) calls) page
+printed page =
+    let k = whole base (omega arith) 4 5 (pair 3 3) areaWords areaWords (replicate 5 7) first-words made calls in-words .1 in
+    prints-row base (omega arith) _ _ (record { sound = k .sound; entries = k .entries; limit = k .limit }) page
 
 -- the tree that make leaves is sound, and audit says so
 pub sound-start : Sound base start

@@ -41,6 +41,7 @@ pub mod Numbers
 pub mod Fixed
 pub mod Spans
 pub mod Bare
+pub mod Printed
 pub mod Refused
 pub mod Whole
 pub mod Tests

@@ -1,5 +1,7 @@
 -- On a sound state a call's opening refuses nothing, and the cursor of an id in use stands at its entry.
 use mathlib.Core.Path.{_≡_, refl, ap, _∙_}
+use mathlib.Core.Logic.{_≢_}
+use mathlib.Core.Bool.{Bool, true, false}
 use mathlib.Core.List.{List, [], _∷_, _++_, map}
 use Prim.Native.Nat.{ℕ, suc, _+_, _*_, _≤_, _<_}
 use native.Mathlib.Nat.{not-suc-le-zero}
@@ -9,7 +11,7 @@ use lib.ListN.{length, getD, length-map}
 use borrow.Author.Tests.{eq-eqb, ne-eqb, lt-ltb, le-ltb, le-leb, lt-leb}
 use Rattle.model.specs.Kind.{stride}
 use Rattle.model.specs.declared.shape.Kind.{Kind}
-use Rattle.model.specs.Lists.{Cause, refusal}
+use Rattle.model.specs.Lists.{Cause, cause, refusal}
 use Rattle.model.specs.Node.{Node, child, used, indexFrom}
 use Rattle.model.specs.State.{State}
 use Rattle.model.specs.Sound.{shapeIn, leafIn, Sound}
@@ -34,6 +36,12 @@ passed cs f a e = rw e
 
 pub stopped : {A : Type 0} (cs : List Cause) (f : ℕ → A) (a : A) (n : ℕ) → refusal cs ≡ suc n → unless cs f a ≡ f (suc n)
 stopped cs f a n e = rw (e, ne-eqb (suc n) 0 (λ z. omega arith))
+
+-- a cause that doesn't apply
+pub clear : (n : ℕ) (b : Bool) (cs : List Cause) → n ≢ 0 → refusal (cause n b ∷ cs) ≡ 0 → (b ≡ false) × (refusal cs ≡ 0)
+unfolding refusal
+clear n true cs d e = absurd (d e)
+clear n false cs d e = (refl, e)
 
 -- the first of some slots that holds a child
 pub index-lift : (c k : ℕ) (xs : List (List ℕ)) → indexOf c (map slotOf xs) < length xs → indexFrom c k xs ≡ slot.Slot (k + indexOf c (map slotOf xs))

@@ -1,7 +1,6 @@
 -- What a call leaves where it is refused (document 01, demand 1), on any words, sound or not: a number other than 0 and 9 leaves the tree,
 -- 9 leaves the head, and every area is as long as it was in any case. Assumes nothing.
 use mathlib.Core.Path.{_≡_, refl, ap, _∙_}
-use mathlib.Core.Logic.{_≢_}
 use mathlib.Core.Bool.{Bool, true, false, cond, _&&_, _||_}
 use mathlib.Core.List.{List, [], _∷_, _++_}
 use Prim.Native.Nat.{ℕ, _+_, _-_, _*_, _^_, _≤_, _<_}
@@ -11,7 +10,7 @@ use lib.ListN.{length, drop, length-set}
 use borrow.Author.Tests.{ltb-true, ltb-false, leb-true, eqb-true, eqb-false, not-false, eq-eqb, lt-ltb, le-ltb}
 use Rattle.model.specs.Kind.{stride}
 use Rattle.model.specs.declared.shape.Kind.{Kind}
-use Rattle.model.specs.Lists.{Cause, cause, refusal, All}
+use Rattle.model.specs.Lists.{Cause, refusal, All}
 use Rattle.model.specs.Node.{none, child, lengths, used, findFrom, newNode, minus, wrap}
 use Rattle.model.specs.State.{State, state, headOf, shape, nodeAt}
 use Rattle.model.specs.Climb.{lastDown}
@@ -59,10 +58,11 @@ use Rattle.laws.specs.Find.{used-ranged}
 use Rattle.laws.specs.Locate.{back-slot}
 use Rattle.laws.specs.Lens.{by-test, Roomy}
 use Rattle.laws.specs.Formed.{formed-new}
-use Rattle.theory.specs.Open.{passed}
+use Rattle.theory.specs.Open.{passed, clear}
 use Rattle.theory.specs.Make.{Sizes, sizes-of, nodes-least}
 use Rattle.theory.specs.Fixed.{fixes}
 use Rattle.theory.specs.Bare.{bares}
+use Rattle.theory.specs.Printed.{print-leaves}
 use Rattle.theory.specs.Spans.{Left, Holds, put-leaf, put-inner, place-left, divide-left, replace-left, climb-left, leaf-slot}
 
 unmoved : (n : ℕ) (s : State) → Leaves n s s
@@ -73,11 +73,6 @@ finished : (n : ℕ) (s t : State) → n ≡ 0 → length (t .leaves) ≡ length
 finished n s t z a b c = record { refused = λ d e. absurd (d z); broken = λ e. absurd (omega arith); leaves = a; inners = b; homes = c }
 
 -- what the causes leave -------------------------------------------------------------------------------------------------------------------
-
-clear : (n : ℕ) (b : Bool) (cs : List Cause) → n ≢ 0 → refusal (cause n b ∷ cs) ≡ 0 → (b ≡ false) × (refusal cs ≡ 0)
-unfolding refusal
-clear n true cs d e = absurd (d e)
-clear n false cs d e = (refl, e)
 
 none-more : (cs ds : List Cause) → refusal cs ≡ 0 → refusal ds ≡ 0 → refusal (cs ++ ds) ≡ 0
 unfolding refusal
@@ -425,4 +420,4 @@ make-leaves K fan limit l ls xs hs w = go (eqb (refusal (calls.makeCauses K fan 
 
 -- demand 1 whole
 pub demand1 : (K : Kind) → Demand1 K
-demand1 K = record { made = make-leaves K; refused = refusals K; fixed = fixes K; bare = bares }
+demand1 K = record { made = make-leaves K; refused = refusals K; printed = print-leaves K; fixed = fixes K; bare = bares }

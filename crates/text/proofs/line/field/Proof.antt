@@ -1,7 +1,8 @@
 -- `text::line::field`: one byte is put behind the digits.
 use native.Mathlib.Omega.{arith}
-use Rattle.text.proofs.TextLaws.{behind, decimal-short, field-of}
-use Rattle.text.specs.Text.{decimal}
+use Rattle.model.specs.Numeral.{decimal}
+use Rattle.laws.specs.Sheet.{decimal-short}
+use Rattle.text.proofs.TextLaws.{behind, field-of}
 use borrow.Author.Needs.{needs}
 use Rattle.text.proofs.line.field.Statement.{statement}
 use Rattle.text.proofs.line.field.Tie as tie

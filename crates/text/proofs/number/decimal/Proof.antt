@@ -1,5 +1,5 @@
 -- `text::number::decimal`: a u32's numeral, by its definition.
-use Rattle.text.specs.Text.{decimal}
+use Rattle.model.specs.Numeral.{decimal}
 use borrow.Author.Needs.{needs}
 use Rattle.text.proofs.number.decimal.Statement.{statement}
 use Rattle.text.proofs.number.decimal.Tie as tie

@@ -1,0 +1,62 @@
+-- The row that the program's tree stands for: calls after calls, and its limit, so that the sheet fits eleven pages. Assumes nothing.
+use mathlib.Core.Path.{_≡_, refl, sym, ap, _∙_}
+use mathlib.Core.Bool.{Bool, true, false, cond}
+use mathlib.Core.List.{List, [], _∷_, _++_}
+use Prim.Native.Nat.{ℕ, _*_, _≤_}
+use native.Mathlib.Omega.{arith}
+use lib.Dec.{eqb}
+use lib.ListN.{length}
+use Rattle.model.specs.Kind.{base}
+use Rattle.model.specs.Lists.{Cause, refusal}
+use Rattle.model.specs.Row as row
+use Rattle.model.specs.Row.{Row, Call, Entry, Answer, Moved, moved, unless, rowStep}
+use Rattle.model.specs.State.{State}
+use Rattle.model.specs.Sheet.{pagesFor}
+use Rattle.model.specs.Promise.{finally, Stands}
+use Rattle.theory.specs.Agree.{count-is}
+use Rattle.row.specs.Made.{doorRow}
+use Rattle.sheetrun.specs.Turn.{leftRow}
+
+-- calls behind calls
+pub finally-append : {S : Type 0} (move : S → Call → Moved S) (s : S) (cs ds : List Call) → finally move (finally move s cs) ds ≡ finally move s (cs ++ ds)
+unfolding finally
+finally-append move s [] ds = refl
+finally-append move s (c ∷ cs) ds = finally-append move (move s c .after) cs ds
+
+-- no call changes a row's limit
+unless-limit : (r : Row) (cs : List Cause) (es : List Entry) (a : Answer) → unless r cs es a .after .limit ≡ r .limit
+unfolding unless
+unless-limit r cs es a = go (eqb (refusal cs) 0)
+  where
+    go : (b : Bool) → cond b (moved (row.row (r .limit) es) a) (moved r (row.refused (refusal cs))) .after .limit ≡ r .limit
+    go true = refl
+    go false = refl
+
+step-limit : (r : Row) (c : Call) → rowStep base r c .after .limit ≡ r .limit
+unfolding rowStep
+step-limit r (row.reset l) = refl
+step-limit r (row.insert i l) = unless-limit r _ _ _
+step-limit r (row.add i l) = unless-limit r _ _ _
+step-limit r (row.split flag i l) = unless-limit r _ _ _
+step-limit r (row.setLengths i l) = unless-limit r _ _ _
+step-limit r (row.update i l) = unless-limit r _ _ _
+step-limit r (row.lookup v x) = unless-limit r _ _ _
+step-limit r (row.rank v i) = unless-limit r _ _ _
+step-limit r (row.next i) = unless-limit r _ _ _
+step-limit r (row.compare i j) = unless-limit r _ _ _
+step-limit r (row.lengths i) = unless-limit r _ _ _
+step-limit r row.count = refl
+step-limit r row.first = refl
+step-limit r row.malformed = refl
+
+limit-kept : (r : Row) (cs : List Call) → finally (rowStep base) r cs .limit ≡ r .limit
+unfolding finally
+limit-kept r [] = refl
+limit-kept r (c ∷ cs) = limit-kept (rowStep base r c .after) cs ∙ step-limit r c
+
+-- at most 512 entries
+pub fits : (s : State) (cs : List Call) → Stands base s (leftRow cs) → (n : ℕ) → n ≡ 30250 → 2750 * pagesFor (length (leftRow cs .entries)) ≤ n
+fits s cs st n e =
+    let count : length (leftRow cs .entries) ≡ s .head .entries = sym (ap length (st .entries)) ∙ count-is base s (st .sound) in
+    let few : length (leftRow cs .entries) ≤ 512 = omega (arith, st .sound .entry-count, st .limit, limit-kept doorRow cs) in
+    omega arith
