@@ -3,6 +3,7 @@
 //! the least.
 
 mod changes;
+mod paper;
 mod reads;
 mod timing;
 
@@ -27,6 +28,7 @@ fn run<const N: usize>(entries: u32, rounds: usize) {
     let mut port = Port(tree_of::<N>(rust.state(entries)));
     let mut table = Table::new(format!("N {N}, {entries} entries"), rounds);
     reads::run(&mut table, &mut rust, &mut port);
+    paper::run(&mut table, &rust, &port);
     changes::resizes(&mut table, &mut rust, &mut port);
     changes::growth::<N>(&mut table, entries);
     table.print();

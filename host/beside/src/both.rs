@@ -7,6 +7,7 @@ use oracle::cursors::{Held, Source};
 use oracle::record::Call;
 use oracle::row::Entry;
 use oracle::rust::{Reply, Rust, Subject};
+use oracle::sheet;
 use oracle::state::{Head, State};
 use smelvock::{raw, Cursor, PrepareEffectTree, Refusal};
 use std::fmt::Debug;
@@ -49,6 +50,16 @@ impl<const N: usize> Both<N> {
             assert!(area[used..] == before[used..], "N {N}, unused words after {call:?}: {:?}", self.port.0);
             before[..used].copy_from_slice(&area[..used]);
         }
+    }
+
+    /// The sheet that lib.rs's own answers make.
+    pub fn sheet(&self) -> String {
+        sheet::of_tree(&self.rust.tree)
+    }
+
+    /// The port's tree.
+    pub fn port(&self) -> &PrepareEffectTree<N> {
+        &self.port.0
     }
 
     /// The port's tree with other words in its place, for the tests that must fail.

@@ -1,48 +1,72 @@
-//! Every export on words that may be any, in a head and areas with guard words around them.
+//! Every export on words that may be any, in a head, areas and a buffer with guards around them.
 
-use smelvock::raw::{self, Areas, AreasMut, Cursor, Lengths};
+use smelvock::raw::{self, word, Areas, AreasMut, Cursor, Lengths};
+use smelvock::{PAGE_BYTES, PAGE_LINES};
 
-const GUARD: u32 = 0xA5A5_5A5A;
+/// What is lent, words or bytes, and what stands around it.
+pub trait Lent: Copy + PartialEq {
+    const GUARD: Self;
+}
+
+impl Lent for u32 {
+    const GUARD: u32 = 0xA5A5_5A5A;
+}
+
+impl Lent for u8 {
+    const GUARD: u8 = 0xA5;
+}
+
 const GUARDS: usize = 16;
 
-/// Words lent to the port out of the midst of a buffer.
+/// Words lent to the port out of the midst of a buffer, or bytes.
 #[derive(Clone, PartialEq, Eq, Debug)]
-pub struct Area(Vec<u32>);
+pub struct Area<T = u32>(Vec<T>);
 
-impl Area {
-    pub fn new(words: &[u32]) -> Area {
-        Area([&[GUARD; GUARDS][..], words, &[GUARD; GUARDS][..]].concat())
+impl<T: Lent> Area<T> {
+    pub fn new(words: &[T]) -> Area<T> {
+        Area([&[T::GUARD; GUARDS][..], words, &[T::GUARD; GUARDS][..]].concat())
     }
 
-    pub fn words(&self) -> &[u32] {
+    pub fn words(&self) -> &[T] {
         &self.0[GUARDS..self.0.len() - GUARDS]
     }
 
-    pub fn words_mut(&mut self) -> &mut [u32] {
+    pub fn words_mut(&mut self) -> &mut [T] {
         let end = self.0.len() - GUARDS;
         &mut self.0[GUARDS..end]
     }
 
     fn guarded(&self) -> bool {
         let [front, back] = [&self.0[..GUARDS], &self.0[self.0.len() - GUARDS..]];
-        front.iter().chain(back).all(|&word| word == GUARD)
+        front.iter().chain(back).all(|&word| word == T::GUARD)
     }
 }
 
-/// A tree, sound or not.
+/// What a buffer holds before it is printed in: no byte of a sheet.
+pub const UNPRINTED: u8 = 0x5A;
+
+/// A buffer of so many bytes to print in.
+pub fn unprinted(bytes: usize) -> Area<u8> {
+    Area::new(&vec![UNPRINTED; bytes])
+}
+
+/// A tree, sound or not, and a buffer to print in.
 #[derive(Clone, PartialEq, Eq, Debug)]
 pub struct Tree {
     pub head: Area,
     pub leaves: Area,
     pub inners: Area,
     pub homes: Area,
+    pub page: Area<u8>,
 }
 
 impl Tree {
+    /// The buffer is as long as the tree's pages.
     pub fn of<const N: usize>(tree: &smelvock::PrepareEffectTree<N>) -> Tree {
         let Areas { leaves, inners, homes } = tree.areas();
+        let pages = (tree.head()[word::ENTRIES] as usize).div_ceil(PAGE_LINES);
         let [head, leaves, inners, homes] = [&tree.head()[..], leaves, inners, homes].map(Area::new);
-        Tree { head, leaves, inners, homes }
+        Tree { head, leaves, inners, homes, page: unprinted(pages * PAGE_BYTES) }
     }
 
     /// One word of the head, by its number in `raw::word`.
@@ -62,12 +86,18 @@ impl Tree {
     }
 
     fn looked(&mut self) -> (&mut [u32], Areas<'_>) {
-        let Tree { head, leaves, inners, homes } = self;
+        let Tree { head, leaves, inners, homes, .. } = self;
         (head.words_mut(), Areas { leaves: leaves.words(), inners: inners.words(), homes: homes.words() })
     }
 
+    fn printed(&mut self) -> (&[u32], Areas<'_>, &mut [u8]) {
+        let Tree { head, leaves, inners, homes, page } = self;
+        let areas = Areas { leaves: leaves.words(), inners: inners.words(), homes: homes.words() };
+        (head.words(), areas, page.words_mut())
+    }
+
     fn changed(&mut self) -> (&mut [u32], AreasMut<'_>) {
-        let Tree { head, leaves, inners, homes } = self;
+        let Tree { head, leaves, inners, homes, .. } = self;
         (
             head.words_mut(),
             AreasMut { leaves: leaves.words_mut(), inners: inners.words_mut(), homes: homes.words_mut() },
@@ -75,12 +105,12 @@ impl Tree {
     }
 
     fn guarded(&self) -> bool {
-        [&self.head, &self.leaves, &self.inners, &self.homes].iter().all(|area| area.guarded())
+        [&self.head, &self.leaves, &self.inners, &self.homes].iter().all(|area| area.guarded()) && self.page.guarded()
     }
 }
 
 /// What the exports are given beside the tree; each takes what it needs.
-#[derive(Clone, Copy, Debug)]
+#[derive(Clone, Copy, Debug, Default)]
 pub struct Given {
     pub at: Cursor,
     pub other: Cursor,
@@ -114,10 +144,11 @@ pub enum Export {
     Insert,
     Add,
     SplitEntry,
+    Print,
     Audit,
 }
 
-pub const EXPORTS: [Export; 19] = [
+pub const EXPORTS: [Export; 20] = [
     Export::New,
     Export::Reset,
     Export::Len,
@@ -136,6 +167,7 @@ pub const EXPORTS: [Export; 19] = [
     Export::Insert,
     Export::Add,
     Export::SplitEntry,
+    Export::Print,
     Export::Audit,
 ];
 
@@ -151,13 +183,18 @@ fn answer(number: u32, values: &[u32]) -> Answer {
 }
 
 impl Export {
-    /// Makes the call. The guard words must be whole after it.
+    /// Makes the call. The guards must be whole after it.
     pub fn play(self, tree: &mut Tree, given: &Given) -> Answer {
         let answer = match self {
             Export::CharIndexToEntry | Export::Locate => self.look(tree, given),
+            Export::Print => {
+                let (head, areas, page) = tree.printed();
+                let r = raw::print(head, areas, page);
+                answer(r.number, &[r.value])
+            }
             _ => self.change(tree, given).unwrap_or_else(|| self.read(tree, given)),
         };
-        assert!(tree.guarded(), "{self:?} wrote outside head and areas");
+        assert!(tree.guarded(), "{self:?} wrote outside head, areas and buffer");
         answer
     }
 

@@ -4,4 +4,5 @@ pub mod both;
 pub mod exports;
 pub mod lists;
 pub mod port;
+pub mod program;
 pub mod words;

@@ -2,7 +2,9 @@
 
 use crate::both::Both;
 use oracle::at_fan;
-use oracle::lists::{with_resets, Sizes, Style, EVEN, GROWING, LOOKING};
+use oracle::lists::{with_resets, Lister, Sizes, Style, EVEN, GROWING, LOOKING};
+use oracle::record::Record;
+use oracle::row::Row;
 use oracle::runs::Run;
 use oracle::rust::Subject;
 
@@ -23,4 +25,19 @@ pub fn runs(lists: u64) -> [Run; 5] {
         run("totals near the end", style(with_resets(EVEN), Sizes::NearEnd, 50), 200, [u32::MAX - 3, u32::MAX]),
         run("close by", style(LOOKING, Sizes::Small, 95), 400, [2, 1]),
     ]
+}
+
+/// Calls of every kind for a program, good and refused, past that limit; then a reset, and others.
+pub fn for_a_program(limit: u32) -> Vec<Record> {
+    let mut row = Row::make(limit, [0, 0]);
+    let mut records = Vec::new();
+    for (seed, weights, sizes) in [(1, GROWING, Sizes::Small), (2, EVEN, Sizes::NearEnd)] {
+        let mut lister = Lister::new(seed, Style { weights, sizes, close: 60, miss: 10 });
+        for drawn in 0..1_500 {
+            let record = if drawn == 0 { lister.good(1, &row) } else { lister.draw(&row) };
+            row.play(&record);
+            records.push(record);
+        }
+    }
+    records
 }

@@ -1,7 +1,7 @@
-//! Unsound trees: every export ends on them, writes in its areas only (guard words stand around each), answers a number of
-//! document 01, and audit's verdict is that of oracle's audit, which is written from the paper.
+//! Unsound trees: every export ends on them, writes in its areas and its buffer only (guards stand around each), answers a number
+//! of document 01 or 12, and audit's verdict is that of oracle's audit, which is written from the paper.
 
-use beside::exports::{Area, Export, Given, Tree, EXPORTS};
+use beside::exports::{unprinted, Area, Export, Given, Tree, EXPORTS, UNPRINTED};
 use beside::port::pair;
 use beside::words::head_of;
 use oracle::at_fan;
@@ -11,16 +11,18 @@ use oracle::random::Random;
 use oracle::state::State;
 use smelvock::raw::word::{ENTRIES, FAN, LEAVES, LIMIT, PRESENT};
 use smelvock::raw::{Cursor, Lengths};
-use smelvock::{PrepareEffectTree, View};
+use smelvock::{PrepareEffectTree, View, PAGE_BYTES};
 
 const SCALE: u64 = if cfg!(debug_assertions) { 1 } else { 10 };
 
-/// How often each number was answered, by 0 to 10, and how often audit said yes and no.
+/// How often each number was answered, by 0 to 12, and how often audit said yes and no.
 #[derive(Default, Debug)]
 struct Met {
-    numbers: [u64; 11],
+    numbers: [u64; 13],
     sound: u64,
     unsound: u64,
+    /// How often print wrote lines and then met 9.
+    half_printed: u64,
 }
 
 fn sound<const N: usize>(entries: u32) -> Tree {
@@ -49,6 +51,31 @@ fn audited(tree: &Tree, given: &Given, met: &mut Met) {
     met.unsound += (wanted == [0, 0]) as u64;
 }
 
+/// Print leaves head and areas. It writes whole lines from the buffer's start on: those of all pages where it answers 0, fewer
+/// than the head's entries where it met 9 on the way, none where it was refused before.
+fn printed(tree: &Tree, met: &mut Met) {
+    let mut after = tree.clone();
+    let answer = Export::Print.play(&mut after, &Given::default());
+    let unwritten = after.page.words().iter().position(|&byte| byte == UNPRINTED).unwrap_or(after.page.words().len());
+    let (lines, rest) = after.page.words().split_at(unwritten);
+    assert!(lines.len() % 55 == 0 && lines.chunks(55).all(is_line), "{tree:?}");
+    assert!(rest.iter().all(|&byte| byte == UNPRINTED), "{tree:?}");
+    let (entries, lines) = (tree.word(ENTRIES) as usize, lines.len() / 55);
+    match answer.number {
+        0 => assert_eq!([lines, answer.values[0] as usize * 50], [entries.next_multiple_of(50); 2]),
+        9 => assert!(lines < entries.max(1) && answer.values == [0]),
+        number => assert!([1, 2, 10, 12].contains(&number) && lines == 0 && answer.values == [0]),
+    }
+    assert_eq!(Tree { page: tree.page.clone(), ..after }, *tree);
+    met.half_printed += (answer.number == 9 && lines > 0) as u64;
+}
+
+/// Five columns of digits behind blanks, or of blanks, with a blank or at last a line feed behind each.
+fn is_line(line: &[u8]) -> bool {
+    let column = |column: &[u8]| column[..10].trim_ascii_start().iter().all(u8::is_ascii_digit);
+    line.chunks(11).all(column) && line.iter().skip(10).step_by(11).eq(b"    \n")
+}
+
 /// Every export once, each on the damaged tree itself.
 fn every_export(tree: &Tree, random: &mut Random, met: &mut Met) {
     for export in EXPORTS {
@@ -56,6 +83,7 @@ fn every_export(tree: &Tree, random: &mut Random, met: &mut Met) {
         let number = export.play(&mut tree.clone(), &given).number;
         met.numbers[number as usize] += 1;
     }
+    printed(tree, met);
     audited(tree, &given(tree, random), met);
 }
 
@@ -123,7 +151,7 @@ fn every_single_flipped_word() {
         flip_every_word(sound::<32>(40), &mut met);
     }
     println!("{met:?}");
-    assert!(met.unsound > 1_000 && [0, 1, 2, 3, 9, 10].iter().all(|&number| met.numbers[number] > 0));
+    assert!(met.unsound > 1_000 && [0, 1, 2, 3, 9, 10, 12].iter().all(|&number| met.numbers[number] > 0));
 }
 
 /// Several words at once; then a chain of calls, each on what the one before left.
@@ -146,10 +174,11 @@ fn chains_of_calls_on_damaged_trees() {
             let given = given(&tree, &mut random);
             met.numbers[export.play(&mut tree, &given).number as usize] += 1;
         }
+        printed(&Tree { page: unprinted(2 * PAGE_BYTES), ..tree.clone() }, &mut met);
         audited(&tree, &given(&tree, &mut random), &mut met);
     }
     println!("{met:?}");
-    assert!(met.unsound > 100 * SCALE && met.numbers[9] > 0);
+    assert!(met.unsound > 100 * SCALE && met.numbers[9] > 0 && met.half_printed > 0);
 }
 
 /// Areas and head of words that are all drawn at random, small ones often, so that links lead about.
@@ -176,7 +205,8 @@ fn random_words() {
         let (present, view) = (random.below(2) as u32, random.below(3) as u32);
         let counts = [fan, limit, root, levels, used, inners_used, entries, present, view];
         let head = Area::new(&[&counts[..], &finger].concat());
-        every_export(&Tree { head, leaves, inners, homes }, &mut random, &mut met);
+        let page = unprinted(random.below(3) as usize * PAGE_BYTES);
+        every_export(&Tree { head, leaves, inners, homes, page }, &mut random, &mut met);
     }
     println!("{met:?}");
     assert!(met.unsound > 100 * SCALE && met.numbers[9] > 0);

@@ -1,13 +1,13 @@
-//! Each cause of a refusal on the exports themselves: its number, zeros for values, head and areas as they were. The numbers
-//! wanted are document 01's ("When a call cannot be done"), written down here.
+//! Each cause of a refusal on the exports themselves: its number, zeros for values, head, areas and buffer as they were. The numbers
+//! wanted are document 01's ("When a call cannot be done") and document 02's 12, written down here.
 
-use beside::exports::{Area, Export, Given, Tree, EXPORTS};
+use beside::exports::{unprinted, Area, Export, Given, Tree, EXPORTS};
 use beside::port::pair;
 use oracle::at_fan;
 use oracle::fans::FANS;
 use smelvock::raw::word::{FAN, LEAVES, LIMIT, PRESENT, ROOT};
 use smelvock::raw::{Cursor, Lengths};
-use smelvock::{PrepareEffectTree, View};
+use smelvock::{PrepareEffectTree, View, PAGE_BYTES};
 use std::sync::atomic::{AtomicU64, Ordering};
 
 /// Refusals played, over all tests of this file.
@@ -245,6 +245,38 @@ fn a_head_that_is_not_seventeen_words_is_10() {
             let tree = Tree { head: Area::new(&head), ..tree.clone() };
             EXPORTS.iter().for_each(|&export| refused(10, export, &tree, &given));
         }
+    });
+}
+
+/// The buffer is a byte too short for the thirty entries' page, far too short, and empty; a byte more serves as well.
+#[test]
+fn a_buffer_below_2750_bytes_a_page_is_12() {
+    at_each_fan(|tree, given| {
+        for bytes in [0, 1, 55, 30 * 55, PAGE_BYTES - 1] {
+            refused(12, Print, &Tree { page: unprinted(bytes), ..tree.clone() }, &given);
+        }
+        for bytes in [PAGE_BYTES, PAGE_BYTES + 1] {
+            let mut tree = Tree { page: unprinted(bytes), ..tree.clone() };
+            assert_eq!(Print.play(&mut tree, &given).number, 0);
+        }
+    });
+}
+
+/// 10, 1, 2, 12: each cause with all those after it, the last of which is a root that leads outside.
+#[test]
+fn the_order_of_the_refusals_of_print() {
+    at_each_fan(|tree, given| {
+        let astray = tree.with(ROOT, u32::MAX);
+        let small = Tree { page: unprinted(PAGE_BYTES - 1), ..astray.clone() };
+        let short = Tree { homes: Area::new(&[]), ..small.clone() };
+        let bad_fan = short.with(FAN, 33);
+        let head = [&bad_fan.head.words()[..], &[0]].concat();
+        refused(10, Print, &Tree { head: Area::new(&head), ..bad_fan.clone() }, &given);
+        refused(10, Print, &bad_fan.with(PRESENT, 2), &given);
+        refused(1, Print, &bad_fan, &given);
+        refused(2, Print, &short, &given);
+        refused(12, Print, &small, &given);
+        refused(9, Print, &astray, &given);
     });
 }
 

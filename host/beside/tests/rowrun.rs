@@ -1,29 +1,22 @@
 //! The program `rowrun` beside the plain row: what it prints, however its input is cut, and how it ends.
-//! It is the one that `rt check rowrun` proved and linked, in the gate `rt ci`.
 
-use oracle::lists::{Lister, Sizes, Style, EVEN, GROWING};
+use beside::lists::for_a_program;
+use beside::program::{self, bytes, said, BLOCK};
 use oracle::record::{Answer, Record};
 use oracle::row::{rowrun, Row};
 use std::collections::BTreeSet;
 use std::fs::File;
 use std::io::{BufRead, BufReader, Read, Write};
 use std::os::fd::OwnedFd;
-use std::os::unix::net::{UnixDatagram, UnixStream};
-use std::path::Path;
-use std::process::{Command, Output, Stdio};
+use std::os::unix::net::UnixStream;
+use std::process::{Command, Stdio};
 
 const LIMIT: u32 = 512;
-/// The most that the program reads at once.
-const BLOCK: usize = 4_096;
 const UNREADABLE: &str = "rowrun: standard input can't be read\n";
 const UNWRITABLE: &str = "rowrun: standard output can't be written\n";
 
 fn program() -> Command {
-    let path = Path::new(env!("CARGO_MANIFEST_DIR")).join("../../target/bin/rowrun");
-    assert!(path.exists(), "target/bin/rowrun isn't there: rt check rowrun");
-    let mut program = Command::new(path);
-    program.stdout(Stdio::piped()).stderr(Stdio::piped());
-    program
+    program::program("rowrun")
 }
 
 /// What is printed of an input that comes through a pipe in pieces of that size, each written when all before is answered.
@@ -46,42 +39,13 @@ fn piped(input: &[u8], size: usize) -> String {
     printed
 }
 
-/// The same where each read gets one piece: a datagram, and an empty one as the end. What a read has no room for is lost.
+/// The same where each read gets one piece.
 fn cut(input: &[u8], size: usize) -> String {
-    assert!(size + 15 <= BLOCK);
-    let (ours, theirs) = UnixDatagram::pair().expect("two sockets");
-    let child = program().stdin(OwnedFd::from(theirs)).spawn().expect("it starts");
-    let ended = std::thread::spawn(|| child.wait_with_output().expect("it ends"));
-    for piece in input.chunks(size).chain([&[][..]]) {
-        ours.send(piece).expect("it reads on");
-    }
-    said(ended.join().expect("no panic"), "")
+    said(program::cut("rowrun", input, size), "")
 }
 
-/// What was printed, with that on standard error.
-fn said(Output { status, stdout, stderr }: Output, errors: &str) -> String {
-    assert!(status.success());
-    assert_eq!(String::from_utf8_lossy(&stderr), errors);
-    String::from_utf8(stdout).expect("text")
-}
-
-fn bytes(records: &[Record]) -> Vec<u8> {
-    records.iter().flat_map(Record::encode).collect()
-}
-
-/// Calls of every kind, good and refused, past the limit; then a reset, and others.
 fn list() -> Vec<Record> {
-    let mut row = Row::make(LIMIT, [0, 0]);
-    let mut records = Vec::new();
-    for (seed, weights, sizes) in [(1, GROWING, Sizes::Small), (2, EVEN, Sizes::NearEnd)] {
-        let mut lister = Lister::new(seed, Style { weights, sizes, close: 60, miss: 10 });
-        for drawn in 0..1_500 {
-            let record = if drawn == 0 { lister.good(1, &row) } else { lister.draw(&row) };
-            row.play(&record);
-            records.push(record);
-        }
-    }
-    records
+    for_a_program(LIMIT)
 }
 
 fn answers(limit: u32, records: &[Record]) -> Vec<Answer> {

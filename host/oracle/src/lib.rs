@@ -1,7 +1,7 @@
 //! The oracle of the port: lib.rs itself, the plain row of document 01, the audit of a tree's
 //! words, and a driver that plays one list of calls on both and compares everything.
 //!
-//! "Document 01" is the project's scope paper; "lib.rs" is `docs/src/crates/strider-tree/src/lib.rs`.
+//! "Document 01" is the project's scope paper, document 02 its change requests; "lib.rs" is `docs/src/crates/strider-tree/src/lib.rs`.
 
 pub mod audit;
 pub mod calls;
@@ -16,6 +16,7 @@ pub mod record;
 pub mod row;
 pub mod runs;
 pub mod rust;
+pub mod sheet;
 pub mod state;
 pub mod stored;
 pub mod tree;

@@ -2,15 +2,17 @@
  *
  * The caller lends a head of seventeen words and three areas of words, each as a pointer and its count. Fan 4 to 32, limit 1 to
  * 65,536. The leaf area and the inner area each need max(1, limit / (fan / 2)) nodes of 3 + 3 * fan words, homes needs limit
- * words. Head and areas may not overlap. A tree's head is made by smelvock_new or smelvock_reset and written by the calls.
+ * words. A buffer to print in needs 2,750 bytes a page, a page for every 50 entries. Head, areas and buffer may not overlap. A
+ * tree's head is made by smelvock_new or smelvock_reset and written by the calls.
  *
- * Every call ends, writes only in head and areas, and answers a number: 0, or that of its refusal.
+ * Every call ends, writes only in head, areas and buffer, and answers a number: 0, or that of its refusal.
  *    1  fan or limit outside its values       6  a split moves more than the entry has
  *    2  an area is too short                  7  a view's total would pass 4,294,967,295
  *    3  the cursor is not current             8  the tree holds its limit
  *    4  no such entry                         9  a link of an unsound tree leads outside
  *    5  position at or past the total        10  a view or flag is neither 0 nor 1, or the head not seventeen words
- * Refused: the other values are 0 and, but for 9, head and areas are as they were. */
+ *                                            12  the buffer is below 2,750 bytes a page
+ * Refused: the other values are 0 and, but for 9, head, areas and buffer are as they were. */
 #ifndef SMELVOCK_H
 #define SMELVOCK_H
 
@@ -25,6 +27,9 @@ extern "C" {
 #define SMELVOCK_EFFECT 1u
 /* The leaf of the cursor after the last entry. */
 #define SMELVOCK_NONE 4294967295u
+/* The lines of a page of the sheet, an entry each, and its bytes. */
+#define SMELVOCK_PAGE_LINES 50u
+#define SMELVOCK_PAGE_BYTES 2750u
 
 /* The words of a head. The finger (present 0 or 1, then nine words) is a tree's memory of its last lookup; its words are of no
  * account where absent. */
@@ -121,6 +126,11 @@ smelvock_number smelvock_add(SMELVOCK_HEAD_WRITTEN, SMELVOCK_AREAS_WRITTEN, uint
 
 /* Takes lengths out of an entry into a new one just before it (before 1) or after it (0): its id, and both cursors in order. */
 smelvock_divided smelvock_split_entry(SMELVOCK_HEAD_WRITTEN, SMELVOCK_AREAS_WRITTEN, smelvock_cursor_at at, smelvock_length lengths, uint32_t before);
+
+/* Prints the entries in order from the start of the buffer on; value: the number of pages. A line is 55 bytes: id, prepare position,
+ * effect position, prepare length and effect length, each right-justified in 10 columns, one blank between, then a line feed. The
+ * last page is filled up with lines of 54 blanks and a line feed; bytes past it don't change. */
+smelvock_number smelvock_print(SMELVOCK_HEAD, SMELVOCK_AREAS, uint8_t *page, size_t page_bytes);
 
 /* value: 1 if the tree is sound, else 0. */
 smelvock_number smelvock_audit(SMELVOCK_HEAD, SMELVOCK_AREAS);

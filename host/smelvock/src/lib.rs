@@ -39,6 +39,10 @@ pub struct Cursor {
 /// The most entries of a tree that [`new`](PrepareEffectTree::new) makes.
 pub const LIMIT: u32 = 65_536;
 
+/// The lines of a page of the sheet, an entry each, and its bytes.
+pub const PAGE_LINES: usize = 50;
+pub const PAGE_BYTES: usize = 2_750;
+
 /// An order-statistic B+ tree over a sequence of entries, indexed by position in both the prepare
 /// and effect versions.
 #[derive(Clone, PartialEq, Eq, Debug)]
@@ -194,6 +198,23 @@ impl<const N: usize> PrepareEffectTree<N> {
         let (head, areas) = self.parts();
         let reply = raw::split_entry(head, areas, at.into(), lengths.into(), before as u32);
         Refusal::unless(reply.number, || (reply.id, [reply.first.into(), reply.second.into()]))
+    }
+
+    /// Prints the entries in order from the start of `page` on, returning the number of pages: a line of 55 bytes each, which is
+    /// id, prepare position, effect position, prepare length and effect length in ten columns each, and a last page filled up
+    /// with blank lines. Bytes past the last page stay. Refused by 12 where `page` is below [`PAGE_BYTES`] a page.
+    pub fn print(&self, page: &mut [u8]) -> Result<u32, Refusal> {
+        let reply = raw::print(&self.head, self.areas(), page);
+        Refusal::unless(reply.number, || reply.value)
+    }
+
+    /// The same with a buffer of its own, which holds the pages and nothing else. It is never longer than [`LIMIT`] entries need:
+    /// an unsound head that counts more is refused by 12.
+    pub fn sheet(&self) -> Result<Vec<u8>, Refusal> {
+        let lines = self.len()?.min(LIMIT as usize);
+        let mut page = vec![0; lines.div_ceil(PAGE_LINES) * PAGE_BYTES];
+        self.print(&mut page)?;
+        Ok(page)
     }
 
     /// Whether the tree is sound.

@@ -190,3 +190,41 @@ pub fn is_empty(head: &[u32]) -> Number {
     // SAFETY: as above.
     unsafe { heads::smelvock_is_empty(head.as_ptr(), head.len()) }
 }
+
+mod printing {
+    use super::Number;
+    extern "C" {
+        pub fn smelvock_print(
+            head: *const u32,
+            head_words: usize,
+            leaves: *const u32,
+            leaf_words: usize,
+            inners: *const u32,
+            inner_words: usize,
+            homes: *const u32,
+            home_words: usize,
+            page: *mut u8,
+            page_bytes: usize,
+        ) -> Number;
+    }
+}
+
+#[inline]
+pub fn print(head: &[u32], areas: Areas<'_>, page: &mut [u8]) -> Number {
+    let Areas { leaves, inners, homes } = areas;
+    // SAFETY: the export is proved to read these words, and to write bytes of the page and nothing else, whatever they hold.
+    unsafe {
+        printing::smelvock_print(
+            head.as_ptr(),
+            head.len(),
+            leaves.as_ptr(),
+            leaves.len(),
+            inners.as_ptr(),
+            inners.len(),
+            homes.as_ptr(),
+            homes.len(),
+            page.as_mut_ptr(),
+            page.len(),
+        )
+    }
+}

@@ -1,9 +1,9 @@
 use std::{error, fmt};
 
-/// Why a call was not done. Head and areas are as they were, but for number 9.
+/// Why a call was not done. Head, areas and a lent buffer are as they were, but for number 9.
 #[derive(Clone, Copy, PartialEq, Eq, Debug)]
 pub struct Refusal {
-    /// Document 01's number, 1 to 11.
+    /// Document 01's number, 1 to 11, or document 02's 12.
     pub number: u32,
 }
 
@@ -30,7 +30,8 @@ impl fmt::Display for Refusal {
             8 => "the tree holds its limit",
             9 => "a link of the tree leads outside",
             10 => "the head is not seventeen words, or a view or a flag is neither 0 nor 1",
-            _ => "records and output are unequally long, or not a multiple of 16",
+            11 => "records and output are unequally long, or not a multiple of 16",
+            _ => "the buffer is below 2,750 bytes a page",
         };
         write!(f, "refused by {}: {cause}", self.number)
     }

@@ -18,6 +18,14 @@ cursor 1 1
 insert 8 0 0
 split_entry 6 0 0 0 0 0
 row 2 3 0 4 1
+2749 bytes: 12 0 0
+print 0 1
+         2          0          0          0          5
+         3          0          5          1          1
+         0          1          6          2          2
+         4          3          8          1          1
+         1          4          9          2          0
+blank 45, then !
 locate 0 4 0 8 3
 char_index_to_entry 5 0 0 0
 update 0 5

@@ -33,6 +33,19 @@ static void split(uint32_t id, smelvock_length lengths) {
     printf("split_entry %u %u %u %u %u %u\n", r.number, r.id, r.first.leaf, r.first.slot, r.second.leaf, r.second.slot);
 }
 
+static void print(void) {
+    static uint8_t page[SMELVOCK_PAGE_BYTES + 1];
+    page[SMELVOCK_PAGE_BYTES] = '!';
+    smelvock_number r = smelvock_print(HEAD, AREAS, page, SMELVOCK_PAGE_BYTES - 1);
+    printf("2749 bytes: %u %u %u\n", r.number, r.value, page[0]);
+    r = smelvock_print(HEAD, AREAS, page, sizeof page);
+    printf("print %u %u\n", r.number, r.value);
+    uint32_t line = SMELVOCK_PAGE_BYTES / SMELVOCK_PAGE_LINES, blank = 0;
+    for (uint32_t i = LIMIT * line; i < SMELVOCK_PAGE_BYTES; i++)
+        blank += page[i] == (i % line == line - 1 ? '\n' : ' ');
+    printf("%.*sblank %u, then %c\n", (int)(LIMIT * line), (const char *)page, blank / line, page[SMELVOCK_PAGE_BYTES]);
+}
+
 int main(void) {
     printf("new %u\n", smelvock_new(FAN, LIMIT, (smelvock_length){3, 3}, HEAD, AREAS));
     insert(1, nowhere, (smelvock_length){2, 0});
@@ -52,6 +65,7 @@ int main(void) {
     for (smelvock_cursor_at c = smelvock_first(HEAD, AREAS).at; c.leaf != SMELVOCK_NONE; c = smelvock_next(HEAD, AREAS, c).at)
         printf(" %u", smelvock_id(HEAD, AREAS, c).value);
     printf("\n");
+    print();
 
     locate(SMELVOCK_EFFECT, 8);
     smelvock_selected selected = smelvock_char_index_to_entry(HEAD, AREAS, SMELVOCK_EFFECT, 9);
