@@ -88,7 +88,8 @@ fn slot_of(leaves: &[u32], g: Shape, k: LeafNo, id: EntryId) -> Place
     let size = g.size;
     let a = k.0 as usize * size;
     let e = a + size;
-    node::read::index_of(&leaves[a..e], g, id.0)
+    let found = node::read::index_of(&leaves[a..e], g, id.0);
+    found.place
 }
 
 // The cursor of the entry id, where leaf k holds it.

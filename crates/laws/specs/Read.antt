@@ -67,13 +67,6 @@ module _ (s n p c k q : ℕ) (ws : List ℕ) (hs : 0 < s) (hq : q ≡ p + k * s)
   unfolding indexFrom
   index-on h = rw (slots-from s n k p ws hk, held, ne-eqb (getD ws q 0) c h)
 
--- the same, going down: slot k - 1 does not hold the child
-pub index-back : (s n p c k q : ℕ) (ws : List ℕ) → 0 < s → q ≡ p + (k - 1) * s → 0 < k → k ≤ n → (getD ws q 0 ≡ c → ⊥)
-    → indexFrom c k (drop k (slotsFrom s n p ws)) ≡ indexFrom c (k - 1) (drop (k - 1) (slotsFrom s n p ws))
-index-back s n p c k q ws hs hq h hk hn =
-    let e : k - 1 + 1 ≡ k = omega arith in
-    sym (rw e at (index-on s n p c (k - 1) q ws hs hq (omega arith) hn))
-
 pub index-none : (s n p c k : ℕ) (ws : List ℕ) → n ≤ k → indexFrom c k (drop k (slotsFrom s n p ws)) ≡ Missing
 unfolding indexFrom
 index-none s n p c k ws h = rw (past s n k p ws h)

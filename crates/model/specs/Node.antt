@@ -11,6 +11,7 @@ use Rattle.model.specs.declared.shape.Found.{Found}
 use Rattle.model.specs.declared.shape.Found.the-variants.{At, Nothing}
 use Rattle.model.specs.declared.shape.Place.{Place}
 use Rattle.model.specs.declared.shape.Place.the-variants.{Slot, Missing}
+use Rattle.model.specs.declared.shape.Scan.{Scan}
 
 -- the child that no slot in use holds; also the root's parent, "none", and the place of an insertion at the end
 abbrev pub none : ℕ
@@ -102,6 +103,14 @@ findFrom v e k index a b (x ∷ xs) =
 unfoldable pub indexFrom : ℕ → ℕ → List (List ℕ) → Place
 indexFrom c k [] = Missing
 indexFrom c k (x ∷ xs) = cond (eqb (child x) c) (Slot k) (indexFrom c (k + 1) xs)
+
+-- how many of n slots are read for it: those up to and with the first that holds the child, or all
+abbrev pub readFor : ℕ → Place → ℕ
+readFor n (Slot i) = i + 1
+readFor n Missing = n
+
+abbrev pub scan : ℕ → Place → Scan
+scan n p = record { place = p; read = readFor n p }
 
 -- `Node::insert`: the slot x put at place i; what stood in the slots in use from there on moves up by one
 unfoldable pub inserted : ℕ → List ℕ → Node → Node

@@ -25,3 +25,9 @@ pub enum Place {
     Slot(usize),
     Missing,
 }
+
+// The same, and how many slots were read to know it.
+pub struct Scan {
+    pub place: Place,
+    pub read: usize,
+}

@@ -1,11 +1,12 @@
 // What is read from one node: sums of lengths, the slot of a position, the slot of a child.
 use model::shape::Found;
 use model::shape::Place;
+use model::shape::Scan;
 use model::shape::Shape;
 ghost use mathlib.Core.Path.{_≡_};
 ghost use Prim.Native.Nat.{_+_, _^_, _<_, _≤_};
 ghost use lib.ListN.{length, getD, take, drop};
-ghost use Rattle.model.specs.Node.{slotsFrom, nodeOf, used, total, start, findFrom, indexFrom, slotFor};
+ghost use Rattle.model.specs.Node.{nodeOf, used, total, start, findFrom, indexFrom, scan, slotFor};
 ghost use Rattle.node.specs.Shaped.{Shaped};
 
 // A word as a wider number, in which no sum over a node wraps.
@@ -81,56 +82,30 @@ pub fn find(
     Found::Nothing
 }
 
-// Up to eight slots are read until the child is met.
-fn index_near(node: &[u32], g: Shape, len: usize, child: u32) -> Place
-    requires { ⌜ Shaped g × (length (now node) ≡ g .size) × (len ≤ g .fan) ⌝ }
-    ensures { λ r. ⌜ r ≡ indexFrom child 0 (slotsFrom (g .stride) len 3 (now (node .entry))) ⌝ }
+// The slot that holds the child, and how many slots were read to know it (Node::index_of): the loop ends where the child is met.
+pub fn index_of(node: &[u32], g: Shape, child: u32) -> Scan
+    requires { ⌜ Shaped g × (length (now node) ≡ g .size) × (getD (now node) 0 0 ≤ g .fan) ⌝ }
+    ensures { λ r. ⌜ r ≡ scan (getD (now (node .entry)) 0 0) (indexFrom child 0 (used (nodeOf (g .stride) (g .fan) (now (node .entry))))) ⌝ }
 {
     let stride = g.stride;
+    let len = node[0] as usize;
     let mut p: usize = 3;
-    let mut k: usize = 0;
-    while k < len {
-        if node[p] == child {
-            return Place::Slot(k);
+    let mut read: usize = 0;
+    while read < len {
+        let here = node[p];
+        read += 1;
+        if here == child {
+            return Scan {
+                place: Place::Slot(read - 1),
+                read: read,
+            };
         }
         p += stride;
-        k += 1;
     }
-    Place::Missing
-}
-
-// More slots are all compared, from the last down, with no exit on the way.
-fn index_far(node: &[u32], g: Shape, len: usize, child: u32) -> Place
-    requires { ⌜ Shaped g × (length (now node) ≡ g .size) × (len ≤ g .fan) ⌝ }
-    ensures { λ r. ⌜ r ≡ indexFrom child 0 (slotsFrom (g .stride) len 3 (now (node .entry))) ⌝ }
-{
-    let stride = g.stride;
-    let mut found = len;
-    let mut p = 3 + len * stride;
-    let mut k = len;
-    while 0 < k {
-        k -= 1;
-        p -= stride;
-        if node[p] == child {
-            found = k;
-        }
+    Scan {
+        place: Place::Missing,
+        read: read,
     }
-    if found < len {
-        return Place::Slot(found);
-    }
-    Place::Missing
-}
-
-// The slot that holds the child (Node::index_of).
-pub fn index_of(node: &[u32], g: Shape, child: u32) -> Place
-    requires { ⌜ Shaped g × (length (now node) ≡ g .size) × (getD (now node) 0 0 ≤ g .fan) ⌝ }
-    ensures { λ r. ⌜ r ≡ indexFrom child 0 (used (nodeOf (g .stride) (g .fan) (now (node .entry)))) ⌝ }
-{
-    let len = node[0] as usize;
-    if len <= 8 {
-        return index_near(node, g, len, child);
-    }
-    index_far(node, g, len, child)
 }
 
 // The slot for node k in its parent: its number and its totals.

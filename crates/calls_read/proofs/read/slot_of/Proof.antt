@@ -1,9 +1,11 @@
 -- `calls_read::read::slot_of`: the part that is lent holds the node's words.
 use borrow.Author.Needs.{needs}
+use mathlib.Core.Path.{ap}
 use Prim.Native.Nat.{_+_, _*_, _≤_}
 use native.Mathlib.Omega.{arith}
 use lib.ListN.{length}
 use Rattle.model.specs.Node.{nodeOf}
+use Rattle.model.specs.declared.shape.Scan.{Scan}
 use Rattle.laws.specs.Words.{lent}
 use Rattle.laws.specs.AreaRead.{node-end, node-length}
 use Rattle.calls_read.proofs.read.slot_of.Statement.{statement}
@@ -46,7 +48,7 @@ index-of-requires c κs =
     )
 
 returns : tie.Need-returns
-returns c = rw lent at (c .index-of .ensures)
+returns c = ap (λ (r : Scan). r .place) (rw lent at (c .index-of .ensures))
 
 pub slot-of-spec : {M : Type 1} → statement M
 slot-of-spec =
