@@ -3,6 +3,8 @@
 use crate::timing::Table;
 use oracle::calls::Calls;
 use oracle::random::Random;
+use oracle::rust::Place;
+use std::collections::BTreeMap;
 use std::hint::black_box;
 
 pub const CALLS: usize = 20_000;
@@ -13,6 +15,8 @@ struct Inputs {
     /// Positions of the prepare view, at random and in rising order, a few apart.
     random: Vec<u32>,
     rising: Vec<u32>,
+    /// Entries in the first, in the middle and in the last slot of their leaf, at random.
+    slots: [Vec<u32>; 3],
 }
 
 pub fn run<A: Calls, B: Calls>(table: &mut Table, rust: &mut A, port: &mut B) {
@@ -44,6 +48,10 @@ pub fn run<A: Calls, B: Calls>(table: &mut Table, rust: &mut A, port: &mut B) {
     kind!("id", |tree, cursors| each(cursors, |&at| tree.id(at)));
     kind!("lengths", |tree, cursors| each(cursors, |&at| tree.lengths(at)));
     kind!("cursor", |tree, _cursors| each(ids, |&id| tree.cursor(id)));
+    for (name, ids) in ["cursor, first slot", "cursor, middle slot", "cursor, last slot"].into_iter().zip(&inputs.slots)
+    {
+        kind!(name, |tree, _cursors| each(ids, |&id| tree.cursor(id)));
+    }
     kind!("cmp", |tree, cursors| each(cursors.windows(2), |pair| tree.cmp(pair[0], pair[1])));
     kind!("entry_to_char_index prepare", |tree, cursors| each(cursors, |&at| tree.entry_to_char_index(0, at)));
     kind!("entry_to_char_index effect", |tree, cursors| each(cursors, |&at| tree.entry_to_char_index(1, at)));
@@ -57,15 +65,23 @@ fn inputs<A: Calls>(tree: &mut A) -> Inputs {
     let mut random = Random::new(7);
     let count = tree.len() as u64;
     let mut total = 0u64;
+    let mut leaves = BTreeMap::<u32, Vec<u32>>::new();
     let mut at = Some(tree.first());
     while let Some(cursor) = at {
         total += tree.lengths(cursor)[0] as u64;
+        leaves.entry(Place::of(cursor).leaf).or_default().push(tree.id(cursor));
         at = tree.next(cursor);
     }
+    let leaves = leaves.into_values().collect::<Vec<_>>();
+    let slots: [fn(&[u32]) -> u32; 3] = [|ids| ids[0], |ids| ids[ids.len() / 2], |ids| ids[ids.len() - 1]];
+    let mut drawn = Random::new(8);
+    let mut one = |slot: fn(&[u32]) -> u32| slot(&leaves[drawn.below(leaves.len() as u64) as usize]);
+    let slots = slots.map(|slot| (0..CALLS).map(|_| one(slot)).collect());
     Inputs {
         ids: (0..CALLS).map(|_| random.below(count) as u32).collect(),
         random: (0..CALLS).map(|_| random.below(total) as u32).collect(),
         rising: (0..CALLS as u64).map(|call| (call * 3 % total) as u32).collect(),
+        slots,
     }
 }
 
