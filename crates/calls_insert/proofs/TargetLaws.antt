@@ -46,12 +46,12 @@ open-end s t o e q = rw e q
 
 front-numbered : (s : State) (t : Target) → Numbered (frontOf s t)
 unfolding opening All
-front-numbered s (target.Before c) = (omega arith, (omega arith, (omega arith, (omega arith, (omega arith, tt)))))
+front-numbered s (target.Before c) = (omega arith, (omega arith, (omega arith, (omega arith, (omega arith, (omega arith, (omega arith, tt)))))))
 front-numbered s target.End = (omega arith, (omega arith, (omega arith, tt)))
 
 insert-numbered : (s : State) (t : Target) (l : Lengths) → Numbered (insertCauses base s t (listOf l))
 unfolding opening All
-insert-numbered s (target.Before c) l = (omega arith, (omega arith, (omega arith, (omega arith, (omega arith, (omega arith, (omega arith, tt)))))))
+insert-numbered s (target.Before c) l = (omega arith, (omega arith, (omega arith, (omega arith, (omega arith, (omega arith, (omega arith, (omega arith, (omega arith, tt)))))))))
 insert-numbered s target.End l = (omega arith, (omega arith, (omega arith, (omega arith, (omega arith, tt)))))
 
 -- the tree is ready where no cause applies
@@ -95,7 +95,7 @@ module _ (s : State) (t : Target) (l : Lengths) (o : Opened) (e : o ≡ openedBy
 -- and what is known where it gives no number: the tree is ready and has room for one entry more
 none-room : (s : State) (t : Target) (l : Lengths) → All (λ c. c .applies ≡ false) (insertCauses base s t (listOf l)) → Ready s (shapeOf base (s .head)) × (s .head .entries < s .head .limit)
 unfolding opening All
-none-room s (target.Before c) l n = (ready-here s (n .0) (n .1 .0) (n .1 .1 .0), leb-false _ _ (n .1 .1 .1 .1 .1 .1 .0))
+none-room s (target.Before c) l n = (ready-here s (n .0) (n .1 .0) (n .1 .1 .0), leb-false _ _ (n .1 .1 .1 .1 .1 .1 .1 .1 .0))
 none-room s target.End l n = (ready-here s (n .0) (n .1 .0) (n .1 .1 .0), leb-false _ _ (n .1 .1 .1 .1 .0))
 
 pub insert-room : (s : State) (t : Target) (l : Lengths) (g : Shape) (o : Opened) → o ≡ openedBy (insertCauses base s t (listOf l)) (shapeOf base (s .head)) → o ≡ Good g

@@ -1,6 +1,6 @@
 -- What the calls answer that follow the order of the entries. Assumes nothing.
 use mathlib.Core.Path.{_≡_, refl, sym, ap, _∙_}
-use mathlib.Core.Bool.{Bool, true, false, cond, not}
+use mathlib.Core.Bool.{cond}
 use mathlib.Core.List.{List, [], _∷_, _++_}
 use Prim.Native.Nat.{ℕ, _+_, _<_, _≤_}
 use native.Mathlib.Omega.{arith}
@@ -8,14 +8,14 @@ use native.Mathlib.Nat.{lt-of-lt-of-le}
 use lib.ListN.{length, take}
 use lib.Seq.{length-take-le}
 use lib.Dec.{ltb, eqb}
-use borrow.Author.Tests.{lt-ltb, le-ltb, eq-eqb, ne-eqb, not-false}
+use borrow.Author.Tests.{lt-ltb, le-ltb, eq-eqb, ne-eqb}
 use Rattle.model.specs.Kind.{base}
-use Rattle.model.specs.Lists.{Cause}
+use Rattle.model.specs.Lists.{Cause, refusal}
 use Rattle.model.specs.Node.{start}
 use Rattle.model.specs.Length.{viewNumber}
 use Rattle.model.specs.Climb.{rankUp, stepsUp, firstDown, nextUp}
 use Rattle.model.specs.State.{State, nodeAt}
-use Rattle.model.specs.Refuse.{shapeOf, opening, current, stale, atCursor}
+use Rattle.model.specs.Refuse.{shapeOf, opening, stale, atCursor}
 use Rattle.model.specs.Calls.{rankOf, entryToCharIndex, cursorAt, firstOf, first, nextOf, nextAfter, inOrder, byPath, path, cmp}
 use Rattle.model.specs.declared.shape.Shape.{Shape}
 use Rattle.model.specs.declared.head.Cursor.{Cursor}
@@ -32,10 +32,10 @@ use Rattle.model.specs.declared.answer.Compared.{Compared}
 use Rattle.model.specs.declared.answer.Compared.the-variants as compared
 use Rattle.area.specs.Area.{Area}
 use Rattle.walk.specs.Steps.{stepsOf, Stepped}
-use Rattle.open.proofs.Causes.{opened-first, opened-next, opened-none, opened-stop, opened-more, good-shape, call-refused, call-good}
+use Rattle.open.proofs.Causes.{opened-stop, opened-more, good-shape, call-refused, call-good, opened-number, opened-zero}
 use Rattle.open.proofs.OpenLaws.{opening-numbered}
 use Rattle.open.proofs.ReadyLaws.{ready, leaf-area, inner-area}
-use Rattle.open.proofs.CursorLaws.{current-leaf}
+use Rattle.open.proofs.CursorLaws.{stale-numbered, clear-leaf}
 use Rattle.open.specs.Open.{openedBy}
 use Rattle.open.specs.declared.open.Opened.{Opened}
 use Rattle.open.specs.declared.open.Opened.the-variants.{Good, Refused}
@@ -136,15 +136,15 @@ module _ (s : State) where
   pathBy c g = let m = nodeAt g (c .leaf .0) (s .leaves) in stepsUp g (s .head .levels) (m .parent) (m .at) [] (s .inners)
 
   -- where the path of a current cursor begins
-  pub path-in : (g : Shape) (o : Opened) → o ≡ openedBy (opening base s) (shapeOf base (s .head)) → o ≡ Good g → (c : Cursor) (t : Bool) → t ≡ current base s c → not t ≡ false
+  pub path-in : (g : Shape) (o : Opened) → o ≡ openedBy (opening base s) (shapeOf base (s .head)) → o ≡ Good g → (c : Cursor) (n : ℕ) → n ≡ refusal (stale base s c) → n ≡ 0
       → Area g (length (s .leaves)) × Area g (length (s .inners)) × (c .leaf .0 < g .nodes) × (s .head .levels ≤ 15)
-  path-in g o e d c t et h =
+  path-in g o e d c n en h =
       let r = ready s g o e d in
-      (leaf-area s g r, inner-area s g r, lt-of-lt-of-le (current-leaf s c (sym et ∙ not-false t h) .0) (r .leaves), r .levels-most)
+      (leaf-area s g r, inner-area s g r, lt-of-lt-of-le (clear-leaf s c (sym en ∙ h) .0) (r .leaves), r .levels-most)
 
   module _ (a b : Cursor) where
     abbrev both : List Cause
-    both = stale base s a ∷ stale base s b ∷ []
+    both = stale base s a ++ stale base s b
 
     abbrev cmpBy : Shape → Compared
     cmpBy g = cond (eqb (a .leaf .0) (b .leaf .0)) (inOrder (a .slot ∷ []) (b .slot ∷ [])) (byPath (pathBy a g) (pathBy b g))
@@ -157,26 +157,26 @@ module _ (s : State) where
       pub cmp-refused : (n : ℕ) → o ≡ Refused n → compared.Refused n ≡ cmp base s a b
       cmp-refused n d = refused n (opened-stop (opening base s) both _ n (sym e ∙ d))
 
-      module _ (g : Shape) (d : o ≡ Good g) (t : Bool) (et : t ≡ current base s a) where
+      module _ (g : Shape) (d : o ≡ Good g) (n : ℕ) (en : n ≡ refusal (stale base s a)) where
         rest : openedBy (opening base s ++ both) (shapeOf base (s .head)) ≡ openedBy both (shapeOf base (s .head))
         rest = opened-more (opening base s) both _ g (opening-numbered s) (sym e ∙ d)
 
-        pub cmp-first : not t ≡ true → compared.Refused 3 ≡ cmp base s a b
-        cmp-first h = refused 3 (rest ∙ opened-first 2 _ _ _ (ap not (sym et) ∙ h))
+        pub cmp-first : (n ≡ 0 → ⊥) → compared.Refused n ≡ cmp base s a b
+        cmp-first h = refused n (rest ∙ opened-stop (stale base s a) (stale base s b) _ n (opened-number (stale base s a) _ n (sym en) h))
 
-        module _ (ht : not t ≡ false) (u : Bool) (eu : u ≡ current base s b) where
-          last : openedBy (opening base s ++ both) (shapeOf base (s .head)) ≡ openedBy (stale base s b ∷ []) (shapeOf base (s .head))
-          last = rest ∙ opened-next 3 _ _ _ (ap not (sym et) ∙ ht)
+        module _ (hn : n ≡ 0) (m : ℕ) (em : m ≡ refusal (stale base s b)) where
+          last : openedBy (opening base s ++ both) (shapeOf base (s .head)) ≡ openedBy (stale base s b) (shapeOf base (s .head))
+          last = rest ∙ opened-more (stale base s a) (stale base s b) _ _ (stale-numbered s a) (opened-zero (stale base s a) _ (sym en ∙ hn))
 
-          pub cmp-second : not u ≡ true → compared.Refused 3 ≡ cmp base s a b
-          cmp-second h = refused 3 (last ∙ opened-first 2 _ _ _ (ap not (sym eu) ∙ h))
+          pub cmp-second : (m ≡ 0 → ⊥) → compared.Refused m ≡ cmp base s a b
+          cmp-second h = refused m (last ∙ opened-number (stale base s b) _ m (sym em) h)
 
-          module _ (hu : not u ≡ false) (r : Compared) where
+          module _ (hm : m ≡ 0) (r : Compared) where
             good : r ≡ cmpBy g → r ≡ cmp base s a b
             unfolding cmp path
             good q =
                 call-good compared.Refused cmpBy (opening base s ++ both) (shapeOf base (s .head)) _ refl g
-                (last ∙ opened-next 3 _ _ _ (ap not (sym eu) ∙ hu) ∙ opened-none _ ∙ ap Good (good-shape (opening base s) _ g (sym e ∙ d))) r q
+                (last ∙ opened-zero (stale base s b) _ (sym em ∙ hm) ∙ ap Good (good-shape (opening base s) _ g (sym e ∙ d))) r q
 
             pub cmp-slot : a .leaf .0 ≡ b .leaf .0 → r ≡ inOrder (a .slot ∷ []) (b .slot ∷ []) → r ≡ cmp base s a b
             cmp-slot h q = good (rw (eq-eqb (a .leaf .0) (b .leaf .0) h) q)

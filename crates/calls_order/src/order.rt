@@ -17,7 +17,7 @@ use model::shape::Shape;
 use model::way::Leaf;
 use model::way::Sum;
 use open::open::Opened;
-use open::open::current;
+use open::open::fault;
 use open::open::open;
 use open::open::open_at;
 use walk::climb::in_order;
@@ -168,11 +168,13 @@ pub fn cmp(
     match open(head, leaves, inners, homes) {
         Opened::Refused(n) => Compared::Refused(n),
         Opened::Good(g) => {
-            if !current(head, leaves, g, a) {
-                return Compared::Refused(3);
+            let n = fault(head, leaves, g, a);
+            if n != 0 {
+                return Compared::Refused(n);
             }
-            if !current(head, leaves, g, b) {
-                return Compared::Refused(3);
+            let m = fault(head, leaves, g, b);
+            if m != 0 {
+                return Compared::Refused(m);
             }
             if a.leaf.0 == b.leaf.0 {
                 return by_slot(a.slot, b.slot);

@@ -14,7 +14,7 @@ use Rattle.model.specs.Node.{Node, lengths, childSplit}
 use Rattle.model.specs.State.{State, state, nodeAt}
 use Rattle.model.specs.Place.{Change, enter, entering, makeRoom, divide}
 use Rattle.model.specs.Refuse.{shapeOf, opening, atCursor, tooMuch, full}
-use Rattle.model.specs.Calls.{Reply, reply, settled, slotAt, splitEntry}
+use Rattle.model.specs.Calls.{Reply, reply, settled, slotAt, dividedAt, splitEntry}
 use Rattle.model.specs.declared.shape.Shape.{Shape}
 use Rattle.model.specs.declared.head.Cursor.{Cursor}
 use Rattle.model.specs.declared.length.Lengths.{Lengths}
@@ -29,7 +29,7 @@ use Rattle.open.specs.Open.{openedBy}
 use Rattle.open.specs.Ready.{Stands}
 use Rattle.open.specs.declared.open.Opened.{Opened}
 use Rattle.open.specs.declared.open.Opened.the-variants.{Good, Refused}
-use Rattle.calls_split.specs.Split.{splitCauses, dividedAt}
+use Rattle.calls_split.specs.Split.{splitCauses}
 
 -- what `open_split` answers, from what `open_at` answered
 module _ (s : State) (c : Cursor) (l : Lengths) (o : Opened) (e : o ≡ openedBy (opening base s ++ atCursor base s c) (shapeOf base (s .head))) where

@@ -19,9 +19,9 @@ ghost use Rattle.model.specs.Kind.{base};
 ghost use Rattle.model.specs.State.{state};
 ghost use Rattle.model.specs.Refuse.{shapeOf};
 ghost use Rattle.model.specs.Calls as calls;
-ghost use Rattle.model.specs.Calls.{reply};
+ghost use Rattle.model.specs.Calls.{reply, dividedAt};
 ghost use Rattle.open.specs.Open.{openedBy};
-ghost use Rattle.calls_split.specs.Split.{splitCauses, dividedAt};
+ghost use Rattle.calls_split.specs.Split.{splitCauses};
 
 // What split_entry tests.
 fn open_split(

@@ -175,7 +175,7 @@ path K s c =
 
 unfoldable pub cmp : Kind → State → Cursor → Cursor → Compared
 cmp K s a b =
-    unless (opening K s ++ stale K s a ∷ stale K s b ∷ []) compared.Refused
+    unless (opening K s ++ (stale K s a ++ stale K s b)) compared.Refused
     (cond (eqb (a .leaf .0) (b .leaf .0)) (inOrder (a .slot ∷ []) (b .slot ∷ [])) (byPath (path K s a) (path K s b)))
 
 abbrev pub rankOf : Sum → Number
@@ -278,10 +278,12 @@ add K s t l =
     let r = placed K s t l in
     unless (insertCauses K s t l) (λ n. reply s (named.Refused n)) (settled s (r .0) named.Refused (named.Entry (entryId (s .head .entries))))
 
--- the two cursors bear the new count
+-- what a split answers: n is the count before, so the new id; slot i of leaf k holds the first of the two entries; both cursors bear the new count
+abbrev pub dividedAt : ℕ → ℕ → ℕ → Divided
+dividedAt n k i = divided.At (entryId n) (cursorAt (n + 1) k i) (cursorAt (n + 1) k (i + 1))
+
 unfoldable pub splitEntry : Kind → State → Cursor → List ℕ → Bool → Reply Divided
 splitEntry K s c l flag =
-    let n = s .head .entries in
     let r = divide (shapeOf K (s .head)) flag s (c .leaf .0) (c .slot) l in
     unless (opening K s ++ atCursor K s c ++ tooMuch K l (lengths (slotAt K s c)) ∷ full s ∷ []) (λ m. reply s (divided.Refused m))
-    (settled s r divided.Refused (divided.At (entryId n) (cursorAt (n + 1) (r .leaf) (r .slot)) (cursorAt (n + 1) (r .leaf) (r .slot + 1))))
+    (settled s r divided.Refused (dividedAt (s .head .entries) (r .leaf) (r .slot)))

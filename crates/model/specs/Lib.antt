@@ -15,6 +15,7 @@ pub mod Numeral
 pub mod Sheet
 pub mod Print
 pub mod ById
+pub mod ByCursor
 pub mod Record
 pub mod Sound
 pub mod Audit

@@ -18,6 +18,8 @@ use Rattle.model.specs.Calls as calls
 use Rattle.model.specs.Calls.{entryId}
 use Rattle.model.specs.Print.{PrintLeaves}
 use Rattle.model.specs.ById.{treeStep}
+use Rattle.model.specs.ByCursor as by
+use Rattle.model.specs.ByCursor.{CursorCall, cursorStep, entryStep, meant, meantAll}
 use Rattle.model.specs.Sound.{Sound, entriesOf}
 use Rattle.model.specs.declared.head.Cursor.{Cursor}
 use Rattle.model.specs.declared.head.Held.the-variants as held
@@ -146,12 +148,12 @@ pub record Demand1 (K : Kind) : Type 0 where
 -- lists of calls --------------------------------------------------------------------------------------------------------------------------
 
 -- the answers to a list of calls, each on what the one before left, and what the last leaves
-module _ {S : Type 0} (move : S → Call → Moved S) where
-  unfoldable pub answers : S → List Call → List Answer
+module _ {C S : Type 0} (move : S → C → Moved S) where
+  unfoldable pub answers : S → List C → List Answer
   answers s [] = []
   answers s (c ∷ cs) = move s c .answer ∷ answers (move s c .after) cs
 
-  unfoldable pub finally : S → List Call → S
+  unfoldable pub finally : S → List C → S
   finally s [] = s
   finally s (c ∷ cs) = finally (move s c .after) cs
 
@@ -256,6 +258,43 @@ pub record Demand3 (K : Kind) (fan limit : ℕ) (l ls xs hs : List ℕ) : Type 0
   pub alike : (fan′ : ℕ) (ls′ xs′ hs′ : List ℕ) → calls.make K fan′ limit l ls′ xs′ hs′ .answer ≡ outcome.Done
       → (cs ds : List Call) → All (InWords K) cs → All (InWords K) ds → others cs ≡ others ds
       → otherAnswers (treeStep K) (calls.make K fan limit l ls xs hs .after) cs ≡ otherAnswers (treeStep K) (calls.make K fan′ limit l ls′ xs′ hs′ .after) ds
+
+-- lists of calls on cursors --------------------------------------------------------------------------------------------------------------
+
+-- a call whose lengths and numbers are words; its cursors are any at all
+abbrev pub CursorInWords : Kind → CursorCall → Type 0
+CursorInWords K (by.reset l) = Words K l
+CursorInWords K (by.insert t l) = Words K l
+CursorInWords K (by.add t l) = Words K l
+CursorInWords K (by.split flag c l) = Words K l
+CursorInWords K (by.setLengths c l) = Words K l
+CursorInWords K (by.update c l) = Words K l
+CursorInWords K (by.locate v x) = (v < K .views) × IsWord x
+CursorInWords K (by.select v x) = (v < K .views) × IsWord x
+CursorInWords K (by.rank v c) = v < K .views
+CursorInWords K (by.next c) = Unit {0}
+CursorInWords K (by.compare a b) = Unit {0}
+CursorInWords K (by.lengths c) = Unit {0}
+CursorInWords K (by.id c) = Unit {0}
+CursorInWords K (by.cursor i) = IsWord i
+CursorInWords K by.first = Unit {0}
+CursorInWords K by.len = Unit {0}
+CursorInWords K by.isEmpty = Unit {0}
+
+-- each call of a list gets the row's answer to what it means in the tree before it, never 9, and the state before it and after the last one is kept
+unfoldable pub AlongCursors : Kind → ℕ → State → Row → List CursorCall → Type 0
+AlongCursors K fan s r [] = Kept K fan s r
+AlongCursors K fan s r (c ∷ cs) =
+    Kept K fan s r × (cursorStep K s c .answer ≡ entryStep K r (meant K s c) .answer) × (cursorStep K s c .answer .number ≢ 9)
+    × AlongCursors K fan (cursorStep K s c .after) (entryStep K r (meant K s c) .after) cs
+
+-- demand 3 in its cursor form, of the tree that a make leaves
+pub record Demand3ByCursor (K : Kind) (fan limit : ℕ) (l ls xs hs : List ℕ) : Type 0 where
+  -- the answers to every list of calls on cursors are the row's to what they mean
+  pub answered : (cs : List CursorCall) → All (CursorInWords K) cs
+      → (let s = calls.make K fan limit l ls xs hs .after in answers (cursorStep K) s cs ≡ answers (entryStep K) (madeRow limit l) (meantAll K s cs))
+  -- and after each call the state is sound, its entries the row's, as demand 3 has it
+  pub each : (cs : List CursorCall) → All (CursorInWords K) cs → AlongCursors K fan (calls.make K fan limit l ls xs hs .after) (madeRow limit l) cs
 
 -- the cursors that calls answer -----------------------------------------------------------------------------------------------------------
 

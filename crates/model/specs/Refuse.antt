@@ -1,6 +1,6 @@
 -- The causes of a refusal on a tree (document 01, "When a call cannot be done"), in the order in which a call tests them. Assumes nothing.
 use mathlib.Core.Bool.{Bool, _&&_, _||_, not}
-use mathlib.Core.List.{List, [], _∷_}
+use mathlib.Core.List.{List, [], _∷_, _++_}
 use Prim.Native.Nat.{ℕ, _+_, _*_}
 use lib.ListN.{length, getD}
 use lib.Dec.{ltb, leb, eqb}
@@ -38,16 +38,20 @@ opening K s =
 abbrev pub current : Kind → State → Cursor → Bool
 current K s c = eqb (c .stamp) (s .head .entries) && ltb (c .leaf .0) (s .head .leaves) && ltb (c .slot) (nodeAt (shapeOf K (s .head)) (c .leaf .0) (s .leaves) .len)
 
--- 3: cursor not current
-abbrev pub stale : Kind → State → Cursor → Cause
-stale K s c = cause 3 (not (current K s c))
+-- 3: a wrong stamp; 13: a leaf not in use; 14: a slot at or past its len
+abbrev pub stale : Kind → State → Cursor → List Cause
+stale K s c =
+    cause 3 (not (eqb (c .stamp) (s .head .entries)))
+    ∷ cause 13 (leb (s .head .leaves) (c .leaf .0))
+    ∷ cause 14 (leb (nodeAt (shapeOf K (s .head)) (c .leaf .0) (s .leaves) .len) (c .slot))
+    ∷ []
 
 -- 9: the leaf of a current cursor says that it uses more slots than it has
 abbrev pub overfull : Kind → State → Cursor → Cause
 overfull K s c = cause 9 (ltb (s .head .fan) (nodeAt (shapeOf K (s .head)) (c .leaf .0) (s .leaves) .len))
 
 abbrev pub atCursor : Kind → State → Cursor → List Cause
-atCursor K s c = stale K s c ∷ overfull K s c ∷ []
+atCursor K s c = stale K s c ++ overfull K s c ∷ []
 
 -- 4: id not below the number of entries
 abbrev pub noSuchId : State → ℕ → Cause

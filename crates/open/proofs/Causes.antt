@@ -26,6 +26,14 @@ pub opened-none : (g : Shape) → openedBy [] g ≡ Good g
 unfolding refusal
 opened-none g = refl
 
+-- the answer of a number
+pub opened-number : (cs : List Cause) (g : Shape) (n : ℕ) → refusal cs ≡ n → (n ≡ 0 → ⊥) → openedBy cs g ≡ Refused n
+opened-number cs g zero e h = absurd (h refl)
+opened-number cs g (suc n) e h = rw (e, eqb·suc-zero)
+
+pub opened-zero : (cs : List Cause) (g : Shape) → refusal cs ≡ 0 → openedBy cs g ≡ Good g
+opened-zero cs g e = rw e
+
 -- what the answer says of the number
 answered : (n : ℕ) (g g′ : Shape) → cond (eqb n 0) (Good g) (Refused n) ≡ Good g′ → (n ≡ 0) × (g ≡ g′)
 answered zero g g′ e = (refl, cc)

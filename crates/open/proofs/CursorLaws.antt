@@ -1,24 +1,21 @@
 -- What the tests of a cursor answer, and what is known where they give no number. Assumes nothing.
 use mathlib.Core.Path.{_≡_, sym, ap, _∙_}
-use mathlib.Core.Bool.{Bool, true, false, not, _&&_}
 use mathlib.Core.List.{List, [], _∷_, _++_}
 use Prim.Native.Nat.{ℕ, _≤_, _<_}
 use native.Mathlib.Omega.{arith}
 use native.Mathlib.Nat.{lt-of-lt-of-le}
 use lib.ListN.{length, getD}
-use lib.Dec.{eqb, ltb}
-use borrow.Author.Tests.{lt-ltb, le-ltb, eq-eqb, ltb-true, ltb-false, not-false}
+use borrow.Author.Tests.{lt-ltb, le-ltb, eq-eqb, ne-eqb, lt-leb, le-leb, leb-false, ltb-false}
 use Rattle.model.specs.Kind.{base}
-use Rattle.model.specs.Lists.{All}
+use Rattle.model.specs.Lists.{refusal, All}
 use Rattle.model.specs.Node.{lengths}
 use Rattle.model.specs.State.{State, nodeAt}
-use Rattle.model.specs.Refuse.{shapeOf, opening, current, atCursor, overfull}
+use Rattle.model.specs.Refuse.{shapeOf, opening, stale, atCursor, overfull}
 use Rattle.model.specs.Calls.{slotAt}
 use Rattle.model.specs.declared.shape.Shape.{Shape}
 use Rattle.model.specs.declared.head.Cursor.{Cursor}
 use Rattle.area.specs.Area.{Area}
-use Rattle.open.proofs.Bools.{and-true}
-use Rattle.open.proofs.Causes.{opened-first, opened-next, opened-none, opened-stop, opened-more, good-number, good-shape, none-applies, Numbered}
+use Rattle.open.proofs.Causes.{opened-first, opened-next, opened-none, opened-number, opened-zero, opened-stop, opened-more, good-number, good-shape, none-applies, Numbered}
 use Rattle.open.proofs.OpenLaws.{opening-numbered}
 use Rattle.open.proofs.ReadyLaws.{ready, ready-here, leaf-area}
 use Rattle.open.specs.Open.{openedBy}
@@ -26,43 +23,59 @@ use Rattle.open.specs.Ready.{Stands}
 use Rattle.open.specs.declared.open.Opened.{Opened}
 use Rattle.open.specs.declared.open.Opened.the-variants.{Good, Refused}
 
--- what `current` answers where stamp and leaf pass
-pub current-last : (s : State) (c : Cursor) (g : Shape) (len : ℕ) → g ≡ shapeOf base (s .head) → c .stamp ≡ s .head .entries → c .leaf .0 < s .head .leaves
-    → len ≡ nodeAt g (c .leaf .0) (s .leaves) .len → ltb (c .slot) len ≡ current base s c
-current-last s c g len e p q r =
-    rw (eq-eqb (c .stamp) (s .head .entries) p, lt-ltb (c .leaf .0) (s .head .leaves) q)
-    (ap (ltb (c .slot)) (r ∙ ap (λ (x : Shape). nodeAt x (c .leaf .0) (s .leaves) .len) e))
+-- what `fault` answers, test by test
+module _ (s : State) (c : Cursor) where
+  pub fault-stamp : (c .stamp ≡ s .head .entries → ⊥) → 3 ≡ refusal (stale base s c)
+  unfolding refusal
+  fault-stamp p = rw (ne-eqb (c .stamp) (s .head .entries) p)
 
--- a current cursor
-pub current-leaf : (s : State) (c : Cursor) → current base s c ≡ true → (c .leaf .0 < s .head .leaves) × (c .slot < nodeAt (shapeOf base (s .head)) (c .leaf .0) (s .leaves) .len)
-current-leaf s c e =
-    let stamp = eqb (c .stamp) (s .head .entries) in
-    let leaf = ltb (c .leaf .0) (s .head .leaves) in
-    let p = and-true (stamp && leaf) (ltb (c .slot) (nodeAt (shapeOf base (s .head)) (c .leaf .0) (s .leaves) .len)) e in
-    (ltb-true _ _ (and-true stamp leaf (p .0) .1), ltb-true _ _ (p .1))
+  pub fault-leaf : c .stamp ≡ s .head .entries → s .head .leaves ≤ c .leaf .0 → 13 ≡ refusal (stale base s c)
+  unfolding refusal
+  fault-leaf p q = rw (eq-eqb (c .stamp) (s .head .entries) p, le-leb (s .head .leaves) (c .leaf .0) q)
+
+  module _ (g : Shape) (len : ℕ) (e : g ≡ shapeOf base (s .head)) (p : c .stamp ≡ s .head .entries) (q : c .leaf .0 < s .head .leaves) (r : len ≡ nodeAt g (c .leaf .0) (s .leaves) .len) where
+    own-len : nodeAt (shapeOf base (s .head)) (c .leaf .0) (s .leaves) .len ≡ len
+    own-len = ap (λ (x : Shape). nodeAt x (c .leaf .0) (s .leaves) .len) (sym e) ∙ sym r
+
+    pub fault-slot : len ≤ c .slot → 14 ≡ refusal (stale base s c)
+    unfolding refusal
+    fault-slot h = rw (eq-eqb (c .stamp) (s .head .entries) p, lt-leb (s .head .leaves) (c .leaf .0) q, own-len, le-leb len (c .slot) h)
+
+    pub fault-none : c .slot < len → 0 ≡ refusal (stale base s c)
+    unfolding refusal
+    fault-none h = rw (eq-eqb (c .stamp) (s .head .entries) p, lt-leb (s .head .leaves) (c .leaf .0) q, own-len, lt-leb len (c .slot) h)
+
+  pub stale-numbered : Numbered (stale base s c)
+  unfolding All
+  stale-numbered = (omega arith, (omega arith, (omega arith, tt)))
+
+  -- a cursor that doesn't fail
+  pub clear-leaf : refusal (stale base s c) ≡ 0 → (c .leaf .0 < s .head .leaves) × (c .slot < nodeAt (shapeOf base (s .head)) (c .leaf .0) (s .leaves) .len)
+  unfolding All
+  clear-leaf e = let n = none-applies (stale base s c) stale-numbered e in (leb-false _ _ (n .1 .0), leb-false _ _ (n .1 .1 .0))
 
 -- what `open_at` answers, from what `open` answered
 module _ (s : State) (c : Cursor) (o : Opened) (e : o ≡ openedBy (opening base s) (shapeOf base (s .head))) where
   pub at-refused : (n : ℕ) → o ≡ Refused n → Refused n ≡ openedBy (opening base s ++ atCursor base s c) (shapeOf base (s .head))
   at-refused n d = sym (opened-stop (opening base s) (atCursor base s c) _ n (sym e ∙ d))
 
-  module _ (g : Shape) (d : o ≡ Good g) (t : Bool) (et : t ≡ current base s c) where
+  module _ (g : Shape) (d : o ≡ Good g) (n : ℕ) (en : n ≡ refusal (stale base s c)) where
     rest : openedBy (opening base s ++ atCursor base s c) (shapeOf base (s .head)) ≡ openedBy (atCursor base s c) (shapeOf base (s .head))
     rest = opened-more (opening base s) (atCursor base s c) _ g (opening-numbered s) (sym e ∙ d)
 
-    pub at-stale : not t ≡ true → Refused 3 ≡ openedBy (opening base s ++ atCursor base s c) (shapeOf base (s .head))
-    at-stale h = sym (rest ∙ opened-first 2 _ _ _ (ap not (sym et) ∙ h))
+    pub at-stale : (n ≡ 0 → ⊥) → Refused n ≡ openedBy (opening base s ++ atCursor base s c) (shapeOf base (s .head))
+    at-stale h = sym (rest ∙ opened-stop (stale base s c) (overfull base s c ∷ []) _ n (opened-number (stale base s c) _ n (sym en) h))
 
     -- the cursor is current: its leaf can be read
-    pub at-leaf : not t ≡ false → Area g (length (s .leaves)) × (c .leaf .0 < g .nodes)
+    pub at-leaf : n ≡ 0 → Area g (length (s .leaves)) × (c .leaf .0 < g .nodes)
     at-leaf h =
         let r = ready s g o e d in
-        (leaf-area s g r, lt-of-lt-of-le (current-leaf s c (sym et ∙ not-false t h) .0) (r .leaves))
+        (leaf-area s g r, lt-of-lt-of-le (clear-leaf s c (sym en ∙ h) .0) (r .leaves))
 
     -- and its len is read
-    module _ (h : not t ≡ false) (len : ℕ) (el : len ≡ nodeAt g (c .leaf .0) (s .leaves) .len) where
+    module _ (h : n ≡ 0) (len : ℕ) (el : len ≡ nodeAt g (c .leaf .0) (s .leaves) .len) where
       last : openedBy (opening base s ++ atCursor base s c) (shapeOf base (s .head)) ≡ openedBy (overfull base s c ∷ []) (shapeOf base (s .head))
-      last = rest ∙ opened-next 3 _ _ _ (ap not (sym et) ∙ h)
+      last = rest ∙ opened-more (stale base s c) (overfull base s c ∷ []) _ _ (stale-numbered s c) (opened-zero (stale base s c) _ (sym en ∙ h))
 
       same : g ≡ shapeOf base (s .head)
       same = ready s g o e d .same
@@ -81,16 +94,15 @@ module _ (s : State) (c : Cursor) (o : Opened) (e : o ≡ openedBy (opening base
 
 pub at-numbered : (s : State) (c : Cursor) → Numbered (opening base s ++ atCursor base s c)
 unfolding opening All
-at-numbered s c = (omega arith, (omega arith, (omega arith, (omega arith, (omega arith, tt)))))
+at-numbered s c = (omega arith, (omega arith, (omega arith, (omega arith, (omega arith, (omega arith, (omega arith, tt)))))))
 
 -- what is known where `open_at` gives no number
 pub stands : (s : State) (c : Cursor) (g : Shape) (o : Opened) → o ≡ openedBy (opening base s ++ atCursor base s c) (shapeOf base (s .head)) → o ≡ Good g → Stands s c g
 unfolding opening All
 stands s c g o e d =
     let n = none-applies (opening base s ++ atCursor base s c) (at-numbered s c) (good-number (opening base s ++ atCursor base s c) (shapeOf base (s .head)) g (sym e ∙ d)) in
-    let l = current-leaf s c (not-false (current base s c) (n .1 .1 .1 .0)) in
     rw (← good-shape (opening base s ++ atCursor base s c) (shapeOf base (s .head)) g (sym e ∙ d))
-    (record { ready = ready-here s (n .0) (n .1 .0) (n .1 .1 .0); leaf = l .0; slot = l .1; few = ltb-false _ _ (n .1 .1 .1 .1 .0) })
+    (record { ready = ready-here s (n .0) (n .1 .0) (n .1 .1 .0); leaf = leb-false _ _ (n .1 .1 .1 .1 .0); slot = leb-false _ _ (n .1 .1 .1 .1 .1 .0); few = ltb-false _ _ (n .1 .1 .1 .1 .1 .1 .0) })
 
 -- the slot of a cursor can be read
 pub slot-in : (s : State) (c : Cursor) (g : Shape) → Stands s c g → Area g (length (s .leaves)) × (c .leaf .0 < g .nodes) × (c .slot < g .fan)

@@ -12,7 +12,7 @@ use Rattle.model.specs.Kind.{base, stride}
 use Rattle.model.specs.Lists.{Cause, refusal, All}
 use Rattle.model.specs.Length.{viewNumber}
 use Rattle.model.specs.State.{State, nodesFor, shape, nodeAt}
-use Rattle.model.specs.Refuse.{badSize, tooShort, astray, shapeOf, opening, atCursor, stale, overfull}
+use Rattle.model.specs.Refuse.{badSize, tooShort, astray, shapeOf, opening, atCursor}
 use Rattle.model.specs.declared.shape.Shape.{Shape}
 use Rattle.model.specs.declared.length.View.{View}
 use Rattle.model.specs.declared.length.View.the-variants.{Prepare, Effect}

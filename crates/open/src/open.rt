@@ -8,8 +8,9 @@ ghost use mathlib.Core.List.{[], _++_};
 ghost use Prim.Native.Nat.{_+_, _*_, _<_, _≤_};
 ghost use lib.ListN.{length, getD};
 ghost use Rattle.model.specs.Kind.{base, stride};
+ghost use Rattle.model.specs.Lists.{refusal};
 ghost use Rattle.model.specs.State.{state, shape, nodesFor, nodeAt};
-ghost use Rattle.model.specs.Refuse.{badSize, tooShort, astray, shapeOf, opening, current, atCursor, full};
+ghost use Rattle.model.specs.Refuse.{badSize, tooShort, astray, shapeOf, opening, stale, atCursor, full};
 ghost use Rattle.model.specs.Calls.{makeCauses};
 ghost use Rattle.node.specs.Shaped.{Shaped};
 ghost use Rattle.area.specs.Area.{Area};
@@ -130,20 +131,24 @@ pub fn open(head: Head, leaves: &[u32], inners: &[u32], homes: &[u32]) -> Opened
     }
 }
 
-// Whether a cursor is current: its stamp is the entry count, its leaf in use and its slot below the leaf's len.
-pub fn current(head: Head, leaves: &[u32], g: Shape, c: Cursor) -> bool
+// The number by which a cursor fails: its stamp isn't the entry count (3), its leaf isn't in use (13), its slot is at or past
+// the leaf's len (14). 0: it is current.
+pub fn fault(head: Head, leaves: &[u32], g: Shape, c: Cursor) -> u32
     requires { ⌜ (g ≡ shapeOf base head) × Area g (length (now leaves)) × (head .leaves ≤ g .nodes) ⌝ }
-    ensures { λ r. ⌜ r ≡ current base (state head (now (leaves .entry)) [] []) c ⌝ }
+    ensures { λ r. ⌜ r ≡ refusal (stale base (state head (now (leaves .entry)) [] []) c) ⌝ }
 {
     let k = c.leaf.0;
     if c.stamp != head.entries {
-        return false;
+        return 3;
     }
     if k >= head.leaves {
-        return false;
+        return 13;
     }
     let len = len_of(leaves, g, k);
-    c.slot < len
+    if c.slot >= len {
+        return 14;
+    }
+    0
 }
 
 // Whether the tree holds its limit.
@@ -160,8 +165,9 @@ pub fn open_at(head: Head, leaves: &[u32], inners: &[u32], homes: &[u32], c: Cur
     match open(head, leaves, inners, homes) {
         Opened::Refused(n) => Opened::Refused(n),
         Opened::Good(g) => {
-            if !current(head, leaves, g, c) {
-                return Opened::Refused(3);
+            let n = fault(head, leaves, g, c);
+            if n != 0 {
+                return Opened::Refused(n);
             }
             if g.fan < len_of(leaves, g, c.leaf.0) as usize {
                 return Opened::Refused(9);

@@ -121,7 +121,7 @@ module _ (K : Kind) (t : State) (w : Sound K t) where
       at a c =
           let ca : Cursor = cursorAt (t .head .entries) (a .leaf) (a .slot) in
           let cc : Cursor = cursorAt (t .head .entries) (c .leaf) (c .slot) in
-          ap comparedAnswer (passed (opening K t ++ stale K t ca ∷ stale K t cc ∷ []) compared.Refused _
-          (opens K t w (stale K t ca ∷ stale K t cc ∷ []) ∙ fresh K t w (a .leaf) (a .slot) (stale K t cc ∷ []) (a .leaf-in) (a .slot-in) ∙ fresh K t w (c .leaf) (c .slot) [] (c .leaf-in) (c .slot-in)))
+          ap comparedAnswer (passed (opening K t ++ (stale K t ca ++ stale K t cc)) compared.Refused _
+          (opens K t w (stale K t ca ++ stale K t cc) ∙ fresh K t w (a .leaf) (a .slot) (stale K t cc) (a .leaf-in) (a .slot-in) ∙ fresh K t w (c .leaf) (c .slot) [] (c .leaf-in) (c .slot-in)))
           ∙ ap₂ (λ (p q : List ℕ). comparedAnswer (cond (eqb (a .leaf) (c .leaf)) (inOrder (a .slot ∷ []) (c .slot ∷ [])) (byPath p q))) (path-is i a) (path-is j c)
           ∙ compared-is i j a c

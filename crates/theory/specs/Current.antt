@@ -1,12 +1,14 @@
--- Every current cursor of a sound state is the cursor of the entry at which it stands, so the calls on cursors are the calls by id; any other is refused by 3.
-use mathlib.Core.Path.{_≡_, sym, ap, ap₂, _∙_}
-use mathlib.Core.Bool.{true, false, _&&_}
+-- Every current cursor of a sound state is the cursor of the entry at which it stands, so the calls on cursors are the calls by id; any other is refused by 3, 13 or 14.
+use mathlib.Core.Path.{_≡_, refl, sym, ap, ap₂, _∙_}
+use mathlib.Core.Logic.{_≢_, _⊎_, inl, inr}
+use mathlib.Core.Bool.{Bool, true, false, cond, _&&_}
 use mathlib.Core.List.{List, [], _∷_, _++_}
-use Prim.Native.Nat.{ℕ, _<_}
+use Prim.Native.Nat.{ℕ, zero, suc, _≤_, _<_}
+use native.Mathlib.Decide.{ℕ-discrete, decLt}
 use native.Mathlib.Omega.{arith}
 use lib.Dec.{ltb, eqb}
 use lib.ListN.{length, getD, length-map}
-use borrow.Author.Tests.{eqb-true, ltb-true}
+use borrow.Author.Tests.{eqb-true, ltb-true, eq-eqb, ne-eqb, lt-ltb, lt-leb, le-leb}
 use Rattle.model.specs.Kind.{stride}
 use Rattle.model.specs.declared.shape.Kind.{Kind}
 use Rattle.model.specs.Lists.{Cause, refusal}
@@ -30,10 +32,52 @@ use Rattle.theory.specs.Up.{slots-all}
 use Rattle.theory.specs.Open.{opens, cursor-is}
 use Rattle.theory.specs.Tests.{both}
 
+-- the first of some causes applies, whatever comes behind
+pub first-applies : (xs ys : List Cause) (n : ℕ) → refusal xs ≡ suc n → refusal (xs ++ ys) ≡ suc n
+unfolding refusal
+first-applies [] ys n e = absurd (omega arith)
+first-applies (x ∷ xs) ys n e = go (x .applies) refl (first-applies xs ys n)
+  where
+    go : (b : Bool) → x .applies ≡ b → (refusal xs ≡ suc n → refusal (xs ++ ys) ≡ suc n) → cond (x .applies) (x .number) (refusal (xs ++ ys)) ≡ suc n
+    go true q h = (let z : x .number ≡ suc n = rw q at e in rw q z)
+    go false q h = (let z : refusal xs ≡ suc n = rw q at e in rw q (h z))
+
+-- the cursor fails by that number: a wrong stamp, a leaf not in use, a slot at or past its len, tested in this order
+abbrev pub Fails : Kind → State → Cursor → ℕ → Type 0
+Fails K t c n =
+    ((n ≡ 3) × (c .stamp ≢ t .head .entries))
+    ⊎ (((n ≡ 13) × (c .stamp ≡ t .head .entries) × (t .head .leaves ≤ c .leaf .0))
+    ⊎ ((n ≡ 14) × (c .stamp ≡ t .head .entries) × (c .leaf .0 < t .head .leaves) × (leafIn (stride K) t (c .leaf .0) .len ≤ c .slot)))
+
 module _ (K : Kind) (t : State) (w : Sound K t) (c : Cursor) where
-  pub not-current : (cs : List Cause) → current K t c ≡ false → refusal (opening K t ++ stale K t c ∷ cs) ≡ 3
+  -- a cursor passes and is current, or fails by the number of the first of stamp, leaf and slot that is wrong
+  pub which : ((current K t c ≡ true) × (refusal (stale K t c) ≡ 0)) ⊎ Fails K t c (refusal (stale K t c))
   unfolding refusal
-  not-current cs e = opens K t w (stale K t c ∷ cs) ∙ rw e
+  which = go (ℕ-discrete (c .stamp) (t .head .entries)) (decLt (c .leaf .0) (t .head .leaves)) (decLt (c .slot) (leafIn (stride K) t (c .leaf .0) .len))
+    where
+      go : Dec (c .stamp ≡ t .head .entries) → Dec (c .leaf .0 < t .head .leaves) → Dec (c .slot < leafIn (stride K) t (c .leaf .0) .len)
+          → ((current K t c ≡ true) × (refusal (stale K t c) ≡ 0)) ⊎ Fails K t c (refusal (stale K t c))
+      go (no a) b d = inr (rw (ne-eqb (c .stamp) (t .head .entries) a) (inl (refl, a)))
+      go (yes a) (no b) d = inr (rw (eq-eqb (c .stamp) (t .head .entries) a, le-leb (t .head .leaves) (c .leaf .0) (omega arith)) (inr (inl (refl, a, omega arith))))
+      go (yes a) (yes b) (no d) = inr (rw (eq-eqb (c .stamp) (t .head .entries) a, lt-leb (t .head .leaves) (c .leaf .0) b, le-leb (leafIn (stride K) t (c .leaf .0) .len) (c .slot) (omega arith)) (inr (inr (refl, a, b, omega arith))))
+      go (yes a) (yes b) (yes d) = inl (
+        rw (eq-eqb (c .stamp) (t .head .entries) a, lt-ltb (c .leaf .0) (t .head .leaves) b, lt-ltb (c .slot) (leafIn (stride K) t (c .leaf .0) .len) d),
+        rw (eq-eqb (c .stamp) (t .head .entries) a, lt-leb (t .head .leaves) (c .leaf .0) b, lt-leb (leafIn (stride K) t (c .leaf .0) .len) (c .slot) d),
+      )
+
+  -- its number is no other's
+  pub fails-not : (n m : ℕ) → Fails K t c n → m < 13 → m ≢ 3 → m ≢ n
+  fails-not n m (inl f) lt ne e = ne (e ∙ f .0)
+  fails-not n m (inr (inl f)) lt ne e = (let z = f .0 in omega arith)
+  fails-not n m (inr (inr f)) lt ne e = (let z = f .0 in omega arith)
+
+  -- a call stops by the number of its cursor
+  pub blocked : (cs : List Cause) → Fails K t c (refusal (stale K t c)) → (m : ℕ) × (refusal (stale K t c) ≡ suc m) × (refusal (opening K t ++ (stale K t c ++ cs)) ≡ suc m)
+  blocked cs f = go (refusal (stale K t c)) refl f
+    where
+      go : (n : ℕ) → refusal (stale K t c) ≡ n → Fails K t c n → (m : ℕ) × (refusal (stale K t c) ≡ suc m) × (refusal (opening K t ++ (stale K t c ++ cs)) ≡ suc m)
+      go zero q f = absurd (fails-not 0 0 f (omega arith) (λ z. omega arith) refl)
+      go (suc m) q f = (m, q, opens K t w (stale K t c ++ cs) ∙ first-applies (stale K t c) cs m q)
 
   pub current-is : current K t c ≡ true → (c .stamp ≡ t .head .entries) × (c .leaf .0 < t .head .leaves) × (c .slot < leafIn (stride K) t (c .leaf .0) .len)
   current-is e =

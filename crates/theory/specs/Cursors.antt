@@ -1,6 +1,7 @@
 -- The cursors that cursor, first, next, locate, char_index_to_entry and split_entry answer on a sound state are current and stand at the entry meant:
 -- the id that a cursor's answer has in the row's form is the row's, and only a current cursor has an id.
 use mathlib.Core.Path.{_≡_, refl, sym, ap, _∙_, subst}
+use mathlib.Core.Logic.{_≢_, _⊎_, inl, inr}
 use mathlib.Core.Bool.{Bool, true, false, cond, _&&_}
 use mathlib.Core.List.{List, [], _∷_, _++_}
 use Prim.Native.Nat.{ℕ, _+_, _<_}
@@ -10,13 +11,13 @@ use lib.ListN.{length, getD}
 use borrow.Author.Tests.{eq-eqb, lt-ltb}
 use Rattle.model.specs.Kind.{stride}
 use Rattle.model.specs.declared.shape.Kind.{Kind}
-use Rattle.model.specs.Lists.{refusal}
+use Rattle.model.specs.Lists.{cause, refusal}
 use Rattle.model.specs.Node.{child}
 use Rattle.model.specs.State.{State}
 use Rattle.model.specs.Row as row
 use Rattle.model.specs.Row.{Row, Entry, lengthIn, Answer, done, refused, Moved, moved, unless, after, firstId, rowStep}
 use Rattle.model.specs.Sound.{leafIn, Sound, entriesOf}
-use Rattle.model.specs.Refuse.{opening, overfull, atCursor, current}
+use Rattle.model.specs.Refuse.{opening, stale, overfull, atCursor, current}
 use Rattle.model.specs.Calls as calls
 use Rattle.model.specs.Calls.{cursorAt, slotAt}
 use Rattle.model.specs.ById.{withCursor, idAnswer, standingAnswer, nextAnswer, locatedAnswer, treeStep}
@@ -39,7 +40,7 @@ use Rattle.theory.specs.Agree.{rowOf, row-known, row-passed, count-is}
 use Rattle.theory.specs.Read.{id-at, step-first, step-next}
 use Rattle.theory.specs.Looks.{step-lookup}
 use Rattle.theory.specs.Splits.{TwoParts, split-by}
-use Rattle.theory.specs.Current.{not-current, current-is, is-current}
+use Rattle.theory.specs.Current.{Fails, which, fails-not, blocked, current-is, is-current}
 
 -- the cursor of an answer, and the first of an answer's values
 abbrev cursorOf : Cursor → Standing → Cursor
@@ -53,9 +54,13 @@ no-refusal : (n i : ℕ) (ws : List ℕ) → refused n ≡ done (i ∷ ws) → �
 no-refusal n i ws e = (let z = ap (λ (a : Answer). length (a .values)) e in omega arith)
 
 -- the row's lookup refuses by 5 alone
-looked-not-stale : (K : Kind) (r : Row) (v x : ℕ) → rowStep K r (row.lookup v x) .answer .number ≡ 3 → ⊥
-unfolding rowStep
-looked-not-stale K r v x e = one-cause 3 5 _ (λ z. omega arith) (λ z. omega arith) (sym (number-is r _ _ _) ∙ e)
+looked-not-stale : (K : Kind) (r : Row) (v x : ℕ) → (let n = rowStep K r (row.lookup v x) .answer .number in (n < 13) × (n ≢ 3))
+unfolding rowStep refusal
+looked-not-stale K r v x = subst (λ (n : ℕ). (n < 13) × (n ≢ 3)) (sym (number-is r (row.noSuchPosition r v x ∷ []) (r .entries) (row.found K v x 0 0 0 (r .entries)))) (go (row.noSuchPosition r v x .applies))
+  where
+    go : (b : Bool) → (refusal (cause 5 b ∷ []) < 13) × (refusal (cause 5 b ∷ []) ≢ 3)
+    go true = (omega arith, λ e. omega arith)
+    go false = (omega arith, λ e. omega arith)
 
 module _ (K : Kind) (s : State) (w : Sound K s) where
   at-slot : (k j : ℕ) → k < s .head .leaves → j < leafIn (stride K) s k .len → At K s (cursorAt (s .head .entries) k j) (tree.slotAt (treeOf (stride K) s) k j .child)
@@ -69,20 +74,20 @@ module _ (K : Kind) (s : State) (w : Sound K s) where
       let ok : refusal (atCursor K s c) ≡ 0 = subst (λ (m : ℕ). refusal (atCursor K s (cursorAt m (c .leaf .0) (c .slot))) ≡ 0) (sym (r .0)) (fresh-at K s w (c .leaf .0) (c .slot) [] (r .1) (r .2)) in
       record { current = e; id = passed (opening K s ++ atCursor K s c) named.Refused _ (opens K s w (atCursor K s c) ∙ ok) }
 
-  no-id : (c : Cursor) → current K s c ≡ false → calls.id K s c ≡ named.Refused 3
+  pub no-id : (c : Cursor) → Fails K s c (refusal (stale K s c)) → calls.id K s c ≡ named.Refused (refusal (stale K s c))
   unfolding calls.id
-  no-id c e = stopped (opening K s ++ atCursor K s c) named.Refused _ 2 (not-current K s w c (overfull K s c ∷ []) e)
+  no-id c f = let b = blocked K s w c (overfull K s c ∷ []) f in stopped (opening K s ++ atCursor K s c) named.Refused _ (b .0) (b .2) ∙ ap named.Refused (sym (b .1))
 
-  -- an answer with the id at a cursor that is no refusal by 3
-  answered-at : (c : Cursor) (vs : List ℕ) (a : Answer) → (a .number ≡ 3 → ⊥) → idAnswer (calls.id K s c) vs ≡ a → (i : ℕ) × (a ≡ done (i ∷ vs)) × At K s c i
-  answered-at c vs a ok e = go (current K s c) refl
+  -- an answer with the id at a cursor that is no refusal of a cursor
+  answered-at : (c : Cursor) (vs : List ℕ) (a : Answer) → (a .number < 13) × (a .number ≢ 3) → idAnswer (calls.id K s c) vs ≡ a → (i : ℕ) × (a ≡ done (i ∷ vs)) × At K s c i
+  answered-at c vs a ok e = go (which K s w c)
     where
-      go : (b : Bool) → current K s c ≡ b → (i : ℕ) × (a ≡ done (i ∷ vs)) × At K s c i
-      go true q = (child (slotAt K s c), sym e ∙ ap (λ (n : Named). idAnswer n vs) (current-at c q .id), current-at c q)
-      go false q = absurd (ok (ap (λ (z : Answer). z .number) (sym e) ∙ ap (λ (n : Named). idAnswer n vs .number) (no-id c q)))
+      go : ((current K s c ≡ true) × (refusal (stale K s c) ≡ 0)) ⊎ Fails K s c (refusal (stale K s c)) → (i : ℕ) × (a ≡ done (i ∷ vs)) × At K s c i
+      go (inl q) = (child (slotAt K s c), sym e ∙ ap (λ (n : Named). idAnswer n vs) (current-at c (q .0) .id), current-at c (q .0))
+      go (inr f) = absurd (fails-not K s w c (refusal (stale K s c)) (a .number) f (ok .0) (ok .1) (ap (λ (z : Answer). z .number) (sym e) ∙ ap (λ (n : Named). idAnswer n vs .number) (no-id c f)))
 
   named-at : (c : Cursor) (i : ℕ) → idAnswer (calls.id K s c) [] ≡ done (i ∷ []) → At K s c i
-  named-at c i e = let r = answered-at c [] (done (i ∷ [])) (λ z. omega arith) e in subst (At K s c) (ap value (sym (r .1))) (r .2)
+  named-at c i e = let r = answered-at c [] (done (i ∷ [])) (omega arith, λ z. omega arith) e in subst (At K s c) (ap value (sym (r .1))) (r .2)
 
   -- a cursor at an entry is the entry's
   own-cursor : (c : Cursor) (i : ℕ) → At K s c i → (i < s .head .entries) × (calls.cursor K s i ≡ standing.At c)

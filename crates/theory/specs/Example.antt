@@ -29,25 +29,25 @@ use Rattle.theory.specs.Audited.{audit-exactly}
 use Rattle.theory.specs.Steps.{steps, audit-steps}
 use Rattle.theory.specs.Cursors.{cursor-at}
 
-abbrev pair : ℕ → ℕ → List ℕ
+abbrev pub pair : ℕ → ℕ → List ℕ
 pair p e = p ∷ e ∷ []
 
-abbrev areaWords : List ℕ
+abbrev pub areaWords : List ℕ
 areaWords = replicate 30 7
 
-abbrev start : State
+abbrev pub start : State
 start = make base 4 5 (pair 3 3) areaWords areaWords (replicate 5 7) .after
 
-made : make base 4 5 (pair 3 3) areaWords areaWords (replicate 5 7) .answer ≡ outcome.Done
+pub made : make base 4 5 (pair 3 3) areaWords areaWords (replicate 5 7) .answer ≡ outcome.Done
 unfolding make refusal
 made = refl
 
-first-words : Words base (pair 3 3)
+pub first-words : Words base (pair 3 3)
 unfolding All
 first-words = record { long = refl; small = omega arith }
 
 -- a pair of words
-two : (p e : ℕ) → p < 4294967296 → e < 4294967296 → Words base (pair p e)
+pub two : (p e : ℕ) → p < 4294967296 → e < 4294967296 → Words base (pair p e)
 unfolding All
 two p e a b = record { long = refl; small = (a, (b, tt)) }
 

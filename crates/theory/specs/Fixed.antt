@@ -178,8 +178,8 @@ module _ (K : Kind) (s : State) where
 
   split-entry-fixed : (c : Cursor) (l : List ℕ) (flag : Bool) → Fixed s (calls.splitEntry K s c l flag .after)
   unfolding calls.splitEntry
-  split-entry-fixed c l flag = let n = s .head .entries in let r = place.divide (shapeOf K (s .head)) flag s (c .leaf .0) (c .slot) l in
-      let a = divided.At (calls.entryId n) (calls.cursorAt (n + 1) (r .leaf) (r .slot)) (calls.cursorAt (n + 1) (r .leaf) (r .slot + 1)) in
+  split-entry-fixed c l flag = let r = place.divide (shapeOf K (s .head)) flag s (c .leaf .0) (c .slot) l in
+      let a = calls.dividedAt (s .head .entries) (r .leaf) (r .slot) in
       unless-fixed s (opening K s ++ atCursor K s c ++ tooMuch K l (lengths (calls.slotAt K s c)) ∷ full s ∷ []) divided.Refused (calls.settled s r divided.Refused a)
       (settled-fixed s r divided.Refused a (divide-fixed (shapeOf K (s .head)) flag s (c .leaf .0) (c .slot) l))
 

@@ -20,7 +20,7 @@ use Rattle.model.specs.Place.{Change, change, climb}
 use Rattle.model.specs.Row as row
 use Rattle.model.specs.Row.{Entry, entry, Answer, done, refused, Moved, noEntry, newEntry, noSuchPlace, unless, before, from, inserted, rowStep}
 use Rattle.model.specs.Sound.{leafIn, innerIn, shapeIn, Sound, entriesOf}
-use Rattle.model.specs.Refuse.{opening, stale, overfull, past, totalOf}
+use Rattle.model.specs.Refuse.{opening, atCursor, past, totalOf}
 use Rattle.model.specs.Refuse as refuse′
 use Rattle.model.specs.Calls as calls
 use Rattle.model.specs.Calls.{cursorAt, entryId, placed, insertCauses}
@@ -148,8 +148,8 @@ module _ (K : Kind) (ok : K .effect < K .views) (t : State) (w : Sound K t) (i :
       insert-step K t w i l wl (target.Before (cursorAt (t .head .entries) (c .leaf) (c .slot))) (c .leaf) (c .slot) (front (c .cur)) (c .cur .e ∷ behind (c .cur)) (c .cur .row)
       (ap₂ (λ (b : List Entry) (n : ℕ). b ++ entry n l ∷ from i (entriesOf K t)) (before-is K t w i c) (count-is K t w) ∙ ap (λ (b : List Entry). map (entryFrom (K .views)) (front (c .cur)) ++ entry (t .head .entries) l ∷ b) (from-is K t w i c))
       refl
-      (ap refusal (append-assoc (opening K t) (stale K t (cursorAt (t .head .entries) (c .leaf) (c .slot)) ∷ overfull K t (cursorAt (t .head .entries) (c .leaf) (c .slot)) ∷ []) (past K t [] l ∷ refuse′.full t ∷ []))
-      ∙ opens K t w (stale K t (cursorAt (t .head .entries) (c .leaf) (c .slot)) ∷ overfull K t (cursorAt (t .head .entries) (c .leaf) (c .slot)) ∷ past K t [] l ∷ refuse′.full t ∷ []) ∙ fresh-at K t w (c .leaf) (c .slot) (past K t [] l ∷ refuse′.full t ∷ []) (c .leaf-in) (c .slot-in))
+      (ap refusal (append-assoc (opening K t) (atCursor K t (cursorAt (t .head .entries) (c .leaf) (c .slot))) (past K t [] l ∷ refuse′.full t ∷ []))
+      ∙ opens K t w (atCursor K t (cursorAt (t .head .entries) (c .leaf) (c .slot)) ++ past K t [] l ∷ refuse′.full t ∷ []) ∙ fresh-at K t w (c .leaf) (c .slot) (past K t [] l ∷ refuse′.full t ∷ []) (c .leaf-in) (c .slot-in))
       (λ few tot. placed-is K t w (c .cur .A) (c .leaf) (c .cur .B) (c .cur .body) (c .slot) (let z = c .cur .inside in omega arith) (front (c .cur)) (c .cur .e ∷ behind (c .cur)) (c .cur .made) l wl few tot)
       refuse answer say a says right
 

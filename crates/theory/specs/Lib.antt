@@ -53,5 +53,8 @@ pub mod StepsLaws
 pub mod Steps
 pub mod Current
 pub mod Cursors
+pub mod ByCursor
+pub mod WholeByCursor
 pub mod Example
+pub mod ExampleByCursor
 pub mod Widths

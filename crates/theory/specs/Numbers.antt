@@ -85,7 +85,7 @@ row-eight K r row.first e = absurd (omega arith)
 row-eight K r row.malformed e = absurd (omega arith)
 
 -- the row never answers 9
-row-nine : (K : Kind) (r : Row) (c : Call) → rowStep K r c .answer .number ≢ 9
+pub row-nine : (K : Kind) (r : Row) (c : Call) → rowStep K r c .answer .number ≢ 9
 unfolding rowStep
 row-nine K r (row.reset l) e = absurd (omega arith)
 row-nine K r (row.insert i l) e = three-causes 9 4 7 8 _ _ _ (λ z. omega arith) (λ z. omega arith) (λ z. omega arith) (λ z. omega arith) (sym (number-is r _ _ _) ∙ e)

@@ -15,7 +15,7 @@ use Rattle.model.specs.Lists.{Cause, cause, refusal}
 use Rattle.model.specs.Node.{Node, child, used, indexFrom}
 use Rattle.model.specs.State.{State}
 use Rattle.model.specs.Sound.{shapeIn, leafIn, Sound}
-use Rattle.model.specs.Refuse.{opening, badSize, tooShort, astray, stale, overfull, noSuchId}
+use Rattle.model.specs.Refuse.{opening, badSize, tooShort, astray, stale, overfull, atCursor, noSuchId}
 use Rattle.model.specs.Calls as calls
 use Rattle.model.specs.Calls.{unless, cursorAt}
 use Rattle.model.specs.declared.shape.Place.the-variants as slot
@@ -83,12 +83,12 @@ module _ (K : Kind) (t : State) (w : Sound K t) where
       )
 
   -- a cursor of now, at a slot in use
-  pub fresh : (k j : ℕ) (cs : List Cause) → k < t .head .leaves → j < leafIn (stride K) t k .len → refusal (stale K t (cursorAt (t .head .entries) k j) ∷ cs) ≡ refusal cs
+  pub fresh : (k j : ℕ) (cs : List Cause) → k < t .head .leaves → j < leafIn (stride K) t k .len → refusal (stale K t (cursorAt (t .head .entries) k j) ++ cs) ≡ refusal cs
   unfolding refusal
-  fresh k j cs lk lj = rw (eq-eqb (t .head .entries) (t .head .entries) refl, lt-ltb k (t .head .leaves) lk, lt-ltb j (leafIn (stride K) t k .len) lj)
+  fresh k j cs lk lj = rw (eq-eqb (t .head .entries) (t .head .entries) refl, lt-leb (t .head .leaves) k lk, lt-leb (leafIn (stride K) t k .len) j lj)
 
   -- nor is its leaf overfull
-  pub fresh-at : (k j : ℕ) (cs : List Cause) → k < t .head .leaves → j < leafIn (stride K) t k .len → refusal (stale K t (cursorAt (t .head .entries) k j) ∷ overfull K t (cursorAt (t .head .entries) k j) ∷ cs) ≡ refusal cs
+  pub fresh-at : (k j : ℕ) (cs : List Cause) → k < t .head .leaves → j < leafIn (stride K) t k .len → refusal (atCursor K t (cursorAt (t .head .entries) k j) ++ cs) ≡ refusal cs
   unfolding refusal
   fresh-at k j cs lk lj = fresh k j (overfull K t (cursorAt (t .head .entries) k j) ∷ cs) lk lj ∙ rw (le-ltb (t .head .fan) (leafIn (stride K) t k .len) (w .leaf-filled k lk .high))
 

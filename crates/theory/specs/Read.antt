@@ -18,7 +18,7 @@ use Rattle.model.specs.Climb.{leafNo, rankUp, nextUp}
 use Rattle.model.specs.Row as row
 use Rattle.model.specs.Row.{Entry, entry, done, refused, moved, before, after, firstId, rowStep}
 use Rattle.model.specs.Sound.{leafIn, shapeIn, Sound, entriesOf}
-use Rattle.model.specs.Refuse.{opening, stale, overfull, badSize}
+use Rattle.model.specs.Refuse.{opening, atCursor, badSize}
 use Rattle.model.specs.Calls as calls
 use Rattle.model.specs.Calls.{makeCauses, cursorAt, entryId}
 use Rattle.model.specs.ById.{idAnswer, standingAnswer, nextAnswer, treeStep}
@@ -74,7 +74,7 @@ module _ (K : Kind) (t : State) (w : Sound K t) where
       let n : Node = leafIn (stride K) t k in
       let td : Tidy (stride K) (t .head .fan) n = neat-of (stride K) t (K .effect) w .leaf-tidy k lk in
       let lu : j < length (used n) = (let y : length (slotsOf n) ≡ n .len = size-is (stride K) (t .head .fan) n td in let z : length (slotsOf n) ≡ length (used n) = length-map (used n) slotOf in omega arith) in
-      passed (opening K t ++ stale K t (cursorAt (t .head .entries) k j) ∷ overfull K t (cursorAt (t .head .entries) k j) ∷ []) named.Refused _ (opens K t w (stale K t (cursorAt (t .head .entries) k j) ∷ overfull K t (cursorAt (t .head .entries) k j) ∷ []) ∙ fresh-at K t w k j [] lk lj)
+      passed (opening K t ++ atCursor K t (cursorAt (t .head .entries) k j)) named.Refused _ (opens K t w (atCursor K t (cursorAt (t .head .entries) k j)) ∙ fresh-at K t w k j [] lk lj)
       ∙ ap (λ (x : ℕ). named.Entry (entryId x)) (ap child (slot-used (stride K) (t .head .fan) n td j [] lu) ∙ ap (λ (x : Slot). x .child) (sym (getD-slot (used n) j lu)))
 
   pub step-count : Agrees K (treeStep K t row.count) (rowStep K (rowOf K t) row.count)
@@ -90,7 +90,7 @@ module _ (K : Kind) (t : State) (w : Sound K t) where
   unfolding calls.lengthsOf refusal firsts
   lengths-at i c =
       let x : List ℕ = getD (leafIn (stride K) t (c .leaf) .slots) (c .slot) [] in
-      let cs : List Cause = stale K t (cursorAt (t .head .entries) (c .leaf) (c .slot)) ∷ overfull K t (cursorAt (t .head .entries) (c .leaf) (c .slot)) ∷ [] in
+      let cs : List Cause = atCursor K t (cursorAt (t .head .entries) (c .leaf) (c .slot)) in
       let e : entry (child x) (lengths x) ≡ entryFrom (K .views) (c .cur .e) = sym (entry-is (K .views) x (slot-long K t w i c)) ∙ ap (entryFrom (K .views)) (slot-is K t w i c) in
       passed (opening K t ++ cs) refused _ (opens K t w cs ∙ fresh-at K t w (c .leaf) (c .slot) [] (c .leaf-in) (c .slot-in))
       ∙ ap (λ (y : Entry). done (y .lengths)) e ∙ sym (ap (λ (l : List Entry). done (getD l 0 (entry i []) .lengths)) (from-is K t w i c))
@@ -125,7 +125,7 @@ module _ (K : Kind) (t : State) (w : Sound K t) where
     where
       at : (c : Seat K t w i) → numberAnswer (calls.entryToCharIndex K t v (cursorAt (t .head .entries) (c .leaf) (c .slot))) ≡ done (row.total v (before i (entriesOf K t)) ∷ [])
       at c =
-          let cs : List Cause = stale K t (cursorAt (t .head .entries) (c .leaf) (c .slot)) ∷ overfull K t (cursorAt (t .head .entries) (c .leaf) (c .slot)) ∷ [] in
+          let cs : List Cause = atCursor K t (cursorAt (t .head .entries) (c .leaf) (c .slot)) in
           let n : ℕ = sumBy (len v) (front (c .cur)) in
           let small : n % 2 ^ 32 ≡ n = (let z : n < 4294967296 = front-small i c v in omega arith) in
           ap numberAnswer (passed (opening K t ++ cs) number.Refused _ (opens K t w cs ∙ fresh-at K t w (c .leaf) (c .slot) [] (c .leaf-in) (c .slot-in)) ∙ ap calls.rankOf (rank-is i c v))
@@ -155,7 +155,7 @@ module _ (K : Kind) (t : State) (w : Sound K t) where
   next-answer : (i : ℕ) (c : Seat K t w i) → nextAnswer K t (calls.nextAfter K t (cursorAt (t .head .entries) (c .leaf) (c .slot))) ≡ done (nextIn (treeOf (stride K) t) (c .leaf) (c .slot) ∷ [])
   unfolding calls.nextAfter refusal
   next-answer i c =
-      ap (nextAnswer K t) (passed (opening K t ++ stale K t (cursorAt (t .head .entries) (c .leaf) (c .slot)) ∷ overfull K t (cursorAt (t .head .entries) (c .leaf) (c .slot)) ∷ []) next.Refused _ (opens K t w (stale K t (cursorAt (t .head .entries) (c .leaf) (c .slot)) ∷ overfull K t (cursorAt (t .head .entries) (c .leaf) (c .slot)) ∷ []) ∙ fresh-at K t w (c .leaf) (c .slot) [] (c .leaf-in) (c .slot-in)))
+      ap (nextAnswer K t) (passed (opening K t ++ atCursor K t (cursorAt (t .head .entries) (c .leaf) (c .slot))) next.Refused _ (opens K t w (atCursor K t (cursorAt (t .head .entries) (c .leaf) (c .slot))) ∙ fresh-at K t w (c .leaf) (c .slot) [] (c .leaf-in) (c .slot-in)))
       ∙ go (ltb (suc (c .slot)) (length (slotsOf (leafIn (stride K) t (c .leaf))))) refl
     where
       sz : length (slotsOf (leafIn (stride K) t (c .leaf))) ≡ leafIn (stride K) t (c .leaf) .len

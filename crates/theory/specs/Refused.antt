@@ -7,7 +7,7 @@ use Prim.Native.Nat.{ℕ, _+_, _-_, _*_, _^_, _≤_, _<_}
 use native.Mathlib.Omega.{arith}
 use lib.Dec.{ltb, leb, eqb}
 use lib.ListN.{length, drop, length-set}
-use borrow.Author.Tests.{ltb-true, ltb-false, leb-true, eqb-true, eqb-false, not-false, eq-eqb, lt-ltb, le-ltb}
+use borrow.Author.Tests.{ltb-true, ltb-false, leb-true, leb-false, eqb-true, eqb-false, eq-eqb, lt-leb, le-ltb}
 use Rattle.model.specs.Kind.{stride}
 use Rattle.model.specs.declared.shape.Kind.{Kind}
 use Rattle.model.specs.Lists.{Cause, refusal, All}
@@ -123,10 +123,10 @@ module _ (K : Kind) (s : State) where
   current-of c cs e =
       let n = nodeAt g (c .leaf .0) (s .leaves) .len in
       let a = clear 3 _ _ (λ z. omega arith) e in
-      let b = clear 9 (ltb (s .head .fan) n) cs (λ z. omega arith) (a .1) in
-      let t = every (eqb (c .stamp) (s .head .entries) && ltb (c .leaf .0) (s .head .leaves)) (ltb (c .slot) n) (not-false _ (a .0)) in
-      let u = every (eqb (c .stamp) (s .head .entries)) (ltb (c .leaf .0) (s .head .leaves)) (t .0) in
-      record { leaf = ltb-true (c .leaf .0) (s .head .leaves) (u .1); slot = (let x = ltb-true (c .slot) n (t .1) in let y = ltb-false (s .head .fan) n (b .0) in omega arith) }
+      let b = clear 13 (leb (s .head .leaves) (c .leaf .0)) _ (λ z. omega arith) (a .1) in
+      let d = clear 14 (leb n (c .slot)) _ (λ z. omega arith) (b .1) in
+      let o = clear 9 (ltb (s .head .fan) n) cs (λ z. omega arith) (d .1) in
+      record { leaf = leb-false (s .head .leaves) (c .leaf .0) (b .0); slot = (let x = leb-false n (c .slot) (d .0) in let y = ltb-false (s .head .fan) n (o .0) in omega arith) }
 
 -- calls that change -----------------------------------------------------------------------------------------------------------------------
 
@@ -230,8 +230,8 @@ module _ (K : Kind) (s : State) where
 
   split-leaves : (c : Cursor) (l : List ℕ) (flag : Bool) → Words K l → Leaves (dividedAnswer (calls.splitEntry K s c l flag .answer) .number) s (calls.splitEntry K s c l flag .after)
   unfolding calls.splitEntry opening
-  split-leaves c l flag w = let n = s .head .entries in let r = place.divide (shapeOf K (s .head)) flag s (c .leaf .0) (c .slot) l in
-      let a = divided.At (calls.entryId n) (calls.cursorAt (n + 1) (r .leaf) (r .slot)) (calls.cursorAt (n + 1) (r .leaf) (r .slot + 1)) in
+  split-leaves c l flag w = let r = place.divide (shapeOf K (s .head)) flag s (c .leaf .0) (c .slot) l in
+      let a = calls.dividedAt (s .head .entries) (r .leaf) (r .slot) in
       unless-leaves dividedAnswer divided.Refused (λ m. refl) s (opening K s ++ atCursor K s c ++ tooMuch K l (lengths (calls.slotAt K s c)) ∷ full s ∷ []) (calls.settled s r divided.Refused a)
       (λ e. settled-leaves dividedAnswer divided.Refused (λ m. refl) s r a refl (divide-left (shapeOf K (s .head)) flag s (c .leaf .0) (c .slot) l (opened K s (atCursor K s c ++ tooMuch K l (lengths (calls.slotAt K s c)) ∷ full s ∷ []) e .0) (let z = w .long in omega arith)))
 
@@ -355,7 +355,7 @@ module _ (K : Kind) (s : State) where
       let t = calls.hit s f offset .after in
       let c = calls.cursorAt (s .head .entries) (f .leaf) (f .slot) in
       let n = nodeAt (shapeOf K (s .head)) (f .leaf) (s .leaves) .len in
-      let at : refusal (atCursor K t c) ≡ 0 = rw (eq-eqb (s .head .entries) (s .head .entries) refl, lt-ltb (f .leaf) (s .head .leaves) (h .leaf), lt-ltb (f .slot) n (h .slot), le-ltb (s .head .fan) n (h .filled)) in
+      let at : refusal (atCursor K t c) ≡ 0 = rw (eq-eqb (s .head .entries) (s .head .entries) refl, lt-leb (s .head .leaves) (f .leaf) (h .leaf), lt-leb n (f .slot) (h .slot), le-ltb (s .head .fan) n (h .filled)) in
       ap (λ (a : Named). byId.idAnswer a vs .number) (passed (opening K t ++ atCursor K t c) named.Refused (named.Entry (calls.entryId (child (calls.slotAt K t c)))) (none-more (opening K t) (atCursor K t c) e at))
 
   found-leaves : (a b : Search) → refusal (opening K s) ≡ 0 → Finds a → Finds b

@@ -21,7 +21,7 @@ use Rattle.model.specs.Place.{Change, change, withFinger, replace, climb, summe
 use Rattle.model.specs.Row as row
 use Rattle.model.specs.Row.{Entry, entry, Answer, done, refused, unless, before, changed, rowStep}
 use Rattle.model.specs.Sound.{leafIn, innerIn, shapeIn, Sound, entriesOf}
-use Rattle.model.specs.Refuse.{opening, stale, overfull, past, totalOf}
+use Rattle.model.specs.Refuse.{opening, atCursor, past, totalOf}
 use Rattle.model.specs.Calls as calls
 use Rattle.model.specs.Calls.{cursorAt, resized, resizeCauses}
 use Rattle.model.specs.ById.{told, treeStep}
@@ -257,8 +257,8 @@ module _ (K : Kind) (t : State) (w : Sound K t) (i : ℕ) (c : Seat K t w i) (l 
   resize-causes : refusal (resizeCauses K t (cursorAt (t .head .entries) (c .leaf) (c .slot)) l) ≡ refusal (row.past K (changed i l (entriesOf K t)) ∷ [])
   unfolding refusal x
   resize-causes =
-      ap refusal (append-assoc (opening K t) (stale K t (cursorAt (t .head .entries) (c .leaf) (c .slot)) ∷ overfull K t (cursorAt (t .head .entries) (c .leaf) (c .slot)) ∷ []) (past K t (lengths x) l ∷ []))
-      ∙ opens K t w (stale K t (cursorAt (t .head .entries) (c .leaf) (c .slot)) ∷ overfull K t (cursorAt (t .head .entries) (c .leaf) (c .slot)) ∷ past K t (lengths x) l ∷ []) ∙ fresh-at K t w (c .leaf) (c .slot) (past K t (lengths x) l ∷ []) (c .leaf-in) (c .slot-in)
+      ap refusal (append-assoc (opening K t) (atCursor K t (cursorAt (t .head .entries) (c .leaf) (c .slot))) (past K t (lengths x) l ∷ []))
+      ∙ opens K t w (atCursor K t (cursorAt (t .head .entries) (c .leaf) (c .slot)) ++ past K t (lengths x) l ∷ []) ∙ fresh-at K t w (c .leaf) (c .slot) (past K t (lengths x) l ∷ []) (c .leaf-in) (c .slot-in)
       ∙ ap (λ (b : Bool). cond b 7 0) past-is
 
   -- a call that answers A, where the row answers a

@@ -21,10 +21,10 @@ use Rattle.model.specs.Place.{change, enter}
 use Rattle.model.specs.Row as row
 use Rattle.model.specs.Row.{Row, Entry, entry, Answer, done, refused, Moved, moved, newEntry, unless, after, divided, rowStep}
 use Rattle.model.specs.Sound.{leafIn, shapeIn, Sound, entriesOf}
-use Rattle.model.specs.Refuse.{opening, stale, overfull}
+use Rattle.model.specs.Refuse.{opening, atCursor}
 use Rattle.model.specs.Refuse as refuse′
 use Rattle.model.specs.Calls as calls
-use Rattle.model.specs.Calls.{cursorAt, entryId}
+use Rattle.model.specs.Calls.{cursorAt, dividedAt}
 use Rattle.model.specs.ById.{told, treeStep, dividedAnswer}
 use Rattle.model.specs.Promise.{Stands}
 use Rattle.model.specs.declared.answer.Divided.{Divided}
@@ -240,7 +240,7 @@ module _ (K : Kind) (t : State) (w : Sound K t) (i : ℕ) (c : Seat K t w i) (l 
       go (no ge) = (let z : getD l v 0 ≡ 0 = List·getD-eq-default l 0 {n = v} (omega arith) in omega arith)
 
   abbrev causes : List Cause
-  causes = (opening K t ++ stale K t (cursorAt (t .head .entries) (c .leaf) (c .slot)) ∷ overfull K t (cursorAt (t .head .entries) (c .leaf) (c .slot)) ∷ []) ++ refuse′.tooMuch K l (lengths (getD (leafIn (stride K) t (c .leaf) .slots) (c .slot) [])) ∷ refuse′.full t ∷ []
+  causes = (opening K t ++ atCursor K t (cursorAt (t .head .entries) (c .leaf) (c .slot))) ++ refuse′.tooMuch K l (lengths (getD (leafIn (stride K) t (c .leaf) .slots) (c .slot) [])) ∷ refuse′.full t ∷ []
 
   abbrev rowCauses : List Cause
   rowCauses = row.tooMuch K l (row.lengthsOf i (entriesOf K t)) ∷ row.full (rowOf K t) ∷ []
@@ -248,8 +248,8 @@ module _ (K : Kind) (t : State) (w : Sound K t) (i : ℕ) (c : Seat K t w i) (l 
   both-causes : refusal causes ≡ refusal rowCauses
   unfolding refusal
   both-causes =
-      ap refusal (append-assoc (opening K t) (stale K t (cursorAt (t .head .entries) (c .leaf) (c .slot)) ∷ overfull K t (cursorAt (t .head .entries) (c .leaf) (c .slot)) ∷ []) (refuse′.tooMuch K l (lengths (getD (leafIn (stride K) t (c .leaf) .slots) (c .slot) [])) ∷ refuse′.full t ∷ []))
-      ∙ opens K t w (stale K t (cursorAt (t .head .entries) (c .leaf) (c .slot)) ∷ overfull K t (cursorAt (t .head .entries) (c .leaf) (c .slot)) ∷ refuse′.tooMuch K l (lengths (getD (leafIn (stride K) t (c .leaf) .slots) (c .slot) [])) ∷ refuse′.full t ∷ [])
+      ap refusal (append-assoc (opening K t) (atCursor K t (cursorAt (t .head .entries) (c .leaf) (c .slot))) (refuse′.tooMuch K l (lengths (getD (leafIn (stride K) t (c .leaf) .slots) (c .slot) [])) ∷ refuse′.full t ∷ []))
+      ∙ opens K t w (atCursor K t (cursorAt (t .head .entries) (c .leaf) (c .slot)) ++ refuse′.tooMuch K l (lengths (getD (leafIn (stride K) t (c .leaf) .slots) (c .slot) [])) ∷ refuse′.full t ∷ [])
       ∙ fresh-at K t w (c .leaf) (c .slot) (refuse′.tooMuch K l (lengths (getD (leafIn (stride K) t (c .leaf) .slots) (c .slot) [])) ∷ refuse′.full t ∷ []) (c .leaf-in) (c .slot-in)
       ∙ ap₂ (λ (a b : Bool). cond a 6 (cond b 8 0)) short-is (ap (leb (t .head .limit)) (sym (count-is K t w)))
 
@@ -262,14 +262,14 @@ module _ (K : Kind) (t : State) (w : Sound K t) (i : ℕ) (c : Seat K t w i) (l 
   -- where both stop at the same number, or the entry is parted and the state stands for the row
   pub split-by : (P : calls.Reply Divided → Moved Row → Type 0) → ((n : ℕ) → P (calls.reply t (division.Refused n)) (moved (rowOf K t) (refused n)))
       → ((s : State) (k j : ℕ) → TwoParts K flag i (t .head .entries) s k j → Stands K s (row.row (t .head .limit) entries′)
-      → P (calls.reply s (division.At (entryId (t .head .entries)) (cursorAt (t .head .entries + 1) k j) (cursorAt (t .head .entries + 1) k (j + 1)))) (moved (row.row (t .head .limit) entries′) rowAnswer))
+      → P (calls.reply s (dividedAt (t .head .entries) k j)) (moved (row.row (t .head .limit) entries′) rowAnswer))
       → P (calls.splitEntry K t (cursorAt (t .head .entries) (c .leaf) (c .slot)) l flag) (unless (rowOf K t) rowCauses entries′ rowAnswer)
   unfolding refusal calls.splitEntry
   split-by P refusing parting = go short refl (leb (t .head .limit) (length (entriesOf K t))) refl
     where
       answered : calls.Reply Divided
       answered = let r = place.divide (shapeIn (stride K) t) flag t (c .leaf) (c .slot) l in
-          calls.settled t r division.Refused (division.At (entryId (t .head .entries)) (cursorAt (t .head .entries + 1) (r .leaf) (r .slot)) (cursorAt (t .head .entries + 1) (r .leaf) (r .slot + 1)))
+          calls.settled t r division.Refused (dividedAt (t .head .entries) (r .leaf) (r .slot))
 
       refuse : ℕ → calls.Reply Divided
       refuse n = calls.reply t (division.Refused n)

@@ -120,12 +120,12 @@ module _ (K : Kind) (ok : K .effect < K .views) (fan limit : ℕ) (l : List ℕ)
       go (suc n) e = absurd (let q : outcome.Refused (suc n) ≡ outcome.Done = sym (ap (λ (r : calls.Reply Outcome). r .answer) (stopped (makeCauses K fan limit ls xs hs) (λ n. calls.reply (state (headOf 0 0 0 0 0 0 0 held.Absent) ls xs hs) (outcome.Refused n)) (calls.reply (begun K fan limit l ls xs hs) outcome.Done) n e)) ∙ given in
           let z : _≡_ {A = ℕ} 0 1 = cc in omega arith)
 
-  made : Stands K (make K fan limit l ls xs hs .after) (madeRow limit l)
+  pub made : Stands K (make K fan limit l ls xs hs .after) (madeRow limit l)
   unfolding make
   made = subst (λ (r : calls.Reply Outcome). Stands K (r .after) (madeRow limit l)) (sym (passed (makeCauses K fan limit ls xs hs) (λ n. calls.reply (state (headOf 0 0 0 0 0 0 0 held.Absent) ls xs hs) (outcome.Refused n)) (calls.reply (begun K fan limit l ls xs hs) outcome.Done) not-refused))
       (begun-stands K fan limit l ls xs hs (sizes-of K fan limit ls xs hs not-refused) small)
 
-  fan-made : make K fan limit l ls xs hs .after .head .fan ≡ fan
+  pub fan-made : make K fan limit l ls xs hs .after .head .fan ≡ fan
   unfolding make begun
   fan-made = ap (λ (r : calls.Reply Outcome). r .after .head .fan) (passed (makeCauses K fan limit ls xs hs) (λ n. calls.reply (state (headOf 0 0 0 0 0 0 0 held.Absent) ls xs hs) (outcome.Refused n)) (calls.reply (begun K fan limit l ls xs hs) outcome.Done) not-refused)
 

@@ -14,18 +14,18 @@ enum-known-n c = search needs
 enum-known-g : tie.Need-enum-known-g
 enum-known-g c = search needs
 
-current-requires : tie.Need-current-requires
-current-requires c κs = let h = ready _ _ _ (c .before .before .before .«open» .ensures) (c .before .g .given .1) in (h .same, leaf-area _ _ h, h .leaves)
+fault-requires : tie.Need-fault-requires
+fault-requires c κs = let h = ready _ _ _ (c .before .before .before .«open» .ensures) (c .before .g .given .1) in (h .same, leaf-area _ _ h, h .leaves)
 
 returns : tie.Need-returns
 returns c =
     let args = c .before .before .before .before .before .before .before .before .before .args in
     let before = c .before .before .before .before .before in
     let g = c .before .before .before .g in
-    cmp-first _ (args .a) (args .b) _ (before .«open» .ensures) _ (g .given .1) _ (c .before .current .ensures) (c .if1 .taken)
+    cmp-first _ (args .a) (args .b) _ (before .«open» .ensures) _ (g .given .1) _ (c .before .fault .ensures) (c .if1 .taken)
 
-current-requires-2 : tie.Need-current-requires-2
-current-requires-2 c κs =
+fault-requires-2 : tie.Need-fault-requires-2
+fault-requires-2 c κs =
     let before = c .before .before .before .before .before in
     let g = c .before .before .before .g in
     let h = ready _ _ _ (before .«open» .ensures) (g .given .1) in (h .same, leaf-area _ _ h, h .leaves)
@@ -35,8 +35,8 @@ returns-2 c =
     let args = c .before .before .before .before .before .before .before .before .before .before .before .args in
     let before = c .before .before .before .before .before .before .before in
     let g = c .before .before .before .before .before .g in
-    let current = c .before .before .before .current in
-    cmp-second _ (args .a) (args .b) _ (before .«open» .ensures) _ (g .given .1) _ (current .ensures) (c .before .before .if1 .left) _ (c .before .current2 .ensures) (c .if2 .taken)
+    let fault = c .before .before .before .fault in
+    cmp-second _ (args .a) (args .b) _ (before .«open» .ensures) _ (g .given .1) _ (fault .ensures) (c .before .before .if1 .left) _ (c .before .fault2 .ensures) (c .if2 .taken)
 
 by-slot-requires : tie.Need-by-slot-requires
 by-slot-requires c κs = search needs
@@ -46,29 +46,29 @@ returns-3 c =
     let args = c .before .before .before .before .before .before .before .before .before .before .before .before .before .before .before .args in
     let before = c .before .before .before .before .before .before .before .before .before .before .before in
     let g = c .before .before .before .before .before .before .before .before .before .g in
-    let current = c .before .before .before .before .before .before .before .current in
+    let fault = c .before .before .before .before .before .before .before .fault in
     let if1 = c .before .before .before .before .before .before .if1 in
-    let current2 = c .before .before .before .before .before .current2 in
+    let fault2 = c .before .before .before .before .before .fault2 in
     let if2 = c .before .before .before .before .if2 in
-    cmp-slot _ (args .a) (args .b) _ (before .«open» .ensures) _ (g .given .1) _ (current .ensures) (if1 .left) _ (current2 .ensures) (if2 .left) _ (c .before .if3 .taken) (c .by-slot .ensures)
+    cmp-slot _ (args .a) (args .b) _ (before .«open» .ensures) _ (g .given .1) _ (fault .ensures) (if1 .left) _ (fault2 .ensures) (if2 .left) _ (c .before .if3 .taken) (c .by-slot .ensures)
 
 path-requires : tie.Need-path-requires
 path-requires c κs =
     let before = c .before .before .before .before .before .before .before .before .before .before in
     let g = c .before .before .before .before .before .before .before .before .g in
     let args = c .before .before .before .before .before .before .before .before .before .before .before .before .before .before .args in
-    let current = c .before .before .before .before .before .before .current in
+    let fault = c .before .before .before .before .before .before .fault in
     let if1 = c .before .before .before .before .before .if1 in
-    path-in _ _ _ (before .«open» .ensures) (g .given .1) (args .a) _ (current .ensures) (if1 .left)
+    path-in _ _ _ (before .«open» .ensures) (g .given .1) (args .a) _ (fault .ensures) (if1 .left)
 
 path-requires-2 : tie.Need-path-requires-2
 path-requires-2 c κs =
     let before = c .before .before .before .before .before .before .before .before .before .before .before in
     let g = c .before .before .before .before .before .before .before .before .before .g in
     let args = c .before .before .before .before .before .before .before .before .before .before .before .before .before .before .before .args in
-    let current2 = c .before .before .before .before .before .current2 in
+    let fault2 = c .before .before .before .before .before .fault2 in
     let if2 = c .before .before .before .before .if2 in
-    path-in _ _ _ (before .«open» .ensures) (g .given .1) (args .b) _ (current2 .ensures) (if2 .left)
+    path-in _ _ _ (before .«open» .ensures) (g .given .1) (args .b) _ (fault2 .ensures) (if2 .left)
 
 by-path-requires : tie.Need-by-path-requires
 by-path-requires c κs = search needs
@@ -83,12 +83,12 @@ returns-5 c =
     let args = c .before .before .before .before .before .before .before .before .before .before .before .before .before .before .before .before .before .args in
     let before = c .before .before .before .before .before .before .before .before .before .before .before .before .before in
     let g = c .before .before .before .before .before .before .before .before .before .before .before .g in
-    let current = c .before .before .before .before .before .before .before .before .before .current in
+    let fault = c .before .before .before .before .before .before .before .before .before .fault in
     let if1 = c .before .before .before .before .before .before .before .before .if1 in
-    let current2 = c .before .before .before .before .before .before .before .current2 in
+    let fault2 = c .before .before .before .before .before .before .before .fault2 in
     let if2 = c .before .before .before .before .before .before .if2 in
     let if3 = c .before .before .before .if3 in
-    cmp-path _ (args .a) (args .b) _ (before .«open» .ensures) _ (g .given .1) _ (current .ensures) (if1 .left) _ (current2 .ensures) (if2 .left) _ (if3 .left) _ _
+    cmp-path _ (args .a) (args .b) _ (before .«open» .ensures) _ (g .given .1) _ (fault .ensures) (if1 .left) _ (fault2 .ensures) (if2 .left) _ (if3 .left) _ _
     (c .before .before .path .ensures .0) (c .before .path2 .ensures .0) (c .by-path .ensures)
 
 pub cmp-spec : {M : Type 1} → statement M
@@ -98,9 +98,9 @@ cmp-spec =
     open-requires
     enum-known-n
     enum-known-g
-    current-requires
+    fault-requires
     returns
-    current-requires-2
+    fault-requires-2
     returns-2
     by-slot-requires
     returns-3

@@ -14,22 +14,22 @@ enum-known-n c = search needs
 enum-known-g : tie.Need-enum-known-g
 enum-known-g c = search needs
 
-current-requires : tie.Need-current-requires
-current-requires c κs = let h = ready _ _ _ (c .before .before .before .«open» .ensures) (c .before .g .given .1) in (h .same, leaf-area _ _ h, h .leaves)
+fault-requires : tie.Need-fault-requires
+fault-requires c κs = let h = ready _ _ _ (c .before .before .before .«open» .ensures) (c .before .g .given .1) in (h .same, leaf-area _ _ h, h .leaves)
 
 returns : tie.Need-returns
 returns c =
     let args = c .before .before .before .before .before .before .before .before .before .args in
     let before = c .before .before .before .before .before in
     let g = c .before .before .before .g in
-    at-stale _ (args .c) _ (before .«open» .ensures) _ (g .given .1) _ (c .before .current .ensures) (c .if1 .taken)
+    at-stale _ (args .c) _ (before .«open» .ensures) _ (g .given .1) _ (c .before .fault .ensures) (c .if1 .taken)
 
 len-of-requires : tie.Need-len-of-requires
 len-of-requires c κs =
     let args = c .before .before .before .before .before .before .before .before .before .args in
     let before = c .before .before .before .before .before in
     let g = c .before .before .before .g in
-    at-leaf _ (args .c) _ (before .«open» .ensures) _ (g .given .1) _ (c .before .current .ensures) (c .if1 .left)
+    at-leaf _ (args .c) _ (before .«open» .ensures) _ (g .given .1) _ (c .before .fault .ensures) (c .if1 .left)
 
 cast-if2 : tie.Need-cast-if2
 cast-if2 c = search needs
@@ -39,9 +39,9 @@ returns-2 c =
     let args = c .before .before .before .before .before .before .before .before .before .before .before .before .args in
     let before = c .before .before .before .before .before .before .before .before in
     let g = c .before .before .before .before .before .before .g in
-    let current = c .before .before .before .before .current in
+    let fault = c .before .before .before .before .fault in
     let if1 = c .before .before .before .if1 in
-    at-overfull _ (args .c) _ (before .«open» .ensures) _ (g .given .1) _ (current .ensures) (if1 .left) _ (c .before .before .len-of .ensures) (c .if2 .taken)
+    at-overfull _ (args .c) _ (before .«open» .ensures) _ (g .given .1) _ (fault .ensures) (if1 .left) _ (c .before .before .len-of .ensures) (c .if2 .taken)
 
 returns-3 : tie.Need-returns-3
 returns-3 c =
@@ -53,9 +53,9 @@ returns-4 c =
     let args = c .before .before .before .before .before .before .before .before .before .before .before .before .args in
     let before = c .before .before .before .before .before .before .before .before in
     let g = c .before .before .before .before .before .before .g in
-    let current = c .before .before .before .before .current in
+    let fault = c .before .before .before .before .fault in
     let if1 = c .before .before .before .if1 in
-    at-good _ (args .c) _ (before .«open» .ensures) _ (g .given .1) _ (current .ensures) (if1 .left) _ (c .before .before .len-of .ensures) (c .if2 .left)
+    at-good _ (args .c) _ (before .«open» .ensures) _ (g .given .1) _ (fault .ensures) (if1 .left) _ (c .before .before .len-of .ensures) (c .if2 .left)
 
 pub open-at-spec : {M : Type 1} → statement M
 open-at-spec =
@@ -64,7 +64,7 @@ open-at-spec =
     open-requires
     enum-known-n
     enum-known-g
-    current-requires
+    fault-requires
     returns
     len-of-requires
     cast-if2
