@@ -119,7 +119,7 @@ fn bad_lengths_leave_the_output() {
             if given == room && given % 16 == 0 {
                 assert_eq!(answer, Ok(()));
             } else {
-                assert_eq!(answer, Err(Refusal { number: 11 }));
+                assert_eq!(answer, Err(Refusal::RECORDS));
                 assert!(out.iter().all(|&byte| byte == 0xa5));
                 played += 1;
             }

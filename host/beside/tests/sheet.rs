@@ -204,7 +204,7 @@ fn print_and_sheet_of_a_tree() {
     assert_eq!(tree.print(&mut page[..2 * PAGE_BYTES]), Ok(2));
 
     let short = tree.print(&mut page[..2 * PAGE_BYTES - 1]).unwrap_err();
-    assert_eq!(short, Refusal { number: 12 });
+    assert_eq!(short, Refusal::BUFFER);
     assert_eq!(short.to_string(), "refused by 12: the buffer is below 2,750 bytes a page");
     assert_eq!(tree.print(&mut []), Err(short));
 
@@ -216,9 +216,9 @@ fn print_and_sheet_of_a_tree() {
             [tree.areas().leaves, tree.areas().inners, tree.areas().homes].map(<[u32]>::to_vec);
         PrepareEffectTree::<8>::from_words(head, leaves, inners, homes).sheet()
     };
-    assert_eq!(with(ENTRIES, u32::MAX), Err(Refusal { number: 12 }));
-    assert_eq!(with(ENTRIES, 52), Err(Refusal { number: 9 }));
-    assert_eq!(with(FAN, 33), Err(Refusal { number: 1 }));
+    assert_eq!(with(ENTRIES, u32::MAX), Err(Refusal::BUFFER));
+    assert_eq!(with(ENTRIES, 52), Err(Refusal::LINK));
+    assert_eq!(with(FAN, 33), Err(Refusal::SIZE));
 }
 
 /// With any one byte of the wanted pages changed, or any word of an entry in the port's tree, the comparison finds it out.

@@ -1,10 +1,44 @@
 use std::{error, fmt};
 
-/// Why a call was not done. Head, areas and a lent buffer are as they were, but for number 9.
+/// Why a call was not done. Head, areas and a lent buffer are as they were, but for [`LINK`](Refusal::LINK).
 #[derive(Clone, Copy, PartialEq, Eq, Debug)]
 pub struct Refusal {
-    /// Document 01's number, 1 to 11, or document 02's 12.
+    /// Document 01's number, 1 to 11, or document 02's 12 to 14.
     pub number: u32,
+}
+
+/// Each refusal's name, number and cause.
+macro_rules! refusals {
+    ($($name:ident = $number:literal: $cause:literal;)*) => {
+        impl Refusal {
+            $(#[doc = concat!("Number ", $number, ": ", $cause, ".")]
+            pub const $name: Refusal = Refusal { number: $number };)*
+
+            fn cause(self) -> &'static str {
+                match self {
+                    $(Refusal::$name => $cause,)*
+                    _ => "no call answers this number",
+                }
+            }
+        }
+    };
+}
+
+refusals! {
+    SIZE = 1: "the fan is not 4 to 32, or the limit not 1 to 65,536";
+    AREA = 2: "an area is shorter than the limit needs";
+    STAMP = 3: "the cursor's stamp is not the present one";
+    ID = 4: "there is no such entry";
+    POSITION = 5: "the position is at or past the end";
+    SPLIT = 6: "the split moves more than the entry has";
+    TOTAL = 7: "a total would pass 4,294,967,295";
+    FULL = 8: "the tree holds its limit";
+    LINK = 9: "a link of the tree leads outside";
+    FIELD = 10: "the head is not seventeen words, or a view or a flag is neither 0 nor 1";
+    RECORDS = 11: "records and output are unequally long, or not a multiple of 16";
+    BUFFER = 12: "the buffer is below 2,750 bytes a page";
+    LEAF = 13: "the cursor's leaf is not in use";
+    SLOT = 14: "the cursor's slot is at or past its leaf's len";
 }
 
 impl Refusal {
@@ -19,21 +53,7 @@ impl Refusal {
 
 impl fmt::Display for Refusal {
     fn fmt(&self, f: &mut fmt::Formatter<'_>) -> fmt::Result {
-        let cause = match self.number {
-            1 => "the fan is not 4 to 32, or the limit not 1 to 65,536",
-            2 => "an area is shorter than the limit needs",
-            3 => "the cursor is not current",
-            4 => "there is no such entry",
-            5 => "the position is at or past the end",
-            6 => "the split moves more than the entry has",
-            7 => "a total would pass 4,294,967,295",
-            8 => "the tree holds its limit",
-            9 => "a link of the tree leads outside",
-            10 => "the head is not seventeen words, or a view or a flag is neither 0 nor 1",
-            11 => "records and output are unequally long, or not a multiple of 16",
-            _ => "the buffer is below 2,750 bytes a page",
-        };
-        write!(f, "refused by {}: {cause}", self.number)
+        write!(f, "refused by {}: {}", self.number, self.cause())
     }
 }
 
