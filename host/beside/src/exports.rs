@@ -124,7 +124,7 @@ pub struct Given {
     pub limit: u32,
 }
 
-#[derive(Clone, Copy, PartialEq, Eq, Debug)]
+#[derive(Clone, Copy, PartialEq, Eq, PartialOrd, Ord, Debug)]
 pub enum Export {
     New,
     Reset,

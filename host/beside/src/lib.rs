@@ -1,8 +1,12 @@
 //! The port beside lib.rs: both are driven by the same code (oracle's `Calls`), and every answer, cursor and word is compared.
 
+pub mod any_cursor;
 pub mod both;
+pub mod cursors;
 pub mod exports;
 pub mod lists;
+pub mod met;
+pub mod plays;
 pub mod port;
 pub mod program;
 pub mod words;

@@ -1,5 +1,5 @@
 //! Unsound trees: every export ends on them, writes in its areas and its buffer only (guards stand around each), answers a number
-//! of document 01 or 12, and audit's verdict is that of oracle's audit, which is written from the paper.
+//! of document 01 or 12 to 14, and audit's verdict is that of oracle's audit, which is written from the paper.
 
 use beside::exports::{unprinted, Area, Export, Given, Tree, EXPORTS, UNPRINTED};
 use beside::port::pair;
@@ -15,10 +15,10 @@ use smelvock::{PrepareEffectTree, View, PAGE_BYTES};
 
 const SCALE: u64 = if cfg!(debug_assertions) { 1 } else { 10 };
 
-/// How often each number was answered, by 0 to 12, and how often audit said yes and no.
+/// How often each number was answered, by 0 to 14, and how often audit said yes and no.
 #[derive(Default, Debug)]
 struct Met {
-    numbers: [u64; 13],
+    numbers: [u64; 15],
     sound: u64,
     unsound: u64,
     /// How often print wrote lines and then met 9.
@@ -87,11 +87,14 @@ fn every_export(tree: &Tree, random: &mut Random, met: &mut Met) {
     audited(tree, &given(tree, random), met);
 }
 
-/// Arguments that are often good: a place within the areas, the stamp of the head, a position near by.
+/// Arguments that are often good: a place within the areas, mostly the stamp of the head, a position near by.
 fn given(tree: &Tree, random: &mut Random) -> Given {
     let mut small = |end: u32| random.below(end.clamp(1, 1 << 20) as u64 + 1) as u32;
-    let mut at =
-        || Cursor { leaf: small(tree.word(LEAVES)), slot: small(tree.word(FAN) / 2), stamp: tree.word(ENTRIES) };
+    let mut at = || Cursor {
+        leaf: small(tree.word(LEAVES)),
+        slot: small(tree.word(FAN) / 2),
+        stamp: tree.word(ENTRIES) ^ (small(15) == 0) as u32,
+    };
     let [at, other] = [at(), at()];
     Given {
         at,
@@ -151,7 +154,7 @@ fn every_single_flipped_word() {
         flip_every_word(sound::<32>(40), &mut met);
     }
     println!("{met:?}");
-    assert!(met.unsound > 1_000 && [0, 1, 2, 3, 9, 10, 12].iter().all(|&number| met.numbers[number] > 0));
+    assert!(met.unsound > 1_000 && [0, 1, 2, 3, 9, 10, 12, 13, 14].iter().all(|&number| met.numbers[number] > 0));
 }
 
 /// Several words at once; then a chain of calls, each on what the one before left.

@@ -1,5 +1,5 @@
 //! Each cause of a refusal on the exports themselves: its number, zeros for values, head, areas and buffer as they were. The numbers
-//! wanted are document 01's ("When a call cannot be done") and document 02's 12, written down here.
+//! wanted are document 01's ("When a call cannot be done") and document 02's 12 to 14, written down here.
 
 use beside::exports::{unprinted, Area, Export, Given, Tree, EXPORTS};
 use beside::port::pair;
@@ -112,19 +112,29 @@ fn an_area_too_short_is_2() {
     });
 }
 
-/// Stale by stamp, a leaf that isn't in use, a slot past the leaf's len; in either cursor of a comparison.
+/// A wrong stamp, a leaf that isn't in use, a slot at or past the leaf's len, tested in this order; in either cursor of a
+/// comparison, of which the first decides.
 #[test]
-fn a_cursor_that_is_not_current_is_3() {
+fn a_cursor_that_is_not_current_is_3_13_or_14() {
     at_each_fan(|tree, given| {
         let good = given.at;
         let len = tree.leaves.words()[good.leaf as usize * (3 + 3 * tree.word(FAN) as usize)];
+        let leaves = [tree.word(LEAVES), tree.word(LEAVES) + 1, u32::MAX];
+        let slots = [len, len + 1, tree.word(FAN), u32::MAX];
         let mut bad = Vec::new();
-        bad.extend([0, 1, 29, 31, u32::MAX].map(|stamp| Cursor { stamp, ..good }));
-        bad.extend([tree.word(LEAVES), tree.word(LEAVES) + 1, u32::MAX].map(|leaf| Cursor { leaf, ..good }));
-        bad.extend([len, len + 1, tree.word(FAN), u32::MAX].map(|slot| Cursor { slot, ..good }));
-        for at in bad {
-            AT.iter().chain(&ADDING).for_each(|&export| refused(3, export, &tree, &Given { at, ..given }));
-            refused(3, Cmp, &tree, &Given { other: at, ..given });
+        for stamp in [0, 1, 29, 31, u32::MAX] {
+            bad.push((3, Cursor { stamp, ..good }));
+            bad.push((3, Cursor { stamp, leaf: leaves[0], slot: slots[0] }));
+        }
+        for leaf in leaves {
+            bad.push((13, Cursor { leaf, ..good }));
+            bad.push((13, Cursor { leaf, slot: slots[0], ..good }));
+        }
+        bad.extend(slots.map(|slot| (14, Cursor { slot, ..good })));
+        for &(number, at) in &bad {
+            AT.iter().chain(&ADDING).for_each(|&export| refused(number, export, &tree, &Given { at, ..given }));
+            refused(number, Cmp, &tree, &Given { other: at, ..given });
+            bad.iter().for_each(|&(_, other)| refused(number, Cmp, &tree, &Given { at, other, ..given }));
         }
     });
 }
@@ -280,7 +290,7 @@ fn the_order_of_the_refusals_of_print() {
     });
 }
 
-/// Several causes at once: 10 comes first, then 1 to 8 in rising order.
+/// Several causes at once: 10 comes first, then 1 to 8 in rising order, 13 and 14 directly behind 3.
 #[test]
 fn the_order_of_the_refusals() {
     at_each_fan(|mut tree, given| {
@@ -297,7 +307,15 @@ fn the_order_of_the_refusals() {
             refused(2, export, &short, &good);
         }
         let good = Given { view: 0, end: 0, before: 0, ..all };
-        [Insert, Add, SplitEntry, SetLengths, Update].iter().for_each(|&export| refused(3, export, &tree, &good));
+        let [leaf, slot] = [u32::MAX; 2];
+        let astray = Cursor { leaf, slot, ..current };
+        let past = Cursor { slot, ..current };
+        for (number, at) in [(3, Cursor { leaf, slot, ..given.at }), (3, given.at), (13, astray), (14, past)] {
+            let bad = Given { at, ..good };
+            [Insert, Add, SplitEntry, SetLengths, Update]
+                .iter()
+                .for_each(|&export| refused(number, export, &tree, &bad));
+        }
         let good = Given { at: current, ..good };
         refused(6, SplitEntry, &tree, &good);
         [Insert, Add, SetLengths, Update].iter().for_each(|&export| refused(7, export, &tree, &good));

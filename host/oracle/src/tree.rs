@@ -114,6 +114,11 @@ impl<const N: usize> PrepareEffectTree<N> {
 }
 
 impl Cursor {
+    /// A cursor of any leaf and slot, whoever issued it.
+    pub fn standing(leaf: u32, slot: u32) -> Cursor {
+        Cursor { leaf, slot }
+    }
+
     /// Leaf and slot as they are stored.
     pub fn fields(self) -> [u32; 2] {
         [self.leaf, self.slot]

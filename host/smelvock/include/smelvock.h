@@ -6,12 +6,14 @@
  * tree's head is made by smelvock_new or smelvock_reset and written by the calls.
  *
  * Every call ends, writes only in head, areas and buffer, and answers a number: 0, or that of its refusal.
- *    1  fan or limit outside its values       6  a split moves more than the entry has
- *    2  an area is too short                  7  a view's total would pass 4,294,967,295
- *    3  the cursor is not current             8  the tree holds its limit
- *    4  no such entry                         9  a link of an unsound tree leads outside
- *    5  position at or past the total        10  a view or flag is neither 0 nor 1, or the head not seventeen words
- *                                            12  the buffer is below 2,750 bytes a page
+ *    1  fan or limit outside its values       7  a view's total would pass 4,294,967,295
+ *    2  an area is too short                  8  the tree holds its limit
+ *    3  the cursor's stamp is wrong           9  a link of an unsound tree leads outside
+ *    4  no such entry                        10  a view or flag is neither 0 nor 1, or the head not seventeen words
+ *    5  position at or past the total        12  the buffer is below 2,750 bytes a page
+ *    6  a split moves more than the entry    13  the cursor's leaf is not in use
+ *       has                                  14  the cursor's slot is at or past its leaf's len
+ * A cursor is tested for 3, 13 and 14 in this order, before 4 to 8; smelvock_cmp tests the first cursor whole, then the second.
  * Refused: the other values are 0 and, but for 9, head, areas and buffer are as they were. */
 #ifndef SMELVOCK_H
 #define SMELVOCK_H
@@ -38,7 +40,7 @@ enum {
     SMELVOCK_PRESENT, SMELVOCK_FINGER, SMELVOCK_HEAD_WORDS = 17
 };
 
-/* An entry's place, current until the next insertion or split. */
+/* An entry's place, current until the next insertion or split; the stamp is the number of entries at issue. */
 typedef struct {
     uint32_t leaf, slot, stamp;
 } smelvock_cursor_at;

@@ -259,7 +259,7 @@ impl From<Cursor> for raw::Cursor {
     }
 }
 
-/// Any cursor may be made; one that isn't current is refused by 3.
+/// Any cursor may be made; one that isn't current is refused by 3, 13 or 14.
 impl From<raw::Cursor> for Cursor {
     #[inline]
     fn from(raw::Cursor { leaf, slot, stamp }: raw::Cursor) -> Self {

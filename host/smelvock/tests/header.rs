@@ -36,6 +36,8 @@ cmp 0 2
 len 0 5
 is_empty 0 0
 audit 0 1
+stamp, leaf, slot: 3 13 14
+cmp of bad cursors: 14 3 13
 view 2: 10
 16 words: 10
 short: 2

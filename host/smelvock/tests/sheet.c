@@ -82,6 +82,12 @@ int main(void) {
     printf("len %u %u\n", smelvock_len(HEAD).number, smelvock_len(HEAD).value);
     printf("is_empty %u %u\n", smelvock_is_empty(HEAD).number, smelvock_is_empty(HEAD).value);
     printf("audit %u %u\n", smelvock_audit(HEAD, AREAS).number, smelvock_audit(HEAD, AREAS).value);
+    smelvock_cursor_at good = at(4), old = good, astray = good, past = good;
+    old.stamp -= 1, astray.leaf = head[SMELVOCK_LEAVES], past.slot = FAN;
+    printf("stamp, leaf, slot: %u %u %u\n", smelvock_id(HEAD, AREAS, old).number, smelvock_id(HEAD, AREAS, astray).number,
+           smelvock_id(HEAD, AREAS, past).number);
+    printf("cmp of bad cursors: %u %u %u\n", smelvock_cmp(HEAD, AREAS, past, old).number,
+           smelvock_cmp(HEAD, AREAS, old, past).number, smelvock_cmp(HEAD, AREAS, good, astray).number);
     printf("view 2: %u\n", smelvock_locate(HEAD, AREAS, 2, 0).number);
     printf("16 words: %u\n", smelvock_len(head, SMELVOCK_HEAD_WORDS - 1).number);
     printf("short: %u\n", smelvock_first(HEAD, leaves, WORDS - 1, inners, WORDS, homes, LIMIT).number);

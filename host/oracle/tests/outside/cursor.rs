@@ -1,11 +1,12 @@
-//! Cursors that are not current, in each call that takes one.
+//! Cursors that are not current, in each call that takes one. The port refuses all of them by 3, for the entry count has changed and
+//! the stamp is tested first; 13 and 14 take a right stamp (host/beside/tests/cursors.rs, `the_cases_of_differences`).
 
 use super::*;
 use oracle::state::NONE;
 use std::cmp::Ordering;
 
 /// Id 0 (3, 3), id 1 (2, 0); a cursor at id 1; then (0, 5) is inserted before id 0. The order is 2, 0, 1
-/// and the cursor's slot holds id 0.
+/// and the cursor's slot holds id 0. The port: 3; with the present stamp it would stand for id 0.
 fn after_an_insert() -> (Tree, Cursor) {
     let mut tree = Tree::new(pair([3, 3]));
     tree.add(None, pair([2, 0]));
@@ -15,7 +16,7 @@ fn after_an_insert() -> (Tree, Cursor) {
 }
 
 /// Ids 0 to 3 fill leaf 0; a cursor at id 3; then id 4 is added at the end, which moves ids 2 and 3 into
-/// leaf 1. The cursor's slot, 3 of leaf 0, is empty and past that leaf's len.
+/// leaf 1. The cursor's slot, 3 of leaf 0, is empty and past that leaf's len. The port: 3; with the present stamp 14.
 fn after_a_leaf_split() -> (Tree, Cursor) {
     let mut tree = Tree::new(pair([1, 1]));
     for length in 2..=4 {
@@ -26,7 +27,7 @@ fn after_a_leaf_split() -> (Tree, Cursor) {
     (tree, stale)
 }
 
-/// A cursor into leaf 1, and then a reset to one entry: there is no leaf 1.
+/// A cursor into leaf 1, and then a reset to one entry: there is no leaf 1. The port: 3; with the present stamp 13.
 fn after_a_reset() -> (Tree, Cursor) {
     let mut tree = five();
     let stale = tree.cursor(4);
@@ -164,7 +165,7 @@ fn a_leaf_that_is_gone_panics() {
     assert_eq!(tree.cmp(stale, stale), Ordering::Equal);
 }
 
-/// An insert in another leaf leaves the cursor's slot alone: lib.rs answers rightly, document 01 refuses.
+/// An insert in another leaf leaves the cursor's slot alone: lib.rs answers rightly, document 01 refuses, by 3.
 #[test]
 fn a_stale_cursor_in_another_leaf_still_serves() {
     let mut tree = five();

@@ -1,0 +1,161 @@
+//! A call on cursors that may be any, by lib.rs: the number by which lib.rs's own state wants it refused, and lib.rs's answer where
+//! that is 0.
+
+use crate::exports::{Export, Given};
+use oracle::rust::{pair, side, Place};
+use oracle::state::{State, NONE, PREPARE};
+use oracle::tree::{self, PrepareEffectTree};
+use smelvock::raw::{Cursor, Lengths};
+
+/// The calls that take cursors.
+pub const TAKING: [Export; 10] = [
+    Export::Insert,
+    Export::Add,
+    Export::SplitEntry,
+    Export::SetLengths,
+    Export::Update,
+    Export::EntryToCharIndex,
+    Export::Next,
+    Export::Cmp,
+    Export::Lengths,
+    Export::Id,
+];
+
+/// The other public calls of lib.rs, but for make.
+pub const OTHERS: [Export; 7] = [
+    Export::Locate,
+    Export::CharIndexToEntry,
+    Export::Cursor,
+    Export::First,
+    Export::Len,
+    Export::IsEmpty,
+    Export::Reset,
+];
+
+/// The cursors that a call tests, in order; at the end there is none.
+pub fn tested(export: Export, given: &Given) -> Vec<Cursor> {
+    match export {
+        Export::Insert | Export::Add if given.end == 1 => vec![],
+        Export::Cmp => vec![given.at, given.other],
+        _ if TAKING.contains(&export) => vec![given.at],
+        _ => vec![],
+    }
+}
+
+/// The number by which a cursor fails: 3, its stamp is not the entry count; 13, its leaf is not in use; 14, its slot is at or past
+/// the leaf's len. The first that holds, or 0.
+pub fn fault(state: &State, at: Cursor) -> u32 {
+    if at.stamp != state.head.entry_count {
+        3
+    } else if at.leaf >= state.head.leaf_count {
+        13
+    } else if at.slot >= state.leaf(at.leaf).len() {
+        14
+    } else {
+        0
+    }
+}
+
+/// The entry at a leaf and a slot of it that is in use.
+pub fn entry_at(state: &State, at: Cursor) -> Option<u32> {
+    let leaf = (at.leaf < state.head.leaf_count).then(|| state.leaf(at.leaf))?;
+    let slot = leaf.used().nth(at.slot as usize)?;
+    Some(slot[0])
+}
+
+/// The number of a call on lib.rs's state; 0 where lib.rs may be called.
+pub fn wanted(state: &State, export: Export, given: &Given) -> u32 {
+    let failed = tested(export, given).into_iter().map(|at| fault(state, at)).find(|&number| number != 0);
+    failed.unwrap_or_else(|| behind_cursors(state, export, given))
+}
+
+/// The causes behind the cursors, 4 to 8, of a call whose cursors are current.
+fn behind_cursors(state: &State, export: Export, given: &Given) -> u32 {
+    let head = &state.head;
+    let totals = state.inner(head.root).total();
+    let own = || {
+        let [_, prepare, effect] = state.leaf(given.at.leaf).used().nth(given.at.slot as usize).expect("it is current");
+        [prepare, effect].map(u64::from)
+    };
+    let Lengths { prepare, effect } = given.lengths;
+    let new = [prepare, effect].map(u64::from);
+    let past = |old: [u64; 2]| (0..2).any(|view| totals[view] - old[view] + new[view] > u32::MAX as u64);
+    match export {
+        Export::Cursor if given.id >= head.entry_count => 4,
+        Export::Locate | Export::CharIndexToEntry if given.index as u64 >= totals[given.view as usize] => 5,
+        Export::SplitEntry if (0..2).any(|view| new[view] > own()[view]) => 6,
+        Export::Insert | Export::Add if past([0, 0]) => 7,
+        Export::SetLengths | Export::Update if past(own()) => 7,
+        Export::Insert | Export::Add | Export::SplitEntry if head.entry_count >= head.limit => 8,
+        _ => 0,
+    }
+}
+
+/// Leaf and slot as lib.rs prints them, and the stamp: the entry count at issue.
+fn standing<const N: usize>(tree: &PrepareEffectTree<N>, at: tree::Cursor) -> Vec<u32> {
+    let Place { leaf, slot } = Place::of(at);
+    vec![leaf, slot, tree.len() as u32]
+}
+
+/// What lib.rs answers, in the order of the export's values.
+pub fn answer<const N: usize>(tree: &mut PrepareEffectTree<N>, export: Export, given: &Given) -> Vec<u32> {
+    let at = tree::Cursor::standing(given.at.leaf, given.at.slot);
+    let before = (given.end == 0).then_some(at);
+    let lengths = pair([given.lengths.prepare, given.lengths.effect]);
+    match export {
+        Export::Reset => tree.reset(lengths),
+        Export::SetLengths => tree.set_lengths(at, lengths),
+        Export::Update => return vec![tree.update(at, lengths)],
+        Export::Insert => {
+            let (id, position) = tree.insert(before, lengths);
+            return vec![id, position];
+        }
+        Export::Add => return vec![tree.add(before, lengths)],
+        Export::SplitEntry => {
+            let (id, parts) = tree.split_entry(at, lengths, given.before == 1);
+            return [vec![id], parts.map(|part| standing(tree, part)).concat()].concat();
+        }
+        _ => return question(tree, export, given),
+    }
+    vec![]
+}
+
+fn question<const N: usize>(tree: &mut PrepareEffectTree<N>, export: Export, given: &Given) -> Vec<u32> {
+    let [at, other] = [given.at, given.other].map(|at| tree::Cursor::standing(at.leaf, at.slot));
+    let view = side(given.view as usize);
+    match export {
+        Export::Len => vec![tree.len() as u32],
+        Export::IsEmpty => vec![tree.is_empty() as u32],
+        Export::First => standing(tree, tree.first()),
+        Export::Next => tree.next(at).map_or(vec![NONE, 0, 0], |next| standing(tree, next)),
+        Export::Id => vec![tree.id(at)],
+        Export::Lengths => {
+            let lengths = tree.lengths(at);
+            vec![lengths.prepare, lengths.effect]
+        }
+        Export::Cursor => standing(tree, tree.cursor(given.id)),
+        Export::Cmp => vec![(tree.cmp(at, other) as i32 + 1) as u32],
+        Export::CharIndexToEntry => {
+            let (at, offset) = tree.char_index_to_entry(view, given.index);
+            [standing(tree, at), vec![offset]].concat()
+        }
+        Export::Locate => {
+            let (at, offset, position) = tree.locate(view, given.index);
+            let prepare = tree.entry_to_char_index(side(PREPARE), at);
+            [standing(tree, at), vec![offset, position, prepare]].concat()
+        }
+        Export::EntryToCharIndex => vec![tree.entry_to_char_index(view, at)],
+        _ => panic!("{export:?} is no call of a list"),
+    }
+}
+
+/// The cursors among an answer's values.
+pub fn issued(export: Export, values: &[u32]) -> Vec<Cursor> {
+    let cursors = match export {
+        Export::First | Export::Next | Export::Cursor | Export::Locate | Export::CharIndexToEntry => &values[..3],
+        Export::SplitEntry => &values[1..],
+        _ => &[],
+    };
+    let at = |at: &[u32]| Cursor { leaf: at[0], slot: at[1], stamp: at[2] };
+    cursors.chunks_exact(3).map(at).filter(|at| at.leaf != NONE).collect()
+}

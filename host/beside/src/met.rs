@@ -1,0 +1,142 @@
+//! What lists on any cursors have met, counted, so that a test can assert that they met what it claims.
+
+use crate::any_cursor::Drawn;
+use crate::cursors::{entry_at, fault, tested, OTHERS, TAKING};
+use crate::exports::{Export, Given};
+use oracle::state::State;
+use std::collections::BTreeMap;
+use std::fmt;
+
+/// The numbers of a cursor: 0 where it is current.
+pub const FAULTS: [u32; 4] = [0, 3, 13, 14];
+
+/// Cursors whose number might be taken for another.
+#[derive(Clone, Copy, PartialEq, Eq, PartialOrd, Ord, Debug)]
+pub enum Odd {
+    /// Refused by 3, unchanged, and its slot still holds the entry for which it was issued.
+    OldButRight,
+    /// Refused by 3, and its leaf or slot is bad as well.
+    StampFirst,
+    /// Changed since it was issued, and yet current.
+    RightByChance,
+}
+
+const ODD: [Odd; 3] = [Odd::OldButRight, Odd::StampFirst, Odd::RightByChance];
+
+/// Something that a list can meet.
+#[derive(Clone, Copy, PartialEq, Eq, PartialOrd, Ord, Debug)]
+pub enum Thing {
+    /// A call that tests cursors, and its number.
+    Taking(Export, u32),
+    /// A call that tests none, insert and add at the end among them, and its number.
+    Other(Export, u32),
+    /// A comparison, by the numbers of its two cursors.
+    Pair(u32, u32),
+    /// A cursor of a call, the first or, 1, the second.
+    Odd(Export, usize, Odd),
+}
+
+#[derive(Clone, Default, PartialEq, Eq, Debug)]
+pub struct Met {
+    pub calls: u64,
+    pub most_levels: u32,
+    pub things: BTreeMap<Thing, u64>,
+}
+
+impl Met {
+    /// Notes a call with lib.rs's state before it.
+    pub fn note(&mut self, state: &State, export: Export, given: &Given, drawn: [Drawn; 2], number: u32) {
+        self.calls += 1;
+        self.most_levels = self.most_levels.max(state.head.levels);
+        let cursors = tested(export, given);
+        self.count(if cursors.is_empty() { Thing::Other(export, number) } else { Thing::Taking(export, number) });
+        if let [first, second] = cursors[..] {
+            self.count(Thing::Pair(fault(state, first), fault(state, second)));
+        }
+        for (place, drawn) in drawn.into_iter().enumerate().take(cursors.len()) {
+            if let Some(odd) = odd(state, drawn) {
+                self.count(Thing::Odd(export, place, odd));
+            }
+        }
+    }
+
+    fn count(&mut self, thing: Thing) {
+        *self.things.entry(thing).or_default() += 1;
+    }
+
+    /// How often a thing was met.
+    pub fn of(&self, thing: Thing) -> u64 {
+        self.things.get(&thing).copied().unwrap_or(0)
+    }
+
+    /// Whether everything needed was met.
+    pub fn whole(&self) -> bool {
+        needed().into_iter().all(|thing| self.of(thing) > 0)
+    }
+}
+
+fn odd(state: &State, Drawn { at, entry }: Drawn) -> Option<Odd> {
+    let there = entry_at(state, at);
+    match fault(state, at) {
+        3 if there.is_none() => Some(Odd::StampFirst),
+        3 if there == entry => Some(Odd::OldButRight),
+        0 if entry.is_none() => Some(Odd::RightByChance),
+        _ => None,
+    }
+}
+
+/// Every call that takes cursors with every number of a cursor and with every odd cursor in every place; comparisons of every two
+/// numbers; the other calls, answered.
+pub fn needed() -> Vec<Thing> {
+    let mut needed = Vec::new();
+    for export in TAKING {
+        needed.extend(FAULTS.map(|number| Thing::Taking(export, number)));
+        let places = if export == Export::Cmp { 2 } else { 1 };
+        needed.extend((0..places).flat_map(|place| ODD.map(|odd| Thing::Odd(export, place, odd))));
+    }
+    needed.extend(FAULTS.into_iter().flat_map(|first| FAULTS.map(|second| Thing::Pair(first, second))));
+    needed.extend(OTHERS.into_iter().chain([Export::Insert, Export::Add]).map(|export| Thing::Other(export, 0)));
+    needed
+}
+
+impl std::ops::AddAssign<&Met> for Met {
+    fn add_assign(&mut self, other: &Met) {
+        self.calls += other.calls;
+        self.most_levels = self.most_levels.max(other.most_levels);
+        for (&thing, count) in &other.things {
+            *self.things.entry(thing).or_default() += count;
+        }
+    }
+}
+
+/// A line for each call that takes cursors: how often each number was answered, and each odd cursor met; one for the other calls, and
+/// one for the pairs of numbers that comparisons met.
+impl fmt::Display for Met {
+    fn fmt(&self, f: &mut fmt::Formatter<'_>) -> fmt::Result {
+        writeln!(f, "{} calls, up to {} levels", self.calls, self.most_levels)?;
+        for export in TAKING {
+            write!(f, "  {export:?}:")?;
+            for (thing, count) in &self.things {
+                match thing {
+                    Thing::Taking(of, number) if *of == export => write!(f, " {number}: {count},")?,
+                    Thing::Odd(of, place, odd) if *of == export => write!(f, " {odd:?} {place}: {count},")?,
+                    _ => {}
+                }
+            }
+            writeln!(f)?;
+        }
+        write!(f, "  without a cursor:")?;
+        for (thing, count) in &self.things {
+            if let Thing::Other(export, number) = thing {
+                write!(f, " {export:?} {number}: {count},")?;
+            }
+        }
+        write!(f, "\n  pairs:")?;
+        for (thing, count) in &self.things {
+            if let Thing::Pair(first, second) = thing {
+                write!(f, " {first} {second}: {count},")?;
+            }
+        }
+        writeln!(f)
+    }
+}

@@ -1,0 +1,227 @@
+//! The runs on any cursors find out a port that answers another number than lib.rs's state wants, in each call by itself, and a list
+//! that has not met everything.
+
+use beside::any_cursor::{Beside, List, Style};
+use beside::cursors::TAKING;
+use beside::exports::{Answer, Export, Given, Tree};
+use beside::met::{needed, Met};
+use beside::plays::Plays;
+use beside::port::pair;
+use oracle::driver::Parted;
+use smelvock::raw::word::{ENTRIES, FAN, LEAVES};
+use smelvock::raw::Cursor;
+use smelvock::PrepareEffectTree;
+
+type Wrong = fn(&mut Tree, Export, &Given) -> Answer;
+
+/// The exports with one of them gone wrong.
+struct StandIn {
+    tree: Tree,
+    wrong: Wrong,
+    only: Export,
+}
+
+impl Plays for StandIn {
+    fn play(&mut self, export: Export, given: &Given) -> Answer {
+        let at_end = matches!(export, Export::Insert | Export::Add) && given.end == 1;
+        if export == self.only && !at_end {
+            (self.wrong)(&mut self.tree, export, given)
+        } else {
+            export.play(&mut self.tree, given)
+        }
+    }
+
+    fn words(&self) -> [Vec<u32>; 4] {
+        self.tree.words()
+    }
+}
+
+fn right(tree: &mut Tree, export: Export, given: &Given) -> Answer {
+    export.play(tree, given)
+}
+
+fn renumbered(answer: Answer, old: u32, new: u32) -> Answer {
+    Answer { number: if answer.number == old { new } else { answer.number }, ..answer }
+}
+
+fn three_for_thirteen(tree: &mut Tree, export: Export, given: &Given) -> Answer {
+    renumbered(right(tree, export, given), 13, 3)
+}
+
+fn three_for_fourteen(tree: &mut Tree, export: Export, given: &Given) -> Answer {
+    renumbered(right(tree, export, given), 14, 3)
+}
+
+fn fourteen_for_thirteen(tree: &mut Tree, export: Export, given: &Given) -> Answer {
+    renumbered(right(tree, export, given), 13, 14)
+}
+
+fn thirteen_for_fourteen(tree: &mut Tree, export: Export, given: &Given) -> Answer {
+    renumbered(right(tree, export, given), 14, 13)
+}
+
+/// The len of a leaf in use.
+fn len(tree: &Tree, at: Cursor) -> Option<u32> {
+    let words = 3 + 3 * tree.word(FAN) as usize;
+    (at.leaf < tree.word(LEAVES)).then(|| tree.leaves.words()[at.leaf as usize * words])
+}
+
+fn leaf_before_stamp(tree: &mut Tree, export: Export, given: &Given) -> Answer {
+    let number = if len(tree, given.at).is_none() { 13 } else { 3 };
+    renumbered(right(tree, export, given), 3, number)
+}
+
+fn slot_before_stamp(tree: &mut Tree, export: Export, given: &Given) -> Answer {
+    let number = if len(tree, given.at).is_some_and(|len| given.at.slot >= len) { 14 } else { 3 };
+    renumbered(right(tree, export, given), 3, number)
+}
+
+fn stamped(tree: &Tree, at: Cursor) -> Cursor {
+    Cursor { stamp: tree.word(ENTRIES), ..at }
+}
+
+fn stamp_not_tested(tree: &mut Tree, export: Export, given: &Given) -> Answer {
+    let at = stamped(tree, given.at);
+    right(tree, export, &Given { at, ..*given })
+}
+
+/// A wrong stamp is let pass where a leaf in use has such a slot.
+fn old_cursor_taken_where_its_slot_is_in_use(tree: &mut Tree, export: Export, given: &Given) -> Answer {
+    let in_use = len(tree, given.at).is_some_and(|len| given.at.slot < len);
+    let answered: Wrong = if in_use { stamp_not_tested } else { right };
+    answered(tree, export, given)
+}
+
+fn slot_at_len_taken(tree: &mut Tree, export: Export, given: &Given) -> Answer {
+    let number = if len(tree, given.at) == Some(given.at.slot) { 0 } else { 14 };
+    renumbered(right(tree, export, given), 14, number)
+}
+
+fn last_slot_refused(tree: &mut Tree, export: Export, given: &Given) -> Answer {
+    let last = len(tree, given.at) == Some(given.at.slot.wrapping_add(1));
+    if last && given.at == stamped(tree, given.at) {
+        return Answer { number: 14, values: vec![] };
+    }
+    right(tree, export, given)
+}
+
+fn refused_for_its_cursor(answer: &Answer) -> bool {
+    [3, 13, 14].contains(&answer.number)
+}
+
+fn value_beside_the_number(tree: &mut Tree, export: Export, given: &Given) -> Answer {
+    let mut answer = right(tree, export, given);
+    if refused_for_its_cursor(&answer) {
+        answer.values = vec![0, given.at.slot];
+    }
+    answer
+}
+
+fn word_written(tree: &mut Tree, export: Export, given: &Given) -> Answer {
+    let answer = right(tree, export, given);
+    if answer.number == 14 {
+        *tree.homes.words_mut().last_mut().expect("a limit is never 0") ^= 1;
+    }
+    answer
+}
+
+/// What stands in for each call that takes cursors.
+const WRONG: [(&str, Wrong); 12] = [
+    ("3 for 13", three_for_thirteen),
+    ("3 for 14", three_for_fourteen),
+    ("14 for 13", fourteen_for_thirteen),
+    ("13 for 14", thirteen_for_fourteen),
+    ("the leaf before the stamp", leaf_before_stamp),
+    ("the slot before the stamp", slot_before_stamp),
+    ("the stamp not tested", stamp_not_tested),
+    ("an old cursor taken where its slot is in use", old_cursor_taken_where_its_slot_is_in_use),
+    ("a slot at the len taken", slot_at_len_taken),
+    ("the last slot refused", last_slot_refused),
+    ("a value beside the number", value_beside_the_number),
+    ("a word written although refused", word_written),
+];
+
+/// The numbers of a comparison's two cursors.
+fn numbers(tree: &Tree, given: &Given) -> [u32; 2] {
+    [given.at, given.other].map(|at| Export::Id.play(&mut tree.clone(), &Given { at, ..*given }).number)
+}
+
+fn second_first(tree: &mut Tree, export: Export, given: &Given) -> Answer {
+    match numbers(tree, given) {
+        [_, 0] => right(tree, export, given),
+        [_, number] => Answer { number, values: vec![0] },
+    }
+}
+
+/// Both stamps, then both leaves, then both slots.
+fn part_by_part(tree: &mut Tree, export: Export, given: &Given) -> Answer {
+    match numbers(tree, given) {
+        [first, second] if first != 0 && second != 0 => Answer { number: first.min(second), values: vec![0] },
+        _ => right(tree, export, given),
+    }
+}
+
+fn second_not_tested(tree: &mut Tree, export: Export, given: &Given) -> Answer {
+    match numbers(tree, given) {
+        [0, number] if number != 0 => Answer { number: 0, values: vec![0] },
+        _ => right(tree, export, given),
+    }
+}
+
+fn second_by_three(tree: &mut Tree, export: Export, given: &Given) -> Answer {
+    match numbers(tree, given) {
+        [0, number] if number != 0 => Answer { number: 3, values: vec![0] },
+        _ => right(tree, export, given),
+    }
+}
+
+/// A split's second cursor bears the count from before.
+fn split_stamped_late(tree: &mut Tree, export: Export, given: &Given) -> Answer {
+    let mut answer = right(tree, export, given);
+    if answer.number == 0 {
+        answer.values[6] -= 1;
+    }
+    answer
+}
+
+/// What stands in for one call alone.
+const WRONG_IN: [(Export, &str, Wrong); 5] = [
+    (Export::Cmp, "the second cursor first", second_first),
+    (Export::Cmp, "both stamps, both leaves, both slots", part_by_part),
+    (Export::Cmp, "the second cursor not tested", second_not_tested),
+    (Export::Cmp, "the second cursor by 3 whatever it lacks", second_by_three),
+    (Export::SplitEntry, "an old stamp in the second cursor", split_stamped_late),
+];
+
+const STYLE: Style = Style { name: "can fail", limit: 120, reset_every: 1_000 };
+
+/// Plays a list of 6,000 calls at fan 4.
+fn play(wrong: Wrong, only: Export) -> Result<Met, Parted> {
+    let tree = Tree::of(&PrepareEffectTree::<4>::with_limit(STYLE.limit, pair([2, 1])).unwrap());
+    let beside = Beside::<4, _>::new(StandIn { tree, wrong, only }, STYLE.limit, [2, 1]);
+    let mut list = List::new(beside, STYLE, 5);
+    list.play(6_000).map(|()| list.met)
+}
+
+#[test]
+fn every_stand_in_is_found_out() {
+    let of_each = TAKING.into_iter().flat_map(|export| WRONG.map(|(name, wrong)| (export, name, wrong)));
+    for (export, name, wrong) in of_each.chain(WRONG_IN) {
+        let parted = play(wrong, export).expect_err(name);
+        assert!(parted.contains(&format!("{export:?} Given")), "{name}: {parted}");
+        println!("{export:?}, {name}: {parted}");
+    }
+    assert!(play(right, Export::Cmp).unwrap().whole(), "what is not wrong passes");
+}
+
+/// A run is not whole if one thing is never met.
+#[test]
+fn what_is_never_met_is_noticed() {
+    let whole = play(right, Export::Cmp).unwrap();
+    for thing in needed() {
+        let mut met = whole.clone();
+        met.things.remove(&thing);
+        assert!(whole.whole() && !met.whole(), "{thing:?}");
+    }
+    println!("{} things are needed", needed().len());
+}
