@@ -23,7 +23,7 @@ fn wide(b: u8) -> u32
 }
 
 // The little-endian u32 at a byte.
-fn word_at(bytes: &[u8], at: usize) -> u32
+pub fn word_at(bytes: &[u8], at: usize) -> u32
     requires { ⌜ at + 4 ≤ length (now bytes) ⌝ }
     ensures { λ r. ⌜ r ≡ wordAt at (now (bytes .entry)) ⌝ }
 {

@@ -15,6 +15,7 @@ use Rattle.smelvock.specs.Reads as reads
 use Rattle.smelvock.specs.Reads.{Given}
 use Rattle.smelvock.specs.Changes.{left, leftBy}
 use Rattle.smelvock.specs.Prints.{printedBy}
+use Rattle.smelvock.specs.Edits.{listedBy}
 
 pub ap₃ : {A : Type 0} {B : Type 0} {C : Type 0} {D : Type 0} (f : A → B → C → D) {a a′ : A} {b b′ : B} {c c′ : C} → a ≡ a′ → b ≡ b′ → c ≡ c′ → f a b c ≡ f a′ b′ c′
 ap₃ {B = B} {C = C} f {a′ = a′} {b = b} {c = c} p q r = ap (λ x. f x b c) p ∙ ap₂ (f a′) q r
@@ -54,3 +55,8 @@ module _ (bad : Bool) (f : FlatNumber) (page : List ℕ) (r : Number × List ℕ
   pub print-good : (a : Number) (new : List ℕ) → bad ≡ false → f ≡ numberOf (numberAnswer a) → (a, new) ≡ r → (f, new) ≡ printedBy bad page r
   unfolding printedBy
   print-good a new b e d = ap (λ (q : FlatNumber). (q, new)) e ∙ ap (printedBy false page) d ∙ ap (λ (t : Bool). printedBy t page r) (sym b)
+
+-- what a difference leaves of the lent area
+pub difference-listed : (f : FlatNumber) (a : Number) (new : List ℕ) (r : Number × List ℕ) → f ≡ numberOf (numberAnswer a) → (a, new) ≡ r → (f, new) ≡ listedBy r
+unfolding listedBy
+difference-listed f a new r e d = ap (λ (q : FlatNumber). (q, new)) e ∙ ap listedBy d

@@ -1,4 +1,5 @@
 pub mod Changes
+pub mod Edits
 pub mod Heads
 pub mod Prints
 pub mod Reads

@@ -2,6 +2,7 @@
 // host lends. Stands on model, the conversions (marshal) and the crates of the calls.
 pub mod change;
 pub mod check;
+pub mod edits;
 pub mod look;
 pub mod make;
 pub mod order;
