@@ -9,7 +9,7 @@ ghost use Rattle.model.specs.Numeral.{decimal};
 ghost use Rattle.text.specs.Text.{line, put};
 
 // The digits of n and the byte behind them.
-fn field(out: &mut [u8], at: usize, n: u32, behind: u8) -> usize
+pub fn field(out: &mut [u8], at: usize, n: u32, behind: u8) -> usize
     requires { ⌜ at + 11 ≤ length (now out) ⌝ }
     ensures { λ r. ⌜ (r, now (out .exit)) ≡ put (now (out .entry)) at (decimal n ++ (behind ∷ [])) ⌝ }
 {
