@@ -3,6 +3,7 @@
 //! the least.
 
 mod changes;
+mod edits;
 mod paper;
 mod reads;
 mod timing;
@@ -21,6 +22,7 @@ fn main() {
         run::<8>(entries, rounds);
         run::<32>(entries, rounds);
     }
+    edits::run(rounds);
 }
 
 fn run<const N: usize>(entries: u32, rounds: usize) {

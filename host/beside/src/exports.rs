@@ -36,7 +36,7 @@ impl<T: Lent> Area<T> {
         &mut self.0[GUARDS..end]
     }
 
-    fn guarded(&self) -> bool {
+    pub fn guarded(&self) -> bool {
         let [front, back] = [&self.0[..GUARDS], &self.0[self.0.len() - GUARDS..]];
         front.iter().chain(back).all(|&word| word == T::GUARD)
     }

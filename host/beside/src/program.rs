@@ -20,9 +20,14 @@ pub fn program(name: &str) -> Command {
 /// How it ends on an input of which each read gets one piece: a datagram, and an empty one as the end. What a read has no room
 /// for is lost.
 pub fn cut(name: &str, input: &[u8], size: usize) -> Output {
+    cut_for(program(name), input, size)
+}
+
+/// The same of a program with arguments.
+pub fn cut_for(mut program: Command, input: &[u8], size: usize) -> Output {
     assert!(size + 15 <= BLOCK);
     let (ours, theirs) = UnixDatagram::pair().expect("two sockets");
-    let child = program(name).stdin(OwnedFd::from(theirs)).spawn().expect("it starts");
+    let child = program.stdin(OwnedFd::from(theirs)).spawn().expect("it starts");
     let ended = std::thread::spawn(|| child.wait_with_output().expect("it ends"));
     for piece in input.chunks(size).chain([&[][..]]) {
         ours.send(piece).expect("it reads on");

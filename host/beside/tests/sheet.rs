@@ -205,7 +205,10 @@ fn print_and_sheet_of_a_tree() {
 
     let short = tree.print(&mut page[..2 * PAGE_BYTES - 1]).unwrap_err();
     assert_eq!(short, Refusal::BUFFER);
-    assert_eq!(short.to_string(), "refused by 12: the buffer is below 2,750 bytes a page");
+    assert_eq!(
+        short.to_string(),
+        "refused by 12: the buffer is below 2,750 bytes a page, or the list area below 512 words"
+    );
     assert_eq!(tree.print(&mut []), Err(short));
 
     // what an unsound head counts isn't allocated

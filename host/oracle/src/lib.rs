@@ -8,6 +8,7 @@ pub mod calls;
 pub mod coverage;
 pub mod cursors;
 pub mod driver;
+pub mod edits;
 pub mod fans;
 pub mod lists;
 pub mod patterns;

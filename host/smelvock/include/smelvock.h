@@ -3,17 +3,20 @@
  * The caller lends a head of seventeen words and three areas of words, each as a pointer and its count. Fan 4 to 32, limit 1 to
  * 65,536. The leaf area and the inner area each need max(1, limit / (fan / 2)) nodes of 3 + 3 * fan words, homes needs limit
  * words. A buffer to print in needs 2,750 bytes a page, a page for every 50 entries. Head, areas and buffer may not overlap. A
- * tree's head is made by smelvock_new or smelvock_reset and written by the calls.
+ * tree's head is made by smelvock_new or smelvock_reset and written by the calls. The two calls on files of edits, at the end, take
+ * no tree.
  *
  * Every call ends, writes only in head, areas and buffer, and answers a number: 0, or that of its refusal.
  *    1  fan or limit outside its values       7  a view's total would pass 4,294,967,295
  *    2  an area is too short                  8  the tree holds its limit
  *    3  the cursor's stamp is wrong           9  a link of an unsound tree leads outside
- *    4  no such entry                        10  a view or flag is neither 0 nor 1, or the head not seventeen words
+ *    4  no such entry or edit                10  a view or flag is neither 0 nor 1, or the head not seventeen words
  *    5  position at or past the total        12  the buffer is below 2,750 bytes a page
  *    6  a split moves more than the entry    13  the cursor's leaf is not in use
  *       has                                  14  the cursor's slot is at or past its leaf's len
  * A cursor is tested for 3, 13 and 14 in this order, before 4 to 8; smelvock_cmp tests the first cursor whole, then the second.
+ * Of a file of edits: 10 its rest isn't zero, 11 its length isn't a multiple of 16, 12 the list area is below 512 words, 15 a parent
+ * isn't smaller than its edit, 16 more than 512 edits.
  * Refused: the other values are 0 and, but for 9, head, areas and buffer are as they were. */
 #ifndef SMELVOCK_H
 #define SMELVOCK_H
@@ -27,7 +30,7 @@ extern "C" {
 
 #define SMELVOCK_PREPARE 0u
 #define SMELVOCK_EFFECT 1u
-/* The leaf of the cursor after the last entry. */
+/* The leaf of the cursor after the last entry, and the parent of an edit that has none. */
 #define SMELVOCK_NONE 4294967295u
 /* The lines of a page of the sheet, an entry each, and its bytes. */
 #define SMELVOCK_PAGE_LINES 50u
@@ -136,6 +139,18 @@ smelvock_number smelvock_print(SMELVOCK_HEAD, SMELVOCK_AREAS, uint8_t *page, siz
 
 /* value: 1 if the tree is sound, else 0. */
 smelvock_number smelvock_audit(SMELVOCK_HEAD, SMELVOCK_AREAS);
+
+/* A file of edits has 16-byte records and no header; a record's place from 0 is the edit's number. The first two little-endian u32
+ * are its parents, SMELVOCK_NONE for none, and may be equal; the rest is zero. An edit rests on itself and on whatever a chain of
+ * parents leads to. The most edits of a file, and the words that a list area needs: */
+#define SMELVOCK_EDITS 512u
+
+/* 0 for an accepted file; else 11, 16, or the first bad record's 10 or 15. */
+uint32_t smelvock_edits_check(const uint8_t *file, size_t file_bytes);
+
+/* Lists the edits that the first rests on and the second doesn't, each once, in rising number, at the front of the area; value: their
+ * count. Words after them don't change. 11, 12, then what check answers, then 4; refused, the area is as it was. */
+smelvock_number smelvock_edits_difference(const uint8_t *file, size_t file_bytes, uint32_t *area, size_t area_words, uint32_t first, uint32_t second);
 
 #ifdef __cplusplus
 }

@@ -2,6 +2,7 @@
 //! [`Refusal`] where lib.rs panics, wraps or answers by chance.
 
 mod door;
+pub mod edits;
 pub mod raw;
 mod refusal;
 

@@ -228,3 +228,32 @@ pub fn print(head: &[u32], areas: Areas<'_>, page: &mut [u8]) -> Number {
         )
     }
 }
+
+mod editing {
+    use super::Number;
+    extern "C" {
+        pub fn smelvock_edits_check(file: *const u8, file_bytes: usize) -> u32;
+        pub fn smelvock_edits_difference(
+            file: *const u8,
+            file_bytes: usize,
+            area: *mut u32,
+            area_words: usize,
+            first: u32,
+            second: u32,
+        ) -> Number;
+    }
+}
+
+#[inline]
+pub fn edits_check(file: &[u8]) -> u32 {
+    // SAFETY: the export is proved to read these bytes and nothing else, whatever they hold.
+    unsafe { editing::smelvock_edits_check(file.as_ptr(), file.len()) }
+}
+
+#[inline]
+pub fn edits_difference(file: &[u8], area: &mut [u32], first: u32, second: u32) -> Number {
+    // SAFETY: the export is proved to read these bytes, and to write words of the area and nothing else, whatever they hold.
+    unsafe {
+        editing::smelvock_edits_difference(file.as_ptr(), file.len(), area.as_mut_ptr(), area.len(), first, second)
+    }
+}

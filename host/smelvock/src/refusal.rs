@@ -3,7 +3,7 @@ use std::{error, fmt};
 /// Why a call was not done. Head, areas and a lent buffer are as they were, but for [`LINK`](Refusal::LINK).
 #[derive(Clone, Copy, PartialEq, Eq, Debug)]
 pub struct Refusal {
-    /// Document 01's number, 1 to 11, or document 02's 12 to 14.
+    /// Document 01's number, 1 to 11, or document 02's 12 to 16.
     pub number: u32,
 }
 
@@ -28,17 +28,19 @@ refusals! {
     SIZE = 1: "the fan is not 4 to 32, or the limit not 1 to 65,536";
     AREA = 2: "an area is shorter than the limit needs";
     STAMP = 3: "the cursor's stamp is not the present one";
-    ID = 4: "there is no such entry";
+    ID = 4: "there is no such entry or edit";
     POSITION = 5: "the position is at or past the end";
     SPLIT = 6: "the split moves more than the entry has";
     TOTAL = 7: "a total would pass 4,294,967,295";
     FULL = 8: "the tree holds its limit";
     LINK = 9: "a link of the tree leads outside";
-    FIELD = 10: "the head is not seventeen words, or a view or a flag is neither 0 nor 1";
+    FIELD = 10: "the head is not seventeen words, a view or a flag is neither 0 nor 1, or the rest of an edit is not zero";
     RECORDS = 11: "records and output are unequally long, or not a multiple of 16";
-    BUFFER = 12: "the buffer is below 2,750 bytes a page";
+    BUFFER = 12: "the buffer is below 2,750 bytes a page, or the list area below 512 words";
     LEAF = 13: "the cursor's leaf is not in use";
     SLOT = 14: "the cursor's slot is at or past its leaf's len";
+    PARENT = 15: "a parent of an edit is not smaller than the edit";
+    EDITS = 16: "the file has more than 512 edits";
 }
 
 impl Refusal {

@@ -43,6 +43,11 @@ view 2: 10
 short: 2
 reset 0 1 0
 add 0 1
+edits_check 0 11
+511 words: 12 0 0
+edits_difference 0 2: 1 2, then 7
+edit 4: 4
+its own parent: 15
 ";
 
 #[test]

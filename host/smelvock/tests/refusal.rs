@@ -3,7 +3,7 @@
 use smelvock::{raw, Cursor, Lengths, PrepareEffectTree, Refusal};
 
 /// The names in the order of their numbers, from 1.
-const NAMED: [Refusal; 14] = [
+const NAMED: [Refusal; 16] = [
     Refusal::SIZE,
     Refusal::AREA,
     Refusal::STAMP,
@@ -18,11 +18,13 @@ const NAMED: [Refusal; 14] = [
     Refusal::BUFFER,
     Refusal::LEAF,
     Refusal::SLOT,
+    Refusal::PARENT,
+    Refusal::EDITS,
 ];
 
 #[test]
-fn the_names_are_those_of_1_to_14() {
-    assert_eq!(NAMED.map(|refusal| refusal.number).as_slice(), (1..=14).collect::<Vec<_>>());
+fn the_names_are_those_of_1_to_16() {
+    assert_eq!(NAMED.map(|refusal| refusal.number).as_slice(), (1..=16).collect::<Vec<_>>());
     let texts = NAMED.map(|refusal| refusal.to_string());
     assert!((1..).zip(&texts).all(|(number, text)| text.starts_with(&format!("refused by {number}: "))));
     assert_eq!(Refusal::STAMP.to_string(), "refused by 3: the cursor's stamp is not the present one");

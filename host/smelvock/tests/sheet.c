@@ -46,6 +46,25 @@ static void print(void) {
     printf("%.*sblank %u, then %c\n", (int)(LIMIT * line), (const char *)page, blank / line, page[SMELVOCK_PAGE_BYTES]);
 }
 
+/* Edit 1 rests on 0, 2 on 0 and 1, 3 on nothing else. */
+static void edits(void) {
+    static const uint32_t parents[4][2] = {{SMELVOCK_NONE, SMELVOCK_NONE}, {0, SMELVOCK_NONE}, {1, 1}, {SMELVOCK_NONE, SMELVOCK_NONE}};
+    static uint32_t area[SMELVOCK_EDITS + 1];
+    uint8_t file[4 * 16] = {0};
+    for (uint32_t e = 0; e < 4; e++)
+        for (uint32_t i = 0; i < 8; i++)
+            file[16 * e + i] = (uint8_t)(parents[e][i / 4] >> (8 * (i % 4)));
+    printf("edits_check %u %u\n", smelvock_edits_check(file, sizeof file), smelvock_edits_check(file, sizeof file - 1));
+    smelvock_number r = smelvock_edits_difference(file, sizeof file, area, SMELVOCK_EDITS - 1, 2, 0);
+    printf("511 words: %u %u %u\n", r.number, r.value, area[0]);
+    area[2] = 7;
+    r = smelvock_edits_difference(file, sizeof file, area, SMELVOCK_EDITS, 2, 0);
+    printf("edits_difference %u %u: %u %u, then %u\n", r.number, r.value, area[0], area[1], area[2]);
+    printf("edit 4: %u\n", smelvock_edits_difference(file, sizeof file, area, SMELVOCK_EDITS, 2, 4).number);
+    file[16] = 1;
+    printf("its own parent: %u\n", smelvock_edits_check(file, sizeof file));
+}
+
 int main(void) {
     printf("new %u\n", smelvock_new(FAN, LIMIT, (smelvock_length){3, 3}, HEAD, AREAS));
     insert(1, nowhere, (smelvock_length){2, 0});
@@ -95,5 +114,6 @@ int main(void) {
     printf("reset %u %u %u\n", reset, head[SMELVOCK_ENTRIES], head[SMELVOCK_PRESENT]);
     smelvock_number added = smelvock_add(HEAD, AREAS, 1, nowhere, (smelvock_length){1, 1});
     printf("add %u %u\n", added.number, added.value);
+    edits();
     return 0;
 }
