@@ -8,13 +8,12 @@ use Rattle.model.specs.Length.{listOf}
 use Rattle.model.specs.Kind.{base}
 use Rattle.model.specs.Row as row
 use Rattle.model.specs.Row.{Moved, moved, refused, noEntry}
-use Rattle.model.specs.Answer.{namedAnswer, insertedAnswer}
+use Rattle.model.specs.Answer.{insertedAnswer}
 use Rattle.model.specs.State.{State}
 use Rattle.model.specs.Calls as calls
 use Rattle.model.specs.Calls.{reply}
 use Rattle.model.specs.ById.{withCursor, withTarget, told, treeStep}
 use Rattle.model.specs.declared.length.Lengths.{Lengths}
-use Rattle.model.specs.declared.answer.Named.{Named}
 use Rattle.model.specs.declared.answer.Inserted.{Inserted}
 use Rattle.model.specs.declared.answer.Target.{Target}
 use Rattle.model.specs.declared.answer.Target.the-variants as target
@@ -65,14 +64,3 @@ module _ (s : State) (i : ℕ) where
     pub insert-goes : (x : Target) → t ≡ aim.At x → (u : State) (a : Inserted) → reply u a ≡ calls.insert base s x (listOf l) → moved u (insertedAnswer a) ≡ treeStep base s (row.insert i (listOf l))
     unfolding treeStep
     insert-goes x d u a q = lead-goes t e inserting x d _ (told-by insertedAnswer u a (calls.insert base s x (listOf l)) q)
-
-    abbrev adding : Target → Moved State
-    adding x = told (calls.add base s x (listOf l)) namedAnswer
-
-    pub add-stops : (n : ℕ) → t ≡ aim.Refused n → moved s (refused n) ≡ treeStep base s (row.add i (listOf l))
-    unfolding treeStep
-    add-stops n d = lead-stops t e adding n d
-
-    pub add-goes : (x : Target) → t ≡ aim.At x → (u : State) (a : Named) → reply u a ≡ calls.add base s x (listOf l) → moved u (namedAnswer a) ≡ treeStep base s (row.add i (listOf l))
-    unfolding treeStep
-    add-goes x d u a q = lead-goes t e adding x d _ (told-by namedAnswer u a (calls.add base s x (listOf l)) q)

@@ -1,9 +1,7 @@
-// The calls by id that insert an entry: before another, or at the end.
+// The call by id that inserts an entry: before another, or at the end.
 use calls_read::read::cursor;
 use model::answer::Inserted;
 use model::answer::InsertedReply;
-use model::answer::Named;
-use model::answer::NamedReply;
 use model::answer::Standing;
 use model::answer::Target;
 use model::head::Head;
@@ -15,7 +13,7 @@ ghost use Rattle.model.specs.Length.{listOf};
 ghost use Rattle.model.specs.Kind.{base};
 ghost use Rattle.model.specs.Row as row;
 ghost use Rattle.model.specs.Row.{moved};
-ghost use Rattle.model.specs.Answer.{insertedAnswer, namedAnswer};
+ghost use Rattle.model.specs.Answer.{insertedAnswer};
 ghost use Rattle.model.specs.State.{state};
 ghost use Rattle.model.specs.ById.{treeStep};
 ghost use Rattle.by_id_insert.specs.Lead.{leadOf};
@@ -57,25 +55,5 @@ pub fn insert(
             answer: Inserted::Refused(n),
         },
         Aim::At(t) => calls_insert::insert::insert(head, leaves, inners, homes, t, lengths),
-    }
-}
-
-// The same, and its id alone.
-pub fn add(
-    head: Head,
-    leaves: &mut [u32],
-    inners: &mut [u32],
-    homes: &mut [u32],
-    before: EntryId,
-    lengths: Lengths,
-) -> NamedReply
-    ensures { λ r. ⌜ moved (state (r .head) (now (leaves .exit)) (now (inners .exit)) (now (homes .exit))) (namedAnswer (r .answer)) ≡ treeStep base (state head (now (leaves .entry)) (now (inners .entry)) (now (homes .entry))) (row.add (before .0) (listOf lengths)) ⌝ }
-{
-    match lead(head, leaves, inners, homes, before) {
-        Aim::Refused(n) => NamedReply {
-            head: head,
-            answer: Named::Refused(n),
-        },
-        Aim::At(t) => calls_insert::insert::add(head, leaves, inners, homes, t, lengths),
     }
 }

@@ -1,6 +1,5 @@
--- What an entry more leaves, and what insert and add answer. Assumes nothing.
+-- What an entry more leaves, and what insert answers. Assumes nothing.
 use mathlib.Core.Path.{_≡_, refl, sym, ap, _∙_}
-use mathlib.Core.Bool.{Bool, true, false}
 use mathlib.Core.List.{List, _∷_}
 use Prim.Native.Nat.{ℕ, _+_, _*_, _<_, _≤_}
 use native.Mathlib.Omega.{arith}
@@ -15,7 +14,7 @@ use Rattle.model.specs.State.{State, state, nodeAt}
 use Rattle.model.specs.Climb.{climbUp, lastDown}
 use Rattle.model.specs.Place.{Change, makeRoom, entering, place, climb}
 use Rattle.model.specs.Refuse.{shapeOf}
-use Rattle.model.specs.Calls.{Reply, reply, entryId, aim, endOf, placed, insertCauses, insert, add}
+use Rattle.model.specs.Calls.{Reply, reply, entryId, aim, endOf, insertCauses, insert}
 use Rattle.model.specs.declared.shape.Shape.{Shape}
 use Rattle.model.specs.declared.length.Lengths.{Lengths}
 use Rattle.model.specs.declared.way.Leaf.{Leaf}
@@ -29,16 +28,14 @@ use Rattle.model.specs.declared.answer.Inserted.the-variants as inserted
 use Rattle.laws.specs.Lens.{by-test}
 use Rattle.area.specs.Area.{Area}
 use Rattle.links.specs.Fits.{Fits}
-use Rattle.place.specs.Asked.{askedWay}
-use Rattle.place.proofs.SizeLaws.{asked-whole, asked-lost, asked-wrap}
 use Rattle.place.proofs.LevelLaws.{entered-levels, entered-in}
 use Rattle.node.specs.Shaped.{Shaped}
-use Rattle.open.proofs.Causes.{call-refused, call-good, answering, answering-call}
+use Rattle.open.proofs.Causes.{call-refused, call-good}
 use Rattle.open.specs.Open.{openedBy}
 use Rattle.open.specs.Ready.{Ready}
 use Rattle.open.specs.declared.open.Opened.{Opened}
 use Rattle.open.specs.declared.open.Opened.the-variants.{Good, Refused}
-use Rattle.calls_insert.specs.Put.{put, insertedAs, insertedBy, enter, unplaced}
+use Rattle.calls_insert.specs.Put.{put, insertedBy}
 
 pub fits : (s : State) (g : Shape) → Ready s g → Fits g (length (s .leaves)) (length (s .inners))
 fits s g h = record { shaped = h .shaped; leaves = h .leaf-area; inners = h .inner-area }
@@ -84,46 +81,36 @@ module _ (g : Shape) (s : State) (t : Target) (l : Lengths) (c : Change) (e : c 
       (λ _ d. entered-in g (λ j. node.inserted j (s .head .entries ∷ listOf l)) 0 s (aim base s t .leaf) (aim base s t .slot) _ refl d)
       (λ h d. absurd (eqb-false _ _ h d)))
 
-  -- the answer, from what `put` left and from the way up, whose sum is asked for or not
-  module _ (b : Bool) where
-    pub done-lost : (c .number ≡ 0 → ⊥) → reply (state (s .head) (c .state .leaves) (c .state .inners) (c .state .homes)) (inserted.Refused (c .number)) ≡ insertedBy b g s t l
+  -- the answer, from what `put` left and from the way up
+  pub done-lost : (c .number ≡ 0 → ⊥) → reply (state (s .head) (c .state .leaves) (c .state .inners) (c .state .homes)) (inserted.Refused (c .number)) ≡ insertedBy g s t l
+  unfolding climb
+  done-lost d = rw (← e, ne-eqb (c .number) 0 d, ne-eqb (c .number) 0 d)
+
+  module _ (xs : List ℕ) (d : c .number ≡ 0) where
+    abbrev way : Sum × List ℕ
+    way = let m = nodeAt g (c .leaf) (c .state .leaves) in climbUp g (base .effect) (listOf l) (c .state .head .levels) (m .parent) (m .at) (start (base .effect) (c .slot) m) (c .state .inners)
+
+    way-whole : (n : ℕ) → (sum.Is n, xs) ≡ way → reply (state (c .state .head) (c .state .leaves) xs (c .state .homes)) (inserted.At (entryId (s .head .entries)) (wrap n)) ≡ insertedBy g s t l
     unfolding climb
-    done-lost d = rw (← e, ne-eqb (c .number) 0 d, ne-eqb (c .number) 0 d)
+    way-whole n q = rw (← e, eq-eqb _ _ d, ← q)
 
-    module _ (xs : List ℕ) (d : c .number ≡ 0) where
-      abbrev way : Sum × List ℕ
-      way = let m = nodeAt g (c .leaf) (c .state .leaves) in climbUp g (base .effect) (listOf l) (c .state .head .levels) (m .parent) (m .at) (start (base .effect) (c .slot) m) (c .state .inners)
+    way-broken : (sum.Broken, xs) ≡ way → reply (state (s .head) (c .state .leaves) xs (c .state .homes)) (inserted.Refused 9) ≡ insertedBy g s t l
+    unfolding climb
+    way-broken q = rw (← e, eq-eqb _ _ d, ← q)
 
-      way-whole : (n : ℕ) → (sum.Is n, xs) ≡ way → reply (state (c .state .head) (c .state .leaves) xs (c .state .homes)) (insertedAs b s (wrap n)) ≡ insertedBy b g s t l
-      unfolding climb
-      way-whole n q = rw (← e, eq-eqb _ _ d, ← q)
+    module _ (r : Sum) (ec : (r, xs) ≡ way) where
+      pub done-whole : (n : ℕ) → r ≡ sum.Is n → reply (state (c .state .head) (c .state .leaves) xs (c .state .homes)) (inserted.At (entryId (s .head .entries)) (wrap n)) ≡ insertedBy g s t l
+      done-whole n q = way-whole n (ap (λ (x : Sum). (x, xs)) (sym q) ∙ ec)
 
-      way-broken : (sum.Broken, xs) ≡ way → reply (state (s .head) (c .state .leaves) xs (c .state .homes)) (inserted.Refused 9) ≡ insertedBy b g s t l
-      unfolding climb
-      way-broken q = rw (← e, eq-eqb _ _ d, ← q)
-
-      module _ (r : Sum) (ec : (r, xs) ≡ askedWay b way) where
-        pub done-whole : (n : ℕ) → r ≡ sum.Is n → reply (state (c .state .head) (c .state .leaves) xs (c .state .homes)) (inserted.At (entryId (s .head .entries)) (wrap n)) ≡ insertedBy b g s t l
-        done-whole n q =
-            let w = asked-whole b xs n way (ap (λ (x : Sum). (x, xs)) (sym q) ∙ ec) in
-            ap (λ (m : ℕ). reply (state (c .state .head) (c .state .leaves) xs (c .state .homes)) (inserted.At (entryId (s .head .entries)) m)) (ap wrap (w .2) ∙ asked-wrap b (w .0))
-            ∙ way-whole (w .0) (w .1)
-
-        pub done-broken : r ≡ sum.Broken → reply (state (s .head) (c .state .leaves) xs (c .state .homes)) (inserted.Refused 9) ≡ insertedBy b g s t l
-        done-broken q = way-broken (asked-lost b xs way (ap (λ (x : Sum). (x, xs)) (sym q) ∙ ec))
+      pub done-broken : r ≡ sum.Broken → reply (state (s .head) (c .state .leaves) xs (c .state .homes)) (inserted.Refused 9) ≡ insertedBy g s t l
+      done-broken q = way-broken (ap (λ (x : Sum). (x, xs)) (sym q) ∙ ec)
 
 -- the call, from what its tests answered
-module _ (s : State) (t : Target) (l : Lengths) (b : Bool) (o : Opened) (e : o ≡ openedBy (insertCauses base s t (listOf l)) (shapeOf base (s .head))) where
-  pub enter-refused : (n : ℕ) → o ≡ Refused n → reply s (inserted.Refused n) ≡ enter b s t l
-  enter-refused n d = call-refused (λ m. reply s (inserted.Refused m)) (λ g. insertedBy b g s t l) (insertCauses base s t (listOf l)) (shapeOf base (s .head)) o e n d
+module _ (s : State) (t : Target) (l : Lengths) (o : Opened) (e : o ≡ openedBy (insertCauses base s t (listOf l)) (shapeOf base (s .head))) where
+  pub insert-refused : (n : ℕ) → o ≡ Refused n → reply s (inserted.Refused n) ≡ insert base s t (listOf l)
+  unfolding insert
+  insert-refused n d = call-refused (λ m. reply s (inserted.Refused m)) (λ g. insertedBy g s t l) (insertCauses base s t (listOf l)) (shapeOf base (s .head)) o e n d
 
-  pub enter-done : (g : Shape) → o ≡ Good g → (r : Reply Inserted) → r ≡ insertedBy b g s t l → r ≡ enter b s t l
-  enter-done g d r q = call-good (λ m. reply s (inserted.Refused m)) (λ g. insertedBy b g s t l) (insertCauses base s t (listOf l)) (shapeOf base (s .head)) o e g d r q
-
-pub insert-is : (s : State) (t : Target) (l : Lengths) → enter true s t l ≡ insert base s t (listOf l)
-unfolding insert
-insert-is s t l = refl
-
-pub add-is : (s : State) (t : Target) (l : Lengths) (x : Reply Inserted) → x ≡ enter false s t l → reply (x .after) (unplaced (x .answer)) ≡ add base s t (listOf l)
-unfolding add
-add-is s t l x e = ap (answering unplaced) e ∙ answering-call unplaced (insertCauses base s t (listOf l)) s (placed base s t (listOf l) .0) inserted.Refused (insertedAs false s 0)
+  pub insert-done : (g : Shape) → o ≡ Good g → (r : Reply Inserted) → r ≡ insertedBy g s t l → r ≡ insert base s t (listOf l)
+  unfolding insert
+  insert-done g d r q = call-good (λ m. reply s (inserted.Refused m)) (λ g. insertedBy g s t l) (insertCauses base s t (listOf l)) (shapeOf base (s .head)) o e g d r q

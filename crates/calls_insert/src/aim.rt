@@ -36,7 +36,7 @@ fn open_for(head: Head, leaves: &[u32], inners: &[u32], homes: &[u32], before: T
     }
 }
 
-// All that insert and add test: then whether a total would pass u32, and whether the tree holds its limit.
+// All that insert tests: then whether a total would pass u32, and whether the tree holds its limit.
 pub fn open_insert(
     head: Head,
     leaves: &[u32],

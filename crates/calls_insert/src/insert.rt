@@ -1,10 +1,8 @@
-// One entry more: insert and add.
+// One entry more: insert.
 use crate::aim::aim;
 use crate::aim::open_insert;
 use model::answer::Inserted;
 use model::answer::InsertedReply;
-use model::answer::Named;
-use model::answer::NamedReply;
 use model::answer::Target;
 use model::head::Head;
 use model::length::Lengths;
@@ -24,7 +22,7 @@ ghost use Rattle.model.specs.Place.{change};
 ghost use Rattle.model.specs.Calls as calls;
 ghost use Rattle.model.specs.Calls.{reply};
 ghost use Rattle.open.specs.Ready.{Ready};
-ghost use Rattle.calls_insert.specs.Put.{put, insertedBy, enter, unplaced};
+ghost use Rattle.calls_insert.specs.Put.{put, insertedBy};
 
 // The entry in its leaf, with the next id; nothing goes up yet (place).
 fn put(
@@ -46,8 +44,8 @@ fn put(
     place(head, leaves, inners, homes, g, r.leaf, r.slot, lengths)
 }
 
-// The entry in its leaf and its lengths above it; its effect position is summed up on the way where that is asked for.
-fn enter_open(
+// The entry in its leaf and its lengths above it; its effect position is summed up on the way.
+fn enter(
     head: Head,
     leaves: &mut [u32],
     inners: &mut [u32],
@@ -55,10 +53,9 @@ fn enter_open(
     g: Shape,
     before: Target,
     lengths: Lengths,
-    summed: bool,
 ) -> InsertedReply
     requires { ⌜ Ready (state head (now leaves) (now inners) (now homes)) g × (head .entries < head .limit) ⌝ }
-    ensures { λ r. ⌜ reply (state (r .head) (now (leaves .exit)) (now (inners .exit)) (now (homes .exit))) (r .answer) ≡ insertedBy summed g (state head (now (leaves .entry)) (now (inners .entry)) (now (homes .entry))) before lengths ⌝ }
+    ensures { λ r. ⌜ reply (state (r .head) (now (leaves .exit)) (now (inners .exit)) (now (homes .exit))) (r .answer) ≡ insertedBy g (state head (now (leaves .entry)) (now (inners .entry)) (now (homes .entry))) before lengths ⌝ }
 {
     let r = put(head, leaves, inners, homes, g, before, lengths);
     let number = r.number;
@@ -69,16 +66,7 @@ fn enter_open(
         };
     }
     let after = r.head;
-    match way_up(
-        leaves,
-        inners,
-        g,
-        lengths,
-        after.levels,
-        r.leaf,
-        r.slot,
-        summed,
-    ) {
+    match way_up(leaves, inners, g, lengths, after.levels, r.leaf, r.slot) {
         Sum::Is(n) => InsertedReply {
             head: after,
             answer: Inserted::At(EntryId(head.entries), (n % 4294967296) as u32),
@@ -87,28 +75,6 @@ fn enter_open(
             head: head,
             answer: Inserted::Refused(9),
         },
-    }
-}
-
-// An entry before a cursor's or at the end: its id and, where it is asked for, its effect position, else 0. One function for both
-// calls, so that a host's library has it once.
-pub fn enter(
-    head: Head,
-    leaves: &mut [u32],
-    inners: &mut [u32],
-    homes: &mut [u32],
-    before: Target,
-    lengths: Lengths,
-    summed: bool,
-) -> InsertedReply
-    ensures { λ r. ⌜ reply (state (r .head) (now (leaves .exit)) (now (inners .exit)) (now (homes .exit))) (r .answer) ≡ enter summed (state head (now (leaves .entry)) (now (inners .entry)) (now (homes .entry))) before lengths ⌝ }
-{
-    match open_insert(head, leaves, inners, homes, before, lengths) {
-        Opened::Refused(n) => InsertedReply {
-            head: head,
-            answer: Inserted::Refused(n),
-        },
-        Opened::Good(g) => enter_open(head, leaves, inners, homes, g, before, lengths, summed),
     }
 }
 
@@ -123,35 +89,11 @@ pub fn insert(
 ) -> InsertedReply
     ensures { λ r. ⌜ reply (state (r .head) (now (leaves .exit)) (now (inners .exit)) (now (homes .exit))) (r .answer) ≡ calls.insert base (state head (now (leaves .entry)) (now (inners .entry)) (now (homes .entry))) before (listOf lengths) ⌝ }
 {
-    enter(head, leaves, inners, homes, before, lengths, true)
-}
-
-// An answer without its position.
-pub fn unplaced(answer: Inserted) -> Named
-    ensures { λ r. ⌜ r ≡ unplaced answer ⌝ }
-{
-    match answer {
-        Inserted::At(i, p) => Named::Entry(i),
-        Inserted::Refused(n) => Named::Refused(n),
-    }
-}
-
-// The same, and its id alone.
-pub fn add(
-    head: Head,
-    leaves: &mut [u32],
-    inners: &mut [u32],
-    homes: &mut [u32],
-    before: Target,
-    lengths: Lengths,
-) -> NamedReply
-    ensures { λ r. ⌜ reply (state (r .head) (now (leaves .exit)) (now (inners .exit)) (now (homes .exit))) (r .answer) ≡ calls.add base (state head (now (leaves .entry)) (now (inners .entry)) (now (homes .entry))) before (listOf lengths) ⌝ }
-{
-    let r = enter(head, leaves, inners, homes, before, lengths, false);
-    let after = r.head;
-    let answer = r.answer;
-    NamedReply {
-        head: after,
-        answer: unplaced(answer),
+    match open_insert(head, leaves, inners, homes, before, lengths) {
+        Opened::Refused(n) => InsertedReply {
+            head: head,
+            answer: Inserted::Refused(n),
+        },
+        Opened::Good(g) => enter(head, leaves, inners, homes, g, before, lengths),
     }
 }

@@ -12,7 +12,7 @@ use open::lengths::lengths_at;
 use open::lengths::past;
 use open::open::Opened;
 use open::open::open_at;
-use place::size::way_up;
+use place::size::asked_way;
 ghost use mathlib.Core.Path.{_≡_};
 ghost use mathlib.Core.List.{List};
 ghost use Prim.Native.Nat.{ℕ, _<_};
@@ -108,7 +108,7 @@ pub fn resize(
             let delta = r.delta;
             let k = at.leaf;
             let i = at.slot;
-            match way_up(leaves, inners, g, delta, head.levels, k, i, summed) {
+            match asked_way(leaves, inners, g, delta, head.levels, k, i, summed) {
                 Sum::Is(n) => NumberReply {
                     head: after,
                     answer: Number::Is((n % 4294967296) as u32),

@@ -15,7 +15,7 @@ pub struct FlatLengths {
 }
 
 // The answers: document 01's number, 0 where the call was done, then its values, zeros where it was refused.
-// len, is_empty, id, entry_to_char_index, cmp, audit, update, add, print. Those without a value answer the number alone.
+// len, is_empty, id, entry_to_char_index, cmp, audit, update, print, edits_difference. Those without a value answer the number alone.
 #[repr(C)]
 pub struct FlatNumber {
     pub number: u32,

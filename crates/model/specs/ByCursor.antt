@@ -25,11 +25,10 @@ use Rattle.model.specs.declared.answer.Selected.the-variants as selected
 use Rattle.model.specs.declared.answer.Divided.{Divided}
 use Rattle.model.specs.declared.answer.Divided.the-variants as divided
 
--- every public call of lib.rs but make
+-- every public call of lib.rs but make and add
 pub data CursorCall : Type 0 where
   reset : List ℕ → CursorCall
   insert : Target → List ℕ → CursorCall
-  add : Target → List ℕ → CursorCall
   split : Bool → Cursor → List ℕ → CursorCall
   setLengths : Cursor → List ℕ → CursorCall
   update : Cursor → List ℕ → CursorCall
@@ -65,7 +64,6 @@ partsAnswer K s (divided.Refused n) = refused n
 unfoldable pub cursorStep : Kind → State → CursorCall → Moved State
 cursorStep K s (reset l) = told (calls.reset K s l) outcomeAnswer
 cursorStep K s (insert t l) = told (calls.insert K s t l) insertedAnswer
-cursorStep K s (add t l) = told (calls.add K s t l) namedAnswer
 cursorStep K s (split flag c l) = let r = calls.splitEntry K s c l flag in moved (r .after) (partsAnswer K (r .after) (r .answer))
 cursorStep K s (setLengths c l) = told (calls.setLengths K s c l) outcomeAnswer
 cursorStep K s (update c l) = told (calls.update K s c l) numberAnswer
@@ -124,8 +122,6 @@ unfoldable pub meant : Kind → State → CursorCall → EntryCall
 meant K s (reset l) = plain (row.reset l)
 meant K s (insert (target.Before c) l) = standing K s c (λ i. plain (row.insert i l))
 meant K s (insert target.End l) = plain (row.insert noEntry l)
-meant K s (add (target.Before c) l) = standing K s c (λ i. plain (row.add i l))
-meant K s (add target.End l) = plain (row.add noEntry l)
 meant K s (split flag c l) = standing K s c (λ i. parts flag i l)
 meant K s (setLengths c l) = standing K s c (λ i. plain (row.setLengths i l))
 meant K s (update c l) = standing K s c (λ i. plain (row.update i l))

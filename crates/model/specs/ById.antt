@@ -3,10 +3,10 @@ use mathlib.Core.Bool.{cond}
 use mathlib.Core.List.{List, [], _∷_}
 use Prim.Native.Nat.{ℕ}
 use lib.Dec.{eqb}
-use Rattle.model.specs.Row.{Call, reset, insert, add, split, setLengths, update, lookup, rank, next, compare, lengths, count, first, malformed, Answer, done, refused, Moved, moved, noEntry}
+use Rattle.model.specs.Row.{Call, reset, insert, split, setLengths, update, lookup, rank, next, compare, lengths, count, first, malformed, Answer, done, refused, Moved, moved, noEntry}
 use Rattle.model.specs.declared.shape.Kind.{Kind}
 use Rattle.model.specs.State.{State}
-use Rattle.model.specs.Answer.{outcomeAnswer, numberAnswer, namedAnswer, comparedAnswer, insertedAnswer}
+use Rattle.model.specs.Answer.{outcomeAnswer, numberAnswer, comparedAnswer, insertedAnswer}
 use Rattle.model.specs.Calls as calls
 use Rattle.model.specs.declared.head.Cursor.{Cursor}
 use Rattle.model.specs.declared.answer.Target.{Target}
@@ -61,7 +61,6 @@ told r f = moved (r .after) (f (r .answer))
 unfoldable pub treeStep : Kind → State → Call → Moved State
 treeStep K s (reset l) = told (calls.reset K s l) outcomeAnswer
 treeStep K s (insert i l) = withTarget K s i (λ t. told (calls.insert K s t l) insertedAnswer)
-treeStep K s (add i l) = withTarget K s i (λ t. told (calls.add K s t l) namedAnswer)
 treeStep K s (split flag i l) = withCursor s (calls.cursor K s i) (λ c. told (calls.splitEntry K s c l flag) dividedAnswer)
 treeStep K s (setLengths i l) = withCursor s (calls.cursor K s i) (λ c. told (calls.setLengths K s c l) outcomeAnswer)
 treeStep K s (update i l) = withCursor s (calls.cursor K s i) (λ c. told (calls.update K s c l) numberAnswer)

@@ -272,12 +272,6 @@ insert K s t l =
     let r = placed K s t l in
     unless (insertCauses K s t l) (λ n. reply s (inserted.Refused n)) (settled s (r .0) inserted.Refused (inserted.At (entryId (s .head .entries)) (r .1)))
 
--- `insert` without the position
-unfoldable pub add : Kind → State → Target → List ℕ → Reply Named
-add K s t l =
-    let r = placed K s t l in
-    unless (insertCauses K s t l) (λ n. reply s (named.Refused n)) (settled s (r .0) named.Refused (named.Entry (entryId (s .head .entries))))
-
 -- what a split answers: n is the count before, so the new id; slot i of leaf k holds the first of the two entries; both cursors bear the new count
 abbrev pub dividedAt : ℕ → ℕ → ℕ → Divided
 dividedAt n k i = divided.At (entryId n) (cursorAt (n + 1) k i) (cursorAt (n + 1) k (i + 1))

@@ -58,7 +58,6 @@ IsWord n = n < 4294967296
 abbrev pub InWords : Kind → Call → Type 0
 InWords K (row.reset l) = Words K l
 InWords K (row.insert i l) = IsWord i × Words K l
-InWords K (row.add i l) = IsWord i × Words K l
 InWords K (row.split flag i l) = IsWord i × Words K l
 InWords K (row.setLengths i l) = IsWord i × Words K l
 InWords K (row.update i l) = IsWord i × Words K l
@@ -85,7 +84,6 @@ pub record Leaves (n : ℕ) (s t : State) : Type 0 where
 pub record Refusals (K : Kind) (s : State) : Type 0 where
   pub reset : (l : List ℕ) → Words K l → Leaves (outcomeAnswer (calls.reset K s l .answer) .number) s (calls.reset K s l .after)
   pub insert : (t : Target) (l : List ℕ) → Words K l → Leaves (insertedAnswer (calls.insert K s t l .answer) .number) s (calls.insert K s t l .after)
-  pub add : (t : Target) (l : List ℕ) → Words K l → Leaves (namedAnswer (calls.add K s t l .answer) .number) s (calls.add K s t l .after)
   pub split : (c : Cursor) (l : List ℕ) (flag : Bool) → Words K l → Leaves (dividedAnswer (calls.splitEntry K s c l flag .answer) .number) s (calls.splitEntry K s c l flag .after)
   pub setLengths : (c : Cursor) (l : List ℕ) → Words K l → Leaves (outcomeAnswer (calls.setLengths K s c l .answer) .number) s (calls.setLengths K s c l .after)
   pub update : (c : Cursor) (l : List ℕ) → Words K l → Leaves (numberAnswer (calls.update K s c l .answer) .number) s (calls.update K s c l .after)
@@ -102,7 +100,6 @@ pub record Fixed (s t : State) : Type 0 where
 pub record Fixes (K : Kind) (s : State) : Type 0 where
   pub reset : (l : List ℕ) → Fixed s (calls.reset K s l .after)
   pub insert : (t : Target) (l : List ℕ) → Fixed s (calls.insert K s t l .after)
-  pub add : (t : Target) (l : List ℕ) → Fixed s (calls.add K s t l .after)
   pub split : (c : Cursor) (l : List ℕ) (flag : Bool) → Fixed s (calls.splitEntry K s c l flag .after)
   pub setLengths : (c : Cursor) (l : List ℕ) → Fixed s (calls.setLengths K s c l .after)
   pub update : (c : Cursor) (l : List ℕ) → Fixed s (calls.update K s c l .after)
@@ -162,7 +159,6 @@ abbrev pub isLookup : Call → Bool
 isLookup (row.lookup v x) = true
 isLookup (row.reset l) = false
 isLookup (row.insert i l) = false
-isLookup (row.add i l) = false
 isLookup (row.split flag i l) = false
 isLookup (row.setLengths i l) = false
 isLookup (row.update i l) = false
@@ -192,7 +188,6 @@ pub record Stands (K : Kind) (t : State) (r : Row) : Type 0 where
 -- a call that adds an entry where it isn't refused
 abbrev pub Adds : Call → Type 0
 Adds (row.insert i l) = Unit {0}
-Adds (row.add i l) = Unit {0}
 Adds (row.split flag i l) = Unit {0}
 Adds (row.reset l) = ⊥
 Adds (row.setLengths i l) = ⊥
@@ -209,7 +204,6 @@ Adds row.malformed = ⊥
 -- the row's refusal before the limit is asked: 0 where the earlier checks are passed
 abbrev pub earlier : Kind → Row → Call → ℕ
 earlier K r (row.insert i l) = refusal (row.noSuchPlace r i ∷ row.past K (row.inserted i (row.newEntry r l) (r .entries)) ∷ [])
-earlier K r (row.add i l) = refusal (row.noSuchPlace r i ∷ row.past K (row.inserted i (row.newEntry r l) (r .entries)) ∷ [])
 earlier K r (row.split flag i l) = refusal (row.noSuchId r i ∷ row.tooMuch K l (row.lengthsOf i (r .entries)) ∷ [])
 earlier K r (row.reset l) = 0
 earlier K r (row.setLengths i l) = 0
@@ -265,7 +259,6 @@ pub record Demand3 (K : Kind) (fan limit : ℕ) (l ls xs hs : List ℕ) : Type 0
 abbrev pub CursorInWords : Kind → CursorCall → Type 0
 CursorInWords K (by.reset l) = Words K l
 CursorInWords K (by.insert t l) = Words K l
-CursorInWords K (by.add t l) = Words K l
 CursorInWords K (by.split flag c l) = Words K l
 CursorInWords K (by.setLengths c l) = Words K l
 CursorInWords K (by.update c l) = Words K l

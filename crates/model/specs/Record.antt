@@ -4,7 +4,7 @@ use mathlib.Core.List.{List, [], _∷_, _++_}
 use Prim.Native.Nat.{ℕ, _+_, _*_, _%_, _/_}
 use lib.ListN.{getD}
 use lib.Dec.{ltb, eqb}
-use Rattle.model.specs.Row.{Call, reset, insert, add, split, setLengths, update, lookup, rank, next, compare, lengths, count, first, malformed, Answer}
+use Rattle.model.specs.Row.{Call, reset, insert, split, setLengths, update, lookup, rank, next, compare, lengths, count, first, malformed, Answer}
 use Rattle.model.specs.Length.{viewNumber, listOf}
 use Rattle.model.specs.declared.length.View.{View}
 use Rattle.model.specs.declared.length.View.the-variants.{Prepare, Effect}
@@ -48,13 +48,13 @@ binary f = ltb (f .flag) 2
 abbrev pub noLengths : Fields → Bool
 noLengths f = eqb (f .b) 0 && eqb (f .c) 0
 
--- what a record of each kind says, from kind 0, which is none, to kind 13
+-- what a record of each kind says, from kind 0, which is none, to kind 13; 3, once add, is an insert like 2 (document 02, CR 6)
 unfoldable pub kinds : Fields → List Call
 kinds f =
     malformed
     ∷ only (plain f && eqb (f .a) 0) (reset (listOf (lengthsOf f)))
     ∷ only (plain f) (insert (f .a) (listOf (lengthsOf f)))
-    ∷ only (plain f) (add (f .a) (listOf (lengthsOf f)))
+    ∷ only (plain f) (insert (f .a) (listOf (lengthsOf f)))
     ∷ only (binary f) (split (eqb (f .flag) 1) (f .a) (listOf (lengthsOf f)))
     ∷ only (plain f) (setLengths (f .a) (listOf (lengthsOf f)))
     ∷ only (plain f) (update (f .a) (listOf (lengthsOf f)))

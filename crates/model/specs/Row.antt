@@ -21,7 +21,6 @@ pub record Row : Type 0 where
 pub data Call : Type 0 where
   reset : List ℕ → Call
   insert : ℕ → List ℕ → Call
-  add : ℕ → List ℕ → Call
   split : Bool → ℕ → List ℕ → Call
   setLengths : ℕ → List ℕ → Call
   update : ℕ → List ℕ → Call
@@ -153,9 +152,6 @@ rowStep K r (reset l) = moved (madeRow (r .limit) l) (done [])
 rowStep K r (insert i l) =
     let es = inserted i (newEntry r l) (r .entries) in
     unless r (noSuchPlace r i ∷ past K es ∷ full r ∷ []) es (done (length (r .entries) ∷ total (K .effect) (before i (r .entries)) ∷ []))
-rowStep K r (add i l) =
-    let es = inserted i (newEntry r l) (r .entries) in
-    unless r (noSuchPlace r i ∷ past K es ∷ full r ∷ []) es (done (length (r .entries) ∷ []))
 rowStep K r (split flag i l) =
     unless r (noSuchId r i ∷ tooMuch K l (lengthsOf i (r .entries)) ∷ full r ∷ []) (divided flag i (newEntry r l) (r .entries)) (done (length (r .entries) ∷ []))
 rowStep K r (setLengths i l) =

@@ -1,4 +1,5 @@
--- A record says a call exactly if it has that call's fields, and one with other fields is malformed; document 01's run is read and written so.
+-- A record says a call exactly if it has that call's fields, kind 3 being read as 2, and one with other fields is malformed; document 01's run is
+-- read and written so.
 -- Assumes nothing.
 use mathlib.Core.Path.{_≡_, refl, sym, ap, subst, _∙_}
 use mathlib.Core.Logic.{_≢_, _↔_}
@@ -6,13 +7,14 @@ use mathlib.Core.List.{List, [], _∷_, map}
 use mathlib.Core.Bool.{Bool, true, false, cond, _&&_}
 use Prim.Native.Nat.{ℕ, zero, suc, _<_}
 use native.Mathlib.Omega.{arith}
+use native.Mathlib.Decide.{ℕ-discrete}
 use lib.ListN.{length, getD}
 use lib.Dec.{eqb}
-use borrow.Author.Tests.{lt-ltb, eqb-true, ltb-true}
+use borrow.Author.Tests.{lt-ltb, eq-eqb, ne-eqb, eqb-true, ltb-true}
 use Rattle.model.specs.Length.{viewNumber, listOf}
-use Rattle.model.specs.Row.{Call, reset, insert, add, split, setLengths, update, lookup, rank, next, compare, lengths, count, first, malformed}
+use Rattle.model.specs.Row.{Call, reset, insert, split, setLengths, update, lookup, rank, next, compare, lengths, count, first, malformed}
 use Rattle.model.specs.Record.{Fields, fieldsOf, viewOf, lengthsOf, only, plain, binary, noLengths, kinds, decode, encode}
-use Rattle.model.specs.Spelling.{fields, fieldsFor, Sayable, records, calls, given, written}
+use Rattle.model.specs.Spelling.{fields, fieldsFor, Sayable, asTwo, records, calls, given, written}
 
 -- what some fields say
 abbrev saying : Fields → Call
@@ -34,7 +36,6 @@ said : (c : Call) → Sayable c → saying (fieldsFor c) ≡ c
 unfolding kinds
 said (reset l) h = ap reset (two l h)
 said (insert i l) h = ap (insert i) (two l h)
-said (add i l) h = ap (add i) (two l h)
 said (split true i l) h = ap (split true i) (two l h)
 said (split false i l) h = ap (split false i) (two l h)
 said (setLengths i l) h = ap (setLengths i) (two l h)
@@ -57,8 +58,8 @@ flag-said zero h = refl
 flag-said (suc zero) h = refl
 flag-said (suc (suc v)) h = absurd (omega arith)
 
--- and only those fields do
-module _ (f : Fields) (zeros : f .rest ≡ 0) where
+-- and only those fields do, but for kind 3
+module _ (f : Fields) (zeros : f .rest ≡ 0) (other : f .kind ≢ 3) where
   -- the fields of f, by their values
   alike : (kind flag a b c : ℕ) → f .kind ≡ kind → f .flag ≡ flag → f .a ≡ a → f .b ≡ b → f .c ≡ c → f ≡ fields kind flag a b c
   alike kind flag a b c p q r s t =
@@ -116,7 +117,7 @@ module _ (f : Fields) (zeros : f .rest ≡ 0) where
       fits (plain f && eqb (f .a) 0) (reset (listOf (lengthsOf f)))
       (λ t. let h = both (plain f) (eqb (f .a) 0) t in (alike 1 0 0 (f .b) (f .c) e (eqb-true (f .flag) 0 (h .0)) (eqb-true (f .a) 0 (h .1)) refl refl, refl)) n
   of-kind (suc (suc zero)) e n = fits (plain f) (insert (f .a) (listOf (lengthsOf f))) (λ t. (changing 2 e t, refl)) n
-  of-kind (suc (suc (suc zero))) e n = fits (plain f) (add (f .a) (listOf (lengthsOf f))) (λ t. (changing 3 e t, refl)) n
+  of-kind (suc (suc (suc zero))) e n = absurd (other e)
   of-kind (suc (suc (suc (suc zero)))) e n =
       fits (binary f) (split (eqb (f .flag) 1) (f .a) (listOf (lengthsOf f))) (λ t. (alike 4 (cond (eqb (f .flag) 1) 1 0) (f .a) (f .b) (f .c) e (flagged t) refl refl refl, refl)) n
   of-kind (suc (suc (suc (suc (suc zero))))) e n = fits (plain f) (setLengths (f .a) (listOf (lengthsOf f))) (λ t. (changing 5 e t, refl)) n
@@ -135,23 +136,51 @@ module _ (f : Fields) (zeros : f .rest ≡ 0) where
   of-kind (suc (suc (suc (suc (suc (suc (suc (suc (suc (suc (suc (suc (suc (suc k)))))))))))))) e n = absurd (n refl)
 
 -- fields that say anything are those of what they say
-own : (f : Fields) → saying f ≢ malformed → (f ≡ fieldsFor (saying f)) × Sayable (saying f)
-own f = go (eqb (f .rest) 0) refl
+own : (f : Fields) → f .kind ≢ 3 → saying f ≢ malformed → (f ≡ fieldsFor (saying f)) × Sayable (saying f)
+own f other = go (eqb (f .rest) 0) refl
   where
     go : (b : Bool) → eqb (f .rest) 0 ≡ b → only b (getD (kinds f) (f .kind) malformed) ≢ malformed
         → (f ≡ fieldsFor (only b (getD (kinds f) (f .kind) malformed))) × Sayable (only b (getD (kinds f) (f .kind) malformed))
-    go true e n = of-kind f (eqb-true (f .rest) 0 e) (f .kind) refl n
+    go true e n = of-kind f (eqb-true (f .rest) 0 e) other (f .kind) refl n
     go false e n = absurd (n refl)
 
--- a record says a call exactly if it has that call's fields
-pub says : (bs : List ℕ) (c : Call) → Sayable c → (decode bs ≡ c) ↔ (fieldsOf bs ≡ fieldsFor c)
+-- with 2 for kind 3 a record isn't of kind 3
+not-three : (bs : List ℕ) → fieldsOf (asTwo bs) .kind ≢ 3
+unfolding fieldsOf
+not-three [] = λ e. absurd (omega arith)
+not-three (b ∷ bs) = go (ℕ-discrete b 3)
+  where
+    go : Dec (b ≡ 3) → getD (asTwo (b ∷ bs)) 0 0 ≢ 3
+    go (yes q) = rw (eq-eqb b 3 q) (λ e. omega arith)
+    go (no ne) = rw (ne-eqb b 3 ne) ne
+
+three-is-two : (bs : List ℕ) → decode (2 ∷ bs) ≡ decode (3 ∷ bs)
+unfolding fieldsOf kinds decode
+three-is-two bs = refl
+
+-- and it says the same
+pub same-call : (bs : List ℕ) → decode (asTwo bs) ≡ decode bs
+same-call [] = refl
+same-call (b ∷ bs) = go (ℕ-discrete b 3)
+  where
+    go : Dec (b ≡ 3) → decode (asTwo (b ∷ bs)) ≡ decode (b ∷ bs)
+    go (yes q) = rw (eq-eqb b 3 q) (three-is-two bs ∙ ap (λ k. decode (k ∷ bs)) (sym q))
+    go (no ne) = rw (ne-eqb b 3 ne)
+
+-- a record says a call exactly if it has that call's fields, with 2 for kind 3
+pub says : (bs : List ℕ) (c : Call) → Sayable c → (decode bs ≡ c) ↔ (fieldsOf (asTwo bs) ≡ fieldsFor c)
 unfolding decode
-says bs c h = (λ e. own (fieldsOf bs) (λ n. subst Sayable (sym e ∙ n) h) .0 ∙ ap fieldsFor e, λ e. ap saying e ∙ said c h)
+says bs c h = (
+  λ e.
+      (let d = same-call bs ∙ e in
+      own (fieldsOf (asTwo bs)) (not-three bs) (λ n. subst Sayable (sym d ∙ n) h) .0 ∙ ap fieldsFor d),
+  λ e. sym (same-call bs) ∙ ap saying e ∙ said c h,
+)
 
 -- and what it says, if it isn't malformed, is such a call
 pub nothing-else : (bs : List ℕ) → decode bs ≢ malformed → Sayable (decode bs)
 unfolding decode
-nothing-else bs n = own (fieldsOf bs) n .1
+nothing-else bs n = subst Sayable (same-call bs) (own (fieldsOf (asTwo bs)) (not-three bs) (λ e. n (sym (same-call bs) ∙ e)) .1)
 
 -- document 01's run, and a few records more
 pub spelled : (map decode records ≡ calls) × (map (λ g. encode (g .kind) (g .answer)) given ≡ written)

@@ -3,8 +3,9 @@ use mathlib.Core.Path.{_≡_}
 use mathlib.Core.List.{List, [], _∷_, _++_}
 use mathlib.Core.Bool.{true, cond}
 use Prim.Native.Nat.{ℕ, _<_}
-use lib.ListN.{length, getD}
-use Rattle.model.specs.Row.{Call, reset, insert, add, split, setLengths, update, lookup, rank, next, compare, lengths, count, first, malformed, Answer, done, refused, noEntry}
+use lib.ListN.{length, getD, set}
+use lib.Dec.{eqb}
+use Rattle.model.specs.Row.{Call, reset, insert, split, setLengths, update, lookup, rank, next, compare, lengths, count, first, malformed, Answer, done, refused, noEntry}
 use Rattle.model.specs.Record.{Fields}
 use Rattle.model.specs.Table.{pair}
 
@@ -17,7 +18,6 @@ fields kind flag a b c = record { kind = kind; flag = flag; rest = 0; a = a; b =
 abbrev pub fieldsFor : Call → Fields
 fieldsFor (reset l) = fields 1 0 0 (getD l 0 0) (getD l 1 0)
 fieldsFor (insert i l) = fields 2 0 i (getD l 0 0) (getD l 1 0)
-fieldsFor (add i l) = fields 3 0 i (getD l 0 0) (getD l 1 0)
 fieldsFor (split before i l) = fields 4 (cond before 1 0) i (getD l 0 0) (getD l 1 0)
 fieldsFor (setLengths i l) = fields 5 0 i (getD l 0 0) (getD l 1 0)
 fieldsFor (update i l) = fields 6 0 i (getD l 0 0) (getD l 1 0)
@@ -35,7 +35,6 @@ fieldsFor malformed = fields 0 0 0 0 0
 abbrev pub Sayable : Call → Type 0
 Sayable (reset l) = length l ≡ 2
 Sayable (insert i l) = length l ≡ 2
-Sayable (add i l) = length l ≡ 2
 Sayable (split before i l) = length l ≡ 2
 Sayable (setLengths i l) = length l ≡ 2
 Sayable (update i l) = length l ≡ 2
@@ -47,6 +46,10 @@ Sayable (lengths i) = Unit {0}
 Sayable count = Unit {0}
 Sayable first = Unit {0}
 Sayable malformed = ⊥
+
+-- a record with 2 in the stead of kind 3, which was add's and runs as 2 (document 02, CR 6)
+abbrev pub asTwo : List ℕ → List ℕ
+asTwo bs = cond (eqb (getD bs 0 0) 3) (set bs 0 2) bs
 
 -- bytes ------------------------------------------------------------------------------------------------------------------------------------
 
@@ -64,7 +67,8 @@ low n = four n 0 0 0
 abbrev pub top : List ℕ
 top = four 255 255 255 255
 
--- the six records of document 01's run; one in whose words all bytes differ; two with a byte behind the flag that isn't zero
+-- the six records of document 01's run; one in whose words all bytes differ; two with a byte behind the flag that isn't zero; one of kind 3, and one
+-- of kind 3 with a flag
 abbrev pub records : List (List ℕ)
 records =
     bytes 1 0 0 0 (low 0) (low 3) (low 3)
@@ -76,6 +80,8 @@ records =
     ∷ bytes 4 1 0 0 (four 1 2 3 4) (four 5 6 7 8) (four 9 10 11 12)
     ∷ bytes 2 0 1 0 (low 0) (low 0) (low 5)
     ∷ bytes 2 0 0 1 (low 0) (low 0) (low 5)
+    ∷ bytes 3 0 0 0 top (low 2) (low 0)
+    ∷ bytes 3 1 0 0 top (low 2) (low 0)
     ∷ []
 
 -- 67,305,985 is 1 + 2 * 256 + 3 * 65,536 + 4 * 16,777,216, and so the others
@@ -90,6 +96,8 @@ calls =
     ∷ split true 67305985 (pair 134678021 202050057)
     ∷ malformed
     ∷ malformed
+    ∷ insert noEntry (pair 2 0)
+    ∷ malformed
     ∷ []
 
 -- an answer and the kind that its record gave
@@ -100,7 +108,7 @@ pub record Given : Type 0 where
 abbrev pub to : ℕ → Answer → Given
 to kind answer = record { kind = kind; answer = answer }
 
--- the six answers, a refusal among them, and one of four values: a record has room for three
+-- the six answers, a refusal among them; one of four values: a record has room for three; and one to kind 3, with its position
 abbrev pub given : List Given
 given =
     to 1 (done [])
@@ -110,6 +118,7 @@ given =
     ∷ to 7 (refused 5)
     ∷ to 9 (done (noEntry ∷ []))
     ∷ to 7 (done (67305985 ∷ 134678021 ∷ 202050057 ∷ 1 ∷ []))
+    ∷ to 3 (done (1 ∷ 3 ∷ []))
     ∷ []
 
 abbrev pub written : List (List ℕ)
@@ -121,4 +130,5 @@ written =
     ∷ bytes 5 7 0 0 (low 0) (low 0) (low 0)
     ∷ bytes 0 9 0 0 top (low 0) (low 0)
     ∷ bytes 0 7 0 0 (four 1 2 3 4) (four 5 6 7 8) (four 9 10 11 12)
+    ∷ bytes 0 3 0 0 (low 1) (low 3) (low 0)
     ∷ []

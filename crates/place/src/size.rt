@@ -87,9 +87,27 @@ pub fn fixed(g: Shape) -> Shape
     }
 }
 
-// delta goes into every slot above leaf k; the effect lengths before slot i of it are summed up on the way where that is
-// asked for. The lengths come as two words, not as a slice, so that the compiler knows how many there are.
+// delta goes into every slot above leaf k, and the effect lengths before slot i of it are summed up on the way. The lengths
+// come as two words, not as a slice, so that the compiler knows how many there are.
 pub fn way_up(
+    leaves: &[u32],
+    inners: &mut [u32],
+    g: Shape,
+    delta: Lengths,
+    levels: u32,
+    k: LeafNo,
+    i: u32,
+) -> Sum
+    requires { ⌜ Area g (length (now leaves)) × Area g (length (now inners)) × (g .stride ≡ 3) × (levels ≤ 16) × (k .0 < g .nodes) × (i < g .fan) ⌝ }
+    ensures { λ r. ⌜ (r, now (inners .exit)) ≡ climbUp g 1 (listOf delta) levels (nodeAt g (k .0) (now (leaves .entry)) .parent) (nodeAt g (k .0) (now (leaves .entry)) .at) (start 1 i (nodeAt g (k .0) (now (leaves .entry)))) (now (inners .entry)) ⌝ }
+{
+    let ls: [u32; 2] = [delta.prepare, delta.effect];
+    let s = fixed(g);
+    climb(leaves, inners, s, 1, &ls, levels, k, i)
+}
+
+// The same where the sum is asked for; else 0 is answered for it.
+pub fn asked_way(
     leaves: &[u32],
     inners: &mut [u32],
     g: Shape,
@@ -102,11 +120,11 @@ pub fn way_up(
     requires { ⌜ Area g (length (now leaves)) × Area g (length (now inners)) × (g .stride ≡ 3) × (levels ≤ 16) × (k .0 < g .nodes) × (i < g .fan) ⌝ }
     ensures { λ r. ⌜ (r, now (inners .exit)) ≡ askedWay summed (climbUp g 1 (listOf delta) levels (nodeAt g (k .0) (now (leaves .entry)) .parent) (nodeAt g (k .0) (now (leaves .entry)) .at) (start 1 i (nodeAt g (k .0) (now (leaves .entry)))) (now (inners .entry))) ⌝ }
 {
+    if summed {
+        return way_up(leaves, inners, g, delta, levels, k, i);
+    }
     let ls: [u32; 2] = [delta.prepare, delta.effect];
     let s = fixed(g);
-    if summed {
-        return climb(leaves, inners, s, 1, &ls, levels, k, i);
-    }
     if !add_to_ancestors(leaves, inners, s, &ls, levels, k) {
         return Sum::Broken;
     }

@@ -17,7 +17,6 @@ plainFields f = record { kind = f .kind; flag = f .flag; rest = f .rest; a = f .
 abbrev pub callOf : Call → row.Call
 callOf (call.Reset l) = row.reset (listOf l)
 callOf (call.Insert i l) = row.insert (i .0) (listOf l)
-callOf (call.Add i l) = row.add (i .0) (listOf l)
 callOf (call.Split flag i l) = row.split flag (i .0) (listOf l)
 callOf (call.SetLengths i l) = row.setLengths (i .0) (listOf l)
 callOf (call.Update i l) = row.update (i .0) (listOf l)

@@ -14,7 +14,6 @@ ghost use Rattle.records.specs.Said.{plainFields, callOf, said};
 pub enum Call {
     Reset(Lengths),
     Insert(EntryId, Lengths),
-    Add(EntryId, Lengths),
     Split(bool, EntryId, Lengths),
     SetLengths(EntryId, Lengths),
     Update(EntryId, Lengths),
@@ -52,7 +51,7 @@ fn only(ok: bool, call: Call) -> Call
     if ok { call } else { Call::Malformed }
 }
 
-// What a record of each kind says.
+// What a record of each kind says; 3 is read as 2.
 fn by_kind(f: Fields) -> Call
     ensures { λ r. ⌜ callOf r ≡ getD (kinds (plainFields f)) (f .kind) row.malformed ⌝ }
 {
@@ -71,7 +70,7 @@ fn by_kind(f: Fields) -> Call
     match kind {
         1 => only(both(plain, no_id), Call::Reset(lengths)),
         2 => only(plain, Call::Insert(id, lengths)),
-        3 => only(plain, Call::Add(id, lengths)),
+        3 => only(plain, Call::Insert(id, lengths)),
         4 => only(binary, Call::Split(flag == 1, id, lengths)),
         5 => only(plain, Call::SetLengths(id, lengths)),
         6 => only(plain, Call::Update(id, lengths)),

@@ -55,7 +55,7 @@ module _ (f : Fields) (a : f .a < 4294967296) (b : f .b < 4294967296) (c : f .c 
           (
             only-words (plain f) (row.insert (f .a) (listOf (lengthsOf f))) changing,
             (
-              only-words (plain f) (row.add (f .a) (listOf (lengthsOf f))) changing,
+              only-words (plain f) (row.insert (f .a) (listOf (lengthsOf f))) changing,
               (
                 only-words (binary f) (row.split (eqb (f .flag) 1) (f .a) (listOf (lengthsOf f))) changing,
                 (

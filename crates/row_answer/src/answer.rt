@@ -9,7 +9,6 @@ use model::answer::Inserted;
 use model::answer::InsertedReply;
 use model::answer::Measured;
 use model::answer::Named;
-use model::answer::NamedReply;
 use model::answer::Number;
 use model::answer::NumberReply;
 use model::answer::Outcome;
@@ -157,12 +156,4 @@ pub fn updated(reply: NumberReply) -> Step
     let head = reply.head;
     let answer = reply.answer;
     number(head, answer)
-}
-
-pub fn added(reply: NamedReply) -> Step
-    ensures { λ r. ⌜ r ≡ stepOf (reply .head) (namedAnswer (reply .answer)) ⌝ }
-{
-    let head = reply.head;
-    let answer = reply.answer;
-    named(head, answer)
 }

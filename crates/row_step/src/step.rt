@@ -3,7 +3,6 @@ use by_id::change::reset;
 use by_id::change::set_lengths;
 use by_id::change::split_entry;
 use by_id::change::update;
-use by_id_insert::insert::add;
 use by_id_insert::insert::insert;
 use by_id_read::look::locate;
 use by_id_read::order::cmp;
@@ -15,7 +14,6 @@ use by_id_read::read::lengths;
 use model::head::Head;
 use records::call::Call;
 use row_answer::answer::Step;
-use row_answer::answer::added;
 use row_answer::answer::compared;
 use row_answer::answer::divided;
 use row_answer::answer::following;
@@ -47,7 +45,6 @@ pub fn step(
     match call {
         Call::Reset(l) => outcome(reset(head, leaves, inners, homes, l)),
         Call::Insert(i, l) => inserted(insert(head, leaves, inners, homes, i, l)),
-        Call::Add(i, l) => added(add(head, leaves, inners, homes, i, l)),
         Call::Split(before, i, l) => divided(split_entry(
             head,
             leaves,

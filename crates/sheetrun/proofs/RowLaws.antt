@@ -36,7 +36,6 @@ step-limit : (r : Row) (c : Call) → rowStep base r c .after .limit ≡ r .limi
 unfolding rowStep
 step-limit r (row.reset l) = refl
 step-limit r (row.insert i l) = unless-limit r _ _ _
-step-limit r (row.add i l) = unless-limit r _ _ _
 step-limit r (row.split flag i l) = unless-limit r _ _ _
 step-limit r (row.setLengths i l) = unless-limit r _ _ _
 step-limit r (row.update i l) = unless-limit r _ _ _

@@ -7,28 +7,23 @@ use lib.Dec.{ltb}
 use Rattle.model.specs.Length.{viewNumber}
 use Rattle.model.specs.Kind.{base}
 use Rattle.model.specs.Row.{Answer, refused}
-use Rattle.model.specs.Answer.{outcomeAnswer, numberAnswer, namedAnswer, selectedAnswer, locatedAnswer, insertedAnswer}
+use Rattle.model.specs.Answer.{outcomeAnswer, numberAnswer, selectedAnswer, locatedAnswer}
 use Rattle.model.specs.Calls as calls
 use Rattle.model.specs.Calls.{Reply, reply, lessPositions}
 use Rattle.model.specs.declared.answer.Number.{Number}
 use Rattle.model.specs.declared.answer.Number.the-variants as number
-use Rattle.model.specs.declared.answer.Inserted.{Inserted}
-use Rattle.model.specs.declared.answer.Inserted.the-variants as inserted
 use Rattle.model.specs.declared.answer.Located.{Located}
 use Rattle.model.specs.declared.answer.Located.the-variants as located
-use Rattle.marshal.specs.Flat.{badHead, viewFrom, cursorFrom, lengthsFrom, targetFrom, headAfter, numberOf, selectedOf, locatedOf, insertedOf}
+use Rattle.marshal.specs.Flat.{badHead, viewFrom, cursorFrom, lengthsFrom, headAfter, numberOf, selectedOf, locatedOf}
 use Rattle.marshal.specs.declared.flat.FlatCursor.{FlatCursor}
 use Rattle.marshal.specs.declared.flat.FlatLengths.{FlatLengths}
 use Rattle.marshal.specs.declared.flat.FlatNumber.{FlatNumber}
 use Rattle.marshal.specs.declared.flat.FlatSelected.{FlatSelected}
 use Rattle.marshal.specs.declared.flat.FlatLocated.{FlatLocated}
-use Rattle.marshal.specs.declared.flat.FlatInserted.{FlatInserted}
 use Rattle.calls_size.specs.Size as size
 use Rattle.calls_size.proofs.SizeLaws.{update-is, set-is}
-use Rattle.calls_insert.specs.Put as put
-use Rattle.calls_insert.proofs.PutLaws.{insert-is, add-is}
 use Rattle.smelvock.specs.Reads.{Given, stateOf}
-use Rattle.smelvock.specs.Changes.{Left, left, leftBy, numberAlone, locate, charIndexToEntry, setLengths, update, insert, add}
+use Rattle.smelvock.specs.Changes.{Left, left, leftBy, numberAlone, locate, charIndexToEntry, setLengths, update}
 use Rattle.smelvock.specs.Shared as shared
 
 -- k of the reply's words
@@ -82,28 +77,3 @@ resize-set g c l r w ls xs hs e =
     ap (lessLeft alone) e
     ∙ less-by numberOf numberAnswer numberAlone outcomeAnswer size.unnumbered alone refl alone-answer alone-answer (badHead (g .head)) g y
     ∙ ap (leftBy numberAlone outcomeAnswer headAfter (badHead (g .head)) g) (set-is (stateOf g) (cursorFrom c) (lengthsFrom l) y refl)
-
--- an entry more: with the position, and without
-pub enter-insert : (g : Given) (end : ℕ) (c : FlatCursor) (l : FlatLengths) → shared.enter true g end c l ≡ insert g end c l
-unfolding shared.enter insert
-enter-insert g end c l = ap (leftBy insertedOf insertedAnswer headAfter (badHead (g .head) || ltb 1 end) g) (insert-is (stateOf g) (targetFrom end c) (lengthsFrom l))
-
-abbrev idOf : FlatInserted → FlatNumber
-idOf r = record { number = r .number; value = r .id }
-
-id-answer : (a : Inserted) → idOf (insertedOf (insertedAnswer a)) ≡ numberOf (namedAnswer (put.unplaced a))
-id-answer (inserted.At i p) = refl
-id-answer (inserted.Refused n) = refl
-
-id-number : (a : Inserted) → insertedAnswer a .number ≡ namedAnswer (put.unplaced a) .number
-id-number (inserted.At i p) = refl
-id-number (inserted.Refused n) = refl
-
-pub enter-add : (g : Given) (end : ℕ) (c : FlatCursor) (l : FlatLengths) (r : FlatInserted) (w ls xs hs : List ℕ) → left r w ls xs hs ≡ shared.enter false g end c l
-    → left (idOf r) w ls xs hs ≡ add g end c l
-unfolding shared.enter add
-enter-add g end c l r w ls xs hs e =
-    let y = put.enter false (stateOf g) (targetFrom end c) (lengthsFrom l) in
-    ap (lessLeft idOf) e
-    ∙ less-by insertedOf insertedAnswer numberOf namedAnswer put.unplaced idOf refl id-answer id-number (badHead (g .head) || ltb 1 end) g y
-    ∙ ap (leftBy numberOf namedAnswer headAfter (badHead (g .head) || ltb 1 end) g) (add-is (stateOf g) (targetFrom end c) (lengthsFrom l) y refl)

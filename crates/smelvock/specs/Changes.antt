@@ -9,7 +9,7 @@ use lib.Dec.{ltb, eqb}
 use Rattle.model.specs.Length.{listOf, viewNumber}
 use Rattle.model.specs.Kind.{base}
 use Rattle.model.specs.Row.{Answer, refused}
-use Rattle.model.specs.Answer.{outcomeAnswer, numberAnswer, namedAnswer, selectedAnswer, locatedAnswer, insertedAnswer, dividedAnswer}
+use Rattle.model.specs.Answer.{outcomeAnswer, numberAnswer, selectedAnswer, locatedAnswer, insertedAnswer, dividedAnswer}
 use Rattle.model.specs.Calls as calls
 use Rattle.model.specs.Calls.{Reply}
 use Rattle.model.specs.declared.head.Head.{Head}
@@ -67,9 +67,6 @@ update g c l = leftBy numberOf numberAnswer headAfter (badHead (g .head)) g (cal
 unfoldable pub insert : Given → ℕ → FlatCursor → FlatLengths → Left FlatInserted
 insert g end c l =
     leftBy insertedOf insertedAnswer headAfter (badHead (g .head) || ltb 1 end) g (calls.insert base (stateOf g) (targetFrom end c) (listOf (lengthsFrom l)))
-
-unfoldable pub add : Given → ℕ → FlatCursor → FlatLengths → Left FlatNumber
-add g end c l = leftBy numberOf namedAnswer headAfter (badHead (g .head) || ltb 1 end) g (calls.add base (stateOf g) (targetFrom end c) (listOf (lengthsFrom l)))
 
 unfoldable pub splitEntry : Given → FlatCursor → FlatLengths → ℕ → Left FlatDivided
 splitEntry g c l before =

@@ -1,5 +1,5 @@
 // The exported calls that change lengths or add an entry.
-use calls_insert::insert::enter;
+use calls_insert::insert::insert;
 use calls_size::size::resize;
 use calls_split::split::split_entry;
 use marshal::answered::divided_of;
@@ -86,38 +86,6 @@ pub extern "C" fn smelvock_update(
     resized(head, leaves, inners, homes, at, lengths, true)
 }
 
-// Both exports that insert an entry.
-fn entered(
-    head: &mut [u32],
-    leaves: &mut [u32],
-    inners: &mut [u32],
-    homes: &mut [u32],
-    end: u32,
-    before: FlatCursor,
-    lengths: FlatLengths,
-    summed: bool,
-) -> FlatInserted
-    ensures { λ r. ⌜ left r (now (head .exit)) (now (leaves .exit)) (now (inners .exit)) (now (homes .exit)) ≡ shared.enter summed (given (now (head .entry)) (now (leaves .entry)) (now (inners .entry)) (now (homes .entry))) end before lengths ⌝ }
-{
-    if bad_flag(head, end) {
-        return refused_inserted(10);
-    }
-    let r = enter(
-        head_from(head),
-        leaves,
-        inners,
-        homes,
-        target_from(end, before),
-        lengths_from(lengths),
-        summed,
-    );
-    let after = r.head;
-    let answer = r.answer;
-    let a = inserted_of(answer);
-    settle(head, a.number, after);
-    a
-}
-
 #[no_mangle]
 pub extern "C" fn smelvock_insert(
     head: &mut [u32],
@@ -130,26 +98,22 @@ pub extern "C" fn smelvock_insert(
 ) -> FlatInserted
     ensures { λ r. ⌜ left r (now (head .exit)) (now (leaves .exit)) (now (inners .exit)) (now (homes .exit)) ≡ flat.insert (given (now (head .entry)) (now (leaves .entry)) (now (inners .entry)) (now (homes .entry))) end before lengths ⌝ }
 {
-    entered(head, leaves, inners, homes, end, before, lengths, true)
-}
-
-#[no_mangle]
-pub extern "C" fn smelvock_add(
-    head: &mut [u32],
-    leaves: &mut [u32],
-    inners: &mut [u32],
-    homes: &mut [u32],
-    end: u32,
-    before: FlatCursor,
-    lengths: FlatLengths,
-) -> FlatNumber
-    ensures { λ r. ⌜ left r (now (head .exit)) (now (leaves .exit)) (now (inners .exit)) (now (homes .exit)) ≡ flat.add (given (now (head .entry)) (now (leaves .entry)) (now (inners .entry)) (now (homes .entry))) end before lengths ⌝ }
-{
-    let a = entered(head, leaves, inners, homes, end, before, lengths, false);
-    FlatNumber {
-        number: a.number,
-        value: a.id,
+    if bad_flag(head, end) {
+        return refused_inserted(10);
     }
+    let r = insert(
+        head_from(head),
+        leaves,
+        inners,
+        homes,
+        target_from(end, before),
+        lengths_from(lengths),
+    );
+    let after = r.head;
+    let answer = r.answer;
+    let a = inserted_of(answer);
+    settle(head, a.number, after);
+    a
 }
 
 #[no_mangle]

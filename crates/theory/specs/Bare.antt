@@ -151,7 +151,6 @@ module _ (K : Kind) (s : State) where
   unfolding treeStep
   step-bare (row.reset l) = outcome-bare (calls.reset K s l .answer)
   step-bare (row.insert i l) = target-bare i (λ t. told (calls.insert K s t l) insertedAnswer) (λ t. inserted-bare (calls.insert K s t l .answer))
-  step-bare (row.add i l) = target-bare i (λ t. told (calls.add K s t l) namedAnswer) (λ t. named-bare (calls.add K s t l .answer))
   step-bare (row.split flag i l) = at-bare (calls.cursor K s i) (λ c. told (calls.splitEntry K s c l flag) byId.dividedAnswer) (λ c. parted-bare (calls.splitEntry K s c l flag .answer))
   step-bare (row.setLengths i l) = at-bare (calls.cursor K s i) (λ c. told (calls.setLengths K s c l) outcomeAnswer) (λ c. outcome-bare (calls.setLengths K s c l .answer))
   step-bare (row.update i l) = at-bare (calls.cursor K s i) (λ c. told (calls.update K s c l) numberAnswer) (λ c. number-bare (calls.update K s c l .answer))

@@ -120,12 +120,6 @@ module _ (K : Kind) (ok : K .effect < K .views) (s : State) (w : Sound K s) wher
         (λ e. plainly c (λ d. moved s (numberAnswer (calls.entryToCharIndex K s v d))) (row.rank v (entryAt K s c)) (k, word c e) refl e)
         (λ n q. ap (λ (z : Number). moved s (numberAnswer z)) (stopped (opening K s ++ atCursor K s c) number.Refused _ n (stops c n q)))
 
-    by-add : (c : Cursor) (l : List ℕ) → Words K l → Agrees K (cursorStep K s (by.add (target.Before c) l)) (entryStep K r (meant K s (by.add (target.Before c) l)))
-    unfolding cursorStep meant entryStep treeStep calls.add
-    by-add c l k = with-one c (told (calls.add K s (target.Before c) l) namedAnswer) (λ i. by.plain (row.add i l))
-        (λ e. plainly c (λ d. told (calls.add K s (target.Before d) l) namedAnswer) (row.add (entryAt K s c) l) (word c e, k) (rw (ne-eqb (entryAt K s c) noEntry (λ z. let y = small c e in omega arith))) e)
-        (λ n q. ap (λ (z : calls.Reply Named). told z namedAnswer) (stopped (calls.insertCauses K s (target.Before c) l) (λ m. calls.reply s (named.Refused m)) _ n (first-applies (opening K s ++ atCursor K s c) _ n (stops c n q))))
-
     by-set : (c : Cursor) (l : List ℕ) → Words K l → Agrees K (cursorStep K s (by.setLengths c l)) (entryStep K r (meant K s (by.setLengths c l)))
     unfolding cursorStep meant entryStep treeStep calls.setLengths
     by-set c l k = with-one c (told (calls.setLengths K s c l) outcomeAnswer) (λ i. by.plain (row.setLengths i l))
@@ -232,8 +226,6 @@ module _ (K : Kind) (ok : K .effect < K .views) (s : State) (w : Sound K s) wher
     cursor-step (by.reset l) k = step K ok s r h (row.reset l) k
     cursor-step (by.insert (target.Before c) l) k = by-insert c l k
     cursor-step (by.insert target.End l) k = step K ok s r h (row.insert noEntry l) (omega arith, k)
-    cursor-step (by.add (target.Before c) l) k = by-add c l k
-    cursor-step (by.add target.End l) k = step K ok s r h (row.add noEntry l) (omega arith, k)
     cursor-step (by.split flag c l) k = by-split flag c l k
     cursor-step (by.setLengths c l) k = by-set c l k
     cursor-step (by.update c l) k = by-update c l k

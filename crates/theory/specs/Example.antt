@@ -53,12 +53,12 @@ two p e a b = record { long = refl; small = (a, (b, tt)) }
 
 -- every kind of call
 abbrev calls : List Call
-calls = row.insert noEntry (pair 2 0) ∷ row.add 0 (pair 0 5) ∷ row.split true 0 (pair 1 1) ∷ row.setLengths 1 (pair 4 0) ∷ row.update 1 (pair 2 0) ∷ row.lookup 0 3
+calls = row.insert noEntry (pair 2 0) ∷ row.insert 0 (pair 0 5) ∷ row.split true 0 (pair 1 1) ∷ row.setLengths 1 (pair 4 0) ∷ row.update 1 (pair 2 0) ∷ row.lookup 0 3
     ∷ row.rank 1 1 ∷ row.next 1 ∷ row.compare 0 1 ∷ row.lengths 0 ∷ row.count ∷ row.first ∷ row.malformed ∷ row.reset (pair 1 1) ∷ []
 
 -- the same, looked up elsewhere
 abbrev calls′ : List Call
-calls′ = row.lookup 1 9 ∷ row.insert noEntry (pair 2 0) ∷ row.add 0 (pair 0 5) ∷ row.split true 0 (pair 1 1) ∷ row.setLengths 1 (pair 4 0) ∷ row.update 1 (pair 2 0)
+calls′ = row.lookup 1 9 ∷ row.insert noEntry (pair 2 0) ∷ row.insert 0 (pair 0 5) ∷ row.split true 0 (pair 1 1) ∷ row.setLengths 1 (pair 4 0) ∷ row.update 1 (pair 2 0)
     ∷ row.rank 1 1 ∷ row.next 1 ∷ row.compare 0 1 ∷ row.lengths 0 ∷ row.count ∷ row.first ∷ row.malformed ∷ row.reset (pair 1 1) ∷ []
 
 in-words : All (InWords base) calls

@@ -12,7 +12,7 @@ use Rattle.model.specs.Climb.{climbUp, lastDown}
 use Rattle.model.specs.Locate.{servedBy, fromRoot}
 use Rattle.model.specs.Place as place
 use Rattle.model.specs.Place.{Change}
-use Rattle.model.specs.Answer.{outcomeAnswer, numberAnswer, namedAnswer, insertedAnswer}
+use Rattle.model.specs.Answer.{outcomeAnswer, numberAnswer, insertedAnswer}
 use Rattle.model.specs.Refuse.{shapeOf, opening, atCursor, tooMuch, full}
 use Rattle.model.specs.Row as row
 use Rattle.model.specs.Row.{Call, Moved, noEntry}
@@ -34,7 +34,6 @@ use Rattle.model.specs.declared.answer.Standing.{Standing}
 use Rattle.model.specs.declared.answer.Standing.the-variants as standing
 use Rattle.model.specs.declared.answer.Outcome.the-variants as outcome
 use Rattle.model.specs.declared.answer.Number.the-variants as number
-use Rattle.model.specs.declared.answer.Named.the-variants as named
 use Rattle.model.specs.declared.answer.Located.the-variants as located
 use Rattle.model.specs.declared.answer.Inserted.the-variants as inserted′
 use Rattle.model.specs.declared.answer.Divided.the-variants as divided
@@ -161,11 +160,6 @@ module _ (K : Kind) (s : State) where
   insert-fixed t l = let r = calls.placed K s t l in let a = inserted′.At (calls.entryId (s .head .entries)) (r .1) in
       unless-fixed s (calls.insertCauses K s t l) inserted′.Refused (calls.settled s (r .0) inserted′.Refused a) (settled-fixed s (r .0) inserted′.Refused a (placed-fixed t l))
 
-  add-fixed : (t : Target) (l : List ℕ) → Fixed s (calls.add K s t l .after)
-  unfolding calls.add
-  add-fixed t l = let r = calls.placed K s t l in let a = named.Entry (calls.entryId (s .head .entries)) in
-      unless-fixed s (calls.insertCauses K s t l) named.Refused (calls.settled s (r .0) named.Refused a) (settled-fixed s (r .0) named.Refused a (placed-fixed t l))
-
   set-fixed : (c : Cursor) (l : List ℕ) → Fixed s (calls.setLengths K s c l .after)
   unfolding calls.setLengths
   set-fixed c l = let r = calls.resized K s c l in
@@ -214,7 +208,6 @@ module _ (K : Kind) (s : State) where
   unfolding treeStep
   step-fixed (row.reset l) = reset-fixed l
   step-fixed (row.insert i l) = target-fixed i (λ t. told (calls.insert K s t l) insertedAnswer) (λ t. insert-fixed t l)
-  step-fixed (row.add i l) = target-fixed i (λ t. told (calls.add K s t l) namedAnswer) (λ t. add-fixed t l)
   step-fixed (row.split flag i l) = at-fixed (calls.cursor K s i) (λ c. told (calls.splitEntry K s c l flag) dividedAnswer) (λ c. split-entry-fixed c l flag)
   step-fixed (row.setLengths i l) = at-fixed (calls.cursor K s i) (λ c. told (calls.setLengths K s c l) outcomeAnswer) (λ c. set-fixed c l)
   step-fixed (row.update i l) = at-fixed (calls.cursor K s i) (λ c. told (calls.update K s c l) numberAnswer) (λ c. update-fixed c l)
@@ -234,7 +227,6 @@ fixes K s =
     record {
       reset = reset-fixed K s;
       insert = insert-fixed K s;
-      add = add-fixed K s;
       split = split-entry-fixed K s;
       setLengths = set-fixed K s;
       update = update-fixed K s;

@@ -1,4 +1,4 @@
--- Insert and add on a sound state do what they do on the row.
+-- Insert on a sound state does what it does on the row.
 use mathlib.Core.Path.{_≡_, refl, sym, ap, ap₂, _∙_, subst}
 use mathlib.Core.Logic.{_≢_}
 use mathlib.Core.Bool.{Bool, true, false, cond, _&&_, _||_, not}
@@ -25,11 +25,10 @@ use Rattle.model.specs.Refuse as refuse′
 use Rattle.model.specs.Calls as calls
 use Rattle.model.specs.Calls.{cursorAt, entryId, placed, insertCauses}
 use Rattle.model.specs.ById.{withTarget, told, treeStep}
-use Rattle.model.specs.Answer.{insertedAnswer, namedAnswer}
+use Rattle.model.specs.Answer.{insertedAnswer}
 use Rattle.model.specs.declared.answer.Target.{Target}
 use Rattle.model.specs.declared.answer.Target.the-variants as target
 use Rattle.model.specs.declared.answer.Inserted.the-variants as insertion
-use Rattle.model.specs.declared.answer.Named.the-variants as named
 use Rattle.model.specs.declared.way.Leaf.the-variants as leaf
 use Rattle.abstract_tree.specs.Lists.{sumBy-append, All-map, All-cat}
 use Rattle.abstract_tree.specs.Levels.{Slot, len}
@@ -210,7 +209,3 @@ module _ (K : Kind) (ok : K .effect < K .views) (t : State) (w : Sound K t) wher
   unfolding treeStep rowStep calls.insert
   step-insert i l wl = target-step K ok t w i l wl insertion.Refused (λ p. insertion.At (entryId (t .head .entries)) p) insertedAnswer (done (length (entriesOf K t) ∷ row.total (K .effect) (before i (entriesOf K t)) ∷ [])) (λ n. refl)
       (λ n e. ap₂ (λ (c p : ℕ). done (c ∷ p ∷ [])) (sym (count-is K t w)) (sym e))
-
-  pub step-add : (i : ℕ) (l : List ℕ) (wl : length l ≡ K .views) → Agrees K (treeStep K t (row.add i l)) (rowStep K (rowOf K t) (row.add i l))
-  unfolding treeStep rowStep calls.add
-  step-add i l wl = target-step K ok t w i l wl named.Refused (λ p. named.Entry (entryId (t .head .entries))) namedAnswer (done (length (entriesOf K t) ∷ [])) (λ n. refl) (λ n e. ap (λ (c : ℕ). done (c ∷ [])) (sym (count-is K t w)))

@@ -71,7 +71,6 @@ row-eight : (K : Kind) (r : Row) (c : Call) → rowStep K r c .answer .number �
 unfolding rowStep
 row-eight K r (row.reset l) e = absurd (omega arith)
 row-eight K r (row.insert i l) e = leb-true (r .limit) (length (r .entries)) (eight-last 4 7 _ _ (leb (r .limit) (length (r .entries))) (λ z. omega arith) (λ z. omega arith) (sym (number-is r _ _ _) ∙ e))
-row-eight K r (row.add i l) e = leb-true (r .limit) (length (r .entries)) (eight-last 4 7 _ _ (leb (r .limit) (length (r .entries))) (λ z. omega arith) (λ z. omega arith) (sym (number-is r _ _ _) ∙ e))
 row-eight K r (row.split flag i l) e = leb-true (r .limit) (length (r .entries)) (eight-last 4 6 _ _ (leb (r .limit) (length (r .entries))) (λ z. omega arith) (λ z. omega arith) (sym (number-is r _ _ _) ∙ e))
 row-eight K r (row.setLengths i l) e = absurd (two-causes 8 4 7 _ _ (λ z. omega arith) (λ z. omega arith) (λ z. omega arith) (sym (number-is r _ _ _) ∙ e))
 row-eight K r (row.update i l) e = absurd (two-causes 8 4 7 _ _ (λ z. omega arith) (λ z. omega arith) (λ z. omega arith) (sym (number-is r _ _ _) ∙ e))
@@ -89,7 +88,6 @@ pub row-nine : (K : Kind) (r : Row) (c : Call) → rowStep K r c .answer .number
 unfolding rowStep
 row-nine K r (row.reset l) e = absurd (omega arith)
 row-nine K r (row.insert i l) e = three-causes 9 4 7 8 _ _ _ (λ z. omega arith) (λ z. omega arith) (λ z. omega arith) (λ z. omega arith) (sym (number-is r _ _ _) ∙ e)
-row-nine K r (row.add i l) e = three-causes 9 4 7 8 _ _ _ (λ z. omega arith) (λ z. omega arith) (λ z. omega arith) (λ z. omega arith) (sym (number-is r _ _ _) ∙ e)
 row-nine K r (row.split flag i l) e = three-causes 9 4 6 8 _ _ _ (λ z. omega arith) (λ z. omega arith) (λ z. omega arith) (λ z. omega arith) (sym (number-is r _ _ _) ∙ e)
 row-nine K r (row.setLengths i l) e = two-causes 9 4 7 _ _ (λ z. omega arith) (λ z. omega arith) (λ z. omega arith) (sym (number-is r _ _ _) ∙ e)
 row-nine K r (row.update i l) e = two-causes 9 4 7 _ _ (λ z. omega arith) (λ z. omega arith) (λ z. omega arith) (sym (number-is r _ _ _) ∙ e)
@@ -105,7 +103,6 @@ row-nine K r row.malformed e = absurd (omega arith)
 row-full : (K : Kind) (r : Row) (c : Call) → Adds c → r .limit ≤ length (r .entries) → rowStep K r c .answer .number ≢ 0
 unfolding rowStep
 row-full K r (row.insert i l) h f e = never-done 4 7 _ _ (leb (r .limit) (length (r .entries))) (λ z. omega arith) (λ z. omega arith) (le-leb (r .limit) (length (r .entries)) f) (sym (number-is r _ _ _) ∙ e)
-row-full K r (row.add i l) h f e = never-done 4 7 _ _ (leb (r .limit) (length (r .entries))) (λ z. omega arith) (λ z. omega arith) (le-leb (r .limit) (length (r .entries)) f) (sym (number-is r _ _ _) ∙ e)
 row-full K r (row.split flag i l) h f e = never-done 4 6 _ _ (leb (r .limit) (length (r .entries))) (λ z. omega arith) (λ z. omega arith) (le-leb (r .limit) (length (r .entries)) f) (sym (number-is r _ _ _) ∙ e)
 row-full K r (row.reset l) h f e = absurd h
 row-full K r (row.setLengths i l) h f e = absurd h
@@ -122,7 +119,6 @@ row-full K r row.malformed h f e = absurd h
 row-exactly : (K : Kind) (r : Row) (c : Call) → Adds c → earlier K r c ≡ 0 → r .limit ≤ length (r .entries) → rowStep K r c .answer .number ≡ 8
 unfolding rowStep
 row-exactly K r (row.insert i l) h z f = number-is r _ _ _ ∙ eight-then 4 7 _ _ (leb (r .limit) (length (r .entries))) (λ z. omega arith) (λ z. omega arith) (le-leb (r .limit) (length (r .entries)) f) z
-row-exactly K r (row.add i l) h z f = number-is r _ _ _ ∙ eight-then 4 7 _ _ (leb (r .limit) (length (r .entries))) (λ z. omega arith) (λ z. omega arith) (le-leb (r .limit) (length (r .entries)) f) z
 row-exactly K r (row.split flag i l) h z f = number-is r _ _ _ ∙ eight-then 4 6 _ _ (leb (r .limit) (length (r .entries))) (λ z. omega arith) (λ z. omega arith) (le-leb (r .limit) (length (r .entries)) f) z
 row-exactly K r (row.reset l) h z f = absurd h
 row-exactly K r (row.setLengths i l) h z f = absurd h

@@ -18,7 +18,7 @@ use Rattle.model.specs.Locate.{back, movedTo, walked, served, servedBy, descend
 use Rattle.model.specs.Place as place
 use Rattle.model.specs.Place.{Change}
 use Rattle.model.specs.Grow.{areas}
-use Rattle.model.specs.Answer.{outcomeAnswer, numberAnswer, namedAnswer, selectedAnswer, locatedAnswer, insertedAnswer, dividedAnswer}
+use Rattle.model.specs.Answer.{outcomeAnswer, numberAnswer, selectedAnswer, locatedAnswer, insertedAnswer, dividedAnswer}
 use Rattle.model.specs.Refuse.{shapeOf, opening, atCursor, tooMuch, past, full}
 use Rattle.model.specs.Row as row
 use Rattle.model.specs.Row.{Call, Answer, Moved, noEntry}
@@ -210,12 +210,6 @@ module _ (K : Kind) (s : State) where
       unless-leaves insertedAnswer inserted.Refused (λ n. refl) s (calls.insertCauses K s t l) (calls.settled s (r .0) inserted.Refused a)
       (λ e. settled-leaves insertedAnswer inserted.Refused (λ n. refl) s (r .0) a refl (placed-left t l w (opened K s (calls.targetCauses K s t ++ past K s [] l ∷ full s ∷ []) e .0)))
 
-  add-leaves : (t : Target) (l : List ℕ) → Words K l → Leaves (namedAnswer (calls.add K s t l .answer) .number) s (calls.add K s t l .after)
-  unfolding calls.add opening
-  add-leaves t l w = let r = calls.placed K s t l in let a = named.Entry (calls.entryId (s .head .entries)) in
-      unless-leaves namedAnswer named.Refused (λ n. refl) s (calls.insertCauses K s t l) (calls.settled s (r .0) named.Refused a)
-      (λ e. settled-leaves namedAnswer named.Refused (λ n. refl) s (r .0) a refl (placed-left t l w (opened K s (calls.targetCauses K s t ++ past K s [] l ∷ full s ∷ []) e .0)))
-
   set-leaves : (c : Cursor) (l : List ℕ) → Words K l → Leaves (outcomeAnswer (calls.setLengths K s c l .answer) .number) s (calls.setLengths K s c l .after)
   unfolding calls.setLengths opening
   set-leaves c l w = let r = calls.resized K s c l in
@@ -379,7 +373,6 @@ module _ (K : Kind) (s : State) where
   unfolding treeStep
   step-leaves (row.reset l) k = reset-leaves l k
   step-leaves (row.insert i l) k = target-leaves i (λ t. told (calls.insert K s t l) insertedAnswer) (λ t. insert-leaves t l (k .1))
-  step-leaves (row.add i l) k = target-leaves i (λ t. told (calls.add K s t l) namedAnswer) (λ t. add-leaves t l (k .1))
   step-leaves (row.split flag i l) k = at-leaves (calls.cursor K s i) (λ c. told (calls.splitEntry K s c l flag) byId.dividedAnswer) (λ c. rw (id-number (calls.splitEntry K s c l flag .answer)) (split-leaves c l flag (k .1)))
   step-leaves (row.setLengths i l) k = at-leaves (calls.cursor K s i) (λ c. told (calls.setLengths K s c l) outcomeAnswer) (λ c. set-leaves c l (k .1))
   step-leaves (row.update i l) k = at-leaves (calls.cursor K s i) (λ c. told (calls.update K s c l) numberAnswer) (λ c. update-leaves c l (k .1))
@@ -399,7 +392,6 @@ refusals K s =
     record {
       reset = reset-leaves K s;
       insert = insert-leaves K s;
-      add = add-leaves K s;
       split = split-leaves K s;
       setLengths = set-leaves K s;
       update = update-leaves K s;

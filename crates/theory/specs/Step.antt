@@ -14,14 +14,13 @@ use Rattle.theory.specs.Read.{step-count, step-lengths, step-rank, step-
 use Rattle.theory.specs.Compare.{step-compare}
 use Rattle.theory.specs.Looks.{step-lookup}
 use Rattle.theory.specs.Resize.{step-set, step-update}
-use Rattle.theory.specs.Inserts.{step-insert, step-add}
+use Rattle.theory.specs.Inserts.{step-insert}
 use Rattle.theory.specs.Splits.{step-split}
 
 own-step : (K : Kind) (ok : K .effect < K .views) (t : State) → Sound K t → (c : Call) → InWords K c → Agrees K (treeStep K t c) (rowStep K (rowOf K t) c)
 unfolding treeStep rowStep
 own-step K ok t w (row.reset l) h = step-reset K t w l h
 own-step K ok t w (row.insert i l) h = step-insert K ok t w i l (h .1 .long)
-own-step K ok t w (row.add i l) h = step-add K ok t w i l (h .1 .long)
 own-step K ok t w (row.split flag i l) h = step-split K t w flag i l (h .1 .long)
 own-step K ok t w (row.setLengths i l) h = step-set K ok t w i l (h .1 .long)
 own-step K ok t w (row.update i l) h = step-update K ok t w i l (h .1 .long)

@@ -64,7 +64,6 @@ unfolding rowStep
 lookup-keeps K r (row.lookup v x) e = unless-keeps r (row.noSuchPosition r v x ∷ []) (done (row.found K v x 0 0 0 (r .entries)))
 lookup-keeps K r (row.reset l) e = absurd (never e)
 lookup-keeps K r (row.insert i l) e = absurd (never e)
-lookup-keeps K r (row.add i l) e = absurd (never e)
 lookup-keeps K r (row.split flag i l) e = absurd (never e)
 lookup-keeps K r (row.setLengths i l) e = absurd (never e)
 lookup-keeps K r (row.update i l) e = absurd (never e)

@@ -67,8 +67,6 @@ module _ (K : Kind) (ok : K .effect < K .views) (s : State) (w : Sound K s) wher
   meant-nine (by.reset l) = tt
   meant-nine (by.insert (target.Before c) l) = one-nine c (λ i. by.plain (row.insert i l)) (λ i. tt)
   meant-nine (by.insert target.End l) = tt
-  meant-nine (by.add (target.Before c) l) = one-nine c (λ i. by.plain (row.add i l)) (λ i. tt)
-  meant-nine (by.add target.End l) = tt
   meant-nine (by.split flag c l) = one-nine c (λ i. by.parts flag i l) (λ i. tt)
   meant-nine (by.setLengths c l) = one-nine c (λ i. by.plain (row.setLengths i l)) (λ i. tt)
   meant-nine (by.update c l) = one-nine c (λ i. by.plain (row.update i l)) (λ i. tt)
@@ -92,7 +90,6 @@ cursor-fixed : (K : Kind) (s : State) (c : CursorCall) → cursorStep K s c .aft
 unfolding cursorStep
 cursor-fixed K s (by.reset l) = fixes K s .reset l .fan
 cursor-fixed K s (by.insert t l) = fixes K s .insert t l .fan
-cursor-fixed K s (by.add t l) = fixes K s .add t l .fan
 cursor-fixed K s (by.split flag c l) = fixes K s .split c l flag .fan
 cursor-fixed K s (by.setLengths c l) = fixes K s .setLengths c l .fan
 cursor-fixed K s (by.update c l) = fixes K s .update c l .fan

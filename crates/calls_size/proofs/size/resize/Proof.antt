@@ -20,8 +20,8 @@ replace-requires c κs =
     let open-resize = c .before .before .before .before .open-resize in
     both-in _ (args .at) _ (resize-stands _ (args .at) (args .lengths) _ _ (open-resize .ensures) (c .before .before .g .given .1))
 
-way-up-requires : tie.Need-way-up-requires
-way-up-requires c κs =
+asked-way-requires : tie.Need-asked-way-requires
+asked-way-requires c κs =
     let args = c .before .before .before .before .before .before .before .before .before .before .before .before .before .before .before .before .before .before .args in
     let open-resize = c .before .before .before .before .before .before .before .before .before .before .before .before .open-resize in
     let g = c .before .before .before .before .before .before .before .before .before .before .g in
@@ -61,8 +61,8 @@ returns-2 c =
     let open-resize = c .before .before .before .before .before .before .before .before .before .before .before .before .before .before .before .before .before .before .open-resize in
     let g = c .before .before .before .before .before .before .before .before .before .before .before .before .before .before .before .before .g in
     let replace = c .before .before .before .before .before .before .before .before .before .before .before .before .before .replace in
-    let way-up = c .before .before .before .before .before .way-up in
-    size-whole _ (args .at) (args .lengths) (args .summed) _ (open-resize .ensures) _ (g .given .1) _ _ _ _ (replace .ensures _ _) _ (way-up .ensures) _ (c .before .n2 .given .1)
+    let asked-way = c .before .before .before .before .before .asked-way in
+    size-whole _ (args .at) (args .lengths) (args .summed) _ (open-resize .ensures) _ (g .given .1) _ _ _ _ (replace .ensures _ _) _ (asked-way .ensures) _ (c .before .n2 .given .1)
 
 same-length-5 : tie.Need-same-length-5
 same-length-5 c = search needs
@@ -76,8 +76,8 @@ returns-3 c =
     let open-resize = c .before .before .before .before .before .before .before .before .before .before .before .before .before .before .before .before .before .open-resize in
     let g = c .before .before .before .before .before .before .before .before .before .before .before .before .before .before .before .g in
     let replace = c .before .before .before .before .before .before .before .before .before .before .before .before .replace in
-    let way-up = c .before .before .before .before .way-up in
-    size-broken _ (args .at) (args .lengths) (args .summed) _ (open-resize .ensures) _ (g .given .1) _ _ _ _ (replace .ensures _ _) _ (way-up .ensures) (c .enum-told .given .1)
+    let asked-way = c .before .before .before .before .asked-way in
+    size-broken _ (args .at) (args .lengths) (args .summed) _ (open-resize .ensures) _ (g .given .1) _ _ _ _ (replace .ensures _ _) _ (asked-way .ensures) (c .enum-told .given .1)
 
 pub resize-spec : {M : Type 1} → statement M
 resize-spec =
@@ -87,7 +87,7 @@ resize-spec =
     enum-known-n
     enum-known-g
     replace-requires
-    way-up-requires
+    asked-way-requires
     enum-known-n-2
     cast-t32
     enum-told

@@ -25,23 +25,14 @@ inserted-requires c κs = search needs
 enum-known-call-3 : tie.Need-enum-known-call-3
 enum-known-call-3 c = search needs
 
-add-requires : tie.Need-add-requires
-add-requires c κs = search needs
-
-added-requires : tie.Need-added-requires
-added-requires c κs = search needs
-
-enum-known-call-4 : tie.Need-enum-known-call-4
-enum-known-call-4 c = search needs
-
 split-entry-requires : tie.Need-split-entry-requires
 split-entry-requires c κs = search needs
 
 divided-requires : tie.Need-divided-requires
 divided-requires c κs = search needs
 
-enum-known-call-5 : tie.Need-enum-known-call-5
-enum-known-call-5 c = search needs
+enum-known-call-4 : tie.Need-enum-known-call-4
+enum-known-call-4 c = search needs
 
 set-lengths-requires : tie.Need-set-lengths-requires
 set-lengths-requires c κs = search needs
@@ -49,8 +40,8 @@ set-lengths-requires c κs = search needs
 outcome-requires-2 : tie.Need-outcome-requires-2
 outcome-requires-2 c κs = search needs
 
-enum-known-call-6 : tie.Need-enum-known-call-6
-enum-known-call-6 c = search needs
+enum-known-call-5 : tie.Need-enum-known-call-5
+enum-known-call-5 c = search needs
 
 update-requires : tie.Need-update-requires
 update-requires c κs = search needs
@@ -58,8 +49,8 @@ update-requires c κs = search needs
 updated-requires : tie.Need-updated-requires
 updated-requires c κs = search needs
 
-enum-known-call-7 : tie.Need-enum-known-call-7
-enum-known-call-7 c = search needs
+enum-known-call-6 : tie.Need-enum-known-call-6
+enum-known-call-6 c = search needs
 
 locate-requires : tie.Need-locate-requires
 locate-requires c κs = search needs
@@ -67,8 +58,8 @@ locate-requires c κs = search needs
 looked-requires : tie.Need-looked-requires
 looked-requires c κs = search needs
 
-enum-known-call-8 : tie.Need-enum-known-call-8
-enum-known-call-8 c = search needs
+enum-known-call-7 : tie.Need-enum-known-call-7
+enum-known-call-7 c = search needs
 
 entry-to-char-index-requires : tie.Need-entry-to-char-index-requires
 entry-to-char-index-requires c κs = search needs
@@ -76,8 +67,8 @@ entry-to-char-index-requires c κs = search needs
 number-requires : tie.Need-number-requires
 number-requires c κs = search needs
 
-enum-known-call-9 : tie.Need-enum-known-call-9
-enum-known-call-9 c = search needs
+enum-known-call-8 : tie.Need-enum-known-call-8
+enum-known-call-8 c = search needs
 
 next-requires : tie.Need-next-requires
 next-requires c κs = search needs
@@ -85,8 +76,8 @@ next-requires c κs = search needs
 following-requires : tie.Need-following-requires
 following-requires c κs = search needs
 
-enum-known-call-10 : tie.Need-enum-known-call-10
-enum-known-call-10 c = search needs
+enum-known-call-9 : tie.Need-enum-known-call-9
+enum-known-call-9 c = search needs
 
 cmp-requires : tie.Need-cmp-requires
 cmp-requires c κs = search needs
@@ -94,8 +85,8 @@ cmp-requires c κs = search needs
 compared-requires : tie.Need-compared-requires
 compared-requires c κs = search needs
 
-enum-known-call-11 : tie.Need-enum-known-call-11
-enum-known-call-11 c = search needs
+enum-known-call-10 : tie.Need-enum-known-call-10
+enum-known-call-10 c = search needs
 
 lengths-requires : tie.Need-lengths-requires
 lengths-requires c κs = search needs
@@ -169,8 +160,8 @@ same-length-9 c = search needs
 returns-3 : tie.Need-returns-3
 returns-3 c =
     let call3 = c .before .before .before .before .before .before .before .before .before .before .before .before .call3 in
-    let add = c .before .before .before .before .before .before .before .add in
-    by-call _ _ _ (call3 .given .1) _ _ _ _ _ (add .ensures) _ (c .added .ensures)
+    let split-entry = c .before .before .before .before .before .before .before .split-entry in
+    by-call _ _ _ (call3 .given .1) _ _ _ _ _ (split-entry .ensures) _ (c .divided .ensures)
 
 same-length-10 : tie.Need-same-length-10
 same-length-10 c = search needs
@@ -183,9 +174,9 @@ same-length-12 c = search needs
 
 returns-4 : tie.Need-returns-4
 returns-4 c =
-    let call4 = c .before .before .before .before .before .before .before .before .before .before .before .before .call4 in
-    let split-entry = c .before .before .before .before .before .before .before .split-entry in
-    by-call _ _ _ (call4 .given .1) _ _ _ _ _ (split-entry .ensures) _ (c .divided .ensures)
+    let call4 = c .before .before .before .before .before .before .before .before .before .before .call4 in
+    let set-lengths = c .before .before .before .before .before .set-lengths in
+    by-call _ _ _ (call4 .given .1) _ _ _ _ _ (set-lengths .ensures) _ (c .outcome2 .ensures)
 
 same-length-13 : tie.Need-same-length-13
 same-length-13 c = search needs
@@ -199,8 +190,8 @@ same-length-15 c = search needs
 returns-5 : tie.Need-returns-5
 returns-5 c =
     let call5 = c .before .before .before .before .before .before .before .before .before .before .call5 in
-    let set-lengths = c .before .before .before .before .before .set-lengths in
-    by-call _ _ _ (call5 .given .1) _ _ _ _ _ (set-lengths .ensures) _ (c .outcome2 .ensures)
+    let update = c .before .before .before .before .before .update in
+    by-call _ _ _ (call5 .given .1) _ _ _ _ _ (update .ensures) _ (c .updated .ensures)
 
 same-length-16 : tie.Need-same-length-16
 same-length-16 c = search needs
@@ -213,9 +204,8 @@ same-length-18 c = search needs
 
 returns-6 : tie.Need-returns-6
 returns-6 c =
-    let call6 = c .before .before .before .before .before .before .before .before .before .before .call6 in
-    let update = c .before .before .before .before .before .update in
-    by-call _ _ _ (call6 .given .1) _ _ _ _ _ (update .ensures) _ (c .updated .ensures)
+    let call6 = c .before .before .before .before .before .before .call6 in
+    by-call _ _ _ (call6 .given .1) _ _ _ _ _ (c .before .locate .ensures) _ (c .looked .ensures)
 
 same-length-19 : tie.Need-same-length-19
 same-length-19 c = search needs
@@ -229,7 +219,7 @@ same-length-21 c = search needs
 returns-7 : tie.Need-returns-7
 returns-7 c =
     let call7 = c .before .before .before .before .before .before .call7 in
-    by-call _ _ _ (call7 .given .1) _ _ _ _ _ (c .before .locate .ensures) _ (c .looked .ensures)
+    by-call _ _ _ (call7 .given .1) _ _ _ _ _ (c .before .entry-to-char-index .ensures) _ (c .number .ensures)
 
 same-length-22 : tie.Need-same-length-22
 same-length-22 c = search needs
@@ -243,7 +233,7 @@ same-length-24 c = search needs
 returns-8 : tie.Need-returns-8
 returns-8 c =
     let call8 = c .before .before .before .before .before .before .call8 in
-    by-call _ _ _ (call8 .given .1) _ _ _ _ _ (c .before .entry-to-char-index .ensures) _ (c .number .ensures)
+    by-call _ _ _ (call8 .given .1) _ _ _ _ _ (c .before .next .ensures) _ (c .following .ensures)
 
 same-length-25 : tie.Need-same-length-25
 same-length-25 c = search needs
@@ -257,7 +247,7 @@ same-length-27 c = search needs
 returns-9 : tie.Need-returns-9
 returns-9 c =
     let call9 = c .before .before .before .before .before .before .call9 in
-    by-call _ _ _ (call9 .given .1) _ _ _ _ _ (c .before .next .ensures) _ (c .following .ensures)
+    by-call _ _ _ (call9 .given .1) _ _ _ _ _ (c .before .cmp .ensures) _ (c .compared .ensures)
 
 same-length-28 : tie.Need-same-length-28
 same-length-28 c = search needs
@@ -271,7 +261,7 @@ same-length-30 c = search needs
 returns-10 : tie.Need-returns-10
 returns-10 c =
     let call10 = c .before .before .before .before .before .before .call10 in
-    by-call _ _ _ (call10 .given .1) _ _ _ _ _ (c .before .cmp .ensures) _ (c .compared .ensures)
+    by-call _ _ _ (call10 .given .1) _ _ _ _ _ (c .before .lengths .ensures) _ (c .measured .ensures)
 
 same-length-31 : tie.Need-same-length-31
 same-length-31 c = search needs
@@ -284,8 +274,8 @@ same-length-33 c = search needs
 
 returns-11 : tie.Need-returns-11
 returns-11 c =
-    let call11 = c .before .before .before .before .before .before .call11 in
-    by-call _ _ _ (call11 .given .1) _ _ _ _ _ (c .before .lengths .ensures) _ (c .measured .ensures)
+    let the-enum-told = c .before .before .before .before .before .enum-told in
+    by-call _ _ _ (the-enum-told .given .1) _ _ _ _ _ (c .before .len .ensures) _ (c .number2 .ensures)
 
 same-length-34 : tie.Need-same-length-34
 same-length-34 c = search needs
@@ -298,25 +288,11 @@ same-length-36 c = search needs
 
 returns-12 : tie.Need-returns-12
 returns-12 c =
-    let the-enum-told = c .before .before .before .before .before .enum-told in
-    by-call _ _ _ (the-enum-told .given .1) _ _ _ _ _ (c .before .len .ensures) _ (c .number2 .ensures)
-
-same-length-37 : tie.Need-same-length-37
-same-length-37 c = search needs
-
-same-length-38 : tie.Need-same-length-38
-same-length-38 c = search needs
-
-same-length-39 : tie.Need-same-length-39
-same-length-39 c = search needs
-
-returns-13 : tie.Need-returns-13
-returns-13 c =
     let enum-told2 = c .before .before .before .before .before .enum-told2 in
     by-call _ _ _ (enum-told2 .given .1) _ _ _ _ _ (c .before .first .ensures) _ (c .named .ensures)
 
-returns-14 : tie.Need-returns-14
-returns-14 c = by-none _ _ (c .before .enum-told3 .given .1) _ (c .refuse .ensures)
+returns-13 : tie.Need-returns-13
+returns-13 c = by-none _ _ (c .before .enum-told3 .given .1) _ (c .refuse .ensures)
 
 pub step-spec : {M : Type 1} → statement M
 step-spec =
@@ -329,30 +305,27 @@ step-spec =
     insert-requires
     inserted-requires
     enum-known-call-3
-    add-requires
-    added-requires
-    enum-known-call-4
     split-entry-requires
     divided-requires
-    enum-known-call-5
+    enum-known-call-4
     set-lengths-requires
     outcome-requires-2
-    enum-known-call-6
+    enum-known-call-5
     update-requires
     updated-requires
-    enum-known-call-7
+    enum-known-call-6
     locate-requires
     looked-requires
-    enum-known-call-8
+    enum-known-call-7
     entry-to-char-index-requires
     number-requires
-    enum-known-call-9
+    enum-known-call-8
     next-requires
     following-requires
-    enum-known-call-10
+    enum-known-call-9
     cmp-requires
     compared-requires
-    enum-known-call-11
+    enum-known-call-10
     lengths-requires
     measured-requires
     enum-told
@@ -411,8 +384,4 @@ step-spec =
     same-length-35
     same-length-36
     returns-12
-    same-length-37
-    same-length-38
-    same-length-39
-    returns-13
-    returns-14)
+    returns-13)

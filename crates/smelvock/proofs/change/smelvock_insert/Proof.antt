@@ -1,16 +1,59 @@
--- `smelvock::change::smelvock_insert`: `entered` with the position asked for.
+-- `smelvock::change::smelvock_insert`: 10 where head or flag is bad, else the call's answer in words, and its head where it was done.
 use borrow.Author.Needs.{needs}
-use mathlib.Core.Path.{_∙_}
+use mathlib.Core.Path.{refl, sym, _∙_}
+use Rattle.marshal.specs.Flat.{headAfter, insertedOf}
+use Rattle.model.specs.Length.{listOf}
+use Rattle.model.specs.Kind.{base}
+use Rattle.model.specs.Answer.{insertedAnswer}
+use Rattle.model.specs.State.{state}
 use Rattle.smelvock.specs.Reads.{given}
-use Rattle.smelvock.proofs.LessLaws.{enter-insert}
+use Rattle.smelvock.specs.Changes as flat
+use Rattle.smelvock.proofs.FlatLaws.{reply-refused, reply-settled, ap₃}
+use Rattle.marshal.proofs.HeadLaws.{good-flag}
+use Rattle.model.specs.Calls as calls
+use Rattle.model.specs.declared.head.Head.{Head}
+use Rattle.model.specs.declared.answer.Target.{Target}
+use Rattle.model.specs.declared.length.Lengths.{Lengths}
+use Rattle.marshal.specs.declared.flat.FlatInserted.{FlatInserted}
 use Rattle.smelvock.proofs.change.smelvock_insert.Statement.{statement}
 use Rattle.smelvock.proofs.change.smelvock_insert.Tie as tie
 
-entered-requires : tie.Need-entered-requires
-entered-requires c κs = search needs
+bad-flag-requires : tie.Need-bad-flag-requires
+bad-flag-requires c κs = search needs
+
+refused-inserted-requires : tie.Need-refused-inserted-requires
+refused-inserted-requires c κs = search needs
 
 same-length : tie.Need-same-length
 same-length c = search needs
+
+returns : tie.Need-returns
+unfolding flat.insert
+returns c =
+    let a = c .before .before .before .before .before .before .before .before .args in
+    reply-refused insertedOf insertedAnswer headAfter _ (given (a .head .now) (a .leaves .now) (a .inners .now) (a .homes .now)) _ _
+    (sym (c .before .before .bad-flag .ensures) ∙ c .before .if1 .taken) (c .refused-inserted .ensures)
+
+head-from-requires : tie.Need-head-from-requires
+head-from-requires c κs = good-flag _ _ (sym (c .before .before .bad-flag .ensures) ∙ c .before .if1 .left)
+
+target-from-requires : tie.Need-target-from-requires
+target-from-requires c κs = search needs
+
+lengths-from-requires : tie.Need-lengths-from-requires
+lengths-from-requires c κs = search needs
+
+insert-requires : tie.Need-insert-requires
+insert-requires c κs = search needs
+
+inserted-of-requires : tie.Need-inserted-of-requires
+inserted-of-requires c κs = search needs
+
+settle-requires : tie.Need-settle-requires
+settle-requires c κs =
+    let bad-flag = c .before .before .before .before .before .before .before .before .before .before .before .before .before .before .before .before .before .before .bad-flag in
+    let if1 = c .before .before .before .before .before .before .before .before .before .before .before .before .before .before .before .before .before .if1 in
+    good-flag _ _ (sym (bad-flag .ensures) ∙ if1 .left)
 
 same-length-2 : tie.Need-same-length-2
 same-length-2 c = search needs
@@ -21,11 +64,32 @@ same-length-3 c = search needs
 same-length-4 : tie.Need-same-length-4
 same-length-4 c = search needs
 
-returns : tie.Need-returns
-returns c =
-    let a = c .before .before .before .before .before .before .before .before .before .before .before .before .before .before .before .before .before .args in
-    c .before .before .before .before .before .before .before .before .entered .ensures
-    ∙ enter-insert (given (a .head .now) (a .leaves .now) (a .inners .now) (a .homes .now)) (a .end) (a .before) (a .lengths)
+same-length-5 : tie.Need-same-length-5
+same-length-5 c = search needs
+
+returns-2 : tie.Need-returns-2
+unfolding flat.insert
+returns-2 c =
+    let a = c .before .before .before .before .before .before .before .before .before .before .before .before .before .before .before .before .before .before .before .before .before .before .before .before .before .before .before .args in
+    reply-settled insertedOf insertedAnswer (λ (q : FlatInserted). q .number) (λ x. refl) _ (given (a .head .now) (a .leaves .now) (a .inners .now) (a .homes .now)) _ _ _ _ _ _ _ _
+    (sym (c .before .before .before .before .before .before .before .before .before .before .before .before .before .before .before .before .before .before .before .before .before .bad-flag .ensures) ∙ c .before .before .before .before .before .before .before .before .before .before .before .before .before .before .before .before .before .before .before .before .if1 .left) (c .before .before .before .before .inserted-of .ensures) (c .before .before .settle .ensures) (c .before .before .before .before .before .before .before .before .before .before .before .before .insert .ensures ∙ ap₃ (λ (h : Head) (t : Target) (l : Lengths). calls.insert base (state h (a .leaves .now) (a .inners .now) (a .homes .now)) t (listOf l)) (c .before .before .before .before .before .before .before .before .before .before .before .before .before .before .before .before .before .before .head-from .ensures) (c .before .before .before .before .before .before .before .before .before .before .before .before .before .before .target-from .ensures) (c .before .before .before .before .before .before .before .before .before .before .before .before .before .lengths-from .ensures))
 
 pub smelvock-insert-spec : {M : Type 1} → statement M
-smelvock-insert-spec = tie.close (tie.spec entered-requires same-length same-length-2 same-length-3 same-length-4 returns)
+smelvock-insert-spec =
+    tie.close
+    (tie.spec
+    bad-flag-requires
+    refused-inserted-requires
+    same-length
+    returns
+    head-from-requires
+    target-from-requires
+    lengths-from-requires
+    insert-requires
+    inserted-of-requires
+    settle-requires
+    same-length-2
+    same-length-3
+    same-length-4
+    same-length-5
+    returns-2)
