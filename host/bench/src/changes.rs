@@ -38,8 +38,6 @@ pub fn growth<const N: usize>(table: &mut Table, entries: u32) {
     };
     filling("insert at the end", Way::InsertAtEnd);
     filling("insert, random + cursor", Way::Insert);
-    filling("add at the end", Way::AddAtEnd);
-    filling("add, random + cursor", Way::Add);
     filling("split_entry, random + cursor", Way::Split);
     filling("locate, split, update, insert", Way::Edit);
     let mut trees = (rust(), port());
@@ -55,8 +53,6 @@ pub fn growth<const N: usize>(table: &mut Table, entries: u32) {
 enum Way {
     InsertAtEnd,
     Insert,
-    AddAtEnd,
-    Add,
     Split,
     Edit,
 }
@@ -71,8 +67,6 @@ fn fill<T: Calls>(tree: &mut T, entries: u32, way: Way) -> usize {
         match way {
             Way::InsertAtEnd => _ = black_box(tree.insert(None, lengths)),
             Way::Insert => _ = black_box(tree.insert(Some(tree.cursor(id)), lengths)),
-            Way::AddAtEnd => _ = black_box(tree.add(None, lengths)),
-            Way::Add => _ = black_box(tree.add(Some(tree.cursor(id)), lengths)),
             Way::Split => _ = black_box(tree.split_entry(tree.cursor(id), [0, 0], id % 2 == 0)),
             Way::Edit => near = edit(tree, near, count),
         }

@@ -92,9 +92,8 @@ pub struct Style {
 }
 
 /// How often each call stands in a list, beside resets.
-const WEIGHTS: [(Export, u64); 16] = [
-    (Export::Insert, 6),
-    (Export::Add, 6),
+const WEIGHTS: [(Export, u64); 15] = [
+    (Export::Insert, 12),
     (Export::SplitEntry, 8),
     (Export::SetLengths, 5),
     (Export::Update, 5),

@@ -95,7 +95,6 @@ impl<const N: usize> Both<N> {
         let (tree, at) = (&mut self.port.0, first.and_then(Result::ok));
         match call {
             Call::Insert { lengths, .. } => tree.insert(at, pair(lengths)).err(),
-            Call::Add { lengths, .. } => tree.add(at, pair(lengths)).err(),
             Call::Split { lengths, before, .. } => tree.split_entry(at?, pair(lengths), before).err(),
             Call::Set { lengths, .. } => tree.set_lengths(at?, pair(lengths)).err(),
             Call::Update { lengths, .. } => tree.update(at?, pair(lengths)).err(),

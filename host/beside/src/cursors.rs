@@ -8,9 +8,8 @@ use oracle::tree::{self, PrepareEffectTree};
 use smelvock::raw::{Cursor, Lengths};
 
 /// The calls that take cursors.
-pub const TAKING: [Export; 10] = [
+pub const TAKING: [Export; 9] = [
     Export::Insert,
-    Export::Add,
     Export::SplitEntry,
     Export::SetLengths,
     Export::Update,
@@ -21,7 +20,7 @@ pub const TAKING: [Export; 10] = [
     Export::Id,
 ];
 
-/// The other public calls of lib.rs, but for make.
+/// The other public calls of lib.rs, but for make and the retired `add`.
 pub const OTHERS: [Export; 7] = [
     Export::Locate,
     Export::CharIndexToEntry,
@@ -35,7 +34,7 @@ pub const OTHERS: [Export; 7] = [
 /// The cursors that a call tests, in order; at the end there is none.
 pub fn tested(export: Export, given: &Given) -> Vec<Cursor> {
     match export {
-        Export::Insert | Export::Add if given.end == 1 => vec![],
+        Export::Insert if given.end == 1 => vec![],
         Export::Cmp => vec![given.at, given.other],
         _ if TAKING.contains(&export) => vec![given.at],
         _ => vec![],
@@ -84,9 +83,9 @@ fn behind_cursors(state: &State, export: Export, given: &Given) -> u32 {
         Export::Cursor if given.id >= head.entry_count => 4,
         Export::Locate | Export::CharIndexToEntry if given.index as u64 >= totals[given.view as usize] => 5,
         Export::SplitEntry if (0..2).any(|view| new[view] > own()[view]) => 6,
-        Export::Insert | Export::Add if past([0, 0]) => 7,
+        Export::Insert if past([0, 0]) => 7,
         Export::SetLengths | Export::Update if past(own()) => 7,
-        Export::Insert | Export::Add | Export::SplitEntry if head.entry_count >= head.limit => 8,
+        Export::Insert | Export::SplitEntry if head.entry_count >= head.limit => 8,
         _ => 0,
     }
 }
@@ -110,7 +109,6 @@ pub fn answer<const N: usize>(tree: &mut PrepareEffectTree<N>, export: Export, g
             let (id, position) = tree.insert(before, lengths);
             return vec![id, position];
         }
-        Export::Add => return vec![tree.add(before, lengths)],
         Export::SplitEntry => {
             let (id, parts) = tree.split_entry(at, lengths, given.before == 1);
             return [vec![id], parts.map(|part| standing(tree, part)).concat()].concat();

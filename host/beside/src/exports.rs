@@ -142,13 +142,12 @@ pub enum Export {
     SetLengths,
     Update,
     Insert,
-    Add,
     SplitEntry,
     Print,
     Audit,
 }
 
-pub const EXPORTS: [Export; 20] = [
+pub const EXPORTS: [Export; 19] = [
     Export::New,
     Export::Reset,
     Export::Len,
@@ -165,7 +164,6 @@ pub const EXPORTS: [Export; 20] = [
     Export::SetLengths,
     Export::Update,
     Export::Insert,
-    Export::Add,
     Export::SplitEntry,
     Export::Print,
     Export::Audit,
@@ -221,7 +219,6 @@ impl Export {
                 let r = raw::insert(head, areas, end, at, lengths);
                 answer(r.number, &[r.id, r.position])
             }
-            Export::Add => number(raw::add(head, areas, end, at, lengths)),
             Export::SplitEntry => {
                 let r = raw::split_entry(head, areas, at, lengths, before);
                 let [a, b] = [r.first, r.second];

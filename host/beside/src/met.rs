@@ -28,7 +28,7 @@ const ODD: [Odd; 3] = [Odd::OldButRight, Odd::StampFirst, Odd::RightByChance];
 pub enum Thing {
     /// A call that tests cursors, and its number.
     Taking(Export, u32),
-    /// A call that tests none, insert and add at the end among them, and its number.
+    /// A call that tests none, insert at the end among them, and its number.
     Other(Export, u32),
     /// A comparison, by the numbers of its two cursors.
     Pair(u32, u32),
@@ -95,7 +95,7 @@ pub fn needed() -> Vec<Thing> {
         needed.extend((0..places).flat_map(|place| ODD.map(|odd| Thing::Odd(export, place, odd))));
     }
     needed.extend(FAULTS.into_iter().flat_map(|first| FAULTS.map(|second| Thing::Pair(first, second))));
-    needed.extend(OTHERS.into_iter().chain([Export::Insert, Export::Add]).map(|export| Thing::Other(export, 0)));
+    needed.extend(OTHERS.into_iter().chain([Export::Insert]).map(|export| Thing::Other(export, 0)));
     needed
 }
 

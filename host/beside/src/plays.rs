@@ -26,7 +26,7 @@ impl Plays for Tree {
 impl<const N: usize> Plays for PrepareEffectTree<N> {
     fn play(&mut self, export: Export, given: &Given) -> Answer {
         let done = match export {
-            Export::Reset | Export::Insert | Export::Add | Export::SplitEntry | Export::SetLengths | Export::Update => {
+            Export::Reset | Export::Insert | Export::SplitEntry | Export::SetLengths | Export::Update => {
                 change(self, export, given)
             }
             _ => ask(self, export, given),
@@ -56,7 +56,6 @@ fn change<const N: usize>(tree: &mut PrepareEffectTree<N>, export: Export, given
     match export {
         Export::Reset => tree.reset(lengths).map(|()| vec![]),
         Export::Insert => tree.insert(before, lengths).map(|(id, position)| vec![id, position]),
-        Export::Add => tree.add(before, lengths).map(|id| vec![id]),
         Export::SplitEntry => {
             let (id, parts) = tree.split_entry(at, lengths, given.before == 1)?;
             Ok([vec![id], parts.map(standing).concat()].concat())

@@ -72,9 +72,6 @@ impl<const N: usize> Calls for Port<N> {
     fn insert(&mut self, before: Option<Cursor>, lengths: [u32; 2]) -> (u32, u32) {
         done(self.0.insert(before, pair(lengths)))
     }
-    fn add(&mut self, before: Option<Cursor>, lengths: [u32; 2]) -> u32 {
-        done(self.0.add(before, pair(lengths)))
-    }
     fn split_entry(&mut self, at: Cursor, lengths: [u32; 2], before: bool) -> (u32, [Cursor; 2]) {
         done(self.0.split_entry(at, pair(lengths), before))
     }

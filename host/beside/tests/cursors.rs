@@ -65,7 +65,7 @@ fn four_leaves<const N: usize>() -> Beside<N, Tree> {
     let mut beside = Beside::new(Tree::of(&made::<N>(limit)), limit, [2, 1]);
     let given = Given { end: 1, lengths: pair([1, 2]).into(), ..Given::default() };
     for _ in 0..2 * N {
-        beside.play(Export::Add, &given).unwrap();
+        beside.play(Export::Insert, &given).unwrap();
     }
     assert_eq!(beside.state().head.leaf_count, 4);
     beside
@@ -111,7 +111,7 @@ fn every_cursor_around_a_small_tree() {
     for fan in FANS {
         let met = at_fan!(fan, N => around::<N>());
         println!("fan {fan}: {met}");
-        assert_eq!(met.calls, 8 * (fan as u64 + 3) * 5 * (9 + 8));
+        assert_eq!(met.calls, 8 * (fan as u64 + 3) * 5 * (8 + 8));
         for (number, export) in FAULTS.into_iter().flat_map(|number| TAKING.map(|export| (number, export))) {
             assert!(met.of(Thing::Taking(export, number)) > 0, "fan {fan}, {export:?}, {number}");
         }
@@ -132,7 +132,7 @@ fn number<const N: usize>(tree: &PrepareEffectTree<N>, export: Export, at: Curso
     answer.number
 }
 
-/// The cursor is refused by 3 in all ten calls. With the present stamp in its place it stands for that entry or fails by that number.
+/// The cursor is refused by 3 in all nine calls. With the present stamp in its place it stands for that entry or fails by that number.
 fn fails<const N: usize>(tree: &PrepareEffectTree<N>, old: Cursor, restamped: Result<u32, Refusal>) {
     let present = Cursor::from(raw::Cursor { stamp: tree.len().unwrap() as u32, ..old.into() });
     assert_eq!((tree.id(old), tree.id(present)), (Err(Refusal::STAMP), restamped));
@@ -142,10 +142,10 @@ fn fails<const N: usize>(tree: &PrepareEffectTree<N>, old: Cursor, restamped: Re
     }
 }
 
-/// A tree with those entries, each added at the end.
+/// A tree with those entries, each inserted at the end.
 fn grown<const N: usize>(entries: &[[u32; 2]]) -> PrepareEffectTree<N> {
     let mut tree = PrepareEffectTree::with_limit(40, pair(entries[0])).unwrap();
-    entries[1..].iter().for_each(|&lengths| assert!(tree.add(None, pair(lengths)).is_ok()));
+    entries[1..].iter().for_each(|&lengths| assert!(tree.insert(None, pair(lengths)).is_ok()));
     tree
 }
 
@@ -156,7 +156,7 @@ const FIVE: [[u32; 2]; 5] = [[1, 1], [2, 2], [3, 3], [4, 4], [5, 5]];
 fn the_cases_of_differences() {
     let mut tree = grown::<4>(&[[3, 3], [2, 0]]);
     let old = tree.cursor(1).unwrap();
-    tree.add(Some(tree.cursor(0).unwrap()), pair([0, 5])).unwrap();
+    tree.insert(Some(tree.cursor(0).unwrap()), pair([0, 5])).unwrap();
     fails(&tree, old, Ok(0));
     let mut tree = grown::<4>(&[[3, 3]]);
     let old = tree.cursor(0).unwrap();
@@ -165,11 +165,11 @@ fn the_cases_of_differences() {
 
     let mut tree = grown::<4>(&FIVE[..4]);
     let old = tree.cursor(3).unwrap();
-    tree.add(None, pair([5, 5])).unwrap();
+    tree.insert(None, pair([5, 5])).unwrap();
     fails(&tree, old, Err(Refusal::SLOT));
     let mut tree = grown::<32>(&[[1, 1]; 32]);
     let old = tree.cursor(31).unwrap();
-    tree.add(None, pair([1, 1])).unwrap();
+    tree.insert(None, pair([1, 1])).unwrap();
     fails(&tree, old, Err(Refusal::SLOT));
 
     let mut tree = grown::<4>(&FIVE);
@@ -179,7 +179,7 @@ fn the_cases_of_differences() {
 
     let mut tree = grown::<4>(&FIVE);
     let old = tree.cursor(1).unwrap();
-    tree.add(None, pair([6, 6])).unwrap();
+    tree.insert(None, pair([6, 6])).unwrap();
     fails(&tree, old, Ok(1));
 }
 
@@ -190,14 +190,14 @@ fn a_cursor_from_before_a_reset() {
     let mut tree = grown::<4>(&[[1, 1]; 7]);
     let cursors = [0, 1, 2, 3, 4, 5, 6].map(|id| tree.cursor(id).unwrap());
     tree.reset(pair([1, 1])).unwrap();
-    (1..5).for_each(|id| assert_eq!(tree.add(None, pair([1, 1])), Ok(id)));
+    (1..5).for_each(|id| assert_eq!(tree.insert(None, pair([1, 1])), Ok((id, id))));
     for _ in 0..2 {
-        tree.add(Some(tree.cursor(0).unwrap()), pair([1, 1])).unwrap();
+        tree.insert(Some(tree.cursor(0).unwrap()), pair([1, 1])).unwrap();
     }
     let gone = Err(Refusal::LEAF);
     assert_eq!(cursors.map(|at| tree.id(at)), [Ok(5), Ok(6), Ok(2), Ok(3), gone, gone, gone]);
     let last_of_four = tree.cursor(1).unwrap();
     tree.reset(pair([1, 1])).unwrap();
-    (1..7).for_each(|id| assert_eq!(tree.add(None, pair([1, 1])), Ok(id)));
+    (1..7).for_each(|id| assert_eq!(tree.insert(None, pair([1, 1])), Ok((id, id))));
     assert_eq!(tree.id(last_of_four), Err(Refusal::SLOT));
 }

@@ -23,7 +23,7 @@ struct StandIn {
 
 impl Plays for StandIn {
     fn play(&mut self, export: Export, given: &Given) -> Answer {
-        let at_end = matches!(export, Export::Insert | Export::Add) && given.end == 1;
+        let at_end = export == Export::Insert && given.end == 1;
         if export == self.only && !at_end {
             (self.wrong)(&mut self.tree, export, given)
         } else {

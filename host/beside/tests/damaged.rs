@@ -29,7 +29,7 @@ fn sound<const N: usize>(entries: u32) -> Tree {
     let mut tree = PrepareEffectTree::<N>::with_limit(entries + 3, pair([1, 7])).unwrap();
     for id in 1..entries {
         let before = (id % 3 != 0).then(|| tree.cursor(id * 7 % id).unwrap());
-        tree.add(before, pair([1 + id % 5, 3 + id % 11])).unwrap();
+        tree.insert(before, pair([1 + id % 5, 3 + id % 11])).unwrap();
     }
     tree.locate(View::Prepare, entries).unwrap();
     Tree::of(&tree)

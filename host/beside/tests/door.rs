@@ -67,7 +67,29 @@ fn lists_longer_than_the_limit() {
     }
     let full = [Record::new(3, 0, u32::MAX, 0, 1); 600];
     assert_eq!(door(&bytes(&full)), Ok(wanted(&full)));
-    println!("door: {} lists of 3,000 records, and 600 adds", 3 * SCALE);
+    println!("door: {} lists of 3,000 records, and 600 records of kind 3", 3 * SCALE);
+}
+
+/// A list with kind 3 gives the answers of the list with 2 in its stead, but for the kind byte; many of them have a position.
+#[test]
+fn kind_3_is_answered_as_kind_2() {
+    let (mut threes, mut placed) = (0, 0);
+    for (style, seed) in styles().into_iter().zip(0..) {
+        for run in 0..20 * SCALE {
+            let list = drawn(5_000 + run * 3 + seed, style, 400);
+            let as_two = |&record: &Record| Record { kind: if record.kind == 3 { 2 } else { record.kind }, ..record };
+            let twos: Vec<_> = list.iter().map(as_two).collect();
+            let [given, twos] = [&list, &twos].map(|list| door(&bytes(list)).expect("good lengths"));
+            for ((record, given), two) in list.iter().zip(given.chunks(16)).zip(twos.chunks(16)) {
+                assert_eq!((given[1], two[1]), (record.kind, as_two(record).kind));
+                assert_eq!((given[0], &given[2..]), (two[0], &two[2..]), "{record:?}");
+                threes += (record.kind == 3) as u64;
+                placed += (record.kind == 3 && given[8..12] != [0; 4]) as u64;
+            }
+        }
+    }
+    println!("door: {threes} records of kind 3, {placed} with a position above 0");
+    assert!(placed > 0 && placed < threes);
 }
 
 /// Every byte of a good record of every kind replaced by others: a field outside its values is number 10, all else is the row's.

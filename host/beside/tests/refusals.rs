@@ -15,10 +15,9 @@ static PLAYED: AtomicU64 = AtomicU64::new(0);
 
 use Export::*;
 
-/// Those that take a cursor, a view, the flag of the end or of the split.
-const AT: [Export; 8] = [Next, Id, Export::Lengths, Cmp, EntryToCharIndex, SetLengths, Update, SplitEntry];
+/// Those that take a cursor, and a view.
+const AT: [Export; 9] = [Next, Id, Export::Lengths, Cmp, EntryToCharIndex, SetLengths, Update, Insert, SplitEntry];
 const VIEWS: [Export; 3] = [CharIndexToEntry, Locate, EntryToCharIndex];
-const ADDING: [Export; 2] = [Insert, Add];
 
 /// Thirty entries of lengths (1 to 5, 1 to 3) with room for one more, a finger in the effect view, and what every export
 /// answers on it without a refusal.
@@ -26,7 +25,7 @@ fn whole<const N: usize>() -> (Tree, Given) {
     let mut tree = PrepareEffectTree::<N>::with_limit(31, pair([2, 3])).unwrap();
     for id in 1..30 {
         let before = (id % 3 != 0).then(|| tree.cursor(id * 7 % id).unwrap());
-        tree.add(before, pair([1 + id % 5, 1 + id % 3])).unwrap();
+        tree.insert(before, pair([1 + id % 5, 1 + id % 3])).unwrap();
     }
     tree.locate(View::Effect, 11).unwrap();
     let [at, other] = [4, 23].map(|id| tree.cursor(id).unwrap().into());
@@ -132,7 +131,7 @@ fn a_cursor_that_is_not_current_is_3_13_or_14() {
         }
         bad.extend(slots.map(|slot| (14, Cursor { slot, ..good })));
         for &(number, at) in &bad {
-            AT.iter().chain(&ADDING).for_each(|&export| refused(number, export, &tree, &Given { at, ..given }));
+            AT.iter().for_each(|&export| refused(number, export, &tree, &Given { at, ..given }));
             refused(number, Cmp, &tree, &Given { other: at, ..given });
             bad.iter().for_each(|&(_, other)| refused(number, Cmp, &tree, &Given { at, other, ..given }));
         }
@@ -143,14 +142,14 @@ fn a_cursor_that_is_not_current_is_3_13_or_14() {
 #[test]
 fn a_stale_or_foreign_cursor_is_3() {
     at_each_fan(|tree, given| {
-        for export in [Insert, Add, SplitEntry] {
+        for export in [Insert, SplitEntry] {
             let mut tree = tree.clone();
             assert_eq!(export.play(&mut tree, &given).number, 0);
             AT.iter().for_each(|&export| refused(3, export, &tree, &given));
         }
         let mut small = tree.clone();
         assert_eq!(Reset.play(&mut small, &given).number, 0);
-        AT.iter().chain(&ADDING).for_each(|&export| refused(3, export, &small, &given));
+        AT.iter().for_each(|&export| refused(3, export, &small, &given));
     });
 }
 
@@ -202,9 +201,7 @@ fn a_total_past_u32_is_7() {
     at_each_fan(|tree, given| {
         let totals = totals(&tree);
         let own = Export::Lengths.play(&mut tree.clone(), &given).values;
-        for (export, own) in
-            [(Insert, [0, 0]), (Add, [0, 0]), (SetLengths, [own[0], own[1]]), (Update, [own[0], own[1]])]
-        {
+        for (export, own) in [(Insert, [0, 0]), (SetLengths, [own[0], own[1]]), (Update, [own[0], own[1]])] {
             let most = Lengths { prepare: u32::MAX - totals[0] + own[0], effect: u32::MAX - totals[1] + own[1] };
             for end in [0, 1] {
                 let given = Given { lengths: most, end, ..given };
@@ -221,10 +218,10 @@ fn a_total_past_u32_is_7() {
 #[test]
 fn an_entry_more_than_the_limit_is_8() {
     at_each_fan(|mut tree, given| {
-        assert_eq!(Add.play(&mut tree, &given).number, 0);
+        assert_eq!(Insert.play(&mut tree, &given).number, 0);
         let at = Cursor { stamp: 31, ..given.at };
         for end in [0, 1] {
-            ADDING.iter().for_each(|&export| refused(8, export, &tree, &Given { at, end, ..given }));
+            refused(8, Insert, &tree, &Given { at, end, ..given });
         }
         let lengths = Lengths { prepare: 0, effect: 0 };
         refused(8, SplitEntry, &tree, &Given { at, lengths, ..given });
@@ -240,7 +237,7 @@ fn a_view_or_flag_outside_its_values_is_10() {
             let flagged = tree.with(PRESENT, bad);
             with_head.for_each(|&export| refused(10, export, &flagged, &given));
             VIEWS.iter().for_each(|&export| refused(10, export, &tree, &Given { view: bad, ..given }));
-            ADDING.iter().for_each(|&export| refused(10, export, &tree, &Given { end: bad, ..given }));
+            refused(10, Insert, &tree, &Given { end: bad, ..given });
             refused(10, SplitEntry, &tree, &Given { before: bad, ..given });
         }
     });
@@ -294,13 +291,13 @@ fn the_order_of_the_refusals_of_print() {
 #[test]
 fn the_order_of_the_refusals() {
     at_each_fan(|mut tree, given| {
-        assert_eq!(Add.play(&mut tree, &given).number, 0);
+        assert_eq!(Insert.play(&mut tree, &given).number, 0);
         let current = Cursor { stamp: 31, ..given.at };
         let wide = Lengths { prepare: u32::MAX, effect: u32::MAX };
         let all = Given { lengths: wide, view: 2, end: 2, before: 2, index: u32::MAX, ..given };
         let bad_fan = Tree { homes: Area::new(&[]), ..tree.with(FAN, 3) };
         let short = Tree { homes: Area::new(&[]), ..tree.clone() };
-        for export in [Locate, EntryToCharIndex, Insert, Add, SplitEntry] {
+        for export in [Locate, EntryToCharIndex, Insert, SplitEntry] {
             refused(10, export, &bad_fan, &all);
             let good = Given { view: 0, end: 0, before: 0, ..all };
             refused(1, export, &bad_fan, &good);
@@ -312,12 +309,10 @@ fn the_order_of_the_refusals() {
         let past = Cursor { slot, ..current };
         for (number, at) in [(3, Cursor { leaf, slot, ..given.at }), (3, given.at), (13, astray), (14, past)] {
             let bad = Given { at, ..good };
-            [Insert, Add, SplitEntry, SetLengths, Update]
-                .iter()
-                .for_each(|&export| refused(number, export, &tree, &bad));
+            [Insert, SplitEntry, SetLengths, Update].iter().for_each(|&export| refused(number, export, &tree, &bad));
         }
         let good = Given { at: current, ..good };
         refused(6, SplitEntry, &tree, &good);
-        [Insert, Add, SetLengths, Update].iter().for_each(|&export| refused(7, export, &tree, &good));
+        [Insert, SetLengths, Update].iter().for_each(|&export| refused(7, export, &tree, &good));
     });
 }

@@ -59,7 +59,7 @@ fn beside<const N: usize>(limit: u32, lengths: [u32; 2]) -> Driver<Both<N>> {
     Driver::beside(Both::make(limit, lengths), Row::make(limit, lengths), 0)
 }
 
-/// Inserts, adds and splits until there are so many entries, then changes and lookups that keep their number.
+/// Inserts and splits until there are so many entries, then changes and lookups that keep their number.
 fn grow<const N: usize>(driver: &mut Driver<Both<N>>, lister: &mut Lister, random: &mut Random, entries: u32) {
     while driver.row.count() < entries {
         let kind = 2 + random.below(3) as u8;
@@ -167,7 +167,7 @@ fn some<const N: usize>(entries: u32) -> PrepareEffectTree<N> {
     let mut tree = PrepareEffectTree::<N>::with_limit(entries, pair([1, 7])).unwrap();
     for id in 1..entries {
         let before = (id % 3 != 0).then(|| tree.cursor(id * 7 % id).unwrap());
-        tree.add(before, pair([id % 5, 3 + id % 11])).unwrap();
+        tree.insert(before, pair([id % 5, 3 + id % 11])).unwrap();
     }
     tree.locate(smelvock::View::Effect, entries).unwrap();
     tree

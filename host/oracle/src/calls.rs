@@ -34,7 +34,6 @@ pub trait Calls {
     fn set_lengths(&mut self, at: Self::Cursor, lengths: [u32; 2]);
     fn update(&mut self, at: Self::Cursor, lengths: [u32; 2]) -> u32;
     fn insert(&mut self, before: Option<Self::Cursor>, lengths: [u32; 2]) -> (u32, u32);
-    fn add(&mut self, before: Option<Self::Cursor>, lengths: [u32; 2]) -> u32;
     fn split_entry(&mut self, at: Self::Cursor, lengths: [u32; 2], before: bool) -> (u32, [Self::Cursor; 2]);
 }
 
@@ -87,9 +86,6 @@ impl<const N: usize> Calls for PrepareEffectTree<N> {
     fn insert(&mut self, before: Option<Cursor>, lengths: [u32; 2]) -> (u32, u32) {
         self.insert(before, pair(lengths))
     }
-    fn add(&mut self, before: Option<Cursor>, lengths: [u32; 2]) -> u32 {
-        self.add(before, pair(lengths))
-    }
     fn split_entry(&mut self, at: Cursor, lengths: [u32; 2], before: bool) -> (u32, [Cursor; 2]) {
         self.split_entry(at, pair(lengths), before)
     }
@@ -136,10 +132,6 @@ fn change<T: Calls>(tree: &mut T, call: Call, at: Option<T::Cursor>) -> Option<A
         Call::Insert { lengths, .. } => {
             let (id, effect) = tree.insert(at, lengths);
             ([id, effect, 0, 0], [Some(tree.cursor(id)), None])
-        }
-        Call::Add { lengths, .. } => {
-            let id = tree.add(at, lengths);
-            ([id, 0, 0, 0], [Some(tree.cursor(id)), None])
         }
         Call::Split { lengths, before, .. } => {
             let (id, cursors) = tree.split_entry(at?, lengths, before);

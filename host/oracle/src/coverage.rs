@@ -63,16 +63,16 @@ impl Coverage {
         ways.iter().all(|&count| count > 0)
     }
 
-    /// Notes an answered call with the heads before and after it and the leaf of the entry it names.
-    pub fn note(&mut self, call: Call, leaf: Option<u32>, before: &Head, after: &Head) {
-        self.kinds[call.kind() as usize] += 1;
+    /// Notes an answered call and the kind of its record, with the heads before and after it and the leaf of the entry it names.
+    pub fn note(&mut self, (call, kind): (Call, u8), leaf: Option<u32>, before: &Head, after: &Head) {
+        self.kinds[kind as usize] += 1;
         self.most_levels = self.most_levels.max(after.levels);
         match call {
             Call::Reset { .. } => {}
             Call::Lookup { view, index } | Call::Select { view, index } => {
                 self.note_lookup(view as u32, index, before.finger, after.finger)
             }
-            _ => self.note_change(call.kind(), leaf, before, after),
+            _ => self.note_change(kind, leaf, before, after),
         }
     }
 
@@ -137,9 +137,9 @@ impl CursorCoverage {
     }
 
     /// Notes an answered call: the call that its cursor was from, where it was handed one, and the cursors that it answered.
-    pub fn note(&mut self, call: Call, from: Option<Giver>, got: [Option<u32>; 2]) {
+    pub fn note(&mut self, (call, kind): (Call, u8), from: Option<Giver>, got: [Option<u32>; 2]) {
         if let Some(giver) = from {
-            self.handed.entry(giver).or_default()[call.kind() as usize] += 1;
+            self.handed.entry(giver).or_default()[kind as usize] += 1;
         }
         for giver in call.givers().into_iter().zip(got).filter_map(|(giver, got)| got.and(giver)) {
             *self.answered.entry(giver).or_default() += 1;

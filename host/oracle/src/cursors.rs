@@ -42,7 +42,7 @@ impl<T> Default for Held<T> {
 impl<T: Copy> Held<T> {
     /// Keeps what a call has answered. An entry more, or a reset, leaves no earlier cursor current.
     pub fn keep(&mut self, call: Call, got: [Option<T>; 2]) {
-        if matches!(call, Call::Reset { .. } | Call::Insert { .. } | Call::Add { .. } | Call::Split { .. }) {
+        if matches!(call, Call::Reset { .. } | Call::Insert { .. } | Call::Split { .. }) {
             self.0.clear();
         }
         for (giver, got) in call.givers().into_iter().zip(got) {
@@ -70,21 +70,23 @@ impl<T: Copy> Held<T> {
     }
 }
 
-/// One call of a list: what is asked for, nothing where a field of its record is bad, and where its cursor comes from.
+/// One call of a list: what is asked for, nothing where a field of its record is bad, by a record of which kind, and where its
+/// cursor comes from.
 #[derive(Clone, Copy, PartialEq, Eq, Debug)]
 pub struct Step {
     pub call: Option<Call>,
+    pub kind: u8,
     pub from: Source,
 }
 
 impl From<Call> for Step {
     fn from(call: Call) -> Step {
-        Step { call: Some(call), from: Source::Id }
+        Step { call: Some(call), kind: call.kind(), from: Source::Id }
     }
 }
 
 impl From<Record> for Step {
     fn from(record: Record) -> Step {
-        Step { call: record.call(), from: Source::Id }
+        Step { call: record.call(), kind: record.kind, from: Source::Id }
     }
 }

@@ -45,10 +45,10 @@ impl<S: Subject> Driver<S> {
     }
 
     pub fn play(&mut self, step: impl Into<Step>) -> Result<Line, Parted> {
-        let Step { call, from } = step.into();
+        let Step { call, kind, from } = step.into();
         let answer = self.row.answer(call);
         let reply = match call.filter(|_| answer.number == 0) {
-            Some(call) => Some(self.answered(call, from, answer)?),
+            Some(call) => Some(self.answered((call, kind), from, answer)?),
             None => {
                 if let Some(call) = call {
                     self.subject.refused(call, from, answer.number);
@@ -74,13 +74,13 @@ impl<S: Subject> Driver<S> {
     }
 
     /// A call that the row answered: the subject's fields and cursors must be the row's.
-    fn answered(&mut self, call: Call, from: Source, answer: Answer) -> Result<Reply, Parted> {
+    fn answered(&mut self, (call, kind): (Call, u8), from: Source, answer: Answer) -> Result<Reply, Parted> {
         let before = self.subject.head();
         let reply = self.subject.call(call, from);
         let leaf = reply.given[0].map(|seen| seen.place.leaf);
-        self.coverage.note(call, leaf, &before, &self.subject.head());
+        self.coverage.note((call, kind), leaf, &before, &self.subject.head());
         let got = meant(call, answer.fields);
-        self.cursors.note(call, self.held.handed(from).map(|(giver, _)| giver), got);
+        self.cursors.note((call, kind), self.held.handed(from).map(|(giver, _)| giver), got);
         self.held.keep(call, got);
         self.same("fields", reply.fields, answer.fields, (call, from))?;
         self.same("entries of the cursors given", reply.given.map(id), call.ids(), (call, from))?;
@@ -118,8 +118,7 @@ fn id(seen: Option<Seen>) -> Option<u32> {
 /// The entries at which the cursors that come out of a call must stand, given the row's answer.
 fn meant(call: Call, [first, ..]: [u32; 4]) -> [Option<u32>; 2] {
     match call {
-        Call::Insert { .. } | Call::Add { .. } => [Some(first), None],
-        Call::Lookup { .. } | Call::Select { .. } | Call::First => [Some(first), None],
+        Call::Insert { .. } | Call::Lookup { .. } | Call::Select { .. } | Call::First => [Some(first), None],
         Call::Next { .. } => [Some(first).filter(|&id| id != NONE), None],
         Call::Split { id, before: true, .. } => [Some(first), Some(id)],
         Call::Split { id, before: false, .. } => [Some(id), Some(first)],

@@ -100,7 +100,7 @@ impl Lister {
         };
         let call = record.call();
         let named = call.is_some_and(|call| call.ids()[0] == Some(id));
-        Step { call, from: if named { from } else { Source::Id } }
+        Step { call, kind: record.kind, from: if named { from } else { Source::Id } }
     }
 
     /// A record of that kind whose fields are good and whose entries exist.

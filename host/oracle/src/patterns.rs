@@ -70,7 +70,7 @@ fn starts(fan: u32) -> Vec<u32> {
     }
 }
 
-/// A tree of so many entries (2, 1), added at the end, whose finger was set at a prepare position.
+/// A tree of so many entries (2, 1), put at the end by records of kind 3, whose finger was set at a prepare position.
 /// There is room for four more.
 fn started(entries: u32, index: u32, setup: Setup) -> Driver<Box<dyn Subject>> {
     let mut driver = setup.driver(entries + 4, [2, 1]);
@@ -126,7 +126,7 @@ pub fn every_short_list_at_each_fan(alphabet: Alphabet, longest: u32, make: Make
     met
 }
 
-/// So many entries (1, 2), added at the end: their ids are their places.
+/// So many entries (1, 2), put at the end by records of kind 3: their ids are their places.
 fn row_of(entries: u32, limit: u32, setup: Setup) -> Driver<Box<dyn Subject>> {
     let mut driver = setup.driver(limit, [1, 2]);
     driver.play_all(&vec![record(3, 0, NONE, 1, 2); entries as usize - 1]).unwrap();

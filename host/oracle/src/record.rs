@@ -20,12 +20,8 @@ pub enum Call {
     Reset {
         lengths: [u32; 2],
     },
-    /// Before that id, or at the end for [`NONE`].
+    /// Before that id, or at the end for [`NONE`]. A record of kind 3, once lib.rs's `add`, asks for it too.
     Insert {
-        before: u32,
-        lengths: [u32; 2],
-    },
-    Add {
         before: u32,
         lengths: [u32; 2],
     },
@@ -122,8 +118,7 @@ impl Record {
         let (lengths, view) = ([self.b, self.c], self.byte1 as usize);
         Some(match self.kind {
             1 => Call::Reset { lengths },
-            2 => Call::Insert { before: self.a, lengths },
-            3 => Call::Add { before: self.a, lengths },
+            2 | 3 => Call::Insert { before: self.a, lengths },
             4 => Call::Split { id: self.a, lengths, before: self.byte1 == 1 },
             5 => Call::Set { id: self.a, lengths },
             6 => Call::Update { id: self.a, lengths },
@@ -142,7 +137,7 @@ impl Call {
     /// The ids of the entries that the call names; the end is none.
     pub fn ids(&self) -> [Option<u32>; 2] {
         match *self {
-            Call::Insert { before, .. } | Call::Add { before, .. } => [Some(before).filter(|&id| id != NONE), None],
+            Call::Insert { before, .. } => [Some(before).filter(|&id| id != NONE), None],
             Call::Split { id, .. } | Call::Set { id, .. } | Call::Update { id, .. } => [Some(id), None],
             Call::Rank { id, .. } | Call::Next { id } | Call::Lengths { id } => [Some(id), None],
             Call::Compare { first, second } => [Some(first), Some(second)],
@@ -150,12 +145,11 @@ impl Call {
         }
     }
 
-    /// The kind of record that asks for it; a `Select` counts as a lookup.
+    /// The kind of record that asks for it, of an insert 2; a `Select` counts as a lookup.
     pub fn kind(&self) -> u8 {
         match self {
             Call::Reset { .. } => 1,
             Call::Insert { .. } => 2,
-            Call::Add { .. } => 3,
             Call::Split { .. } => 4,
             Call::Set { .. } => 5,
             Call::Update { .. } => 6,

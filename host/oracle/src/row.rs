@@ -41,7 +41,6 @@ impl Row {
         match call {
             Call::Reset { lengths } => self.reset(lengths),
             Call::Insert { before, lengths } => self.insert(before, lengths),
-            Call::Add { before, lengths } => self.insert(before, lengths).map(|[id, ..]| [id, 0, 0, 0]),
             Call::Split { id, lengths, before } => self.split(id, lengths, before),
             Call::Set { id, lengths } => self.update(id, lengths).map(|_| [0; 4]),
             Call::Update { id, lengths } => self.update(id, lengths),

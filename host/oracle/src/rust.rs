@@ -37,7 +37,7 @@ pub struct Seen {
 }
 
 /// The fields of an answer, with the cursors that went into the call and those that came out. An
-/// insert or add answers no cursor; what comes out there is `cursor(id)` of the new entry.
+/// insert answers no cursor; what comes out there is `cursor(id)` of the new entry.
 #[derive(Clone, Copy, PartialEq, Eq, Debug)]
 pub struct Reply {
     pub fields: [u32; 4],

@@ -8,14 +8,14 @@ use crate::record::Record;
 use crate::rust::Seen;
 use crate::state::NONE;
 
-/// How one list comes about: a make, `adds` entries at the end, and then calls drawn, a reset among
-/// them if so said.
+/// How one list comes about: a make, `at_end` records of kind 3 that put an entry at the end, and then calls
+/// drawn, kind 3 and a reset among them.
 struct Plan {
     name: &'static str,
     fan: u32,
     limit: u32,
     first: [u32; 2],
-    adds: u32,
+    at_end: u32,
     drawn: u32,
     reset_at: u32,
     seed: u64,
@@ -26,16 +26,16 @@ struct Plan {
 /// `fan8` starts from the tree of the door and of `rowrun`. Only `fan32-tall` has enough entries to
 /// split a root of 32 children.
 const PLANS: [Plan; 5] = [
-    Plan { name: "fan4", fan: 4, limit: 48, first: [3, 3], adds: 0, drawn: 200, reset_at: 12, seed: 1, levels: 3 },
-    Plan { name: "fan5", fan: 5, limit: 48, first: [0, 2], adds: 0, drawn: 200, reset_at: 12, seed: 2, levels: 2 },
-    Plan { name: "fan8", fan: 8, limit: 512, first: [0, 0], adds: 0, drawn: 200, reset_at: 12, seed: 3, levels: 2 },
-    Plan { name: "fan32", fan: 32, limit: 90, first: [5, 1], adds: 0, drawn: 300, reset_at: 12, seed: 4, levels: 1 },
+    Plan { name: "fan4", fan: 4, limit: 48, first: [3, 3], at_end: 0, drawn: 200, reset_at: 12, seed: 1, levels: 3 },
+    Plan { name: "fan5", fan: 5, limit: 48, first: [0, 2], at_end: 0, drawn: 200, reset_at: 12, seed: 2, levels: 2 },
+    Plan { name: "fan8", fan: 8, limit: 512, first: [0, 0], at_end: 0, drawn: 200, reset_at: 12, seed: 3, levels: 2 },
+    Plan { name: "fan32", fan: 32, limit: 90, first: [5, 1], at_end: 0, drawn: 300, reset_at: 12, seed: 4, levels: 1 },
     Plan {
         name: "fan32-tall",
         fan: 32,
         limit: 580,
         first: [2, 1],
-        adds: 532,
+        at_end: 532,
         drawn: 120,
         reset_at: 119,
         seed: 5,
@@ -62,9 +62,14 @@ pub fn stored() -> Vec<Stored> {
             let list = play(plan);
             let met = &list.coverage;
             assert!(met.all_kinds() && met.finger_whole() && met.leaf_splits > 0, "{}: {met:?}", list.name);
-            assert!(plan.adds > 0 || met.leaf_split_under_finger > 0, "{}: {met:?}", list.name);
+            assert!(plan.at_end > 0 || met.leaf_split_under_finger > 0, "{}: {met:?}", list.name);
             assert!([4, 5, 6, 7, 10].iter().all(|&number| met.refused[number] > 0), "{}: {met:?}", list.name);
-            assert_eq!((met.most_levels, met.calls()), (plan.levels, (plan.adds + plan.drawn) as u64), "{}", list.name);
+            assert_eq!(
+                (met.most_levels, met.calls()),
+                (plan.levels, (plan.at_end + plan.drawn) as u64),
+                "{}",
+                list.name
+            );
             list
         })
         .collect()
@@ -110,8 +115,8 @@ fn play(plan: &Plan) -> Stored {
         Lister::new(plan.seed, Style { weights: growing_looks(), sizes: Sizes::Small, close: 75, miss: 10 });
     let mut text = format!("make {fan} {limit} {prepare} {effect}\n");
     let mut records = Vec::new();
-    for call in 0..plan.adds + plan.drawn {
-        let record = match call.checked_sub(plan.adds) {
+    for call in 0..plan.at_end + plan.drawn {
+        let record = match call.checked_sub(plan.at_end) {
             None => Record::new(3, 0, NONE, call % 3, call % 2),
             Some(drawn) if drawn == plan.reset_at => lister.good(1, &driver.row),
             Some(_) => lister.draw(&driver.row),

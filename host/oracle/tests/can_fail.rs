@@ -8,7 +8,7 @@ use oracle::lists::{Lister, Sizes, Style, LOOKING};
 use oracle::patterns::handed_on;
 use oracle::record::Call;
 use oracle::row::{Entry, Row};
-use oracle::rust::{Place, Reply, Rust, Seen, Subject};
+use oracle::rust::{Reply, Rust, Subject};
 use oracle::state::{Finger, Head, State};
 use std::panic::{catch_unwind, AssertUnwindSafe};
 
@@ -112,12 +112,20 @@ fn guesses_after_the_first_lookup(tree: &mut Mutant, call: Call, from: Source) -
     }
 }
 
-/// The add's own entry is read where the first one stands.
+/// An insert is answered as it should be, from a copy.
 fn stores_nothing(tree: &mut Mutant, call: Call, from: Source) -> Reply {
-    let Call::Add { .. } = call else { return right(tree, call, from) };
-    let id = tree.head().entry_count;
-    let seen = |id| Seen { place: Place { leaf: 0, slot: 0 }, id };
-    Reply { fields: [id, 0, 0, 0], given: call.ids().map(|id| id.map(seen)), got: [Some(seen(id)), None] }
+    match call {
+        Call::Insert { .. } => right(&mut tree.clone(), call, from),
+        _ => right(tree, call, from),
+    }
+}
+
+fn position_0_from_every_insert(tree: &mut Mutant, call: Call, from: Source) -> Reply {
+    let mut reply = right(tree, call, from);
+    if matches!(call, Call::Insert { .. }) {
+        reply.fields[1] = 0;
+    }
+    reply
 }
 
 fn count_forgets_splits(tree: &mut Mutant, call: Call, from: Source) -> Reply {
@@ -160,7 +168,7 @@ fn selects_in_the_other_view(tree: &mut Mutant, call: Call, from: Source) -> Rep
 
 /// Document 01's "Mistakes near to hand" and its clause c, as far as they are not about refusals:
 /// what is refused is the row's to say here, and is not played on the tree. Then a wrong cursor, and `char_index_to_entry`.
-const MUTANTS: [(&str, Wrong); 13] = [
+const MUTANTS: [(&str, Wrong); 14] = [
     ("swapped split flag", swapped_split_flag),
     ("finger kept after every change", finger_kept),
     ("finger kept although its slot left with the upper half", finger_kept_although_its_slot_left),
@@ -168,7 +176,8 @@ const MUTANTS: [(&str, Wrong); 13] = [
     ("prepare position + offset", prepare_position_plus_offset),
     ("zero-length entry taken at its own position", zero_length_entry_taken),
     ("a lookup that guesses after the first", guesses_after_the_first_lookup),
-    ("an add that stores nothing", stores_nothing),
+    ("an insert that stores nothing", stores_nothing),
+    ("position 0 from every insert", position_0_from_every_insert),
     ("a count that forgets splits", count_forgets_splits),
     ("none from every next", none_from_every_next),
     ("set forgets the effect length", set_forgets_the_effect_length),

@@ -13,7 +13,7 @@ fn sound<const N: usize>(entries: u32, view: View) -> State {
     let mut tree = PrepareEffectTree::<N>::new(pair([1, 7]));
     for id in 1..entries {
         let before = (id % 3 != 0).then(|| tree.cursor(id * 7 % id));
-        tree.add(before, pair([1 + id % 5, 3 + id % 11]));
+        tree.insert(before, pair([1 + id % 5, 3 + id % 11]));
     }
     let total = tree.entry_to_char_index(view, last(&tree));
     let mut index = total / 2;

@@ -7,6 +7,8 @@ use oracle::rust::{pair, Rust, Subject};
 use oracle::tree::{Cursor, PrepareEffectTree, View};
 use std::panic::{catch_unwind, AssertUnwindSafe};
 
+#[path = "outside/add.rs"]
+mod add;
 #[path = "outside/cursor.rs"]
 mod cursor;
 #[path = "outside/fan.rs"]
@@ -46,11 +48,11 @@ fn wrapped<T>(answer: T) -> Result<T, String> {
     }
 }
 
-/// Ids 0 to 4 with lengths (1, 1) to (5, 5), added at the end: leaf 0 holds ids 0 and 1, leaf 1 the others.
+/// Ids 0 to 4 with lengths (1, 1) to (5, 5), inserted at the end: leaf 0 holds ids 0 and 1, leaf 1 the others.
 fn five() -> Tree {
     let mut tree = Tree::new(pair([1, 1]));
     for length in 2..=5 {
-        tree.add(None, pair([length, length]));
+        tree.insert(None, pair([length, length]));
     }
     tree
 }

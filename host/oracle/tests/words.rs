@@ -43,7 +43,7 @@ fn the_words_of_the_sheet_of_five_entries() {
 fn the_debug_text_of_a_cursor_is_its_private_fields() {
     let mut tree = PrepareEffectTree::<5>::new(pair([1, 1]));
     for _ in 1..2_000 {
-        tree.add(None, pair([1, 1]));
+        tree.insert(None, pair([1, 1]));
     }
     let mut read = 0;
     for id in 0..2_000 {

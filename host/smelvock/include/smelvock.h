@@ -127,7 +127,6 @@ smelvock_number smelvock_update(SMELVOCK_HEAD_WRITTEN, SMELVOCK_AREAS_WRITTEN, s
 
 /* A new entry before a cursor, or at the end where end is 1 and the cursor is of no account: its id, and its effect position. */
 smelvock_inserted smelvock_insert(SMELVOCK_HEAD_WRITTEN, SMELVOCK_AREAS_WRITTEN, uint32_t end, smelvock_cursor_at before, smelvock_length lengths);
-smelvock_number smelvock_add(SMELVOCK_HEAD_WRITTEN, SMELVOCK_AREAS_WRITTEN, uint32_t end, smelvock_cursor_at before, smelvock_length lengths);
 
 /* Takes lengths out of an entry into a new one just before it (before 1) or after it (0): its id, and both cursors in order. */
 smelvock_divided smelvock_split_entry(SMELVOCK_HEAD_WRITTEN, SMELVOCK_AREAS_WRITTEN, smelvock_cursor_at at, smelvock_length lengths, uint32_t before);

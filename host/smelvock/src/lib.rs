@@ -1,5 +1,5 @@
-//! lib.rs's `PrepareEffectTree` over the proved calls: its names and signatures, on areas that the tree owns, with a
-//! [`Refusal`] where lib.rs panics, wraps or answers by chance.
+//! lib.rs's `PrepareEffectTree` over the proved calls: its names and signatures but for `add`, on areas that the tree owns, with
+//! a [`Refusal`] where lib.rs panics, wraps or answers by chance.
 
 mod door;
 pub mod edits;
@@ -178,14 +178,6 @@ impl<const N: usize> PrepareEffectTree<N> {
         let (head, areas) = self.parts();
         let reply = raw::insert(head, areas, end, before, lengths.into());
         Refusal::unless(reply.number, || (reply.id, reply.position))
-    }
-
-    /// Inserts as [`insert`](Self::insert) does, without ranking the new entry.
-    pub fn add(&mut self, before: Option<Cursor>, lengths: Lengths) -> Result<EntryId, Refusal> {
-        let (end, before) = target(before);
-        let (head, areas) = self.parts();
-        let reply = raw::add(head, areas, end, before, lengths.into());
-        Refusal::unless(reply.number, || reply.value)
     }
 
     /// Moves `lengths` out of the entry at `at` into a new entry just before it if `before`, else

@@ -165,7 +165,6 @@ exports! {
     new as smelvock_new(fan: u32, limit: u32, lengths: Lengths;) -> u32;
     reset as smelvock_reset(; lengths: Lengths) -> u32;
     insert as smelvock_insert(; end: u32, before: Cursor, lengths: Lengths) -> Inserted;
-    add as smelvock_add(; end: u32, before: Cursor, lengths: Lengths) -> Number;
     split_entry as smelvock_split_entry(; at: Cursor, lengths: Lengths, before: u32) -> Divided;
     set_lengths as smelvock_set_lengths(; at: Cursor, lengths: Lengths) -> u32;
     update as smelvock_update(; at: Cursor, lengths: Lengths) -> Number;

@@ -42,7 +42,7 @@ view 2: 10
 16 words: 10
 short: 2
 reset 0 1 0
-add 0 1
+insert 0 1 0
 edits_check 0 11
 511 words: 12 0 0
 edits_difference 0 2: 1 2, then 7

@@ -45,7 +45,7 @@ fn an_outdated_cursor_is_told_from_a_mangled_one() {
     let lengths = Lengths { prepare: 1, effect: 1 };
     let mut tree = PrepareEffectTree::<4>::with_limit(5, lengths).unwrap();
     let old = tree.first().unwrap();
-    tree.add(None, lengths).unwrap();
+    tree.insert(None, lengths).unwrap();
     let now = raw::Cursor::from(tree.first().unwrap());
     let advised = |at: raw::Cursor| tree.id(Cursor::from(at)).map_err(advice);
     assert_eq!(advised(now), Ok(0));

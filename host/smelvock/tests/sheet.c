@@ -112,8 +112,7 @@ int main(void) {
     printf("short: %u\n", smelvock_first(HEAD, leaves, WORDS - 1, inners, WORDS, homes, LIMIT).number);
     uint32_t reset = smelvock_reset(HEAD, AREAS, (smelvock_length){1, 0});
     printf("reset %u %u %u\n", reset, head[SMELVOCK_ENTRIES], head[SMELVOCK_PRESENT]);
-    smelvock_number added = smelvock_add(HEAD, AREAS, 1, nowhere, (smelvock_length){1, 1});
-    printf("add %u %u\n", added.number, added.value);
+    insert(1, nowhere, (smelvock_length){1, 1});
     edits();
     return 0;
 }

@@ -9,21 +9,21 @@ use std::cmp::Ordering;
 /// and the cursor's slot holds id 0. The port: 3; with the present stamp it would stand for id 0.
 fn after_an_insert() -> (Tree, Cursor) {
     let mut tree = Tree::new(pair([3, 3]));
-    tree.add(None, pair([2, 0]));
+    tree.insert(None, pair([2, 0]));
     let stale = tree.cursor(1);
-    tree.add(Some(tree.cursor(0)), pair([0, 5]));
+    tree.insert(Some(tree.cursor(0)), pair([0, 5]));
     (tree, stale)
 }
 
-/// Ids 0 to 3 fill leaf 0; a cursor at id 3; then id 4 is added at the end, which moves ids 2 and 3 into
+/// Ids 0 to 3 fill leaf 0; a cursor at id 3; then id 4 is inserted at the end, which moves ids 2 and 3 into
 /// leaf 1. The cursor's slot, 3 of leaf 0, is empty and past that leaf's len. The port: 3; with the present stamp 14.
 fn after_a_leaf_split() -> (Tree, Cursor) {
     let mut tree = Tree::new(pair([1, 1]));
     for length in 2..=4 {
-        tree.add(None, pair([length, length]));
+        tree.insert(None, pair([length, length]));
     }
     let stale = tree.cursor(3);
-    tree.add(None, pair([5, 5]));
+    tree.insert(None, pair([5, 5]));
     (tree, stale)
 }
 
@@ -60,7 +60,6 @@ fn changes_after_an_insert_change_another_entry() {
     assert_eq!(changed(|tree, stale| assert_eq!(tree.update(stale, pair([7, 7])), 5)), set);
     let inserted = [[2, 0, 5], [3, 7, 7], [0, 3, 3], [1, 2, 0]];
     assert_eq!(changed(|tree, stale| assert_eq!(tree.insert(Some(stale), pair([7, 7])), (3, 5))), inserted);
-    assert_eq!(changed(|tree, stale| assert_eq!(tree.add(Some(stale), pair([7, 7])), 3)), inserted);
     let split = [[2, 0, 5], [0, 2, 3], [3, 1, 0], [1, 2, 0]];
     assert_eq!(changed(|tree, stale| assert_eq!(tree.split_entry(stale, pair([1, 0]), false).0, 3)), split);
 }
@@ -107,7 +106,6 @@ fn entries_placed_past_a_leafs_len_are_out_of_the_order() {
         assert_eq!(verdict(&tree), Verdict::No("ids 0 to count - 1 once each"));
     };
     damaged(|tree, stale| assert_eq!(tree.insert(Some(stale), pair([1, 1])), (5, 3)));
-    damaged(|tree, stale| assert_eq!(tree.add(Some(stale), pair([1, 1])), 5));
     damaged(|tree, stale| assert_eq!(tree.split_entry(stale, pair([1, 1]), true).0, 5));
 }
 
@@ -126,12 +124,12 @@ fn a_split_past_the_last_slot_panics_half_done() {
 fn an_entry_written_over_is_lost() {
     let mut tree = PrepareEffectTree::<32>::new(pair([1, 1]));
     for _ in 1..32 {
-        tree.add(None, pair([1, 1]));
+        tree.insert(None, pair([1, 1]));
     }
     let stale = tree.cursor(31);
-    tree.add(None, pair([1, 1]));
+    tree.insert(None, pair([1, 1]));
     for id in [33, 34] {
-        assert_eq!(tree.add(Some(stale), pair([1, 1])), id);
+        assert_eq!(tree.insert(Some(stale), pair([1, 1])).0, id);
     }
     let lost = outcome(|| tree.id(tree.cursor(33)));
     if CHECKED {
@@ -159,7 +157,6 @@ fn a_leaf_that_is_gone_panics() {
     gone(|tree, stale| tree.set_lengths(stale, pair([1, 1])));
     gone(|tree, stale| tree.update(stale, pair([1, 1])));
     gone(|tree, stale| tree.insert(Some(stale), pair([1, 1])));
-    gone(|tree, stale| tree.add(Some(stale), pair([1, 1])));
     gone(|tree, stale| tree.split_entry(stale, pair([1, 1]), true));
     let (tree, stale) = after_a_reset();
     assert_eq!(tree.cmp(stale, stale), Ordering::Equal);
@@ -170,7 +167,7 @@ fn a_leaf_that_is_gone_panics() {
 fn a_stale_cursor_in_another_leaf_still_serves() {
     let mut tree = five();
     let stale = tree.cursor(1);
-    tree.add(None, pair([6, 6]));
+    tree.insert(None, pair([6, 6]));
     assert_eq!((tree.id(stale), tree.entry_to_char_index(View::Prepare, stale)), (1, 1));
     assert_eq!(tree.update(stale, pair([9, 9])), 1);
     assert_eq!(verdict(&tree), Verdict::Yes);

@@ -38,11 +38,11 @@ fn fans_2_3_33_and_64_answer_like_the_row_while_small() {
     like_the_row::<64>(2_000);
 }
 
-/// Adds at the end until the tree has so many levels; compares its first and its last entry.
+/// Inserts at the end until the tree has so many levels; compares its first and its last entry.
 fn first_with_last<const N: usize>(levels: u32) -> (usize, Result<Ordering, String>) {
     let mut tree = PrepareEffectTree::<N>::new(pair([1, 1]));
     while tree.head(1).levels < levels {
-        tree.add(None, pair([1, 1]));
+        tree.insert(None, pair([1, 1]));
     }
     let last = tree.len() as u32 - 1;
     (tree.len(), outcome(|| tree.cmp(tree.cursor(0), tree.cursor(last))))
@@ -62,7 +62,7 @@ fn fans_2_and_3_are_soon_too_deep_to_compare() {
 fn fan_257_compares_wrongly() {
     let mut tree = PrepareEffectTree::<257>::new(pair([1, 1]));
     while tree.head(1).leaf_count < 257 {
-        tree.add(None, pair([1, 1]));
+        tree.insert(None, pair([1, 1]));
     }
     let last = tree.cursor(tree.len() as u32 - 1);
     assert_eq!((tree.len(), last.fields()[0]), (32_898, 256));
@@ -81,9 +81,9 @@ fn an_id_past_the_count_panics() {
 fn entry_65537_is_taken() {
     let mut tree = Tree::new(pair([0, 0]));
     for _ in 1..65_536 {
-        tree.add(None, pair([0, 0]));
+        tree.insert(None, pair([0, 0]));
     }
-    assert_eq!(tree.add(None, pair([0, 0])), 65_536);
+    assert_eq!(tree.insert(None, pair([0, 0])), (65_536, 0));
     assert_eq!(tree.len(), 65_537);
 }
 

@@ -19,7 +19,7 @@ fn a_split_of_too_much_wraps_the_entry() {
 fn after_a_split_of_too_much() {
     let mut tree = Tree::new(pair([3, 3]));
     tree.split_entry(tree.cursor(0), pair([4, 0]), false);
-    tree.add(None, pair([1, 0]));
+    tree.insert(None, pair([1, 0]));
     assert_eq!(outcome(|| tree.entry_to_char_index(View::Prepare, tree.cursor(2))), wrapped(3));
     let (at, offset, _) = tree.locate(View::Prepare, 3);
     assert_eq!((tree.id(at), offset), (0, 3));
@@ -35,13 +35,12 @@ fn a_prepare_total_past_u32_makes_the_root_0() {
         assert_eq!(verdict(&tree), Verdict::No("inner sums"));
     };
     lost(|tree| assert_eq!(tree.insert(None, pair([1, 0])), (1, 0)));
-    lost(|tree| assert_eq!(tree.add(None, pair([1, 0])), 1));
     lost(|tree| {
-        tree.add(None, pair([0, 0]));
+        tree.insert(None, pair([0, 0]));
         tree.set_lengths(tree.cursor(1), pair([1, 0]));
     });
     lost(|tree| {
-        tree.add(None, pair([0, 0]));
+        tree.insert(None, pair([0, 0]));
         assert_eq!(tree.update(tree.cursor(1), pair([1, 0])), 0);
     });
 }
@@ -51,7 +50,7 @@ fn a_prepare_total_past_u32_makes_the_root_0() {
 fn the_finger_hides_the_wrapped_root() {
     let mut tree = Tree::new(pair([MAX, 0]));
     tree.locate(View::Prepare, 5);
-    tree.add(None, pair([1, 0]));
+    tree.insert(None, pair([1, 0]));
     let (at, offset, effect) = tree.locate(View::Prepare, 0);
     assert_eq!((tree.id(at), offset, effect), (0, 0, 0));
     let text = if CHECKED { OVERFLOW } else { PAST_THE_END };
@@ -61,8 +60,8 @@ fn the_finger_hides_the_wrapped_root() {
 /// (1, 4294967295), (1, 1), (1, 0): the effect lengths before id 2 pass u32.
 fn effect_past_u32() -> Tree {
     let mut tree = Tree::new(pair([1, MAX]));
-    assert_eq!(tree.insert(None, pair([1, 1])), (1, MAX));
-    tree.add(None, pair([1, 0]));
+    assert_eq!(tree.insert(None, pair([2, 1])), (1, MAX));
+    tree.split_entry(tree.cursor(1), pair([1, 0]), false);
     tree
 }
 
