@@ -3,7 +3,7 @@ use mathlib.Core.Path.{_≡_}
 use mathlib.Core.List.{List}
 use Prim.Native.Nat.{ℕ, _+_, _*_, _-_, _<_, _≤_}
 use lib.ListN.{length, take, drop}
-use borrow.Rule.Slice.PartMut.{putMid}
+use borrow.Rule.Slice.PartMut.{putMid, same-len-mid}
 use Rattle.model.specs.Lists.{part}
 use Rattle.model.specs.Node.{Node, nodeOf, wordsOf}
 use Rattle.model.specs.State.{nodeAt, putNode}
@@ -26,3 +26,8 @@ pub back : {g : Shape} (k : ℕ) (xs ys : List ℕ) (f : Node → Node) → Area
     → ys ≡ wordsOf (f (nodeOf (g .stride) (g .fan) (take (k * g .size + g .size - k * g .size) (drop (k * g .size) xs))))
     → putMid (k * g .size) (k * g .size + g .size - k * g .size) xs ys ≡ putNode g k (f (nodeAt g k xs)) xs
 back {g} k xs ys f a h l e = change-back g k xs ys (ends k a h) l f e
+
+-- whatever comes back in its place, as many words
+pub same : (g : Shape) (k : ℕ) (xs ys : List ℕ) → length ys ≡ length (take (k * g .size + g .size - k * g .size) (drop (k * g .size) xs))
+    → length (putMid (k * g .size) (k * g .size + g .size - k * g .size) xs ys) ≡ length xs
+same g k xs ys e = same-len-mid (k * g .size) (k * g .size + g .size - k * g .size) xs ys e

@@ -3,9 +3,9 @@ use model::shape::Found;
 use model::shape::Shape;
 ghost use mathlib.Core.Path.{_≡_};
 ghost use mathlib.Core.List.{[]};
-ghost use Prim.Native.Nat.{_+_, _*_, _<_, _≤_};
-ghost use lib.ListN.{length, getD, drop};
-ghost use Rattle.model.specs.Node.{start, child, lengthIn, used, findFrom};
+ghost use Prim.Native.Nat.{_+_, _-_, _*_, _<_, _≤_};
+ghost use lib.ListN.{length, getD, take, drop};
+ghost use Rattle.model.specs.Node.{start, child, lengthIn, used, findFrom, wrap};
 ghost use Rattle.model.specs.State.{nodeAt};
 ghost use Rattle.model.specs.Climb.{raised};
 ghost use Rattle.area.specs.Area.{Area};
@@ -80,6 +80,17 @@ pub fn start_in(area: &[u32], g: Shape, view: usize, k: u32, i: u32) -> u64
     node::read::start(&area[a..e], g, view, i as usize)
 }
 
+// The same modulo 2^32.
+pub fn start_low_in(area: &[u32], g: Shape, view: usize, k: u32, i: u32) -> u32
+    requires { ⌜ Area g (length (now area)) × (k < g .nodes) × (view + 1 < g .stride) × (i ≤ g .fan) ⌝ }
+    ensures { λ r. ⌜ r ≡ wrap (start view i (nodeAt g k (now (area .entry)))) ⌝ }
+{
+    let size = g.size;
+    let a = k as usize * size;
+    let e = a + size;
+    node::read::start_low(&area[a..e], g, view, i as usize)
+}
+
 // The slot in use of node k, from slot `from` on, that holds position index of view, counted from there.
 pub fn find_in(
     area: &[u32],
@@ -102,9 +113,9 @@ pub fn find_in(
 }
 
 // Lengths added to those in slot i of node k.
-pub fn raise_in(area: &mut [u32], g: Shape, delta: &[u32], k: u32, i: u32)
-    requires { ⌜ Area g (length (now area)) × (k < g .nodes) × (i < g .fan) × (length (now delta) + 1 ≡ g .stride) ⌝ }
-    ensures { λ _. ⌜ now (area .exit) ≡ raised g (now (delta .entry)) k i (now (area .entry)) ⌝ }
+pub fn raise_in(area: &mut [u32], g: Shape, delta: &[u32; 3], k: u32, i: u32)
+    requires { ⌜ Area g (length (now area)) × (k < g .nodes) × (i < g .fan) × (length (now delta) ≡ 3) ⌝ }
+    ensures { λ _. ⌜ now (area .exit) ≡ raised g (take (g .stride - 1) (now (delta .entry))) k i (now (area .entry)) ⌝ }
 {
     let size = g.size;
     let a = k as usize * size;

@@ -2,18 +2,17 @@
 use mathlib.Core.Path.{_≡_, refl, sym, ap, _∙_}
 use mathlib.Core.Bool.{Bool, true, false, cond, not, _&&_}
 use mathlib.Core.List.{List, []}
-use Prim.Native.Nat.{ℕ, _*_, _<_, _≤_}
+use Prim.Native.Nat.{ℕ, suc, _+_, _-_, _<_, _≤_}
+use native.Mathlib.Omega.{arith}
 use native.Mathlib.Nat.{lt-of-lt-of-le, le-trans}
-use lib.ListN.{length}
 use lib.Dec.{ltb, leb, eqb}
 use borrow.Author.Tests.{eq-eqb, ne-eqb, leb-true, ltb-true, not-true, not-false}
-use Rattle.model.specs.Kind.{base}
 use Rattle.model.specs.Lists.{sumBy, range}
 use Rattle.model.specs.Node.{total, used}
 use Rattle.model.specs.State.{State, state, nodeAt, shape}
 use Rattle.model.specs.Refuse.{shapeOf}
-use Rattle.model.specs.Calls.{makeCauses}
-use Rattle.model.specs.Audit.{every, inViews, isInner, isLeaf, isFinger, isHeldFinger, isSound, audit}
+use Rattle.model.specs.Audit.{every, isInner, isLeaf, isHeldFinger, isSound, audit}
+use Rattle.model.specs.declared.shape.Kind.{Kind}
 use Rattle.model.specs.declared.shape.Shape.{Shape}
 use Rattle.model.specs.declared.head.Head.{Head}
 use Rattle.model.specs.declared.head.Held.{Held}
@@ -25,7 +24,7 @@ use Rattle.open.specs.Open.{openedBy}
 use Rattle.open.specs.declared.open.Opened.{Opened}
 use Rattle.open.specs.declared.open.Opened.the-variants.{Good, Refused}
 use Rattle.open.proofs.Bools.{and-true}
-use Rattle.open.proofs.Causes.{call-refused, call-good}
+use Rattle.open.proofs.Causes.{good-shape, call-refused, call-good}
 use Rattle.open.proofs.OpenLaws.{areasOf}
 use Rattle.audit_link.specs.Known.{Known}
 use Rattle.audit.specs.Counts.{countsBy}
@@ -59,10 +58,9 @@ module _ (h : Head) (g : Shape) (e : countsBy h g ≡ true) where
   to-second : second ≡ true
   to-second = and-true second (leb (h .inners) (g .nodes)) to-third .0
 
-  pub known : (n m : ℕ) → g ≡ shapeOf base h → Area g n → Area g m → Known h g n m
-  known n m same ls xs =
+  pub known : (n m : ℕ) → Area g n → Area g m → Known h g n m
+  known n m ls xs =
       record {
-        same = same;
         leaf-area = ls;
         inner-area = xs;
         levels = leb-true (h .levels) 15 (and-true fourth (leb (h .levels) 15) to-fifth .1);
@@ -78,13 +76,13 @@ module _ (h : Head) (g : Shape) (e : countsBy h g ≡ true) where
       (leb-true (h .inners) (g .nodes) (and-true second (leb (h .inners) (g .nodes)) to-third .1))
 
 -- homes play no part in the tests of inner nodes and finger
-module _ (h : Head) (ls xs hs : List ℕ) where
-  inner-homes : (k : ℕ) → isInner base (state h ls xs []) k ≡ isInner base (state h ls xs hs) k
-  inner-homes k = sym (inner-by h ls xs [] (shapeOf base h) refl k _ refl) ∙ inner-by h ls xs hs (shapeOf base h) refl k _ refl
+module _ (K : Kind) (h : Head) (ls xs hs : List ℕ) where
+  inner-homes : (k : ℕ) → isInner K (state h ls xs []) k ≡ isInner K (state h ls xs hs) k
+  inner-homes k = sym (inner-by K h ls xs [] (shapeOf K h) refl k _ refl) ∙ inner-by K h ls xs hs (shapeOf K h) refl k _ refl
 
-  finger-homes : (f : Held) → isHeldFinger base (state h ls xs []) f ≡ isHeldFinger base (state h ls xs hs) f
+  finger-homes : (f : Held) → isHeldFinger K (state h ls xs []) f ≡ isHeldFinger K (state h ls xs hs) f
   finger-homes held.Absent = refl
-  finger-homes (held.At f) = finger-by h ls xs [] f (shapeOf base h) refl ∙ sym (finger-by h ls xs hs f (shapeOf base h) refl)
+  finger-homes (held.At f) = finger-by K h ls xs [] f (shapeOf K h) refl ∙ sym (finger-by K h ls xs hs f (shapeOf K h) refl)
 
   abbrev t : State
   t = state h ls xs hs
@@ -93,61 +91,67 @@ module _ (h : Head) (ls xs hs : List ℕ) where
   lensPart g = sumBy (λ k. nodeAt g k ls .len) (range 0 (h .leaves))
 
   abbrev totalsPart : Shape → Bool
-  totalsPart g = inViews base (λ v. leb (total v (used (nodeAt g (h .root .0) xs))) 4294967295)
+  totalsPart g = every (λ v. leb (total v (used (nodeAt g (h .root .0) xs))) 4294967295) 0 (g .stride - 1)
 
   abbrev soundBy : Shape → Bool
   soundBy g =
-      countsBy h g && every (isInner base t) 0 (h .inners) && every (isLeaf base t) 0 (h .leaves) && eqb (lensPart g) (h .entries) && totalsPart g && isHeldFinger base t (h .finger)
+      countsBy h g && every (isInner K t) 0 (h .inners) && every (isLeaf K t) 0 (h .leaves) && eqb (lensPart g) (h .entries) && totalsPart g && isHeldFinger K t (h .finger)
 
-  whole : soundBy (shapeOf base h) ≡ isSound base t
+  whole : soundBy (shapeOf K h) ≡ isSound K t
   unfolding isSound
-  whole = refl
+  whole = let views : suc (K .views) - 1 ≡ K .views = omega arith in rw views
 
-  module _ (g : Shape) (e : g ≡ shapeOf base h) (a : Bool) (ea : a ≡ countsBy h g) where
-    sound-by : isSound base t ≡ soundBy g
+  module _ (g : Shape) (e : g ≡ shapeOf K h) (a : Bool) (ea : a ≡ countsBy h g) where
+    sound-by : isSound K t ≡ soundBy g
     sound-by = sym (ap soundBy e ∙ whole)
 
-    pub sound-counts : not a ≡ true → false ≡ isSound base t
+    pub sound-counts : not a ≡ true → false ≡ isSound K t
     sound-counts n = sym (rw (sym ea ∙ not-true a n) at sound-by)
 
     module _ (na : not a ≡ false) where
-      pub good-counts : countsBy h g ≡ true
+      good-counts : countsBy h g ≡ true
       good-counts = sym ea ∙ not-false a na
 
-      module _ (b : Bool) (eb : b ≡ every (isInner base (state h ls xs [])) 0 (h .inners)) where
-        inner : b ≡ every (isInner base t) 0 (h .inners)
-        inner = eb ∙ every-same (isInner base (state h ls xs [])) (isInner base t) inner-homes 0 (h .inners)
+      module _ (b : Bool) (eb : b ≡ every (isInner K (state h ls xs [])) 0 (h .inners)) where
+        inner : b ≡ every (isInner K t) 0 (h .inners)
+        inner = eb ∙ every-same (isInner K (state h ls xs [])) (isInner K t) inner-homes 0 (h .inners)
 
-        pub sound-inners : not b ≡ true → false ≡ isSound base t
+        pub sound-inners : not b ≡ true → false ≡ isSound K t
         sound-inners n = sym (rw (good-counts, sym inner ∙ not-true b n) at sound-by)
 
-        module _ (nb : not b ≡ false) (c : Bool) (ec : c ≡ every (isLeaf base t) 0 (h .leaves)) where
-          pub sound-leaves : not c ≡ true → false ≡ isSound base t
+        module _ (nb : not b ≡ false) (c : Bool) (ec : c ≡ every (isLeaf K t) 0 (h .leaves)) where
+          pub sound-leaves : not c ≡ true → false ≡ isSound K t
           sound-leaves n = sym (rw (good-counts, sym inner ∙ not-false b nb, sym ec ∙ not-true c n) at sound-by)
 
           module _ (nc : not c ≡ false) (l : ℕ) (el : l ≡ lensPart g) where
-            pub sound-lens : (l ≡ h .entries → ⊥) → false ≡ isSound base t
+            pub sound-lens : (l ≡ h .entries → ⊥) → false ≡ isSound K t
             sound-lens n = sym (rw (good-counts, sym inner ∙ not-false b nb, sym ec ∙ not-false c nc, ← el, ne-eqb l (h .entries) n) at sound-by)
 
             module _ (ql : l ≡ h .entries) (d : Bool) (ed : d ≡ totalsPart g) where
-              pub sound-totals : not d ≡ true → false ≡ isSound base t
+              pub sound-totals : not d ≡ true → false ≡ isSound K t
               sound-totals n =
                   sym (rw (good-counts, sym inner ∙ not-false b nb, sym ec ∙ not-false c nc, ← el, eq-eqb l (h .entries) ql, sym ed ∙ not-true d n) at sound-by)
 
-              pub sound-finger : not d ≡ false → (r : Bool) → r ≡ isHeldFinger base (state h ls xs []) (h .finger) → r ≡ isSound base t
+              pub sound-finger : not d ≡ false → (r : Bool) → r ≡ isHeldFinger K (state h ls xs []) (h .finger) → r ≡ isSound K t
               sound-finger nd r er =
                   er ∙ finger-homes (h .finger)
                   ∙ sym (rw (good-counts, sym inner ∙ not-false b nb, sym ec ∙ not-false c nc, ← el, eq-eqb l (h .entries) ql, sym ed ∙ not-false d nd) at sound-by)
 
+-- a view of the tree is a column of every slot
+pub view-wide : (g : Shape) (views fan limit v : ℕ) → g ≡ shape (suc views) fan limit → v < views → v + 1 < g .stride
+view-wide g views fan limit v e h = rw (ap (λ (x : Shape). x .stride) e) (omega (arith, h))
+
 -- what audit answers
-module _ (s : State) (o : Opened) (e : o ≡ openedBy (areasOf s) (shapeOf base (s .head))) where
+module _ (K : Kind) (s : State) (o : Opened) (e : o ≡ openedBy (areasOf K s) (shapeOf K (s .head))) where
   abbrev answer : Bool → Verdict
   answer b = cond b verdict.Yes verdict.No
 
-  pub audit-refused : (n : ℕ) → o ≡ Refused n → verdict.Refused n ≡ audit base s
+  pub audit-refused : (n : ℕ) → o ≡ Refused n → verdict.Refused n ≡ audit K s
   unfolding audit
-  audit-refused n d = call-refused verdict.Refused (λ (g : Shape). answer (isSound base s)) _ _ o e n d
+  audit-refused n d = call-refused verdict.Refused (λ (g : Shape). answer (isSound K s)) _ _ o e n d
 
-  pub audit-good : (g : Shape) → o ≡ Good g → (b : Bool) → b ≡ isSound base s → (q : Bool) → b ≡ q → answer q ≡ audit base s
+  pub audit-good : (g : Shape) → o ≡ Good g → (b : Bool) → (g ≡ shapeOf K (s .head) → b ≡ isSound K s) → (q : Bool) → b ≡ q → answer q ≡ audit K s
   unfolding audit
-  audit-good g d b eb q eq = call-good verdict.Refused (λ (x : Shape). answer (isSound base s)) _ _ o e g d _ (ap answer (sym eq ∙ eb))
+  audit-good g d b eb q eq =
+      let same : g ≡ shapeOf K (s .head) = sym (good-shape (areasOf K s) _ g (sym e ∙ d)) in
+      call-good verdict.Refused (λ (x : Shape). answer (isSound K s)) _ _ o e g d _ (ap answer (sym eq ∙ eb same))

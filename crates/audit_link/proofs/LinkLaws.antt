@@ -1,18 +1,17 @@
 -- The tests of links, each by what its parts answer. Assumes nothing.
-use mathlib.Core.Path.{_≡_, refl, sym, ap, _∙_}
-use mathlib.Core.Bool.{Bool, true, false, cond, _&&_}
+use mathlib.Core.Path.{_≡_}
+use mathlib.Core.Bool.{Bool, true, false}
 use mathlib.Core.List.{List, []}
 use Prim.Native.Nat.{ℕ, zero, suc, _+_, _-_, _<_, _≤_}
 use native.Mathlib.Omega.{arith}
 use lib.ListN.{getD}
-use lib.Dec.{ltb, leb, eqb}
+use lib.Dec.{eqb}
 use borrow.Author.Tests.{lt-ltb, le-ltb, le-leb, lt-leb, eq-eqb, ne-eqb}
-use Rattle.model.specs.Node.{none, child, lengthIn, total, used}
-use Rattle.model.specs.State.{State, nodeAt}
-use Rattle.model.specs.Audit.{every}
+use Rattle.model.specs.Node.{Node, none, child, lengthIn, total, used}
+use Rattle.model.specs.State.{nodeAt}
 use Rattle.model.specs.declared.shape.Shape.{Shape}
 use Rattle.model.specs.declared.head.Head.{Head}
-use Rattle.audit_link.specs.Links.{depthBy, heldBy, childBy, rootBy}
+use Rattle.audit_link.specs.Links.{depthBy, heldBy, totalsBy, childBy, rootBy}
 
 -- a node's depth, one step up
 module _ (g : Shape) (count : ℕ) (xs : List ℕ) where
@@ -87,16 +86,17 @@ module _ (g : Shape) (count : ℕ) (ws xs : List ℕ) (k i c : ℕ) (ec : c ≡ 
       unfolding childBy
       child-at n = rw (← ec, lt-ltb c count h, ← ep, eq-eqb p k qp, ← ea, ne-eqb a i n)
 
-      module _ (qa : a ≡ i) (l t : ℕ) (el : l ≡ lengthIn 0 (getD (nodeAt g k xs .slots) i [])) (et : t ≡ total 0 (used (nodeAt g c ws))) where
-        pub child-prepare : (l ≡ t → ⊥) → false ≡ childBy g count ws xs k i
-        unfolding childBy every
-        child-prepare n = rw (← ec, lt-ltb c count h, ← ep, eq-eqb p k qp, ← ea, eq-eqb a i qa, ← el, ← et, ne-eqb l t n)
+      pub child-last : a ≡ i → (b : Bool) → b ≡ totalsBy g ws xs k i c → b ≡ childBy g count ws xs k i
+      unfolding childBy
+      child-last q b eb = rw (← ec, lt-ltb c count h, ← ep, eq-eqb p k qp, ← ea, eq-eqb a i q) eb
 
-        module _ (ql : l ≡ t) (m u : ℕ) (em : m ≡ lengthIn 1 (getD (nodeAt g k xs .slots) i [])) (eu : u ≡ total 1 (used (nodeAt g c ws))) where
-          pub child-effect : (m ≡ u → ⊥) → false ≡ childBy g count ws xs k i
-          unfolding childBy every
-          child-effect n = rw (← ec, lt-ltb c count h, ← ep, eq-eqb p k qp, ← ea, eq-eqb a i qa, ← el, ← et, eq-eqb l t ql, ← em, ← eu, ne-eqb m u n)
+-- slot x has the total of node n in view v
+abbrev pub sameTotal : List ℕ → Node → ℕ → Bool
+sameTotal x n v = eqb (lengthIn v x) (total v (used n))
 
-          pub child-right : m ≡ u → true ≡ childBy g count ws xs k i
-          unfolding childBy every
-          child-right q = rw (← ec, lt-ltb c count h, ← ep, eq-eqb p k qp, ← ea, eq-eqb a i qa, ← el, ← et, eq-eqb l t ql, ← em, ← eu, eq-eqb m u q)
+module _ (x : List ℕ) (n : Node) (v l t : ℕ) (el : l ≡ lengthIn v x) (et : t ≡ total v (used n)) where
+  pub total-other : (l ≡ t → ⊥) → sameTotal x n v ≡ false
+  total-other d = rw (← el, ← et, ne-eqb l t d)
+
+  pub total-same : l ≡ t → sameTotal x n v ≡ true
+  total-same q = rw (← el, ← et, eq-eqb l t q)

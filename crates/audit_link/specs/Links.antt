@@ -1,13 +1,12 @@
 -- The tests of links over the words of the areas, with the sizes g and the counts as numbers. Assumes nothing.
 use mathlib.Core.Bool.{Bool, cond, _&&_}
 use mathlib.Core.List.{List, []}
-use Prim.Native.Nat.{ℕ, zero, suc}
+use Prim.Native.Nat.{ℕ, zero, suc, _-_}
 use lib.ListN.{getD}
 use lib.Dec.{ltb, leb, eqb}
-use Rattle.model.specs.Kind.{base}
 use Rattle.model.specs.Node.{none, child, lengthIn, total, used}
 use Rattle.model.specs.State.{nodeAt}
-use Rattle.model.specs.Audit.{every, inViews, isOther}
+use Rattle.model.specs.Audit.{every, isOther}
 use Rattle.model.specs.declared.shape.Shape.{Shape}
 use Rattle.model.specs.declared.head.Head.{Head}
 
@@ -22,12 +21,16 @@ heldBy g count xs k p a =
     let m = nodeAt g p xs in
     ltb p count && ltb a (m .len) && leb (m .len) (g .fan) && eqb (child (getD (m .slots) a [])) k
 
+-- slot i of inner node k has the totals of node c of ws, in every view that a slot has
+unfoldable pub totalsBy : Shape → List ℕ → List ℕ → ℕ → ℕ → ℕ → Bool
+totalsBy g ws xs k i c = every (λ v. eqb (lengthIn v (getD (nodeAt g k xs .slots) i [])) (total v (used (nodeAt g c ws)))) 0 (g .stride - 1)
+
 -- the child in slot i of inner node k is a node of ws
 unfoldable pub childBy : Shape → ℕ → List ℕ → List ℕ → ℕ → ℕ → Bool
 childBy g count ws xs k i =
     let x = getD (nodeAt g k xs .slots) i [] in
     let n = nodeAt g (child x) ws in
-    ltb (child x) count && eqb (n .parent) k && eqb (n .at) i && inViews base (λ v. eqb (lengthIn v x) (total v (used n)))
+    ltb (child x) count && eqb (n .parent) k && eqb (n .at) i && totalsBy g ws xs k i (child x)
 
 -- inner node k stands where it must
 unfoldable pub rootBy : Shape → Head → List ℕ → ℕ → Bool

@@ -13,12 +13,13 @@ use model::number::NodeNo;
 use model::shape::Shape;
 ghost use mathlib.Core.Path.{_≡_};
 ghost use mathlib.Core.List.{[]};
-ghost use Prim.Native.Nat.{_<_, _≤_};
+ghost use Prim.Native.Nat.{ℕ, _<_, _≤_};
 ghost use lib.ListN.{length};
-ghost use Rattle.model.specs.Kind.{base, stride};
 ghost use Rattle.model.specs.State.{state, nodeAt};
+ghost use Rattle.model.specs.Refuse.{shapeOf};
 ghost use Rattle.model.specs.Sound.{leastLeaf};
 ghost use Rattle.model.specs.Audit.{every, isOther, isLeaf};
+ghost use Rattle.model.specs.declared.shape.Kind.{Kind};
 ghost use Rattle.area.specs.Area.{Area};
 ghost use Rattle.audit_link.specs.Known.{Known};
 ghost use Rattle.audit_link.specs.Links.{entryBy};
@@ -70,7 +71,7 @@ fn are_entries(leaves: &[u32], homes: &[u32], g: Shape, entries: u32, k: LeafNo,
 
 // How few slots a leaf may use.
 fn least_leaf(head: Head) -> u32
-    ensures { λ r. ⌜ r ≡ leastLeaf (stride base) (state head [] [] []) ⌝ }
+    ensures { λ r. ⌜ ((s : ℕ) → r ≡ leastLeaf s (state head [] [] [])) ⌝ }
 {
     if head.leaves == 1 {
         return 1;
@@ -87,7 +88,7 @@ pub fn is_leaf(
     k: LeafNo,
 ) -> bool
     requires { ⌜ Known head g (length (now leaves)) (length (now inners)) × (head .entries ≤ length (now homes)) × (k .0 < head .leaves) ⌝ }
-    ensures { λ r. ⌜ r ≡ isLeaf base (state head (now (leaves .entry)) (now (inners .entry)) (now (homes .entry))) (k .0) ⌝ }
+    ensures { λ r. ⌜ ((K : Kind) → g ≡ shapeOf K head → r ≡ isLeaf K (state head (now (leaves .entry)) (now (inners .entry)) (now (homes .entry))) (k .0)) ⌝ }
 {
     let levels = head.levels;
     let used = head.inners;

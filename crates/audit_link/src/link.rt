@@ -12,15 +12,16 @@ use model::number::NodeNo;
 use model::shape::Shape;
 ghost use mathlib.Core.Path.{_≡_};
 ghost use mathlib.Core.List.{[]};
-ghost use Prim.Native.Nat.{_<_, _≤_};
+ghost use Prim.Native.Nat.{ℕ, _<_, _≤_};
 ghost use lib.ListN.{length};
-ghost use Rattle.model.specs.Kind.{base, stride};
 ghost use Rattle.model.specs.State.{state, nodeAt};
+ghost use Rattle.model.specs.Refuse.{shapeOf};
 ghost use Rattle.model.specs.Sound.{leastInner};
 ghost use Rattle.model.specs.Audit.{every, isInner};
+ghost use Rattle.model.specs.declared.shape.Kind.{Kind};
 ghost use Rattle.area.specs.Area.{Area};
 ghost use Rattle.audit_link.specs.Known.{Known};
-ghost use Rattle.audit_link.specs.Links.{depthBy, heldBy, childBy, rootBy};
+ghost use Rattle.audit_link.specs.Links.{depthBy, heldBy, totalsBy, childBy, rootBy};
 
 // How many inner nodes stand from the root down to node k; more than levels where a climb doesn't end at the root.
 pub fn depth(inners: &[u32], g: Shape, used: u32, levels: u32, k: NodeNo) -> u32
@@ -69,9 +70,26 @@ pub fn is_held(inners: &[u32], g: Shape, used: u32, k: u32, parent: NodeNo, at: 
     child_of(inners, g, p, at as usize) == k
 }
 
+// Whether slot i of inner node k has the totals of node child of low, in every view.
+fn has_totals(inners: &[u32], low: &[u32], g: Shape, k: NodeNo, i: u32, child: u32) -> bool
+    requires { ⌜ Area g (length (now inners)) × Area g (length (now low)) × (k .0 < g .nodes) × (i < g .fan) × (child < g .nodes) ⌝ }
+    ensures { λ r. ⌜ r ≡ totalsBy g (now (low .entry)) (now (inners .entry)) (k .0) i child ⌝ }
+{
+    let stride = g.stride;
+    let mut v: usize = 0;
+    while v + 1 < stride {
+        let here = length_of(inners, g, v, k.0, i as usize) as u64;
+        if here != total_in(low, g, v, child) {
+            return false;
+        }
+        v += 1;
+    }
+    true
+}
+
 // Whether the child in slot i of inner node k, a node of low, is in use, knows its parent and place, and the slot has its totals.
 fn is_child(inners: &[u32], low: &[u32], g: Shape, used: u32, k: NodeNo, i: u32) -> bool
-    requires { ⌜ Area g (length (now inners)) × Area g (length (now low)) × (used ≤ g .nodes) × (k .0 < g .nodes) × (i < g .fan) × (g .stride ≡ 3) ⌝ }
+    requires { ⌜ Area g (length (now inners)) × Area g (length (now low)) × (used ≤ g .nodes) × (k .0 < g .nodes) × (i < g .fan) ⌝ }
     ensures { λ r. ⌜ r ≡ childBy g used (now (low .entry)) (now (inners .entry)) (k .0) i ⌝ }
 {
     let child = child_of(inners, g, k.0, i as usize);
@@ -84,18 +102,12 @@ fn is_child(inners: &[u32], low: &[u32], g: Shape, used: u32, k: NodeNo, i: u32)
     if at_of(low, g, child) != i {
         return false;
     }
-    if length_of(inners, g, 0, k.0, i as usize) as u64 != total_in(low, g, 0, child) {
-        return false;
-    }
-    if length_of(inners, g, 1, k.0, i as usize) as u64 != total_in(low, g, 1, child) {
-        return false;
-    }
-    true
+    has_totals(inners, low, g, k, i, child)
 }
 
 // The same of each slot in use.
 fn are_children(inners: &[u32], low: &[u32], g: Shape, used: u32, k: NodeNo, len: u32) -> bool
-    requires { ⌜ Area g (length (now inners)) × Area g (length (now low)) × (used ≤ g .nodes) × (k .0 < g .nodes) × (len ≤ g .fan) × (g .stride ≡ 3) ⌝ }
+    requires { ⌜ Area g (length (now inners)) × Area g (length (now low)) × (used ≤ g .nodes) × (k .0 < g .nodes) × (len ≤ g .fan) ⌝ }
     ensures { λ r. ⌜ r ≡ every (childBy g used (now (low .entry)) (now (inners .entry)) (k .0)) 0 len ⌝ }
 {
     let mut i: u32 = 0;
@@ -110,7 +122,7 @@ fn are_children(inners: &[u32], low: &[u32], g: Shape, used: u32, k: NodeNo, len
 
 // How few slots inner node k may use.
 fn least_inner(head: Head, k: NodeNo) -> u32
-    ensures { λ r. ⌜ r ≡ leastInner (stride base) (state head [] [] []) (k .0) ⌝ }
+    ensures { λ r. ⌜ ((s : ℕ) → r ≡ leastInner s (state head [] [] []) (k .0)) ⌝ }
 {
     if k.0 != head.root.0 {
         return head.fan / 2;
@@ -140,7 +152,7 @@ fn is_below(head: Head, inners: &[u32], g: Shape, k: NodeNo) -> bool
 
 pub fn is_inner(head: Head, leaves: &[u32], inners: &[u32], g: Shape, k: NodeNo) -> bool
     requires { ⌜ Known head g (length (now leaves)) (length (now inners)) × (k .0 < head .inners) ⌝ }
-    ensures { λ r. ⌜ r ≡ isInner base (state head (now (leaves .entry)) (now (inners .entry)) []) (k .0) ⌝ }
+    ensures { λ r. ⌜ ((K : Kind) → g ≡ shapeOf K head → r ≡ isInner K (state head (now (leaves .entry)) (now (inners .entry)) []) (k .0)) ⌝ }
 {
     let levels = head.levels;
     let d = depth(inners, g, head.inners, levels, k);

@@ -7,14 +7,16 @@ use model::head::Head;
 use model::length::Slot;
 use model::shape::Shape;
 ghost use mathlib.Core.Path.{_≡_};
+ghost use mathlib.Core.Bool.{true};
 ghost use mathlib.Core.List.{[]};
-ghost use Prim.Native.Nat.{_+_, _-_, _<_};
+ghost use Prim.Native.Nat.{_+_, _-_, _<_, _≤_};
 ghost use lib.ListN.{length, getD};
-ghost use Rattle.model.specs.Kind.{base};
+ghost use Rattle.model.specs.Kind.{stride};
 ghost use Rattle.model.specs.Node.{total, used, start};
 ghost use Rattle.model.specs.State.{state, nodeAt};
 ghost use Rattle.model.specs.Refuse.{shapeOf};
 ghost use Rattle.model.specs.Audit.{every, isEmptySlot, isFilled};
+ghost use Rattle.model.specs.declared.shape.Kind.{Kind};
 ghost use Rattle.area.specs.Area.{Area};
 
 // The lengths of the slots in use of node k.
@@ -40,27 +42,30 @@ pub fn start_any(area: &[u32], g: Shape, view: usize, k: u32, i: u32) -> u64
     start_in(area, g, view, k, fan as u32)
 }
 
+// Whether slot i of node k is empty: Slot::EMPTY's child, and 0 in every view.
 fn is_empty_slot(area: &[u32], g: Shape, k: u32, i: usize) -> bool
-    requires { ⌜ Area g (length (now area)) × (k < g .nodes) × (i < g .fan) × (g .stride ≡ 3) ⌝ }
-    ensures { λ r. ⌜ r ≡ isEmptySlot base (getD (nodeAt g k (now (area .entry)) .slots) i []) ⌝ }
+    requires { ⌜ Area g (length (now area)) × (k < g .nodes) × (i < g .fan) ⌝ }
+    ensures { λ r. ⌜ ((K : Kind) → g .stride ≡ stride K → r ≡ isEmptySlot K (getD (nodeAt g k (now (area .entry)) .slots) i [])) ⌝ }
 {
+    let stride = g.stride;
     let empty = Slot::EMPTY;
     if child_of(area, g, k, i) != empty.child {
         return false;
     }
-    if length_of(area, g, 0, k, i) != empty.prepare_len {
-        return false;
-    }
-    if length_of(area, g, 1, k, i) != empty.effect_len {
-        return false;
+    let mut v: usize = 0;
+    while v + 1 < stride {
+        if length_of(area, g, v, k, i) != 0 {
+            return false;
+        }
+        v += 1;
     }
     true
 }
 
 // Whether the slots of node k are empty from slot len on.
 fn is_empty_from(area: &[u32], g: Shape, k: u32, len: usize) -> bool
-    requires { ⌜ Area g (length (now area)) × (k < g .nodes) × (g .stride ≡ 3) ⌝ }
-    ensures { λ r. ⌜ r ≡ every (λ i. isEmptySlot base (getD (nodeAt g k (now (area .entry)) .slots) i [])) len (g .fan - len) ⌝ }
+    requires { ⌜ Area g (length (now area)) × (k < g .nodes) ⌝ }
+    ensures { λ r. ⌜ ((K : Kind) → g .stride ≡ stride K → r ≡ every (λ i. isEmptySlot K (getD (nodeAt g k (now (area .entry)) .slots) i [])) len (g .fan - len)) ⌝ }
 {
     let fan = g.fan;
     let mut i = len;
@@ -75,8 +80,8 @@ fn is_empty_from(area: &[u32], g: Shape, k: u32, len: usize) -> bool
 
 // Whether the len of node k is within its bounds and its unused slots are empty.
 pub fn is_filled(head: Head, area: &[u32], g: Shape, k: u32, least: u32) -> bool
-    requires { ⌜ Area g (length (now area)) × (k < g .nodes) × (g ≡ shapeOf base head) ⌝ }
-    ensures { λ r. ⌜ r ≡ isFilled base (state head [] [] []) least (nodeAt g k (now (area .entry))) ⌝ }
+    requires { ⌜ Area g (length (now area)) × (k < g .nodes) ⌝ }
+    ensures { λ r. ⌜ ((K : Kind) → g ≡ shapeOf K head → r ≡ isFilled K (state head [] [] []) least (nodeAt g k (now (area .entry)))) × (r ≡ true → nodeAt g k (now (area .entry)) .len ≤ g .fan) ⌝ }
 {
     let fan = g.fan;
     let len = len_of(area, g, k);

@@ -1,24 +1,22 @@
 -- What the tests of an insert answer and say, and which slot its target is. Assumes nothing.
 use mathlib.Core.Path.{_≡_, refl, sym, ap, subst, _∙_}
-use mathlib.Core.Bool.{Bool, true, false, _&&_}
+use mathlib.Core.Bool.{Bool, true, false, cond, _&&_}
 use mathlib.Core.List.{List, [], _∷_, _++_}
-use Prim.Native.Nat.{ℕ, zero, suc, _+_, _-_, _<_}
+use Prim.Native.Nat.{ℕ, zero, suc, _+_, _-_, _<_, _≤_}
 use native.Mathlib.Omega.{arith}
 use lib.ListN.{getD}
 use lib.Dec.{ltb, leb}
-use borrow.Author.Tests.{ltb-true, leb-false}
-use Rattle.model.specs.Kind.{base}
+use borrow.Author.Tests.{ltb-true, leb-false, ltb-false, lt-ltb, le-ltb, le-leb, lt-leb}
 use Rattle.model.specs.Lists.{Cause, cause, some, All, range}
-use Rattle.model.specs.Length.{listOf}
+use Rattle.model.specs.Length.{lengthsIn}
 use Rattle.model.specs.Node.{child}
-use Rattle.model.specs.State.{State, state, nodeAt}
+use Rattle.model.specs.State.{State, shapeFor, nodeAt}
 use Rattle.model.specs.Climb.{lastDown}
-use Rattle.model.specs.Place.{change}
-use Rattle.model.specs.Refuse.{shapeOf, opening, atCursor, past, full}
-use Rattle.model.specs.Calls.{endOf, aim, targetCauses, insertCauses}
+use Rattle.model.specs.Refuse.{shapeOf, opening, atCursor, totalOf, past, full}
+use Rattle.model.specs.Calls.{endOf, targetCauses, insertCauses}
+use Rattle.model.specs.declared.shape.Kind.{Kind}
 use Rattle.model.specs.declared.shape.Shape.{Shape}
 use Rattle.model.specs.declared.number.LeafNo.{LeafNo}
-use Rattle.model.specs.declared.length.Lengths.{Lengths}
 use Rattle.model.specs.declared.head.Cursor.{Cursor}
 use Rattle.model.specs.declared.way.Leaf.{Leaf}
 use Rattle.model.specs.declared.way.Leaf.the-variants as leaf
@@ -27,83 +25,108 @@ use Rattle.model.specs.declared.answer.Target.the-variants as target
 use Rattle.laws.specs.Lens.{by-test}
 use Rattle.open.proofs.Causes.{opened-first, opened-next, opened-none, opened-stop, opened-more, good-number, good-shape, none-applies, Numbered}
 use Rattle.open.proofs.ReadyLaws.{ready-here}
+use Rattle.open.proofs.WidthLaws.{past-same}
+use Rattle.open.specs.Lengths.{pastIn}
 use Rattle.open.specs.Open.{openedBy}
 use Rattle.open.specs.Ready.{Ready}
 use Rattle.open.specs.declared.open.Opened.{Opened}
 use Rattle.open.specs.declared.open.Opened.the-variants.{Good, Refused}
+use Rattle.calls_insert.specs.Put.{aimAt, inUse, aimed, Aimed}
+use Rattle.calls_insert.specs.declared.any.Aim.{Aim}
 
 -- the causes of the tree and of the target
-abbrev pub frontOf : State → Target → List Cause
-frontOf s t = opening base s ++ targetCauses base s t
+abbrev pub frontOf : Kind → State → Target → List Cause
+frontOf K s t = opening K s ++ targetCauses K s t
 
-pub open-before : (s : State) (t : Target) (c : Cursor) (o : Opened) → t ≡ target.Before c → o ≡ openedBy (opening base s ++ atCursor base s c) (shapeOf base (s .head))
-    → o ≡ openedBy (frontOf s t) (shapeOf base (s .head))
-open-before s t c o e q = rw e q
+pub open-before : (K : Kind) (s : State) (t : Target) (c : Cursor) (o : Opened) → t ≡ target.Before c → o ≡ openedBy (opening K s ++ atCursor K s c) (shapeOf K (s .head))
+    → o ≡ openedBy (frontOf K s t) (shapeOf K (s .head))
+open-before K s t c o e q = rw e q
 
-pub open-end : (s : State) (t : Target) (o : Opened) → t ≡ target.End → o ≡ openedBy (opening base s) (shapeOf base (s .head)) → o ≡ openedBy (frontOf s t) (shapeOf base (s .head))
+pub open-end : (K : Kind) (s : State) (t : Target) (o : Opened) → t ≡ target.End → o ≡ openedBy (opening K s) (shapeOf K (s .head)) → o ≡ openedBy (frontOf K s t) (shapeOf K (s .head))
 unfolding opening
-open-end s t o e q = rw e q
+open-end K s t o e q = rw e q
 
-front-numbered : (s : State) (t : Target) → Numbered (frontOf s t)
+front-numbered : (K : Kind) (s : State) (t : Target) → Numbered (frontOf K s t)
 unfolding opening All
-front-numbered s (target.Before c) = (omega arith, (omega arith, (omega arith, (omega arith, (omega arith, (omega arith, (omega arith, tt)))))))
-front-numbered s target.End = (omega arith, (omega arith, (omega arith, tt)))
+front-numbered K s (target.Before c) = (omega arith, (omega arith, (omega arith, (omega arith, (omega arith, (omega arith, (omega arith, tt)))))))
+front-numbered K s target.End = (omega arith, (omega arith, (omega arith, tt)))
 
-insert-numbered : (s : State) (t : Target) (l : Lengths) → Numbered (insertCauses base s t (listOf l))
+insert-numbered : (K : Kind) (s : State) (t : Target) (l : List ℕ) → Numbered (insertCauses K s t l)
 unfolding opening All
-insert-numbered s (target.Before c) l = (omega arith, (omega arith, (omega arith, (omega arith, (omega arith, (omega arith, (omega arith, (omega arith, (omega arith, tt)))))))))
-insert-numbered s target.End l = (omega arith, (omega arith, (omega arith, (omega arith, (omega arith, tt)))))
-
--- the tree is ready where no cause applies
-none-ready : (s : State) (ys : List Cause) → All (λ c. c .applies ≡ false) (opening base s ++ ys) → Ready s (shapeOf base (s .head))
-unfolding opening All
-none-ready s ys n = ready-here s (n .0) (n .1 .0) (n .1 .1 .0)
-
-pub front-ready : (s : State) (t : Target) (g : Shape) (o : Opened) → o ≡ openedBy (frontOf s t) (shapeOf base (s .head)) → o ≡ Good g → Ready s g
-front-ready s t g o e d =
-    let q = sym e ∙ d in
-    rw (← good-shape (frontOf s t) (shapeOf base (s .head)) g q)
-    (none-ready s (targetCauses base s t) (none-applies (frontOf s t) (front-numbered s t) (good-number (frontOf s t) (shapeOf base (s .head)) g q)))
+insert-numbered K s (target.Before c) l = (omega arith, (omega arith, (omega arith, (omega arith, (omega arith, (omega arith, (omega arith, (omega arith, (omega arith, tt)))))))))
+insert-numbered K s target.End l = (omega arith, (omega arith, (omega arith, (omega arith, (omega arith, tt)))))
 
 -- what 7 says with no lengths for old ones
-past-none : (s : State) (l : Lengths) → past base (state (s .head) [] (s .inners) []) (0 ∷ 0 ∷ []) (listOf l) .applies ≡ past base s [] (listOf l) .applies
+zeros : (K : Kind) (s : State) (l : List ℕ) (n : ℕ) → 1 ≤ n → n ≤ 3
+    → some (λ v. ltb (4294967295 + getD (lengthsIn n (0 ∷ 0 ∷ 0 ∷ 0 ∷ [])) v 0) (totalOf K s v + getD l v 0)) (range 0 n)
+    ≡ some (λ v. ltb (4294967295 + getD [] v 0) (totalOf K s v + getD l v 0)) (range 0 n)
 unfolding some range
-past-none s l = refl
+zeros K s l zero a b = absurd (omega arith)
+zeros K s l (suc zero) a b = refl
+zeros K s l (suc (suc zero)) a b = refl
+zeros K s l (suc (suc (suc zero))) a b = refl
+zeros K s l (suc (suc (suc (suc n)))) a b = absurd (omega arith)
 
--- what `open_insert` answers, from what `open_for` answered
-module _ (s : State) (t : Target) (l : Lengths) (o : Opened) (e : o ≡ openedBy (frontOf s t) (shapeOf base (s .head))) where
-  pub insert-stop : (n : ℕ) → o ≡ Refused n → Refused n ≡ openedBy (insertCauses base s t (listOf l)) (shapeOf base (s .head))
-  insert-stop n d = sym (opened-stop (frontOf s t) (past base s [] (listOf l) ∷ full s ∷ []) _ n (sym e ∙ d))
+past-none : (K : Kind) → (1 ≤ K .views) × (K .views ≤ 3) → (s : State) (l : List ℕ) → past K s (lengthsIn (K .views) (0 ∷ 0 ∷ 0 ∷ 0 ∷ [])) l .applies ≡ past K s [] l .applies
+past-none K w s l = zeros K s l (K .views) (w .0) (w .1)
 
-  module _ (g : Shape) (d : o ≡ Good g) (b : Bool) (eb : b ≡ past base (state (s .head) [] (s .inners) []) (0 ∷ 0 ∷ []) (listOf l) .applies) where
-    rest : openedBy (insertCauses base s t (listOf l)) (shapeOf base (s .head)) ≡ openedBy (past base s [] (listOf l) ∷ full s ∷ []) (shapeOf base (s .head))
-    rest = opened-more (frontOf s t) (past base s [] (listOf l) ∷ full s ∷ []) _ g (front-numbered s t) (sym e ∙ d)
+module _ (K : Kind) (w : (1 ≤ K .views) × (K .views ≤ 3)) (s : State) where
+  -- the tree is ready where no cause applies
+  none-ready : (ys : List Cause) → All (λ c. c .applies ≡ false) (opening K s ++ ys) → Ready K s (shapeOf K (s .head))
+  unfolding opening All
+  none-ready ys n = ready-here K w s (n .0) (n .1 .0) (n .1 .1 .0)
 
-    pub insert-past : b ≡ true → Refused 7 ≡ openedBy (insertCauses base s t (listOf l)) (shapeOf base (s .head))
-    insert-past h = sym (rest ∙ opened-first 6 _ (full s ∷ []) _ (sym (past-none s l) ∙ sym eb ∙ h))
+  pub front-ready : (t : Target) (g : Shape) (o : Opened) → o ≡ openedBy (frontOf K s t) (shapeOf K (s .head)) → o ≡ Good g → Ready K s g
+  front-ready t g o e d =
+      let q = sym e ∙ d in
+      rw (← good-shape (frontOf K s t) (shapeOf K (s .head)) g q)
+      (none-ready (targetCauses K s t) (none-applies (frontOf K s t) (front-numbered K s t) (good-number (frontOf K s t) (shapeOf K (s .head)) g q)))
 
-    last : b ≡ false → openedBy (insertCauses base s t (listOf l)) (shapeOf base (s .head)) ≡ openedBy (full s ∷ []) (shapeOf base (s .head))
-    last h = rest ∙ opened-next 7 _ (full s ∷ []) _ (sym (past-none s l) ∙ sym eb ∙ h)
+  -- what `open_insert` answers, from what `open_for` answered
+  module _ (t : Target) (l : List ℕ) (o : Opened) (e : o ≡ openedBy (frontOf K s t) (shapeOf K (s .head))) where
+    pub insert-stop : (n : ℕ) → o ≡ Refused n → Refused n ≡ openedBy (insertCauses K s t l) (shapeOf K (s .head))
+    insert-stop n d = sym (opened-stop (frontOf K s t) (past K s [] l ∷ full s ∷ []) _ n (sym e ∙ d))
 
-    module _ (h : b ≡ false) (f : Bool) (ef : f ≡ full s .applies) where
-      pub insert-full : f ≡ true → Refused 8 ≡ openedBy (insertCauses base s t (listOf l)) (shapeOf base (s .head))
-      insert-full q = sym (last h ∙ opened-first 7 _ [] _ (sym ef ∙ q))
+    module _ (g : Shape) (d : o ≡ Good g) (b : Bool)
+        (eb : b ≡ pastIn (shapeFor (K .views) (g .fan) (g .nodes)) (s .head .root .0) (s .inners) (lengthsIn (K .views) (0 ∷ 0 ∷ 0 ∷ 0 ∷ [])) l) where
+      same : shapeOf K (s .head) ≡ g
+      same = good-shape (frontOf K s t) (shapeOf K (s .head)) g (sym e ∙ d)
 
-      pub insert-good : f ≡ false → Good g ≡ openedBy (insertCauses base s t (listOf l)) (shapeOf base (s .head))
-      insert-good q = sym (last h ∙ opened-next 8 _ [] _ (sym ef ∙ q) ∙ opened-none _ ∙ ap Good (good-shape (frontOf s t) (shapeOf base (s .head)) g (sym e ∙ d)))
+      here : b ≡ past K s [] l .applies
+      here = eb ∙ past-same K s g (sym same) (lengthsIn (K .views) (0 ∷ 0 ∷ 0 ∷ 0 ∷ [])) l ∙ past-none K w s l
 
--- and what is known where it gives no number: the tree is ready and has room for one entry more
-none-room : (s : State) (t : Target) (l : Lengths) → All (λ c. c .applies ≡ false) (insertCauses base s t (listOf l)) → Ready s (shapeOf base (s .head)) × (s .head .entries < s .head .limit)
-unfolding opening All
-none-room s (target.Before c) l n = (ready-here s (n .0) (n .1 .0) (n .1 .1 .0), leb-false _ _ (n .1 .1 .1 .1 .1 .1 .1 .1 .0))
-none-room s target.End l n = (ready-here s (n .0) (n .1 .0) (n .1 .1 .0), leb-false _ _ (n .1 .1 .1 .1 .0))
+      rest : openedBy (insertCauses K s t l) (shapeOf K (s .head)) ≡ openedBy (past K s [] l ∷ full s ∷ []) (shapeOf K (s .head))
+      rest = opened-more (frontOf K s t) (past K s [] l ∷ full s ∷ []) _ g (front-numbered K s t) (sym e ∙ d)
 
-pub insert-room : (s : State) (t : Target) (l : Lengths) (g : Shape) (o : Opened) → o ≡ openedBy (insertCauses base s t (listOf l)) (shapeOf base (s .head)) → o ≡ Good g
-    → Ready s g × (s .head .entries < s .head .limit)
-insert-room s t l g o e d =
-    let q = sym e ∙ d in
-    rw (← good-shape (insertCauses base s t (listOf l)) (shapeOf base (s .head)) g q)
-    (none-room s t l (none-applies (insertCauses base s t (listOf l)) (insert-numbered s t l) (good-number (insertCauses base s t (listOf l)) (shapeOf base (s .head)) g q)))
+      pub insert-past : b ≡ true → Refused 7 ≡ openedBy (insertCauses K s t l) (shapeOf K (s .head))
+      insert-past h = sym (rest ∙ opened-first 6 _ (full s ∷ []) _ (sym here ∙ h))
+
+      last : b ≡ false → openedBy (insertCauses K s t l) (shapeOf K (s .head)) ≡ openedBy (full s ∷ []) (shapeOf K (s .head))
+      last h = rest ∙ opened-next 7 _ (full s ∷ []) _ (sym here ∙ h)
+
+      module _ (h : b ≡ false) (f : Bool) (ef : f ≡ full s .applies) where
+        pub insert-full : f ≡ true → Refused 8 ≡ openedBy (insertCauses K s t l) (shapeOf K (s .head))
+        insert-full q = sym (last h ∙ opened-first 7 _ [] _ (sym ef ∙ q))
+
+        pub insert-good : f ≡ false → Good g ≡ openedBy (insertCauses K s t l) (shapeOf K (s .head))
+        insert-good q = sym (last h ∙ opened-next 8 _ [] _ (sym ef ∙ q) ∙ opened-none _ ∙ ap Good same)
+
+  -- and what is known where it gives no number: the tree is ready and has room for one entry more, and a cursor stands
+  none-room : (t : Target) (l : List ℕ) → All (λ c. c .applies ≡ false) (insertCauses K s t l) → Ready K s (shapeOf K (s .head)) × Aimed K s t × (s .head .entries < s .head .limit)
+  unfolding opening All Aimed
+  none-room (target.Before c) l n = (
+    (ready-here K w s (n .0) (n .1 .0) (n .1 .1 .0)),
+    (leb-false _ _ (n .1 .1 .1 .1 .0), leb-false _ _ (n .1 .1 .1 .1 .1 .0), ltb-false _ _ (n .1 .1 .1 .1 .1 .1 .0)),
+    (leb-false _ _ (n .1 .1 .1 .1 .1 .1 .1 .1 .0)),
+  )
+  none-room target.End l n = (ready-here K w s (n .0) (n .1 .0) (n .1 .1 .0), omega arith, leb-false _ _ (n .1 .1 .1 .1 .0))
+
+  pub insert-room : (t : Target) (l : List ℕ) (g : Shape) (o : Opened) → o ≡ openedBy (insertCauses K s t l) (shapeOf K (s .head)) → o ≡ Good g
+      → Ready K s g × Aimed K s t × (s .head .entries < s .head .limit)
+  insert-room t l g o e d =
+      let q = sym e ∙ d in
+      let r = none-room t l (none-applies (insertCauses K s t l) (insert-numbered K s t l) (good-number (insertCauses K s t l) (shapeOf K (s .head)) g q)) in
+      (rw (← good-shape (insertCauses K s t l) (shapeOf K (s .head)) g q) (r .0), r .1, r .2)
 
 -- the leaf that the last slots lead to is in the area
 within : Shape → Leaf → Type 0
@@ -123,18 +146,41 @@ unfolding within
 last-in g n k xs r j e d = subst (within g) (sym e ∙ d) (last-within g n k xs)
 
 -- the slot that a target is: a cursor's, or the one behind the last in use
-pub aim-before : (s : State) (t : Target) (c : Cursor) → t ≡ target.Before c → change 0 s (c .leaf .0) (c .slot) ≡ aim base s t
-aim-before s t c e = rw e
+pub aim-before : (K : Kind) (s : State) (t : Target) (c : Cursor) → t ≡ target.Before c → aimAt 0 (c .leaf .0) (c .slot) ≡ aimed K s t
+aim-before K s t c e = rw e
 
-module _ (s : State) (t : Target) (e : t ≡ target.End) (g : Shape) (eg : g ≡ shapeOf base (s .head)) (r : Leaf) (er : r ≡ lastDown g (s .head .levels) (s .head .root .0) (s .inners)) where
-  by : (q : Leaf) → r ≡ q → endOf base s q ≡ aim base s t
-  by q d = rw e (ap (endOf base s) (sym d ∙ er ∙ ap (λ (x : Shape). lastDown x (s .head .levels) (s .head .root .0) (s .inners)) eg))
+module _ (K : Kind) (s : State) (g : Shape) (eg : g ≡ shapeOf K (s .head)) (r : Leaf) (er : r ≡ lastDown g (s .head .levels) (s .head .root .0) (s .inners)) where
+  abbrev endBy : Leaf → Aim
+  endBy q = let a = endOf K s q in cond (inUse K s a) (aimAt 0 (a .leaf) (a .slot)) (aimAt 9 0 0)
 
-  pub aim-end : (k : LeafNo) (len : ℕ) → r ≡ leaf.At k → len ≡ nodeAt g (k .0) (s .leaves) .len → change 0 s (k .0) len ≡ aim base s t
-  aim-end k len d el = ap (change 0 s (k .0)) (el ∙ ap (λ (x : Shape). nodeAt x (k .0) (s .leaves) .len) eg) ∙ by (leaf.At k) d
+  by : (q : Leaf) → r ≡ q → endBy q ≡ aimed K s target.End
+  by q d = ap endBy (sym d ∙ er ∙ ap (λ (x : Shape). lastDown x (s .head .levels) (s .head .root .0) (s .inners)) eg)
 
-  pub aim-nothing : r ≡ leaf.Nothing → change 9 s 0 0 ≡ aim base s t
-  aim-nothing d = by leaf.Nothing d
+  pub end-nothing : r ≡ leaf.Nothing → aimAt 9 0 0 ≡ aimed K s target.End
+  end-nothing d = by leaf.Nothing d
 
-  pub aim-broken : r ≡ leaf.Broken → change 9 s 0 0 ≡ aim base s t
-  aim-broken d = by leaf.Broken d
+  pub end-broken : r ≡ leaf.Broken → aimAt 9 0 0 ≡ aimed K s target.End
+  end-broken d = by leaf.Broken d
+
+  module _ (k : LeafNo) (d : r ≡ leaf.At k) where
+    pub end-unused : s .head .leaves ≤ k .0 → aimAt 9 0 0 ≡ aimed K s target.End
+    end-unused h =
+        let q : endBy (leaf.At k) ≡ aimAt 9 0 0 = rw (le-ltb (k .0) (s .head .leaves) h) in
+        sym q ∙ by (leaf.At k) d
+
+    module _ (a : k .0 < s .head .leaves) (len : ℕ) (el : len ≡ nodeAt g (k .0) (s .leaves) .len) where
+      own-len : nodeAt (shapeOf K (s .head)) (k .0) (s .leaves) .len ≡ len
+      own-len = ap (λ (x : Shape). nodeAt x (k .0) (s .leaves) .len) (sym eg) ∙ sym el
+
+      fan-same : s .head .fan ≡ g .fan
+      fan-same = ap (λ (x : Shape). x .fan) (sym eg)
+
+      pub end-over : g .fan < len → aimAt 9 0 0 ≡ aimed K s target.End
+      end-over h =
+          let q : endBy (leaf.At k) ≡ aimAt 9 0 0 = rw (lt-ltb (k .0) (s .head .leaves) a, own-len, fan-same, lt-leb len (g .fan) h) in
+          sym q ∙ by (leaf.At k) d
+
+      pub end-slot : len ≤ g .fan → aimAt 0 (k .0) len ≡ aimed K s target.End
+      end-slot h =
+          let q : endBy (leaf.At k) ≡ aimAt 0 (k .0) len = rw (lt-ltb (k .0) (s .head .leaves) a, own-len, fan-same, le-leb len (g .fan) h) in
+          sym q ∙ by (leaf.At k) d

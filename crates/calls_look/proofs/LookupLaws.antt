@@ -1,18 +1,15 @@
--- What the lookups answer. Assumes nothing.
+-- What the lookups answer on a tree of any kind. Assumes nothing.
 use mathlib.Core.Path.{_≡_, refl, sym, ap, _∙_}
 use Prim.Native.Nat.{ℕ}
-use Rattle.model.specs.Kind.{base}
-use Rattle.model.specs.Length.{viewNumber}
 use Rattle.model.specs.State.{State, state}
 use Rattle.model.specs.Locate.{servedBy, fromRoot}
 use Rattle.model.specs.Refuse.{shapeOf, opening}
 use Rattle.model.specs.Calls.{Reply, reply, byFinger, bySearch, locate, lessPositions, charIndexToEntry}
+use Rattle.model.specs.declared.shape.Kind.{Kind}
 use Rattle.model.specs.declared.shape.Shape.{Shape}
-use Rattle.model.specs.declared.length.View.{View}
 use Rattle.model.specs.declared.head.Finger.{Finger}
 use Rattle.model.specs.declared.way.Search.{Search}
 use Rattle.model.specs.declared.way.Search.the-variants as search
-use Rattle.model.specs.declared.answer.Selected.{Selected}
 use Rattle.model.specs.declared.answer.Located.{Located}
 use Rattle.model.specs.declared.answer.Located.the-variants as located
 use Rattle.model.specs.declared.answer.LocatedReply.{LocatedReply}
@@ -32,41 +29,41 @@ module _ (s : State) where
   search-same search.Nothing = refl
   search-same search.Broken = refl
 
-  module _ (v : View) (index : ℕ) where
-    abbrev fingerBy : ℕ → Shape → Search
-    fingerBy w g = servedBy w (base .effect) g (s .head .finger) (s .head .leaves) index (s .leaves)
+  module _ (K : Kind) (v index : ℕ) where
+    abbrev fingerBy : Shape → Search
+    fingerBy g = servedBy v (K .effect) g (s .head .finger) (s .head .leaves) index (s .leaves)
 
-    abbrev rootBy : ℕ → Shape → Search
-    rootBy w g = fromRoot w (base .effect) g (s .head .levels) (s .head .root .0) (s .head .leaves) index (s .leaves) (s .inners)
+    abbrev rootBy : Shape → Search
+    rootBy g = fromRoot v (K .effect) g (s .head .levels) (s .head .root .0) (s .head .leaves) index (s .leaves) (s .inners)
 
     abbrev lookupBy : Shape → Reply Located
-    lookupBy g = byFinger s (fingerBy (viewNumber v) g) (rootBy (viewNumber v) g)
+    lookupBy g = byFinger s (fingerBy g) (rootBy g)
 
-    module _ (o : Opened) (e : o ≡ openedBy (opening base s) (shapeOf base (s .head))) where
-      pub locate-refused : (n : ℕ) → o ≡ Refused n → replyOf (locatedReply (s .head) (located.Refused n)) ≡ locate base s (viewNumber v) index
+    module _ (o : Opened) (e : o ≡ openedBy (opening K s) (shapeOf K (s .head))) where
+      pub locate-refused : (n : ℕ) → o ≡ Refused n → replyOf (locatedReply (s .head) (located.Refused n)) ≡ locate K s v index
       unfolding locate
-      locate-refused n d = call-refused (λ (m : ℕ). reply s (located.Refused m)) lookupBy (opening base s) (shapeOf base (s .head)) o e n d
+      locate-refused n d = call-refused (λ (m : ℕ). reply s (located.Refused m)) lookupBy (opening K s) (shapeOf K (s .head)) o e n d
 
-      module _ (g : Shape) (d : o ≡ Good g) (w : ℕ) (ew : w ≡ viewNumber v) (r : Search) (er : r ≡ fingerBy w g) where
+      module _ (g : Shape) (d : o ≡ Good g) (r : Search) (er : r ≡ fingerBy g) where
         -- by what the finger gave
-        by : (q : Search) → r ≡ q → (a : Reply Located) → a ≡ byFinger s q (rootBy w g) → a ≡ locate base s (viewNumber v) index
+        by : (q : Search) → r ≡ q → (a : Reply Located) → a ≡ byFinger s q (rootBy g) → a ≡ locate K s v index
         unfolding locate
         by q eq a ea =
-            call-good (λ (m : ℕ). reply s (located.Refused m)) lookupBy (opening base s) (shapeOf base (s .head)) o e g d a
-            (ea ∙ rw (← ew) (ap (λ (x : Search). byFinger s x (rootBy w g)) (sym eq ∙ er)))
+            call-good (λ (m : ℕ). reply s (located.Refused m)) lookupBy (opening K s) (shapeOf K (s .head)) o e g d a
+            (ea ∙ ap (λ (x : Search). byFinger s x (rootBy g)) (sym eq ∙ er))
 
-        pub locate-hit : (f : Finger) (offset : ℕ) → r ≡ search.At f offset → (x : LocatedReply) → x ≡ hitOf (s .head) f offset → replyOf x ≡ locate base s (viewNumber v) index
+        pub locate-hit : (f : Finger) (offset : ℕ) → r ≡ search.At f offset → (x : LocatedReply) → x ≡ hitOf (s .head) f offset → replyOf x ≡ locate K s v index
         locate-hit f offset eq x ex = by (search.At f offset) eq (replyOf x) (ap replyOf ex)
 
-        pub locate-broken : r ≡ search.Broken → replyOf (locatedReply (s .head) (located.Refused 9)) ≡ locate base s (viewNumber v) index
+        pub locate-broken : r ≡ search.Broken → replyOf (locatedReply (s .head) (located.Refused 9)) ≡ locate K s v index
         locate-broken eq = by search.Broken eq _ refl
 
-        pub locate-again : r ≡ search.Nothing → (t : Search) → t ≡ rootBy w g → (x : LocatedReply) → x ≡ searchOf (s .head) t → replyOf x ≡ locate base s (viewNumber v) index
+        pub locate-again : r ≡ search.Nothing → (t : Search) → t ≡ rootBy g → (x : LocatedReply) → x ≡ searchOf (s .head) t → replyOf x ≡ locate K s v index
         locate-again eq t et x ex = by search.Nothing eq (replyOf x) (ap replyOf ex ∙ search-same t ∙ ap (bySearch s) et)
 
     -- the two positions are left out
-    pub less-positions : (x : LocatedReply) → replyOf x ≡ locate base s (viewNumber v) index → (a : Located) → x .answer ≡ a
-        → reply (state (x .head) (s .leaves) (s .inners) (s .homes)) (lessPositions a) ≡ charIndexToEntry base s (viewNumber v) index
+    pub less-positions : (x : LocatedReply) → replyOf x ≡ locate K s v index → (a : Located) → x .answer ≡ a
+        → reply (state (x .head) (s .leaves) (s .inners) (s .homes)) (lessPositions a) ≡ charIndexToEntry K s v index
     unfolding charIndexToEntry
     less-positions x e a ea =
         ap (λ (y : Located). reply (state (x .head) (s .leaves) (s .inners) (s .homes)) (lessPositions y)) (sym ea)

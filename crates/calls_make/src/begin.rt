@@ -1,67 +1,14 @@
 // The calls that begin a tree: one leaf with the entry 0, and one inner node above it.
-use model::answer::Outcome;
 use model::answer::OutcomeReply;
 use model::head::Head;
-use model::head::Held;
 use model::length::Lengths;
 use model::length::Slot;
-use model::number::NodeNo;
-use model::shape::Shape;
-use node_write::split::new_one;
-use open::open::Opened;
-use open::open::open_areas;
 ghost use mathlib.Core.Path.{_≡_};
-ghost use mathlib.Core.List.{[], _∷_};
-ghost use Prim.Native.Nat.{_*_, _<_, _≤_};
-ghost use lib.ListN.{length};
 ghost use Rattle.model.specs.Length.{listOf};
-ghost use Rattle.model.specs.Kind.{base, stride};
-ghost use Rattle.model.specs.Node.{newNode};
-ghost use Rattle.model.specs.State.{state, shape, putNode};
+ghost use Rattle.model.specs.Kind.{base};
+ghost use Rattle.model.specs.State.{state};
 ghost use Rattle.model.specs.Calls as calls;
-ghost use Rattle.model.specs.Calls.{begun, reply};
-ghost use Rattle.node.specs.Shaped.{Shaped};
-
-// Node 0 of an area written anew with the slot x.
-fn write_first(area: &mut [u32], g: Shape, parent: u32, x: &[u32])
-    requires { ⌜ Shaped g × (g .size ≤ length (now area)) × (length (now x) ≡ g .stride) ⌝ }
-    ensures { λ _. ⌜ now (area .exit) ≡ putNode g 0 (newNode (g .stride) (g .fan) parent (now (x .entry) ∷ [])) (now (area .entry)) ⌝ }
-{
-    let a: usize = 0;
-    let e = g.size;
-    new_one(&mut area[a..e], g, parent, x);
-}
-
-// The tree's first words, and its head.
-fn begin(
-    fan: u32,
-    limit: u32,
-    g: Shape,
-    lengths: Lengths,
-    leaves: &mut [u32],
-    inners: &mut [u32],
-    homes: &mut [u32],
-) -> Head
-    requires { ⌜ (g ≡ shape (stride base) fan limit) × Shaped g × (g .size ≤ length (now leaves)) × (g .size ≤ length (now inners)) × (0 < length (now homes)) ⌝ }
-    ensures { λ r. ⌜ state r (now (leaves .exit)) (now (inners .exit)) (now (homes .exit)) ≡ begun base fan limit (listOf lengths) (now (leaves .entry)) (now (inners .entry)) (now (homes .entry)) ⌝ }
-{
-    let slot = Slot::new(0, lengths);
-    let x: [u32; 3] = [slot.child, slot.prepare_len, slot.effect_len];
-    let empty = Slot::EMPTY;
-    write_first(leaves, g, 0, &x);
-    write_first(inners, g, empty.child, &x);
-    homes[0] = 0;
-    Head {
-        fan: fan,
-        limit: limit,
-        root: NodeNo(0),
-        levels: 1,
-        leaves: 1,
-        inners: 1,
-        entries: 1,
-        finger: Held::Absent,
-    }
-}
+ghost use Rattle.model.specs.Calls.{reply};
 
 // A new tree with the entry 0; a refused one is a head of zeros without finger.
 pub fn new(
@@ -74,31 +21,9 @@ pub fn new(
 ) -> OutcomeReply
     ensures { λ r. ⌜ reply (state (r .head) (now (leaves .exit)) (now (inners .exit)) (now (homes .exit))) (r .answer) ≡ calls.make base fan limit (listOf lengths) (now (leaves .entry)) (now (inners .entry)) (now (homes .entry)) ⌝ }
 {
-    match open_areas(fan, limit, leaves, inners, homes) {
-        Opened::Refused(n) => {
-            let zeros = Head {
-                fan: 0,
-                limit: 0,
-                root: NodeNo(0),
-                levels: 0,
-                leaves: 0,
-                inners: 0,
-                entries: 0,
-                finger: Held::Absent,
-            };
-            OutcomeReply {
-                head: zeros,
-                answer: Outcome::Refused(n),
-            }
-        }
-        Opened::Good(g) => {
-            let head = begin(fan, limit, g, lengths, leaves, inners, homes);
-            OutcomeReply {
-                head: head,
-                answer: Outcome::Done,
-            }
-        }
-    }
+    let slot = Slot::new(0, lengths);
+    let x: [u32; 4] = [slot.child, slot.prepare_len, slot.effect_len, 0];
+    crate::any::new(2, fan, limit, &x, leaves, inners, homes)
 }
 
 // The tree begun anew, with its own fan and limit.
@@ -111,19 +36,7 @@ pub fn reset(
 ) -> OutcomeReply
     ensures { λ r. ⌜ reply (state (r .head) (now (leaves .exit)) (now (inners .exit)) (now (homes .exit))) (r .answer) ≡ calls.reset base (state head (now (leaves .entry)) (now (inners .entry)) (now (homes .entry))) (listOf lengths) ⌝ }
 {
-    let fan = head.fan;
-    let limit = head.limit;
-    match open_areas(fan, limit, leaves, inners, homes) {
-        Opened::Refused(n) => OutcomeReply {
-            head: head,
-            answer: Outcome::Refused(n),
-        },
-        Opened::Good(g) => {
-            let begun = begin(fan, limit, g, lengths, leaves, inners, homes);
-            OutcomeReply {
-                head: begun,
-                answer: Outcome::Done,
-            }
-        }
-    }
+    let slot = Slot::new(0, lengths);
+    let x: [u32; 4] = [slot.child, slot.prepare_len, slot.effect_len, 0];
+    crate::any::reset(2, head, &x, leaves, inners, homes)
 }

@@ -1,6 +1,6 @@
--- What the calls answer that follow the order of the entries. Assumes nothing.
+-- What the calls answer that follow the order of the entries, on a tree of any kind. Assumes nothing.
 use mathlib.Core.Path.{_≡_, refl, sym, ap, _∙_}
-use mathlib.Core.Bool.{cond}
+use mathlib.Core.Bool.{Bool, true, false, cond}
 use mathlib.Core.List.{List, [], _∷_, _++_}
 use Prim.Native.Nat.{ℕ, _+_, _<_, _≤_}
 use native.Mathlib.Omega.{arith}
@@ -9,18 +9,15 @@ use lib.ListN.{length, take}
 use lib.Seq.{length-take-le}
 use lib.Dec.{ltb, eqb}
 use borrow.Author.Tests.{lt-ltb, le-ltb, eq-eqb, ne-eqb}
-use Rattle.model.specs.Kind.{base}
 use Rattle.model.specs.Lists.{Cause, refusal}
 use Rattle.model.specs.Node.{start}
-use Rattle.model.specs.Length.{viewNumber}
 use Rattle.model.specs.Climb.{rankUp, stepsUp, firstDown, nextUp}
 use Rattle.model.specs.State.{State, nodeAt}
 use Rattle.model.specs.Refuse.{shapeOf, opening, stale, atCursor}
 use Rattle.model.specs.Calls.{rankOf, entryToCharIndex, cursorAt, firstOf, first, nextOf, nextAfter, inOrder, byPath, path, cmp}
+use Rattle.model.specs.declared.shape.Kind.{Kind}
 use Rattle.model.specs.declared.shape.Shape.{Shape}
 use Rattle.model.specs.declared.head.Cursor.{Cursor}
-use Rattle.model.specs.declared.head.Path.{Path}
-use Rattle.model.specs.declared.length.View.{View}
 use Rattle.model.specs.declared.way.Sum.{Sum}
 use Rattle.model.specs.declared.way.Leaf.{Leaf}
 use Rattle.model.specs.declared.answer.Number.the-variants as number
@@ -31,55 +28,55 @@ use Rattle.model.specs.declared.answer.Next.the-variants as next
 use Rattle.model.specs.declared.answer.Compared.{Compared}
 use Rattle.model.specs.declared.answer.Compared.the-variants as compared
 use Rattle.area.specs.Area.{Area}
-use Rattle.walk.specs.Steps.{stepsOf, Stepped}
+use Rattle.walk.specs.Steps.{stepsBy}
 use Rattle.open.proofs.Causes.{opened-stop, opened-more, good-shape, call-refused, call-good, opened-number, opened-zero}
 use Rattle.open.proofs.OpenLaws.{opening-numbered}
 use Rattle.open.proofs.ReadyLaws.{ready, leaf-area, inner-area}
 use Rattle.open.proofs.CursorLaws.{stale-numbered, clear-leaf}
 use Rattle.open.specs.Open.{openedBy}
+use Rattle.open.specs.Ready.{Ready}
 use Rattle.open.specs.declared.open.Opened.{Opened}
 use Rattle.open.specs.declared.open.Opened.the-variants.{Good, Refused}
 
 -- entry_to_char_index ---------------------------------------------------------------------------------------------------------------------
 
-module _ (s : State) (c : Cursor) where
-  abbrev climbBy : View → Shape → Sum
+module _ (K : Kind) (s : State) (c : Cursor) where
+  abbrev climbBy : ℕ → Shape → Sum
   climbBy v g =
       let m = nodeAt g (c .leaf .0) (s .leaves) in
-      rankUp g (viewNumber v) (s .head .levels) (m .parent) (m .at) (start (viewNumber v) (c .slot) m) (s .inners)
+      rankUp g v (s .head .levels) (m .parent) (m .at) (start v (c .slot) m) (s .inners)
 
-  module _ (o : Opened) (e : o ≡ openedBy (opening base s ++ atCursor base s c) (shapeOf base (s .head))) where
-    pub rank-refused : (v : View) (n : ℕ) → o ≡ Refused n → number.Refused n ≡ entryToCharIndex base s (viewNumber v) c
+  module _ (o : Opened) (e : o ≡ openedBy (opening K s ++ atCursor K s c) (shapeOf K (s .head))) where
+    pub rank-refused : (v n : ℕ) → o ≡ Refused n → number.Refused n ≡ entryToCharIndex K s v c
     unfolding entryToCharIndex
-    rank-refused v n d = call-refused number.Refused (λ (x : Shape). rankOf (climbBy v x)) _ (shapeOf base (s .head)) o e n d
+    rank-refused v n d = call-refused number.Refused (λ (x : Shape). rankOf (climbBy v x)) _ (shapeOf K (s .head)) o e n d
 
     -- the climb starts with the leaf's own place and what stands before the slot in it
-    pub rank-good : (g : Shape) → o ≡ Good g → (v : View) (w p a b : ℕ) (r q : Sum) → w ≡ viewNumber v → b ≡ start w (c .slot) (nodeAt g (c .leaf .0) (s .leaves))
-        → p ≡ nodeAt g (c .leaf .0) (s .leaves) .parent → a ≡ nodeAt g (c .leaf .0) (s .leaves) .at → r ≡ rankUp g w (s .head .levels) p a b (s .inners) → r ≡ q
-        → rankOf q ≡ entryToCharIndex base s (viewNumber v) c
+    pub rank-good : (g : Shape) → o ≡ Good g → (v p a b : ℕ) (r q : Sum) → b ≡ start v (c .slot) (nodeAt g (c .leaf .0) (s .leaves)) → p ≡ nodeAt g (c .leaf .0) (s .leaves) .parent
+        → a ≡ nodeAt g (c .leaf .0) (s .leaves) .at → r ≡ rankUp g v (s .head .levels) p a b (s .inners) → r ≡ q → rankOf q ≡ entryToCharIndex K s v c
     unfolding entryToCharIndex
-    rank-good g d v w p a b r q ew eb ep ea er eq =
-        let whole : rankUp g w (s .head .levels) p a b (s .inners) ≡ climbBy v g = rw (ep, ea, eb, ew) in
-        call-good number.Refused (λ (x : Shape). rankOf (climbBy v x)) _ (shapeOf base (s .head)) o e g d _ (ap rankOf (sym eq ∙ er ∙ whole))
+    rank-good g d v p a b r q eb ep ea er eq =
+        let whole : rankUp g v (s .head .levels) p a b (s .inners) ≡ climbBy v g = rw (ep, ea, eb) in
+        call-good number.Refused (λ (x : Shape). rankOf (climbBy v x)) _ (shapeOf K (s .head)) o e g d _ (ap rankOf (sym eq ∙ er ∙ whole))
 
 -- first -----------------------------------------------------------------------------------------------------------------------------------
 
-module _ (s : State) (o : Opened) (e : o ≡ openedBy (opening base s) (shapeOf base (s .head))) where
+module _ (K : Kind) (s : State) (o : Opened) (e : o ≡ openedBy (opening K s) (shapeOf K (s .head))) where
   abbrev firstBy : Shape → Standing
   firstBy g = firstOf (s .head .entries) (firstDown g (s .head .levels) (s .head .root .0) (s .inners))
 
-  pub first-refused : (n : ℕ) → o ≡ Refused n → standing.Refused n ≡ first base s
+  pub first-refused : (n : ℕ) → o ≡ Refused n → standing.Refused n ≡ first K s
   unfolding first
-  first-refused n d = call-refused standing.Refused firstBy (opening base s) (shapeOf base (s .head)) o e n d
+  first-refused n d = call-refused standing.Refused firstBy (opening K s) (shapeOf K (s .head)) o e n d
 
   pub first-good : (g : Shape) → o ≡ Good g → (r q : Leaf) → r ≡ firstDown g (s .head .levels) (s .head .root .0) (s .inners) → r ≡ q
-      → firstOf (s .head .entries) q ≡ first base s
+      → firstOf (s .head .entries) q ≡ first K s
   unfolding first
-  first-good g d r q er eq = call-good standing.Refused firstBy (opening base s) (shapeOf base (s .head)) o e g d _ (ap (firstOf (s .head .entries)) (sym eq ∙ er))
+  first-good g d r q er eq = call-good standing.Refused firstBy (opening K s) (shapeOf K (s .head)) o e g d _ (ap (firstOf (s .head .entries)) (sym eq ∙ er))
 
 -- next ------------------------------------------------------------------------------------------------------------------------------------
 
-module _ (s : State) (c : Cursor) where
+module _ (K : Kind) (s : State) (c : Cursor) where
   abbrev leafBy : Shape → ℕ → ℕ → Leaf
   leafBy g p a = nextUp g (s .head .levels) 0 p a (s .inners)
 
@@ -88,21 +85,21 @@ module _ (s : State) (c : Cursor) where
       let m = nodeAt g (c .leaf .0) (s .leaves) in
       cond (ltb (c .slot + 1) (m .len)) (next.At (cursorAt (s .head .entries) (c .leaf .0) (c .slot + 1))) (nextOf (s .head .entries) (leafBy g (m .parent) (m .at)))
 
-  module _ (o : Opened) (e : o ≡ openedBy (opening base s ++ atCursor base s c) (shapeOf base (s .head))) where
-    pub next-refused : (n : ℕ) → o ≡ Refused n → next.Refused n ≡ nextAfter base s c
+  module _ (o : Opened) (e : o ≡ openedBy (opening K s ++ atCursor K s c) (shapeOf K (s .head))) where
+    pub next-refused : (n : ℕ) → o ≡ Refused n → next.Refused n ≡ nextAfter K s c
     unfolding nextAfter
-    next-refused n d = call-refused next.Refused nextBy _ (shapeOf base (s .head)) o e n d
+    next-refused n d = call-refused next.Refused nextBy _ (shapeOf K (s .head)) o e n d
 
     module _ (g : Shape) (d : o ≡ Good g) (len : ℕ) (el : len ≡ nodeAt g (c .leaf .0) (s .leaves) .len) where
-      pub next-here : c .slot + 1 < len → next.At (cursorAt (s .head .entries) (c .leaf .0) (c .slot + 1)) ≡ nextAfter base s c
+      pub next-here : c .slot + 1 < len → next.At (cursorAt (s .head .entries) (c .leaf .0) (c .slot + 1)) ≡ nextAfter K s c
       unfolding nextAfter
-      next-here h = call-good next.Refused nextBy _ (shapeOf base (s .head)) o e g d _ (rw (← el, lt-ltb (c .slot + 1) len h))
+      next-here h = call-good next.Refused nextBy _ (shapeOf K (s .head)) o e g d _ (rw (← el, lt-ltb (c .slot + 1) len h))
 
       pub next-on : len ≤ c .slot + 1 → (p a : ℕ) (r q : Leaf) → p ≡ nodeAt g (c .leaf .0) (s .leaves) .parent → a ≡ nodeAt g (c .leaf .0) (s .leaves) .at
-          → r ≡ leafBy g p a → r ≡ q → nextOf (s .head .entries) q ≡ nextAfter base s c
+          → r ≡ leafBy g p a → r ≡ q → nextOf (s .head .entries) q ≡ nextAfter K s c
       unfolding nextAfter
       next-on h p a r q ep ea er eq =
-          call-good next.Refused nextBy _ (shapeOf base (s .head)) o e g d _ (rw (← el, le-ltb (c .slot + 1) len h, ← ep, ← ea) (ap (nextOf (s .head .entries)) (sym eq ∙ er)))
+          call-good next.Refused nextBy _ (shapeOf K (s .head)) o e g d _ (rw (← el, le-ltb (c .slot + 1) len h, ← ep, ← ea) (ap (nextOf (s .head .entries)) (sym eq ∙ er)))
 
 -- cmp -------------------------------------------------------------------------------------------------------------------------------------
 
@@ -110,76 +107,87 @@ by-none : (xs ys : List ℕ) → ys ≡ [] → compared.Refused 9 ≡ byPath xs 
 by-none [] ys e = refl
 by-none (x ∷ xs) ys e = rw e
 
--- the second path has no steps
-pub by-second : (a b : Path) → b .len ≡ 0 → compared.Refused 9 ≡ byPath (stepsOf a) (stepsOf b)
-by-second a b e = by-none (stepsOf a) (stepsOf b) (ap (λ (n : ℕ). take n (b .steps)) e)
-
 by-some : (xs ys : List ℕ) → 0 < length xs → 0 < length ys → inOrder xs ys ≡ byPath xs ys
 by-some [] ys h f = absurd (omega arith)
 by-some (x ∷ xs) [] h f = absurd (omega arith)
 by-some (x ∷ xs) (y ∷ ys) h f = refl
 
-steps-some : (p : Path) → Stepped p → (p .len ≡ 0 → ⊥) → 0 < length (stepsOf p)
-steps-some p h n =
-    let full : p .len ≤ length (p .steps) = omega (arith, h .few, h .places) in
-    rw (length-take-le (p .len) (p .steps) full) (positive (p .len) n)
-  where
-    positive : (n : ℕ) → (n ≡ 0 → ⊥) → 0 < n
-    positive n h = omega arith
+-- the first way is broken
+pub by-first : (n : ℕ) (us xs ys : List ℕ) (p : Bool) → stepsBy p n us ≡ xs → p ≡ false → compared.Refused 9 ≡ byPath xs ys
+by-first n us xs ys p e h = ap (λ (l : List ℕ). byPath l ys) (ap (λ (b : Bool). stepsBy b n us) (sym h) ∙ e)
 
--- both paths have steps
-pub by-both : (a b : Path) → Stepped a → Stepped b → (a .len ≡ 0 → ⊥) → (b .len ≡ 0 → ⊥) → inOrder (stepsOf a) (stepsOf b) ≡ byPath (stepsOf a) (stepsOf b)
-by-both a b ha hb na nb = by-some (stepsOf a) (stepsOf b) (steps-some a ha na) (steps-some b hb nb)
+-- the second is, or both are whole and have a step for each of n levels
+module _ (n : ℕ) (us vs xs ys : List ℕ) (p q : Bool) (ep : stepsBy p n us ≡ xs) (eq : stepsBy q n vs ≡ ys) where
+  pub by-second : q ≡ false → compared.Refused 9 ≡ byPath xs ys
+  by-second h = by-none xs ys (sym eq ∙ ap (λ (b : Bool). stepsBy b n vs) h)
 
-module _ (s : State) where
-  abbrev pub pathBy : Cursor → Shape → List ℕ
-  pathBy c g = let m = nodeAt g (c .leaf .0) (s .leaves) in stepsUp g (s .head .levels) (m .parent) (m .at) [] (s .inners)
+  pub by-both : p ≡ true → q ≡ true → 1 ≤ n → n ≤ length us → n ≤ length vs → inOrder (take n us) (take n vs) ≡ byPath xs ys
+  by-both hp hq h hu hv =
+      let ex : xs ≡ take n us = sym ep ∙ ap (λ (b : Bool). stepsBy b n us) hp in
+      let ey : ys ≡ take n vs = sym eq ∙ ap (λ (b : Bool). stepsBy b n vs) hq in
+      rw (ex, ey) (by-some (take n us) (take n vs) (rw (length-take-le n us hu) h) (rw (length-take-le n vs hv) h))
 
-  -- where the path of a current cursor begins
-  pub path-in : (g : Shape) (o : Opened) → o ≡ openedBy (opening base s) (shapeOf base (s .head)) → o ≡ Good g → (c : Cursor) (n : ℕ) → n ≡ refusal (stale base s c) → n ≡ 0
-      → Area g (length (s .leaves)) × Area g (length (s .inners)) × (c .leaf .0 < g .nodes) × (s .head .levels ≤ 15)
-  path-in g o e d c n en h =
-      let r = ready s g o e d in
-      (leaf-area s g r, inner-area s g r, lt-of-lt-of-le (clear-leaf s c (sym en ∙ h) .0) (r .leaves), r .levels-most)
+abbrev pub pathBy : State → Cursor → Shape → List ℕ
+pathBy s c g = let m = nodeAt g (c .leaf .0) (s .leaves) in stepsUp g (s .head .levels) (m .parent) (m .at) [] (s .inners)
 
-  module _ (a b : Cursor) where
-    abbrev both : List Cause
-    both = stale base s a ++ stale base s b
+module _ (K : Kind) (w : (1 ≤ K .views) × (K .views ≤ 3)) (s : State) (a b : Cursor) (o : Opened) (e : o ≡ openedBy (opening K s) (shapeOf K (s .head))) where
+  abbrev both : List Cause
+  both = stale K s a ++ stale K s b
 
-    abbrev cmpBy : Shape → Compared
-    cmpBy g = cond (eqb (a .leaf .0) (b .leaf .0)) (inOrder (a .slot ∷ []) (b .slot ∷ [])) (byPath (pathBy a g) (pathBy b g))
+  abbrev cmpBy : Shape → Compared
+  cmpBy g = cond (eqb (a .leaf .0) (b .leaf .0)) (inOrder (a .slot ∷ []) (b .slot ∷ [])) (byPath (pathBy s a g) (pathBy s b g))
 
-    module _ (o : Opened) (e : o ≡ openedBy (opening base s) (shapeOf base (s .head))) where
-      refused : (n : ℕ) → openedBy (opening base s ++ both) (shapeOf base (s .head)) ≡ Refused n → compared.Refused n ≡ cmp base s a b
-      unfolding cmp path
-      refused n d = call-refused compared.Refused cmpBy (opening base s ++ both) (shapeOf base (s .head)) _ refl n d
+  refused : (n : ℕ) → openedBy (opening K s ++ both) (shapeOf K (s .head)) ≡ Refused n → compared.Refused n ≡ cmp K s a b
+  unfolding cmp path
+  refused n d = call-refused compared.Refused cmpBy (opening K s ++ both) (shapeOf K (s .head)) _ refl n d
 
-      pub cmp-refused : (n : ℕ) → o ≡ Refused n → compared.Refused n ≡ cmp base s a b
-      cmp-refused n d = refused n (opened-stop (opening base s) both _ n (sym e ∙ d))
+  pub cmp-refused : (n : ℕ) → o ≡ Refused n → compared.Refused n ≡ cmp K s a b
+  cmp-refused n d = refused n (opened-stop (opening K s) both _ n (sym e ∙ d))
 
-      module _ (g : Shape) (d : o ≡ Good g) (n : ℕ) (en : n ≡ refusal (stale base s a)) where
-        rest : openedBy (opening base s ++ both) (shapeOf base (s .head)) ≡ openedBy both (shapeOf base (s .head))
-        rest = opened-more (opening base s) both _ g (opening-numbered s) (sym e ∙ d)
+  module _ (g : Shape) (d : o ≡ Good g) (n : ℕ) (told-n : g ≡ shapeOf K (s .head) → n ≡ refusal (stale K s a)) where
+    open-here : Ready K s g
+    open-here = ready K w s g o e d
 
-        pub cmp-first : (n ≡ 0 → ⊥) → compared.Refused n ≡ cmp base s a b
-        cmp-first h = refused n (rest ∙ opened-stop (stale base s a) (stale base s b) _ n (opened-number (stale base s a) _ n (sym en) h))
+    en : n ≡ refusal (stale K s a)
+    en = told-n (open-here .same)
 
-        module _ (hn : n ≡ 0) (m : ℕ) (em : m ≡ refusal (stale base s b)) where
-          last : openedBy (opening base s ++ both) (shapeOf base (s .head)) ≡ openedBy (stale base s b) (shapeOf base (s .head))
-          last = rest ∙ opened-more (stale base s a) (stale base s b) _ _ (stale-numbered s a) (opened-zero (stale base s a) _ (sym en ∙ hn))
+    rest : openedBy (opening K s ++ both) (shapeOf K (s .head)) ≡ openedBy both (shapeOf K (s .head))
+    rest = opened-more (opening K s) both _ g (opening-numbered K s) (sym e ∙ d)
 
-          pub cmp-second : (m ≡ 0 → ⊥) → compared.Refused m ≡ cmp base s a b
-          cmp-second h = refused m (last ∙ opened-number (stale base s b) _ m (sym em) h)
+    pub cmp-first : (n ≡ 0 → ⊥) → compared.Refused n ≡ cmp K s a b
+    cmp-first h = refused n (rest ∙ opened-stop (stale K s a) (stale K s b) _ n (opened-number (stale K s a) _ n (sym en) h))
 
-          module _ (hm : m ≡ 0) (r : Compared) where
-            good : r ≡ cmpBy g → r ≡ cmp base s a b
-            unfolding cmp path
-            good q =
-                call-good compared.Refused cmpBy (opening base s ++ both) (shapeOf base (s .head)) _ refl g
-                (last ∙ opened-zero (stale base s b) _ (sym em ∙ hm) ∙ ap Good (good-shape (opening base s) _ g (sym e ∙ d))) r q
+    module _ (hn : n ≡ 0) (m : ℕ) (told-m : g ≡ shapeOf K (s .head) → m ≡ refusal (stale K s b)) where
+      em : m ≡ refusal (stale K s b)
+      em = told-m (open-here .same)
 
-            pub cmp-slot : a .leaf .0 ≡ b .leaf .0 → r ≡ inOrder (a .slot ∷ []) (b .slot ∷ []) → r ≡ cmp base s a b
-            cmp-slot h q = good (rw (eq-eqb (a .leaf .0) (b .leaf .0) h) q)
+      last : openedBy (opening K s ++ both) (shapeOf K (s .head)) ≡ openedBy (stale K s b) (shapeOf K (s .head))
+      last = rest ∙ opened-more (stale K s a) (stale K s b) _ _ (stale-numbered K s a) (opened-zero (stale K s a) _ (sym en ∙ hn))
 
-            pub cmp-path : (a .leaf .0 ≡ b .leaf .0 → ⊥) → (x y : List ℕ) → x ≡ pathBy a g → y ≡ pathBy b g → r ≡ byPath x y → r ≡ cmp base s a b
-            cmp-path h x y ex ey q = good (rw (ne-eqb (a .leaf .0) (b .leaf .0) h, ← ex, ← ey) q)
+      pub cmp-second : (m ≡ 0 → ⊥) → compared.Refused m ≡ cmp K s a b
+      cmp-second h = refused m (last ∙ opened-number (stale K s b) _ m (sym em) h)
+
+      module _ (hm : m ≡ 0) where
+        -- where the paths of two current cursors begin
+        pub paths-in : Area g (length (s .leaves)) × Area g (length (s .inners)) × (a .leaf .0 < g .nodes) × (b .leaf .0 < g .nodes) × (1 ≤ s .head .levels) × (s .head .levels ≤ 15)
+        paths-in = (
+          leaf-area s g open-here,
+          inner-area s g open-here,
+          lt-of-lt-of-le (clear-leaf K s a (sym en ∙ hn) .0) (open-here .leaves),
+          lt-of-lt-of-le (clear-leaf K s b (sym em ∙ hm) .0) (open-here .leaves),
+          open-here .levels-least,
+          open-here .levels-most,
+        )
+
+        module _ (r : Compared) where
+          good : r ≡ cmpBy g → r ≡ cmp K s a b
+          unfolding cmp path
+          good q =
+              call-good compared.Refused cmpBy (opening K s ++ both) (shapeOf K (s .head)) _ refl g
+              (last ∙ opened-zero (stale K s b) _ (sym em ∙ hm) ∙ ap Good (good-shape (opening K s) _ g (sym e ∙ d))) r q
+
+          pub cmp-slot : a .leaf .0 ≡ b .leaf .0 → r ≡ inOrder (a .slot ∷ []) (b .slot ∷ []) → r ≡ cmp K s a b
+          cmp-slot h q = good (rw (eq-eqb (a .leaf .0) (b .leaf .0) h) q)
+
+          pub cmp-path : (a .leaf .0 ≡ b .leaf .0 → ⊥) → r ≡ byPath (pathBy s a g) (pathBy s b g) → r ≡ cmp K s a b
+          cmp-path h q = good (rw (ne-eqb (a .leaf .0) (b .leaf .0) h) q)

@@ -8,7 +8,7 @@ use lib.Dec.{ltb, eqb}
 use lib.ListN.{length, take, length-append}
 use lib.Seq.{length-take-le}
 use borrow.Author.Tests.{eq-eqb, ne-eqb, ltb-true, ltb-false}
-use Rattle.model.specs.Kind.{base}
+use Rattle.model.specs.Kind.{kind}
 use Rattle.model.specs.Lists.{putAt}
 use Rattle.model.specs.State.{nodeAt}
 use Rattle.model.specs.Climb.{nextUp}
@@ -35,57 +35,58 @@ least-in a b c e = go (ltb a b) refl
 pub leaf-in : (g : Shape) (l : Leaf) (k : LeafNo) → Within g l → l ≡ leaf.At k → k .0 < g .nodes
 leaf-in g l k h e = subst (Within g) e h
 
-module _ (g : Shape) (levels : ℕ) (ls xs : List ℕ) where
-  -- what is known on the way: n slots are still to be met from l on, the lines before them are written
+module _ (e : ℕ) (g : Shape) (levels : ℕ) (ls xs : List ℕ) where
+  -- what is known on the way: n slots are still to be met from l on, the lines before them are written, with the lengths in view e
   pub record Going (entries : ℕ) (first : Leaf) (old : List ℕ) (n : ℕ) (l : Leaf) (w : Laid) : Type 0 where
     pub few : n ≤ entries
     pub place : w .at ≡ 55 * (entries - n)
     pub long : length (w .page) ≡ length old
     pub count : length (met g levels ls xs n l) + (entries - n) ≡ length (met g levels ls xs entries first)
-    pub text : putAt (w .at) (slotLines base (w .p) (w .q) (met g levels ls xs n l)) (w .page) ≡ putAt 0 (slotLines base 0 0 (met g levels ls xs entries first)) old
+    pub text : (views : ℕ) → putAt (w .at) (slotLines (kind views e) (w .p) (w .q) (met g levels ls xs n l)) (w .page)
+        ≡ putAt 0 (slotLines (kind views e) 0 0 (met g levels ls xs entries first)) old
 
   module _ (entries : ℕ) (first : Leaf) (old : List ℕ) (room : 55 * entries ≤ length old) where
     pub start : (l : Leaf) → l ≡ first → Going entries first old entries l (laid 0 0 0 old)
-    start l e =
+    start l same =
         let z : entries - entries ≡ 0 = omega arith in
         record {
           few = omega arith;
           place = omega arith;
           long = refl;
-          count = rw (e, z) (omega arith);
-          text = rw e;
+          count = rw (same, z) (omega arith);
+          text = λ views. rw same;
         }
 
     -- the lines of a leaf
     pub onward : (n : ℕ) (l : Leaf) (w : Laid) → Going entries first old n l w → (k : LeafNo) → l ≡ leaf.At k → (len : ℕ) → len ≡ nodeAt g (k .0) ls .len → (len ≡ 0 → ⊥) → len ≤ g .fan
-        → (c : ℕ) → c ≡ cond (ltb len n) len n → (new : Laid) → new ≡ laidBy (take c (nodeAt g (k .0) ls .slots)) w → length (new .page) ≡ length (w .page)
+        → (c : ℕ) → c ≡ cond (ltb len n) len n → (new : Laid) → new ≡ laidBy e (take c (nodeAt g (k .0) ls .slots)) w → length (new .page) ≡ length (w .page)
         → (p a : ℕ) → p ≡ nodeAt g (k .0) ls .parent → a ≡ nodeAt g (k .0) ls .at → (q : Leaf) → q ≡ nextUp g levels 0 p a xs
         → Going entries first old (n - c) q new
-    onward n l w i k el len e ne le c ec new en ll p a ep ea q eq =
+    onward n l w i k el len eh ne le c ec new en ll p a ep ea q eq =
         let low = least-in len n c ec in
         let front : List (List ℕ) = take c (nodeAt g (k .0) ls .slots) in
         let lf : length (take c (nodeAt g (k .0) ls .slots)) ≡ c = length-take-le c (nodeAt g (k .0) ls .slots) (omega (arith, slots-are g (k .0) ls)) in
         let m : met g levels ls xs n l ≡ front ++ met g levels ls xs (n - c) q =
-        rw (el, eq, ep, ea) (met-leaf g levels ls xs k len e le n c (omega arith) ec) in
+        rw (el, eq, ep, ea) (met-leaf g levels ls xs k len eh le n c (omega arith) ec) in
         let lm : length (met g levels ls xs n l) ≡ c + length (met g levels ls xs (n - c) q) = ap length m ∙ length-append front (met g levels ls xs (n - c) q) ∙ ap (λ (j : ℕ). j + length (met g levels ls xs (n - c) q)) lf in
         record {
           few = omega (arith, i .few);
-          place = ap (λ (y : Laid). y .at) en ∙ laid-at front w ∙ omega (arith, i .place, i .few);
+          place = ap (λ (y : Laid). y .at) en ∙ laid-at e front w ∙ omega (arith, i .place, i .few);
           long = ll ∙ i .long;
           count = omega (arith, i .count, i .few);
-          text = ap (λ (y : Laid). putAt (y .at) (slotLines base (y .p) (y .q) (met g levels ls xs (n - c) q)) (y .page)) en
-              ∙ laid-all front (met g levels ls xs (n - c) q) w (omega (arith, met-few g levels ls xs (n - c) q 0, i .place, i .long, i .few))
-              ∙ ap (λ (y : List (List ℕ)). putAt (w .at) (slotLines base (w .p) (w .q) y) (w .page)) (sym m) ∙ i .text;
+          text = λ views. ap (λ (y : Laid). putAt (y .at) (slotLines (kind views e) (y .p) (y .q) (met g levels ls xs (n - c) q)) (y .page)) en
+              ∙ laid-all (kind views e) front (met g levels ls xs (n - c) q) w (omega (arith, met-few g levels ls xs (n - c) q 0, i .place, i .long, i .few))
+              ∙ ap (λ (y : List (List ℕ)). putAt (w .at) (slotLines (kind views e) (w .p) (w .q) y) (w .page)) (sym m) ∙ i .text views;
         }
 
     -- nothing more is met
     module _ (n : ℕ) (l : Leaf) (w : Laid) (i : Going entries first old n l w) (m : met g levels ls xs n l ≡ []) where
-      written : w .page ≡ putAt 0 (slotLines base 0 0 (met g levels ls xs entries first)) old
+      written : (views : ℕ) → w .page ≡ putAt 0 (slotLines (kind views e) 0 0 (met g levels ls xs entries first)) old
       unfolding slotLines
-      written = sym (put-none (w .at) (w .page)) ∙ ap (λ (y : List (List ℕ)). putAt (w .at) (slotLines base (w .p) (w .q) y) (w .page)) (sym m) ∙ i .text
+      written views = sym (put-none (w .at) (w .page)) ∙ ap (λ (y : List (List ℕ)). putAt (w .at) (slotLines (kind views e) (w .p) (w .q) y) (w .page)) (sym m) ∙ i .text views
 
-      pub stopped : 0 < n → (false ≡ eqb (length (met g levels ls xs entries first)) entries) × (w .page ≡ putAt 0 (slotLines base 0 0 (met g levels ls xs entries first)) old)
+      pub stopped : 0 < n → (false ≡ eqb (length (met g levels ls xs entries first)) entries) × ((views : ℕ) → w .page ≡ putAt 0 (slotLines (kind views e) 0 0 (met g levels ls xs entries first)) old)
       stopped h = (sym (ne-eqb (length (met g levels ls xs entries first)) entries (λ z. omega (arith, i .count, i .few, ap length m))), written)
 
-      pub ended : n ≤ 0 → (true ≡ eqb (length (met g levels ls xs entries first)) entries) × (w .page ≡ putAt 0 (slotLines base 0 0 (met g levels ls xs entries first)) old)
+      pub ended : n ≤ 0 → (true ≡ eqb (length (met g levels ls xs entries first)) entries) × ((views : ℕ) → w .page ≡ putAt 0 (slotLines (kind views e) 0 0 (met g levels ls xs entries first)) old)
       ended h = (sym (eq-eqb (length (met g levels ls xs entries first)) entries (omega (arith, i .count, i .few, ap length m))), written)

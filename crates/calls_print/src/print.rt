@@ -1,65 +1,14 @@
-// The call: its causes in order, the lines of the entries, and the blank lines that fill up the last page.
-use crate::line::blank_lines;
-use crate::walk_lines::entry_lines;
+// The call.
 use model::answer::Number;
 use model::head::Head;
-use open::open::Opened;
-use open::open::astray;
-use open::open::open_areas;
 ghost use mathlib.Core.Path.{_≡_};
 ghost use Rattle.model.specs.Kind.{base};
 ghost use Rattle.model.specs.State.{state};
-ghost use Rattle.model.specs.Refuse.{shapeOf};
-ghost use Rattle.model.specs.Sheet.{pagesFor};
-ghost use Rattle.model.specs.Print.{printCauses, print};
-ghost use Rattle.open.specs.Open.{openedBy};
-
-// The pages of 50 lines that n lines take.
-fn pages_for(n: u32) -> usize
-    ensures { λ r. ⌜ r ≡ pagesFor n ⌝ }
-{
-    (n as usize + 49) / 50
-}
-
-// What print tests: the areas, the buffer of that many bytes, the head's counts.
-fn open_print(head: Head, leaves: &[u32], inners: &[u32], homes: &[u32], bytes: usize) -> Opened
-    ensures { λ r. ⌜ r ≡ openedBy (printCauses base (state head (now (leaves .entry)) (now (inners .entry)) (now (homes .entry))) bytes) (shapeOf base head) ⌝ }
-{
-    let fan = head.fan;
-    let limit = head.limit;
-    match open_areas(fan, limit, leaves, inners, homes) {
-        Opened::Refused(n) => Opened::Refused(n),
-        Opened::Good(g) => {
-            let entries = head.entries;
-            if bytes < 2750 * pages_for(entries) {
-                return Opened::Refused(12);
-            }
-            if astray(g, head) {
-                return Opened::Refused(9);
-            }
-            Opened::Good(g)
-        }
-    }
-}
+ghost use Rattle.model.specs.Print.{print};
 
 // The sheet of a tree, from the start of the lent buffer on; answers the number of pages.
 pub fn print(head: Head, leaves: &[u32], inners: &[u32], homes: &[u32], page: &mut [u8]) -> Number
     ensures { λ r. ⌜ (r, now (page .exit)) ≡ print base (state head (now (leaves .entry)) (now (inners .entry)) (now (homes .entry))) (now (page .entry)) ⌝ }
 {
-    let bytes = page.len();
-    match open_print(head, leaves, inners, homes, bytes) {
-        Opened::Refused(n) => Number::Refused(n),
-        Opened::Good(g) => {
-            let entries = head.entries;
-            let lines = entries as usize;
-            let levels = head.levels;
-            let root = head.root.0;
-            if !entry_lines(leaves, inners, g, levels, root, lines, page) {
-                return Number::Refused(9);
-            }
-            let pages = pages_for(entries);
-            blank_lines(page, 55 * lines, 50 * pages - lines);
-            Number::Is(pages as u32)
-        }
-    }
+    crate::any::print(2, 1, head, leaves, inners, homes, page)
 }

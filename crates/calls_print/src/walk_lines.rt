@@ -13,10 +13,10 @@ use walk::down::first_down;
 use walk::down::next_up;
 ghost use mathlib.Core.Path.{_≡_};
 ghost use mathlib.Core.Bool.{cond};
-ghost use Prim.Native.Nat.{_+_, _*_, _<_, _≤_};
+ghost use Prim.Native.Nat.{ℕ, _+_, _*_, _<_, _≤_};
 ghost use lib.Dec.{ltb, eqb};
 ghost use lib.ListN.{length, take};
-ghost use Rattle.model.specs.Kind.{base};
+ghost use Rattle.model.specs.Kind.{kind};
 ghost use Rattle.model.specs.Lists.{putAt};
 ghost use Rattle.model.specs.State.{nodeAt};
 ghost use Rattle.model.specs.Climb.{firstDown};
@@ -31,10 +31,18 @@ struct Lines {
     q: u32,
 }
 
-// The lines of the first n slots of leaf k; positions are running sums, modulo 2^32.
-fn leaf_lines(leaves: &[u32], g: Shape, k: LeafNo, n: usize, page: &mut [u8], from: Lines) -> Lines
-    requires { ⌜ Area g (length (now leaves)) × (g .stride ≡ 3) × (k .0 < g .nodes) × (n ≤ g .fan) × (from .at + 55 * n ≤ length (now page)) ⌝ }
-    ensures { λ r. ⌜ laid (r .at) (r .p) (r .q) (now (page .exit)) ≡ laidBy (take n (nodeAt g (k .0) (now (leaves .entry)) .slots)) (laid (from .at) (from .p) (from .q) (now (page .entry))) ⌝ }
+// The lines of the first n slots of leaf k, with the lengths in view 0 and in the given one; positions are running sums, modulo 2^32.
+fn leaf_lines(
+    leaves: &[u32],
+    g: Shape,
+    view: usize,
+    k: LeafNo,
+    n: usize,
+    page: &mut [u8],
+    from: Lines,
+) -> Lines
+    requires { ⌜ Area g (length (now leaves)) × (view + 1 < g .stride) × (k .0 < g .nodes) × (n ≤ g .fan) × (from .at + 55 * n ≤ length (now page)) ⌝ }
+    ensures { λ r. ⌜ laid (r .at) (r .p) (r .q) (now (page .exit)) ≡ laidBy view (take n (nodeAt g (k .0) (now (leaves .entry)) .slots)) (laid (from .at) (from .p) (from .q) (now (page .entry))) ⌝ }
 {
     let mut at = from.at;
     let mut p = from.p;
@@ -43,7 +51,7 @@ fn leaf_lines(leaves: &[u32], g: Shape, k: LeafNo, n: usize, page: &mut [u8], fr
     while i < n {
         let id = child_of(leaves, g, k.0, i);
         let prepare = length_of(leaves, g, 0, k.0, i);
-        let effect = length_of(leaves, g, 1, k.0, i);
+        let effect = length_of(leaves, g, view, k.0, i);
         line(page, at, id, p, q, prepare, effect);
         p = std::num::wrapping_add_u32(p, prepare);
         q = std::num::wrapping_add_u32(q, effect);
@@ -67,13 +75,14 @@ pub fn entry_lines(
     leaves: &[u32],
     inners: &[u32],
     g: Shape,
+    effect: usize,
     levels: u32,
     root: u32,
     entries: usize,
     page: &mut [u8],
 ) -> bool
-    requires { ⌜ Area g (length (now leaves)) × Area g (length (now inners)) × (g .stride ≡ 3) × (levels ≤ 15) × (55 * entries ≤ length (now page)) ⌝ }
-    ensures { λ r. ⌜ (r ≡ eqb (length (metFrom g levels (now (leaves .entry)) (now (inners .entry)) entries (firstDown g levels root (now (inners .entry))) 0)) entries) × (now (page .exit) ≡ putAt 0 (slotLines base 0 0 (metFrom g levels (now (leaves .entry)) (now (inners .entry)) entries (firstDown g levels root (now (inners .entry))) 0)) (now (page .entry))) ⌝ }
+    requires { ⌜ Area g (length (now leaves)) × Area g (length (now inners)) × (effect + 1 < g .stride) × (levels ≤ 15) × (55 * entries ≤ length (now page)) ⌝ }
+    ensures { λ r. ⌜ (r ≡ eqb (length (metFrom g levels (now (leaves .entry)) (now (inners .entry)) entries (firstDown g levels root (now (inners .entry))) 0)) entries) × ((views : ℕ) → now (page .exit) ≡ putAt 0 (slotLines (kind views effect) 0 0 (metFrom g levels (now (leaves .entry)) (now (inners .entry)) entries (firstDown g levels root (now (inners .entry))) 0)) (now (page .entry))) ⌝ }
 {
     let fan = g.fan;
     let mut leaf = first_down(inners, g, levels, root);
@@ -91,7 +100,7 @@ pub fn entry_lines(
                     return false;
                 }
                 let n = least(len, left);
-                lines = leaf_lines(leaves, g, l, n, page, lines);
+                lines = leaf_lines(leaves, g, effect, l, n, page, lines);
                 left -= n;
                 let parent = parent_of(leaves, g, k);
                 let place = at_of(leaves, g, k);

@@ -2,36 +2,33 @@
 use mathlib.Core.Path.{_≡_, refl, sym, ap, _∙_}
 use mathlib.Core.Bool.{Bool, true, false, cond, _&&_}
 use mathlib.Core.List.{List, [], _∷_, _++_}
-use Prim.Native.Nat.{ℕ, suc, _+_, _<_, _≤_}
+use Prim.Native.Nat.{ℕ, suc, _+_, _-_, _<_, _≤_}
 use native.Mathlib.Omega.{arith}
 use lib.ListN.{length, getD}
 use lib.Dec.{ltb, leb, eqb}
-use borrow.Author.Tests.{lt-ltb, le-ltb, lt-leb, le-leb}
-use Rattle.model.specs.Kind.{base}
+use borrow.Author.Tests.{lt-ltb, le-ltb, lt-leb, le-leb, ne-eqb}
 use Rattle.model.specs.Row.{Answer, done, refused}
 use Rattle.model.specs.Node.{child, lengths, used, indexFrom}
 use Rattle.model.specs.State.{State, nodeAt}
 use Rattle.model.specs.Refuse.{shapeOf, opening, atCursor, noSuchId}
-use Rattle.model.specs.Length.{listOf}
+use Rattle.model.specs.Length.{lengthsIn}
 use Rattle.model.specs.Calls.{entryId, id, lengthsOf, standingIn, cursor}
+use Rattle.model.specs.declared.shape.Kind.{Kind}
 use Rattle.model.specs.declared.shape.Shape.{Shape}
 use Rattle.model.specs.declared.head.Cursor.{Cursor}
-use Rattle.model.specs.declared.length.Lengths.{Lengths}
 use Rattle.model.specs.declared.shape.Place.{Place}
 use Rattle.model.specs.declared.shape.Place.the-variants as slot
 use Rattle.model.specs.declared.answer.Standing.{Standing}
 use Rattle.model.specs.declared.answer.Standing.the-variants as standing
 use Rattle.model.specs.declared.answer.Named.{Named}
-use Rattle.model.specs.declared.answer.Measured.{Measured}
 use Rattle.model.specs.declared.answer.Named.the-variants as named
 use Rattle.model.specs.declared.answer.Measured.the-variants as measured
 use Rattle.laws.specs.AreaRead.{used-length}
 use Rattle.node.specs.Shaped.{Shaped}
-use Rattle.open.proofs.Causes.{opened-first, opened-next, opened-none, opened-stop, opened-more, good-shape, call-refused, call-good}
+use Rattle.open.proofs.Causes.{opened-first, opened-next, opened-none, opened-stop, opened-more, good-shape, refused-number, call-refused, call-good}
 use Rattle.open.proofs.OpenLaws.{opening-numbered}
-use Rattle.open.proofs.ReadyLaws.{ready}
 use Rattle.open.specs.Open.{openedBy}
-use Rattle.calls_read.specs.Read.{cursorIn}
+use Rattle.calls_read.specs.Read.{cursorIn, lengthsBy}
 use Rattle.open.specs.declared.open.Opened.{Opened}
 use Rattle.open.specs.declared.open.Opened.the-variants.{Good, Refused}
 
@@ -43,26 +40,43 @@ module _ (s : State) (c : Cursor) where
   abbrev idBy : Shape → Named
   idBy g = named.Entry (entryId (child (slotBy g)))
 
-  abbrev lengthsBy : Shape → Answer
-  lengthsBy g = done (lengths (slotBy g))
+  abbrev lengthsAt : Shape → Answer
+  lengthsAt g = done (lengths (slotBy g))
 
-module _ (s : State) (c : Cursor) (o : Opened) (e : o ≡ openedBy (opening base s ++ atCursor base s c) (shapeOf base (s .head))) where
-  pub id-refused : (n : ℕ) → o ≡ Refused n → named.Refused n ≡ id base s c
+module _ (K : Kind) (s : State) (c : Cursor) (o : Opened) (e : o ≡ openedBy (opening K s ++ atCursor K s c) (shapeOf K (s .head))) where
+  pub id-refused : (n : ℕ) → o ≡ Refused n → named.Refused n ≡ id K s c
   unfolding id
-  id-refused n d = call-refused named.Refused (idBy s c) _ (shapeOf base (s .head)) o e n d
+  id-refused n d = call-refused named.Refused (idBy s c) _ (shapeOf K (s .head)) o e n d
 
-  pub lengths-refused : (n : ℕ) → o ≡ Refused n → refused n ≡ lengthsOf base s c
+  pub lengths-refused : (n : ℕ) → o ≡ Refused n → (ls : List ℕ) → lengthsBy n ls ≡ lengthsOf K s c
   unfolding lengthsOf
-  lengths-refused n d = call-refused refused (lengthsBy s c) _ (shapeOf base (s .head)) o e n d
+  lengths-refused n d ls =
+      let h = refused-number (opening K s ++ atCursor K s c) (shapeOf K (s .head)) n (sym e ∙ d) .1 in
+      rw (ne-eqb n 0 (λ z. omega arith)) (call-refused refused (lengthsAt s c) _ (shapeOf K (s .head)) o e n d)
 
   module _ (g : Shape) (d : o ≡ Good g) where
-    pub id-good : (x : ℕ) → x ≡ child (slotBy s c g) → named.Entry (entryId x) ≡ id base s c
+    pub id-good : (x : ℕ) → x ≡ child (slotBy s c g) → named.Entry (entryId x) ≡ id K s c
     unfolding id
-    id-good x q = call-good named.Refused (idBy s c) _ (shapeOf base (s .head)) o e g d _ (ap (λ (y : ℕ). named.Entry (entryId y)) q)
+    id-good x q = call-good named.Refused (idBy s c) _ (shapeOf K (s .head)) o e g d _ (ap (λ (y : ℕ). named.Entry (entryId y)) q)
 
-    pub lengths-good : (l : Lengths) → lengths (slotBy s c g) ≡ listOf l → done (listOf l) ≡ lengthsOf base s c
+    pub lengths-good : (views : ℕ) (x : List ℕ) → g .stride - 1 ≡ views → lengthsIn (g .stride - 1) x ≡ lengths (slotBy s c g) → lengthsBy 0 (lengthsIn views x) ≡ lengthsOf K s c
     unfolding lengthsOf
-    lengths-good l p = call-good refused (lengthsBy s c) _ (shapeOf base (s .head)) o e g d _ (sym (ap done p))
+    lengths-good views x w p =
+        call-good refused (lengthsAt s c) _ (shapeOf K (s .head)) o e g d _ (ap (λ (n : ℕ). done (lengthsIn n x)) (sym w) ∙ ap done p)
+
+-- the answer of two lengths, from the four words into which they were read
+module _ (a : Answer) (n : ℕ) (x : List ℕ) (e : lengthsBy n (lengthsIn 2 x) ≡ a) where
+  pub told-refused : (n ≡ 0 → ⊥) → refused n ≡ a
+  told-refused h = rw (ne-eqb n 0 h) at e
+
+  pub told-good : n ≡ 0 → length x ≡ 4 → done (getD x 1 0 ∷ getD x 2 0 ∷ []) ≡ a
+  told-good h four = ap done (sym (two x four)) ∙ (rw h at e)
+    where
+      two : (y : List ℕ) → length y ≡ 4 → lengthsIn 2 y ≡ getD y 1 0 ∷ getD y 2 0 ∷ []
+      two [] f = absurd (omega arith)
+      two (p ∷ []) f = absurd (omega arith)
+      two (p ∷ q ∷ []) f = absurd (omega arith)
+      two (p ∷ q ∷ r ∷ y) f = refl
 
 -- the slot that holds a child is one of those that were searched
 index-step : (b : Bool) (k n j : ℕ) (p : Place) → (p ≡ slot.Slot j → j < k + 1 + n) → cond b (slot.Slot k) p ≡ slot.Slot j → j < k + suc n
@@ -87,7 +101,7 @@ module _ (g : Shape) (ls : List ℕ) (k i stamp : ℕ) where
   home-slot hg h p j e d = omega (arith, hg .few, used-length g k ls h, index-below i 0 (used (nodeAt g k ls)) j (sym e ∙ d))
 
 -- `cursor`, from what `open` answered
-module _ (s : State) (i : ℕ) where
+module _ (K : Kind) (s : State) (i : ℕ) where
   abbrev cursorBy : Shape → Standing
   cursorBy g =
       let h = s .head in
@@ -95,31 +109,31 @@ module _ (s : State) (i : ℕ) where
       let m = nodeAt g k (s .leaves) in
       cond (ltb k (h .leaves) && leb (m .len) (h .fan)) (standingIn (h .entries) k (indexFrom i 0 (used m))) (standing.Refused 9)
 
-  module _ (o : Opened) (e : o ≡ openedBy (opening base s) (shapeOf base (s .head))) where
-    pub cursor-refused : (n : ℕ) → o ≡ Refused n → standing.Refused n ≡ cursor base s i
+  module _ (o : Opened) (e : o ≡ openedBy (opening K s) (shapeOf K (s .head))) where
+    pub cursor-refused : (n : ℕ) → o ≡ Refused n → standing.Refused n ≡ cursor K s i
     unfolding cursor
     cursor-refused n d =
-        call-refused standing.Refused (cursorBy) (opening base s ++ noSuchId s i ∷ []) (shapeOf base (s .head)) _ refl n (opened-stop (opening base s) _ _ n (sym e ∙ d))
+        call-refused standing.Refused (cursorBy) (opening K s ++ noSuchId s i ∷ []) (shapeOf K (s .head)) _ refl n (opened-stop (opening K s) _ _ n (sym e ∙ d))
 
     module _ (g : Shape) (d : o ≡ Good g) where
-      last : openedBy (opening base s ++ noSuchId s i ∷ []) (shapeOf base (s .head)) ≡ openedBy (noSuchId s i ∷ []) (shapeOf base (s .head))
-      last = opened-more (opening base s) (noSuchId s i ∷ []) _ g (opening-numbered s) (sym e ∙ d)
+      last : openedBy (opening K s ++ noSuchId s i ∷ []) (shapeOf K (s .head)) ≡ openedBy (noSuchId s i ∷ []) (shapeOf K (s .head))
+      last = opened-more (opening K s) (noSuchId s i ∷ []) _ g (opening-numbered K s) (sym e ∙ d)
 
-      pub cursor-past : s .head .entries ≤ i → standing.Refused 4 ≡ cursor base s i
+      pub cursor-past : s .head .entries ≤ i → standing.Refused 4 ≡ cursor K s i
       unfolding cursor
       cursor-past h =
-          call-refused standing.Refused (cursorBy) (opening base s ++ noSuchId s i ∷ []) (shapeOf base (s .head)) _ refl 4 (last ∙ opened-first 3 _ _ _ (le-leb (s .head .entries) i h))
+          call-refused standing.Refused (cursorBy) (opening K s ++ noSuchId s i ∷ []) (shapeOf K (s .head)) _ refl 4 (last ∙ opened-first 3 _ _ _ (le-leb (s .head .entries) i h))
 
       module _ (h : i < s .head .entries) (k : ℕ) (ek : k ≡ getD (s .homes) i 0) where
-        here : (a : Standing) → a ≡ cursorBy g → a ≡ cursor base s i
+        here : (a : Standing) → a ≡ cursorBy g → a ≡ cursor K s i
         unfolding cursor
         here a q =
-            call-good standing.Refused (cursorBy) (opening base s ++ noSuchId s i ∷ []) (shapeOf base (s .head)) _ refl g
-            (last ∙ opened-next 4 _ _ _ (lt-leb (s .head .entries) i h) ∙ opened-none _ ∙ ap Good (good-shape (opening base s) _ g (sym e ∙ d))) a q
+            call-good standing.Refused (cursorBy) (opening K s ++ noSuchId s i ∷ []) (shapeOf K (s .head)) _ refl g
+            (last ∙ opened-next 4 _ _ _ (lt-leb (s .head .entries) i h) ∙ opened-none _ ∙ ap Good (good-shape (opening K s) _ g (sym e ∙ d))) a q
 
-        pub cursor-astray : s .head .leaves ≤ k → standing.Refused 9 ≡ cursor base s i
+        pub cursor-astray : s .head .leaves ≤ k → standing.Refused 9 ≡ cursor K s i
         cursor-astray f = here (standing.Refused 9) (rw (← ek, le-ltb k (s .head .leaves) f))
 
-        pub cursor-good : k < s .head .leaves → (a : Standing) → a ≡ cursorIn g (s .leaves) k i (s .head .entries) → a ≡ cursor base s i
+        pub cursor-good : k < s .head .leaves → (a : Standing) → a ≡ cursorIn g (s .leaves) k i (s .head .entries) → a ≡ cursor K s i
         unfolding cursorIn
-        cursor-good f a q = here a (q ∙ rw (← ek, lt-ltb k (s .head .leaves) f, ap (λ (x : Shape). x .fan) (ready s g o e d .same)))
+        cursor-good f a q = here a (q ∙ rw (← ek, lt-ltb k (s .head .leaves) f, ap (λ (x : Shape). x .fan) (sym (good-shape (opening K s) _ g (sym e ∙ d)))))

@@ -2,17 +2,17 @@
 use mathlib.Core.Path.{_≡_, refl, sym, ap, ap₂, _∙_}
 use mathlib.Core.Bool.{Bool, true, false}
 use mathlib.Core.List.{List, [], _∷_, _++_, zipWith}
-use Prim.Native.Nat.{ℕ, _+_, _-_, _^_, _<_, _≤_}
+use Prim.Native.Nat.{ℕ, zero, suc, _+_, _-_, _^_, _<_, _≤_}
 use native.Mathlib.Omega.{arith}
-use lib.ListN.{length, getD}
+use lib.ListN.{length, getD, take, set}
+use Rattle.model.specs.Length.{listOf, lengthsIn}
 use Rattle.model.specs.Kind.{base}
-use Rattle.model.specs.Length.{listOf}
-use Rattle.model.specs.Node.{wrap, lengths, minus, start}
-use Rattle.model.specs.State.{State, state, nodeAt}
-use Rattle.model.specs.Climb.{climbUp}
+use Rattle.model.specs.Node.{wrap, lengths, minus}
+use Rattle.model.specs.State.{State, state, shapeFor, nodeAt}
 use Rattle.model.specs.Place.{Change, change, replace, summed, climb}
 use Rattle.model.specs.Refuse.{shapeOf, opening, atCursor, past}
 use Rattle.model.specs.Calls.{Reply, reply, settled, slotAt, resized, resizeCauses, setLengths, update}
+use Rattle.model.specs.declared.shape.Kind.{Kind}
 use Rattle.model.specs.declared.shape.Shape.{Shape}
 use Rattle.model.specs.declared.head.Head.{Head}
 use Rattle.model.specs.declared.head.Cursor.{Cursor}
@@ -21,68 +21,91 @@ use Rattle.model.specs.declared.way.Sum.{Sum}
 use Rattle.model.specs.declared.way.Sum.the-variants as sum
 use Rattle.model.specs.declared.answer.Number.{Number}
 use Rattle.model.specs.declared.answer.Number.the-variants as number
+use Rattle.node_write.proofs.WriteLaws.{three-words, four-words}
 use Rattle.area.specs.Area.{Area}
-use Rattle.place.specs.Asked.{asked, askedWay}
+use Rattle.walk.specs.Low.{lowWay}
+use Rattle.place.specs.Asked.{asked, askedWay, wayUp}
 use Rattle.place.proofs.SizeLaws.{asked-whole, asked-lost, asked-wrap}
+use Rattle.place.proofs.CallLaws.{low-whole, low-lost}
 use Rattle.open.proofs.Causes.{opened-first, opened-next, opened-none, opened-stop, opened-more, good-shape, good-front, call-refused, call-good, answering, answering-call}
 use Rattle.open.proofs.CursorLaws.{at-numbered, stands, slot-in, own-lengths}
 use Rattle.open.proofs.ReadyLaws.{inner-area}
+use Rattle.open.proofs.WidthLaws.{own-shape, own-views, past-same}
+use Rattle.open.specs.Lengths.{pastIn}
 use Rattle.open.specs.Open.{openedBy}
 use Rattle.open.specs.Ready.{Stands}
 use Rattle.open.specs.declared.open.Opened.{Opened}
 use Rattle.open.specs.declared.open.Opened.the-variants.{Good, Refused}
-use Rattle.calls_size.specs.Size.{replaced, resize, unnumbered}
+use Rattle.calls_size.specs.Size.{oldBy, resize, unnumbered}
 
--- the two differences are those of the lists
-pub differences : (new old : Lengths) (p e : ℕ) → p ≡ wrap (new .prepare + (2 ^ 32 - old .prepare)) → e ≡ wrap (new .effect + (2 ^ 32 - old .effect))
-    → p ∷ e ∷ [] ≡ minus (listOf new) (listOf old)
+-- one to three differences are those of the lists
+abbrev lessBy : ℕ → ℕ → ℕ
+lessBy a b = wrap (a + (2 ^ 32 - b))
+
+words-less : (s a n1 n2 n3 o1 o2 o3 d0 d1 d2 : ℕ) (two three : List ℕ) → 2 ≤ s → s ≤ 4 → a ≡ lessBy n1 o1
+    → (2 < s → two ≡ set (set (d0 ∷ d1 ∷ d2 ∷ []) 0 a) 1 (lessBy n2 o2)) → (s ≤ 2 → two ≡ set (d0 ∷ d1 ∷ d2 ∷ []) 0 a)
+    → (3 < s → three ≡ set two 2 (lessBy n3 o3)) → (s ≤ 3 → three ≡ two)
+    → take (s - 1) three ≡ minus (take (s - 1) (n1 ∷ n2 ∷ n3 ∷ [])) (take (s - 1) (o1 ∷ o2 ∷ o3 ∷ []))
 unfolding minus zipWith
-differences new old p e ep ee = ap₂ (λ (a b : ℕ). a ∷ b ∷ []) ep ee
+words-less zero a n1 n2 n3 o1 o2 o3 d0 d1 d2 two three h g e t2 f2 t3 f3 = absurd (omega arith)
+words-less (suc zero) a n1 n2 n3 o1 o2 o3 d0 d1 d2 two three h g e t2 f2 t3 f3 = absurd (omega arith)
+words-less (suc (suc zero)) a n1 n2 n3 o1 o2 o3 d0 d1 d2 two three h g e t2 f2 t3 f3 = rw (f3 (omega arith), f2 (omega arith), e)
+words-less (suc (suc (suc zero))) a n1 n2 n3 o1 o2 o3 d0 d1 d2 two three h g e t2 f2 t3 f3 = rw (f3 (omega arith), t2 (omega arith), e)
+words-less (suc (suc (suc (suc zero)))) a n1 n2 n3 o1 o2 o3 d0 d1 d2 two three h g e t2 f2 t3 f3 = rw (t3 (omega arith), t2 (omega arith), e)
+words-less (suc (suc (suc (suc (suc s))))) a n1 n2 n3 o1 o2 o3 d0 d1 d2 two three h g e t2 f2 t3 f3 = absurd (omega arith)
+
+pub differences : (s a : ℕ) (new old ds two three : List ℕ) → length new ≡ 4 → length old ≡ 4 → length ds ≡ 3 → 2 ≤ s → s ≤ 4 → a ≡ lessBy (getD new 1 0) (getD old 1 0)
+    → (2 < s → two ≡ set (set ds 0 a) 1 (lessBy (getD new 2 0) (getD old 2 0))) → (s ≤ 2 → two ≡ set ds 0 a)
+    → (3 < s → three ≡ set two 2 (lessBy (getD new 3 0) (getD old 3 0))) → (s ≤ 3 → three ≡ two)
+    → take (s - 1) three ≡ minus (lengthsIn (s - 1) new) (lengthsIn (s - 1) old)
+differences s a new old ds two three en eo ed h g e t2 f2 t3 f3 =
+    let d = sym (three-words ds ed) in
+    words-less s a (getD new 1 0) (getD new 2 0) (getD new 3 0) (getD old 1 0) (getD old 2 0) (getD old 3 0) (getD ds 0 0) (getD ds 1 0) (getD ds 2 0) two three h g e
+    (λ m. t2 m ∙ ap (λ (z : List ℕ). set (set z 0 a) 1 (lessBy (getD new 2 0) (getD old 2 0))) d) (λ m. f2 m ∙ ap (λ (z : List ℕ). set z 0 a) d) t3 f3
+    ∙ ap₂ (λ (x y : List ℕ). minus (lengthsIn (s - 1) x) (lengthsIn (s - 1) y)) (four-words new en) (four-words old eo)
+
+-- a refusal says nothing of the lengths
+none-old : (n : ℕ) (own ls : List ℕ) → oldBy (Refused n) own ls
+none-old n own ls g e = let z : _≡_ {A = ℕ} 0 1 = cc in absurd (omega arith)
 
 -- what `open_resize` answers, from what `open_at` answered
-module _ (s : State) (c : Cursor) (l : Lengths) (o : Opened) (e : o ≡ openedBy (opening base s ++ atCursor base s c) (shapeOf base (s .head))) where
-  pub resize-refused : (n : ℕ) → o ≡ Refused n → Refused n ≡ openedBy (resizeCauses base s c (listOf l)) (shapeOf base (s .head))
-  resize-refused n d = sym (opened-stop (opening base s ++ atCursor base s c) _ _ n (sym e ∙ d))
+module _ (K : Kind) (s : State) (c : Cursor) (l : List ℕ) (o : Opened) (e : o ≡ openedBy (opening K s ++ atCursor K s c) (shapeOf K (s .head))) where
+  pub resize-refused : (n : ℕ) → o ≡ Refused n → (own : List ℕ)
+      → (Refused n ≡ openedBy (resizeCauses K s c l) (shapeOf K (s .head))) × oldBy (Refused n) own (lengths (slotAt K s c))
+  resize-refused n d own = (sym (opened-stop (opening K s ++ atCursor K s c) _ _ n (sym e ∙ d)), none-old n own _)
 
-  module _ (g : Shape) (d : o ≡ Good g) (old : Lengths) (eo : lengths (getD (nodeAt g (c .leaf .0) (s .leaves) .slots) (c .slot) []) ≡ listOf old)
-      (t : Bool) (et : t ≡ past base s (listOf old) (listOf l) .applies) where
-    same : shapeOf base (s .head) ≡ g
-    same = good-shape (opening base s ++ atCursor base s c) _ g (sym e ∙ d)
+  -- x holds the entry's lengths as they were read
+  module _ (g : Shape) (d : o ≡ Good g) (x : List ℕ) (ex : lengthsIn (g .stride - 1) x ≡ lengths (getD (nodeAt g (c .leaf .0) (s .leaves) .slots) (c .slot) []))
+      (t : Bool) (et : t ≡ pastIn (shapeFor (K .views) (g .fan) (g .nodes)) (s .head .root .0) (s .inners) (lengthsIn (K .views) x) l) where
+    same : shapeOf K (s .head) ≡ g
+    same = good-shape (opening K s ++ atCursor K s c) _ g (sym e ∙ d)
 
-    here : t ≡ past base s (lengths (slotAt base s c)) (listOf l) .applies
-    here = et ∙ ap (λ (ls : List ℕ). past base s ls (listOf l) .applies) (own-lengths s c g (listOf old) same eo)
+    own : lengthsIn (K .views) x ≡ lengths (slotAt K s c)
+    own = own-lengths K s c g (lengthsIn (K .views) x) same (ap (λ (n : ℕ). lengthsIn n x) (sym (own-views K (s .head) g (sym same))) ∙ ex)
 
-    last : openedBy (resizeCauses base s c (listOf l)) (shapeOf base (s .head)) ≡ openedBy (past base s (lengths (slotAt base s c)) (listOf l) ∷ []) (shapeOf base (s .head))
-    last = opened-more (opening base s ++ atCursor base s c) _ _ g (at-numbered s c) (sym e ∙ d)
+    here : t ≡ past K s (lengths (slotAt K s c)) l .applies
+    here = et ∙ past-same K s g (sym same) (lengthsIn (K .views) x) l ∙ ap (λ (ls : List ℕ). past K s ls l .applies) own
 
-    pub resize-past : t ≡ true → Refused 7 ≡ openedBy (resizeCauses base s c (listOf l)) (shapeOf base (s .head))
-    resize-past h = sym (last ∙ opened-first 6 _ [] _ (sym here ∙ h))
+    last : openedBy (resizeCauses K s c l) (shapeOf K (s .head)) ≡ openedBy (past K s (lengths (slotAt K s c)) l ∷ []) (shapeOf K (s .head))
+    last = opened-more (opening K s ++ atCursor K s c) _ _ g (at-numbered K s c) (sym e ∙ d)
 
-    pub resize-good : t ≡ false → Good g ≡ openedBy (resizeCauses base s c (listOf l)) (shapeOf base (s .head))
-    resize-good h = sym (last ∙ opened-next 7 _ [] _ (sym here ∙ h) ∙ opened-none _ ∙ ap Good same)
+    pub resize-past : t ≡ true → (Refused 7 ≡ openedBy (resizeCauses K s c l) (shapeOf K (s .head))) × oldBy (Refused 7) (lengthsIn (K .views) x) (lengths (slotAt K s c))
+    resize-past h = (sym (last ∙ opened-first 6 _ [] _ (sym here ∙ h)), none-old 7 _ _)
+
+    pub resize-good : t ≡ false → (Good g ≡ openedBy (resizeCauses K s c l) (shapeOf K (s .head))) × oldBy (Good g) (lengthsIn (K .views) x) (lengths (slotAt K s c))
+    resize-good h = (sym (last ∙ opened-next 7 _ [] _ (sym here ∙ h) ∙ opened-none _ ∙ ap Good same), λ _ _. own)
 
 -- what is known where `open_resize` gives no number
-pub resize-stands : (s : State) (c : Cursor) (l : Lengths) (g : Shape) (o : Opened) → o ≡ openedBy (resizeCauses base s c (listOf l)) (shapeOf base (s .head)) → o ≡ Good g → Stands s c g
-resize-stands s c l g o e d = stands s c g _ refl (good-front (opening base s ++ atCursor base s c) _ (shapeOf base (s .head)) g (sym e ∙ d))
+pub resize-stands : (K : Kind) → (1 ≤ K .views) × (K .views ≤ 3) → (s : State) (c : Cursor) (l : List ℕ) (g : Shape) (o : Opened)
+    → o ≡ openedBy (resizeCauses K s c l) (shapeOf K (s .head)) → o ≡ Good g → Stands K s c g
+resize-stands K w s c l g o e d = stands K w s c g _ refl (good-front (opening K s ++ atCursor K s c) _ (shapeOf K (s .head)) g (sym e ∙ d))
 
 -- the way up from a leaf of n words is in the areas
-module _ (s : State) (c : Cursor) (g : Shape) (h : Stands s c g) (n : ℕ) (en : n ≡ length (s .leaves)) where
-  kept : Area g n
-  kept = rw en (slot-in s c g h .0)
-
-  three : g .stride ≡ 3
-  three = ap (λ (x : Shape). x .stride) (h .ready .same)
-
-  pub climb-in : Area g n × Area g (length (s .inners)) × (g .stride ≡ 3) × (s .head .levels ≤ 16) × (c .leaf .0 < g .nodes) × (c .slot < g .fan)
-  climb-in = (kept, inner-area s g (h .ready), three, (let m = h .ready .levels-most in omega arith), slot-in s c g h .1, slot-in s c g h .2)
-
--- a leaf with other lengths, and the difference
-pub replaced-is : (g : Shape) (h h1 : Head) (c : Cursor) (l old : Lengths) (ls ls1 xs hs delta : List ℕ)
-    → lengths (getD (nodeAt g (c .leaf .0) ls .slots) (c .slot) []) ≡ listOf old
-    → change 0 (state h1 ls1 xs hs) (c .leaf .0) (c .slot) ≡ replace g (state h ls xs hs) (c .leaf .0) (c .slot) (listOf l)
-    → delta ≡ minus (listOf l) (listOf old)
-    → (change 0 (state h1 ls1 xs hs) (c .leaf .0) (c .slot), delta) ≡ replaced g (state h ls xs hs) c l
-replaced-is g h h1 c l old ls ls1 xs hs delta eo er ed = ap₂ (λ (r : Change) (d : List ℕ). (r, d)) er (ed ∙ ap (minus (listOf l)) (sym eo))
+pub climb-in : {K : Kind} (s : State) (c : Cursor) (g : Shape) → Stands K s c g → (n : ℕ) → n ≡ length (s .leaves)
+    → Area (shapeFor (K .views) (g .fan) (g .nodes)) n × Area (shapeFor (K .views) (g .fan) (g .nodes)) (length (s .inners)) × (s .head .levels ≤ 16)
+climb-in {K} s c g h n en =
+    let m = h .ready .levels-most in
+    rw (own-shape K (s .head) g (h .ready .same), en) (slot-in s c g h .0, inner-area s g (h .ready), omega arith)
 
 -- replacing keeps the levels
 levels-kept : (g : Shape) (s : State) (k i : ℕ) (new : List ℕ) → replace g s k i new .state .head .levels ≡ s .head .levels
@@ -90,53 +113,83 @@ unfolding replace
 levels-kept g s k i new = refl
 
 climbed : (g : Shape) (e : ℕ) (delta : List ℕ) (h : Head) (ls xs hs : List ℕ) (k i n : ℕ) → h .levels ≡ n
-    → climb g e delta (change 0 (state h ls xs hs) k i)
-    ≡ summed g (change 0 (state h ls xs hs) k i) (climbUp g e delta n (nodeAt g k ls .parent) (nodeAt g k ls .at) (start e i (nodeAt g k ls)) xs)
+    → climb g e delta (change 0 (state h ls xs hs) k i) ≡ summed g (change 0 (state h ls xs hs) k i) (wayUp g e delta n k i ls xs)
 unfolding climb
 climbed g e delta h ls xs hs k i n el = rw el
 
--- the way up from a leaf of ls
-abbrev wayFrom : Shape → State → Cursor → List ℕ → List ℕ → Sum × List ℕ
-wayFrom g s c ls delta =
-    let m = nodeAt g (c .leaf .0) ls in
-    climbUp g (base .effect) delta (s .head .levels) (m .parent) (m .at) (start (base .effect) (c .slot) m) (s .inners)
+wrapped : (n m : ℕ) → n ≡ wrap m → wrap n ≡ wrap m
+wrapped n m e = omega arith
 
 -- the call, from what its tests answered; its position is asked for or not
-module _ (s : State) (c : Cursor) (l : Lengths) (b : Bool) where
+module _ (K : Kind) (s : State) (c : Cursor) (x : List ℕ) (b : Bool) where
+  abbrev new : List ℕ
+  new = lengthsIn (K .views) x
+
+  abbrev ownIn : Shape → List ℕ
+  ownIn g = lengths (getD (nodeAt g (c .leaf .0) (s .leaves) .slots) (c .slot) [])
+
   abbrev resizedBy : Shape → Reply Number
-  resizedBy g = let p = replaced g s c l in let r = climb g (base .effect) (p .1) (p .0) in settled s (r .0) number.Refused (number.Is (asked b (r .1)))
+  resizedBy g = let r = climb g (K .effect) (minus new (ownIn g)) (replace g s (c .leaf .0) (c .slot) new) in settled s (r .0) number.Refused (number.Is (asked b (r .1)))
 
-  module _ (o : Opened) (e : o ≡ openedBy (resizeCauses base s c (listOf l)) (shapeOf base (s .head))) where
-    pub size-refused : (n : ℕ) → o ≡ Refused n → reply s (number.Refused n) ≡ resize b s c l
-    size-refused n d = call-refused (λ (m : ℕ). reply s (number.Refused m)) resizedBy (resizeCauses base s c (listOf l)) (shapeOf base (s .head)) o e n d
+  module _ (o : Opened) (e : o ≡ openedBy (resizeCauses K s c new) (shapeOf K (s .head))) where
+    pub size-refused : (n : ℕ) → o ≡ Refused n → reply s (number.Refused n) ≡ resize K b s c new
+    size-refused n d = call-refused (λ (m : ℕ). reply s (number.Refused m)) resizedBy (resizeCauses K s c new) (shapeOf K (s .head)) o e n d
 
-    module _ (g : Shape) (d : o ≡ Good g) (h1 : Head) (ls1 xs1 delta : List ℕ) (er : (change 0 (state h1 ls1 (s .inners) (s .homes)) (c .leaf .0) (c .slot), delta) ≡ replaced g s c l) where
+    -- h1 and ls1: the head and the leaves with the lengths of x; y: those that the entry had; ds: the differences
+    module _ (g : Shape) (d : o ≡ Good g) (h1 : Head) (ls1 xs1 y ds : List ℕ)
+        (er : change 0 (state h1 ls1 (s .inners) (s .homes)) (c .leaf .0) (c .slot) ≡ replace g s (c .leaf .0) (c .slot) (lengthsIn (g .stride - 1) x))
+        (ey : lengthsIn (K .views) y ≡ lengths (slotAt K s c)) (ed : take (g .stride - 1) ds ≡ minus (lengthsIn (g .stride - 1) x) (lengthsIn (g .stride - 1) y)) where
+      sized : g ≡ shapeOf K (s .head)
+      sized = sym (good-shape (resizeCauses K s c new) (shapeOf K (s .head)) g (sym e ∙ d))
+
+      views : g .stride - 1 ≡ K .views
+      views = own-views K (s .head) g sized
+
+      replaced : change 0 (state h1 ls1 (s .inners) (s .homes)) (c .leaf .0) (c .slot) ≡ replace g s (c .leaf .0) (c .slot) new
+      replaced = er ∙ ap (λ (n : ℕ). replace g s (c .leaf .0) (c .slot) (lengthsIn n x)) views
+
+      delta : take (K .views) ds ≡ minus new (ownIn g)
+      delta =
+          ap (λ (n : ℕ). take n ds) (sym views)
+          ∙ ed
+          ∙ ap (λ (n : ℕ). minus (lengthsIn n x) (lengthsIn n y)) views
+          ∙ ap (minus new) (ey ∙ ap ownIn (sym sized))
+
+      levels : h1 .levels ≡ s .head .levels
+      levels = ap (λ (r : Change). r .state .head .levels) replaced ∙ levels-kept g s (c .leaf .0) (c .slot) new
+
+      abbrev way : Shape → Sum × List ℕ
+      way z = wayUp z (K .effect) (take (K .views) ds) (s .head .levels) (c .leaf .0) (c .slot) ls1 (s .inners)
+
       abbrev replyBy : Sum × List ℕ → Reply Number
       replyBy t = let r = summed g (change 0 (state h1 ls1 (s .inners) (s .homes)) (c .leaf .0) (c .slot)) t in settled s (r .0) number.Refused (number.Is (asked b (r .1)))
 
-      way-reply : (t : Sum × List ℕ) → t ≡ wayFrom g s c ls1 delta → replyBy t ≡ resize b s c l
+      way-reply : (t : Sum × List ℕ) → t ≡ way g → replyBy t ≡ resize K b s c new
       way-reply t q =
-          let el : h1 .levels ≡ s .head .levels = ap (λ (x : Change × List ℕ). x .0 .state .head .levels) er ∙ levels-kept g s (c .leaf .0) (c .slot) (listOf l) in
-          call-good (λ (m : ℕ). reply s (number.Refused m)) resizedBy (resizeCauses base s c (listOf l)) (shapeOf base (s .head)) o e g d _
+          call-good (λ (m : ℕ). reply s (number.Refused m)) resizedBy (resizeCauses K s c new) (shapeOf K (s .head)) o e g d _
           (ap replyBy q
           ∙ ap (λ (r : Change × ℕ). settled s (r .0) number.Refused (number.Is (asked b (r .1))))
-          (sym (climbed g (base .effect) delta h1 ls1 (s .inners) (s .homes) (c .leaf .0) (c .slot) (s .head .levels) el)
-          ∙ ap (λ (x : Change × List ℕ). climb g (base .effect) (x .1) (x .0)) er))
+          (sym (climbed g (K .effect) (take (K .views) ds) h1 ls1 (s .inners) (s .homes) (c .leaf .0) (c .slot) (s .head .levels) levels)
+          ∙ ap₂ (λ (u : List ℕ) (r : Change). climb g (K .effect) u r) delta replaced))
 
-      module _ (r : Sum) (ec : (r, xs1) ≡ askedWay b (wayFrom g s c ls1 delta)) where
-        pub size-whole : (n : ℕ) → r ≡ sum.Is n → reply (state h1 ls1 xs1 (s .homes)) (number.Is (wrap n)) ≡ resize b s c l
+      module _ (r : Sum) (ec : (r, xs1) ≡ askedWay b (lowWay (way (shapeFor (K .views) (g .fan) (g .nodes))))) where
+        low : (r, xs1) ≡ askedWay b (lowWay (way g))
+        low = ec ∙ ap (λ (z : Shape). askedWay b (lowWay (way z))) (own-shape K (s .head) g sized)
+
+        pub size-whole : (n : ℕ) → r ≡ sum.Is n → reply (state h1 ls1 xs1 (s .homes)) (number.Is (wrap n)) ≡ resize K b s c new
         size-whole n q =
-            let w = asked-whole b xs1 n (wayFrom g s c ls1 delta) (ap (λ (t : Sum). (t, xs1)) (sym q) ∙ ec) in
-            ap (λ (m : ℕ). reply (state h1 ls1 xs1 (s .homes)) (number.Is m)) (ap wrap (w .2) ∙ asked-wrap b (w .0))
-            ∙ way-reply (sum.Is (w .0), xs1) (w .1)
+            let u = asked-whole b xs1 n (lowWay (way g)) (ap (λ (t : Sum). (t, xs1)) (sym q) ∙ low) in
+            let v = low-whole xs1 (u .0) (way g) (u .1) in
+            ap (λ (m : ℕ). reply (state h1 ls1 xs1 (s .homes)) (number.Is m)) (ap wrap (u .2) ∙ asked-wrap b (u .0) ∙ ap (asked b) (wrapped (u .0) (v .0) (v .2)))
+            ∙ way-reply (sum.Is (v .0), xs1) (v .1)
 
-        pub size-broken : r ≡ sum.Broken → reply (state (s .head) ls1 xs1 (s .homes)) (number.Refused 9) ≡ resize b s c l
-        size-broken q = way-reply (sum.Broken, xs1) (asked-lost b xs1 (wayFrom g s c ls1 delta) (ap (λ (t : Sum). (t, xs1)) (sym q) ∙ ec))
+        pub size-broken : r ≡ sum.Broken → reply (state (s .head) ls1 xs1 (s .homes)) (number.Refused 9) ≡ resize K b s c new
+        size-broken q = way-reply (sum.Broken, xs1) (low-lost xs1 (way g) (asked-lost b xs1 (lowWay (way g)) (ap (λ (t : Sum). (t, xs1)) (sym q) ∙ low)))
 
-pub update-is : (s : State) (c : Cursor) (l : Lengths) → resize true s c l ≡ update base s c (listOf l)
+pub update-is : (s : State) (c : Cursor) (l : Lengths) → resize base true s c (listOf l) ≡ update base s c (listOf l)
 unfolding update
 update-is s c l = refl
 
-pub set-is : (s : State) (c : Cursor) (l : Lengths) (x : Reply Number) → x ≡ resize false s c l → reply (x .after) (unnumbered (x .answer)) ≡ setLengths base s c (listOf l)
+pub set-is : (s : State) (c : Cursor) (l : Lengths) (x : Reply Number) → x ≡ resize base false s c (listOf l) → reply (x .after) (unnumbered (x .answer)) ≡ setLengths base s c (listOf l)
 unfolding setLengths
 set-is s c l x e = ap (answering unnumbered) e ∙ answering-call unnumbered (resizeCauses base s c (listOf l)) s (resized base s c (listOf l) .0) number.Refused (number.Is 0)

@@ -1,4 +1,5 @@
 // The calls that give an entry other lengths: set_lengths and update.
 // Each is equated with its definition in model's specs/Calls.antt, refusals first; none has a requires.
-// Stands on model, words, area, place and open.
+// Stands on model, words, node, node_write, area, walk, place and open.
+pub mod any;
 pub mod size;

@@ -1,2 +1,4 @@
 -- What the proofs of several functions use.
 pub mod Steps
+pub mod Adding
+pub mod Splitting

@@ -10,13 +10,12 @@ use borrow.Author.Tests.{lt-ltb, le-ltb, le-leb, lt-leb, ltb-true, leb-true}
 use Rattle.model.specs.Lists.{part}
 use Rattle.model.specs.Node.{nodeOf}
 use Rattle.model.specs.State.{nodeAt}
-use Rattle.model.specs.Grow.{Areas, areas, areaOf, nodeIn, Top, Grown, grown, Above, link, linkHalf, splitNode, addTo, aboveOf}
+use Rattle.model.specs.Grow.{Areas, areas, areaOf, nodeIn, Linked, Top, Grown, grown, Above, link, linkHalf, splitNode, addTo, aboveOf}
 use Rattle.model.specs.declared.shape.Shape.{Shape}
 use Rattle.model.specs.declared.shape.Place.the-variants.{Slot, Missing}
 use Rattle.laws.specs.Lens.{both, Roomy, Parted, split-room}
 use Rattle.links.specs.Fits.{Fits, Room}
 use Rattle.grow.specs.Standing.{tests, standing}
-use Rattle.links.specs.Tops.{toppedBy}
 
 module _ (g : Shape) (c level p after new : ℕ) (a : Areas) where
   pub no-node : c ≤ p → Missing ≡ standing g c level p after new a
@@ -69,6 +68,10 @@ module _ (g : Shape) (c level p after new : ℕ) (a : Areas) where
       go false q s =
           let z : _≡_ {A = ℕ} 0 1 = cc in
           absurd (omega arith)
+
+-- a node with one slot more, all else as it was
+abbrev pub toppedBy : Top → Linked → Grown
+toppedBy t l = grown (l .number) t (l .areas)
 
 -- `addTo` goes by that place
 module _ (g : Shape) (above : Above) (t : Top) (level p after new : ℕ) (a : Areas) where

@@ -4,16 +4,17 @@ use links::parts::word;
 use links::parts::word_of;
 use links::split::divide;
 use links::split::grow_root;
-use links::top::Top;
 use model::number::NodeNo;
 use model::shape::Place;
 use model::shape::Shape;
+use model::shape::shape_for;
 ghost use mathlib.Core.Path.{_≡_};
-ghost use Prim.Native.Nat.{_-_, _/_, _<_, _≤_};
-ghost use lib.ListN.{length};
-ghost use Rattle.model.specs.Grow.{areas, link, splitNode, linkHalf, addTo, aboveOf};
-ghost use Rattle.links.specs.Fits.{Fits, Room};
-ghost use Rattle.links.specs.Tops.{topOf, grownOf, toppedBy};
+ghost use Prim.Native.Nat.{_<_, _≤_};
+ghost use lib.ListN.{length, getD};
+ghost use Rattle.model.specs.State.{shapeFor};
+ghost use Rattle.model.specs.Grow.{areas, splitNode, addTo, aboveOf};
+ghost use Rattle.links.specs.Fits.{Fits};
+ghost use Rattle.links.specs.Tops.{topIn, grownIn};
 ghost use Rattle.grow.specs.Standing.{standing};
 
 // The place of node after in inner node p, behind which node new comes; every number and place is tested.
@@ -55,127 +56,86 @@ fn standing(
     Place::Slot(i)
 }
 
-// A slot for node new behind place i of inner node p, which has room.
-fn link_top(
-    leaves: &mut [u32],
-    inners: &mut [u32],
-    g: Shape,
-    t: Top,
-    level: u32,
-    p: NodeNo,
-    i: usize,
-    new: u32,
-) -> Top
-    requires { ⌜ Fits g (length (now leaves)) (length (now inners)) × (p .0 < g .nodes) × (new < g .nodes) × Room g (p .0) i (now inners) ⌝ }
-    ensures { λ r. ⌜ grownOf r (now (leaves .exit)) (now (inners .exit)) ≡ toppedBy (topOf t) (link g level (p .0) i new (areas (now (leaves .entry)) (now (inners .entry)))) ⌝ }
-{
-    let root = t.root;
-    let n = link(leaves, inners, g, level, p, i, new);
-    Top {
-        number: n,
-        inners: t.inners,
-        root: root,
-        levels: t.levels,
-    }
-}
-
-// The same behind place i of inner node k, or of its upper half m where that place moved there.
-fn link_half(
-    leaves: &mut [u32],
-    inners: &mut [u32],
-    g: Shape,
-    t: Top,
-    level: u32,
-    k: NodeNo,
-    m: NodeNo,
-    i: usize,
-    new: u32,
-) -> Top
-    requires { ⌜ Fits g (length (now leaves)) (length (now inners)) × (k .0 < g .nodes) × (m .0 < g .nodes) × (new < g .nodes) × (i < g .fan / 2 → Room g (k .0) i (now inners)) × (g .fan / 2 ≤ i → Room g (m .0) (i - g .fan / 2) (now inners)) ⌝ }
-    ensures { λ r. ⌜ grownOf r (now (leaves .exit)) (now (inners .exit)) ≡ linkHalf g level (k .0) (m .0) i new (grownOf t (now (leaves .entry)) (now (inners .entry))) ⌝ }
-{
-    let fan = g.fan;
-    let half = fan / 2;
-    let number = t.number;
-    if number != 0 {
-        return t;
-    }
-    if i < half {
-        return link_top(leaves, inners, g, t, level, k, i, new);
-    }
-    link_top(leaves, inners, g, t, level, m, i - half, new)
-}
-
-// Node new of the level's area comes just behind the node after in inner node p; left levels stand above p.
+// Node new of the level's area comes just behind the node after in inner node p; left levels stand above p. 0 or 9; top: the inner
+// nodes in use, the root, the levels. `link` is called in one place, so that it is compiled into it.
 pub fn add_child(
     leaves: &mut [u32],
     inners: &mut [u32],
-    g: Shape,
-    t: Top,
+    views: usize,
+    fan: usize,
+    nodes: usize,
+    top: &mut [u32; 3],
     level: u32,
     p: NodeNo,
     after: u32,
     new: u32,
     left: u32,
-) -> Top
-    requires { ⌜ Fits g (length (now leaves)) (length (now inners)) × (t .inners ≤ g .nodes) × (t .levels ≤ 16) ⌝ }
-    ensures { λ r. ⌜ grownOf r (now (leaves .exit)) (now (inners .exit)) ≡ addTo g (aboveOf g left) (topOf t) level (p .0) after new (areas (now (leaves .entry)) (now (inners .entry))) ⌝ }
+) -> u32
+    requires { ⌜ Fits (shapeFor views fan nodes) (length (now leaves)) (length (now inners)) × (getD (now top) 0 0 ≤ nodes) × (getD (now top) 2 0 ≤ 16) × (length (now top) ≡ 3) ⌝ }
+    ensures { λ r. ⌜ (grownIn r (now (top .exit)) (now (leaves .exit)) (now (inners .exit)) ≡ addTo (shapeFor views fan nodes) (aboveOf (shapeFor views fan nodes) left) (topIn (now (top .entry))) level (p .0) after new (areas (now (leaves .entry)) (now (inners .entry)))) × (length (now (top .exit)) ≡ 3) ⌝ }
 {
-    let nodes = g.nodes;
-    let fan = g.fan;
-    let root = t.root;
-    let used = t.inners;
-    let bad = Top {
-        number: 9,
-        inners: used,
-        root: root,
-        levels: t.levels,
-    };
+    let g = shape_for(views, fan, nodes);
+    let used = top[0];
     let place = standing(leaves, inners, g, used, level, p, after, new);
     let Place::Slot(i) = place else {
-        return bad;
+        return 9;
     };
-    let len = word(inners, g, p.0 as usize, 0) as usize;
-    if len < fan {
-        return link_top(leaves, inners, g, t, level, p, i, new);
+    let mut to = p.0;
+    let mut at = i;
+    if word(inners, g, p.0 as usize, 0) as usize == fan {
+        if used as usize >= nodes {
+            return 9;
+        }
+        let n = split_node(leaves, inners, views, fan, nodes, top, level, p, left);
+        if n != 0 {
+            return n;
+        }
+        if i >= fan / 2 {
+            to = used;
+            at = i - fan / 2;
+        }
     }
-    if used as usize >= nodes {
-        return bad;
-    }
-    let s = split_node(leaves, inners, g, t, level, p, left);
-    link_half(leaves, inners, g, s, level, p, NodeNo(used), i, new)
+    link(leaves, inners, g, level, NodeNo(to), at, new)
 }
 
 // A full inner node is divided, and its upper half takes the next unused number before its parent does.
 pub fn split_node(
     leaves: &mut [u32],
     inners: &mut [u32],
-    g: Shape,
-    t: Top,
+    views: usize,
+    fan: usize,
+    nodes: usize,
+    top: &mut [u32; 3],
     level: u32,
     k: NodeNo,
     left: u32,
-) -> Top
-    requires { ⌜ Fits g (length (now leaves)) (length (now inners)) × (k .0 < t .inners) × (t .inners < g .nodes) × (t .levels ≤ 16) ⌝ }
-    ensures { λ r. ⌜ grownOf r (now (leaves .exit)) (now (inners .exit)) ≡ splitNode g (aboveOf g left) (topOf t) level (k .0) (areas (now (leaves .entry)) (now (inners .entry))) ⌝ }
+) -> u32
+    requires { ⌜ Fits (shapeFor views fan nodes) (length (now leaves)) (length (now inners)) × (k .0 < getD (now top) 0 0) × (getD (now top) 0 0 < nodes) × (getD (now top) 2 0 ≤ 16) × (length (now top) ≡ 3) ⌝ }
+    ensures { λ r. ⌜ (grownIn r (now (top .exit)) (now (leaves .exit)) (now (inners .exit)) ≡ splitNode (shapeFor views fan nodes) (aboveOf (shapeFor views fan nodes) left) (topIn (now (top .entry))) level (k .0) (areas (now (leaves .entry)) (now (inners .entry)))) × (length (now (top .exit)) ≡ 3) ⌝ }
 {
-    let root = t.root;
-    let used = t.inners;
-    let next = used + 1;
+    let g = shape_for(views, fan, nodes);
+    let used = top[0];
     let m = NodeNo(used);
-    let n = divide(leaves, inners, g, level, k, m);
-    let u = Top {
-        number: n,
-        inners: next,
-        root: root,
-        levels: t.levels,
-    };
+    let n = divide(leaves, inners, views, fan, nodes, level, k, m);
+    top[0] = used + 1;
     if n != 0 {
-        return u;
+        return n;
     }
     if left == 0 {
-        return grow_root(leaves, inners, g, u, k, m);
+        return grow_root(leaves, inners, views, fan, nodes, top, k, m);
     }
-    let up = word(inners, g, k.0 as usize, 1);
-    add_child(leaves, inners, g, u, 2, NodeNo(up), k.0, used, left - 1)
+    let up = NodeNo(word(inners, g, k.0 as usize, 1));
+    add_child(
+        leaves,
+        inners,
+        views,
+        fan,
+        nodes,
+        top,
+        2,
+        up,
+        k.0,
+        used,
+        left - 1,
+    )
 }

@@ -73,9 +73,6 @@ module _ (g : Shape) (k : ℕ) (area : List ℕ) (e : g .size ≡ 3 + g .fan * g
     pub node-other : (j : ℕ) → (j ≡ k → ⊥) → nodeAt g j (putNode g k n area) ≡ nodeAt g j area
     node-other j d = ⊎-elim (node-before j) (node-after j) (apart j k d)
 
-    pub put-again : (m : Node) → Formed (g .stride) (g .fan) m → putNode g k m (putNode g k n area) ≡ putNode g k m area
-    put-again m fm = put-put (k * g .size) (wordsOf n) (wordsOf m) area (omega (arith, length-is, length-words (g .stride) (g .fan) m fm)) (omega (arith, length-is))
-
 -- the upper half of node k moves into node j
 module _ (g : Shape) (k j : ℕ) (area : List ℕ) (hs : 0 < g .stride) (e : g .size ≡ 3 + g .fan * g .stride) (hk : k < j) (hj : j * g .size + g .size ≤ length area) where
   -- node k's words, and the area's word where its upper half begins
@@ -119,11 +116,11 @@ module _ (g : Shape) (k j : ℕ) (area : List ℕ) (hs : 0 < g .stride) (e : g .
       ∙ new-node (g .stride) (g .fan) (getD own 1 0) rows (part (j * g .size) (g .size) area) _ (length-node g j area e hj) wide (omega arith) b
       ∙ rw (lr, z)
 
+  -- and node k, whose words are still its own, keeps the lower slots
   pub split-area : (one two three : List ℕ) → one ≡ putAt (from + (j * g .size + 3 - from)) (part from (k * g .size + g .size - from) area) area
       → two ≡ putNode g j (kept (g .stride) (g .fan) (g .fan - half (g .fan)) (getD area (k * g .size + 1) 0) 0 (nodeAt g j one)) one
-      → three ≡ putNode g k (kept (g .stride) (g .fan) (half (g .fan)) (getD area (k * g .size + 1) 0) (getD area (k * g .size + 2) 0) (nodeAt g k two)) two
+      → three ≡ putNode g k (lowerHalf (g .stride) (g .fan) (nodeAt g k two)) two
       → three ≡ putNode g k (lowerHalf (g .stride) (g .fan) (nodeAt g k area)) (putNode g j (upperHalf (g .stride) (g .fan) (nodeAt g k area)) area)
-  unfolding lowerHalf nodeOf
   split-area one two three e1 e2 e3 =
       let up : Node = upperHalf (g .stride) (g .fan) (nodeAt g k area) in
       let fu : Formed (g .stride) (g .fan) up = formed-upper (g .stride) (g .fan) (nodeAt g k area) (formed-at g k area e (omega (arith, ends))) hs in
@@ -134,4 +131,6 @@ module _ (g : Shape) (k j : ℕ) (area : List ℕ) (hs : 0 < g .stride) (e : g .
       let a : two ≡ putNode g j up one = e2 ∙ ap (λ (n : Node). putNode g j n one) (upper-is one e1) in
       let b : two ≡ putNode g j up area = a ∙ rw (e1, q) (put-over (j * g .size) 3 (part from m area) (wordsOf up) area (omega arith) (omega (arith, fits))) in
       let o : part (k * g .size) (g .size) two ≡ own = ap (part (k * g .size) (g .size)) b ∙ part-before (k * g .size) (g .size) (j * g .size) (wordsOf up) area ends (omega arith) in
-      e3 ∙ rw (o, ← parent-at g k area e, ← place-at g k area e) (ap (putNode g k (lowerHalf (g .stride) (g .fan) (nodeAt g k area))) b)
+      e3
+      ∙ ap (λ (l : List ℕ). putNode g k (lowerHalf (g .stride) (g .fan) (nodeOf (g .stride) (g .fan) l)) two) o
+      ∙ ap (putNode g k (lowerHalf (g .stride) (g .fan) (nodeAt g k area))) b

@@ -1,20 +1,19 @@
 -- Each change of a node's words, as the code makes it, is the change of the node. Assumes nothing.
 use mathlib.Core.Path.{_≡_, refl, sym, ap, _∙_}
-use mathlib.Core.Bool.{Bool, cond}
 use mathlib.Core.List.{List, [], _∷_, _++_, append-nil, flatMap, zipWith}
-use Prim.Native.Nat.{ℕ, _+_, _-_, _*_, _^_, _<_, _≤_}
+use Prim.Native.Nat.{ℕ, _+_, _-_, _*_, _<_, _≤_}
 use native.Mathlib.Omega.{arith}
 use native.Mathlib.Nat.{zero-mul, add-zero}
 use native.Mathlib.Numerals.{add-one}
 use lib.ListN.{length, getD, take, drop, set, length-drop, length-replicate, drop-of-length-le}
 use lib.Seq.{length-take-le, take-at, set-split}
 use Rattle.model.specs.Lists.{All, part, putAt}
-use Rattle.model.specs.Node.{Node, node, nodeOf, wordsOf, slotsFrom, child, lengths, lengthsAt, withLengths, inserted, childSplit, wrap, minus, emptySlot, emptySlots, newNode, adopted}
+use Rattle.model.specs.Node.{node, nodeOf, wordsOf, slotsFrom, child, lengthsAt, withLengths, inserted, emptySlot, emptySlots, newNode, adopted}
 use Rattle.laws.specs.Lists.{length-zip, All-take, All-drop, rows-between, row-end}
 use Rattle.laws.specs.Words.{length-part, part-front, put-prev, put-keep}
 use Rattle.laws.specs.Slots.{Long, Wide, flat, flat-one, length-flat, slots-length, slots-wide, slots-at, column}
 use Rattle.laws.specs.Nodes.{formed, words-node, node-words, words-part, over, put-slots}
-use Rattle.laws.specs.Formed.{kept, empty-wide, formed-lengths, formed-over}
+use Rattle.laws.specs.Formed.{kept, empty-wide, formed-over}
 
 module _ (s fan : ℕ) (ws : List ℕ) (e : length ws ≡ 3 + fan * s) where
   pub adopt-words : (parent at : ℕ) → set (set ws 1 parent) 2 at ≡ wordsOf (adopted parent at (nodeOf s fan ws))
@@ -75,28 +74,19 @@ module _ (s fan : ℕ) (ws : List ℕ) (e : length ws ≡ 3 + fan * s) where
       let z : length (zipWith f (part (3 + i * s + 1) (length ys) ws) ys) ≡ length ys = length-zip f (part (3 + i * s + 1) (length ys) ws) ys l ∙ l in
       lengths-words i (zipWith f (part (3 + i * s + 1) (length ys) ws) ys) h (omega arith) ∙ ap (λ (ls : List ℕ). wordsOf (withLengths i (zipWith f ls ys) (nodeOf s fan ws))) (sym a)
 
+  -- the slots from slot m on are emptied, and the number of slots in use is written; then the parent and the place
+  pub lower-words : (m : ℕ) → 0 < s → m ≤ fan
+      → set (putAt (3 + m * s) (flat (emptySlots s (fan - m))) ws) 0 m ≡ wordsOf (kept s fan m (getD ws 1 0) (getD ws 2 0) (nodeOf s fan ws))
+  unfolding nodeOf wordsOf
+  lower-words m hs h =
+      let le : length (emptySlots s (fan - m)) ≡ fan - m = length-replicate (fan - m) (emptySlot s) in
+      let d : drop (m + length (emptySlots s (fan - m))) (slotsFrom s fan 3 ws) ≡ [] = drop-of-length-le (slotsFrom s fan 3 ws) {i = m + length (emptySlots s (fan - m))} (rw slots-length (omega arith)) in
+      ap (λ (l : List ℕ). set l 0 m) (put-slots s fan m (emptySlots s (fan - m)) ws e (empty-wide s (fan - m) hs) (omega arith)) ∙ rw (d, append-nil)
+
   pub keep-words : (m parent at : ℕ) → 0 < s → m ≤ fan
       → set (set (set (putAt (3 + m * s) (flat (emptySlots s (fan - m))) ws) 0 m) 1 parent) 2 at ≡ wordsOf (kept s fan m parent at (nodeOf s fan ws))
   unfolding nodeOf wordsOf
-  keep-words m parent at hs h =
-      let le : length (emptySlots s (fan - m)) ≡ fan - m = length-replicate (fan - m) (emptySlot s) in
-      let d : drop (m + length (emptySlots s (fan - m))) (slotsFrom s fan 3 ws) ≡ [] = drop-of-length-le (slotsFrom s fan 3 ws) {i = m + length (emptySlots s (fan - m))} (rw slots-length (omega arith)) in
-      ap (λ (l : List ℕ). set (set (set l 0 m) 1 parent) 2 at) (put-slots s fan m (emptySlots s (fan - m)) ws e (empty-wide s (fan - m) hs) (omega arith))
-      ∙ rw (d, append-nil)
-
--- the lengths of x are taken from slot i, and then x is put in
-pub split-words : (s fan : ℕ) (ws : List ℕ) (before : Bool) (i : ℕ) (x now : List ℕ) → length ws ≡ 3 + fan * s → length (lengths x) + 1 ≡ s → i < fan
-    → now ≡ putAt (3 + i * s + 1) (minus (part (3 + i * s + 1) (length (lengths x)) ws) (lengths x)) ws
-    → wordsOf (inserted (cond before i (i + 1)) x (nodeOf s fan now)) ≡ wordsOf (childSplit before i x (nodeOf s fan ws))
-unfolding childSplit minus
-split-words s fan ws before i x now e ex h en =
-    let f : ℕ → ℕ → ℕ = λ a b. wrap (a + (2 ^ 32 - b)) in
-    let ls : List ℕ = zipWith f (lengthsAt i (nodeOf s fan ws .slots)) (lengths x) in
-    let l = length-lengths s fan ws e i (omega arith) h in
-    let z : length ls ≡ length (lengthsAt i (nodeOf s fan ws .slots)) = length-zip f (lengthsAt i (nodeOf s fan ws .slots)) (lengths x) (omega arith) in
-    let a : now ≡ wordsOf (withLengths i ls (nodeOf s fan ws)) = en ∙ change-words s fan ws e f i (lengths x) h ex in
-    let k = formed-lengths s fan (nodeOf s fan ws) (formed s fan ws e) i ls (omega arith) in
-    ap (λ (n : Node). wordsOf (inserted (cond before i (i + 1)) x n)) (ap (nodeOf s fan) a ∙ node-words s fan (withLengths i ls (nodeOf s fan ws)) k)
+  keep-words m parent at hs h = ap (λ (l : List ℕ). set (set l 1 parent) 2 at) (lower-words m hs h)
 
 -- slots written from the first on, of which the node keeps those alone: a new node
 pub new-node : (s fan parent : ℕ) (rows : List (List ℕ)) (ws now : List ℕ) → length ws ≡ 3 + fan * s → Wide s rows → length rows ≤ fan → now ≡ putAt 3 (flat rows) ws

@@ -148,14 +148,6 @@ module _ (n m j : ℕ) (xs ys : List ℕ) where
   unfolding inOrder
   order-end h = rw (drop-of-length-le (take n xs) {i = j} (omega (arith, take-short n xs)))
 
-  ended : (l : List ℕ) → inOrder l [] ≡ compared.Same
-  unfolding inOrder
-  ended [] = refl
-  ended (x ∷ l) = refl
-
-  pub order-short : m ≤ j → inOrder (drop j (take n xs)) (drop j (take m ys)) ≡ compared.Same
-  order-short h = rw (drop-of-length-le (take m ys) {i = j} (omega (arith, take-short m ys))) (ended (drop j (take n xs)))
-
   module _ (hn : j < n) (hx : n ≤ length xs) (hm : j < m) (hy : m ≤ length ys) where
     pub order-before : getD xs j 0 < getD ys j 0 → inOrder (drop j (take n xs)) (drop j (take m ys)) ≡ compared.Before
     unfolding inOrder

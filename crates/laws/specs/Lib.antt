@@ -9,7 +9,6 @@ pub mod AreaRead
 pub mod Climb
 pub mod Down
 pub mod Find
-pub mod Fronts
 pub mod Grow
 pub mod Lens
 pub mod Locate

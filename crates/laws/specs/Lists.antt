@@ -59,22 +59,12 @@ unfolding sumBy
 sum-append w [] ys = sym (zero-add (sumBy w ys))
 sum-append w (x ∷ xs) ys = rw (sum-append w xs ys, add-assoc)
 
--- a list made of two: its length, and one element more
+-- a list made of two has their length
 pub length-zip : (f : ℕ → ℕ → ℕ) (xs ys : List ℕ) → length xs ≡ length ys → length (zipWith f xs ys) ≡ length xs
 unfolding zipWith
 length-zip f [] ys e = refl
 length-zip f (x ∷ xs) [] e = absurd (omega arith)
 length-zip f (x ∷ xs) (y ∷ ys) e = ap suc (length-zip f xs ys (omega arith))
-
-pub zip-more : (f : ℕ → ℕ → ℕ) (i : ℕ) (xs ys : List ℕ) → i < length xs → i < length ys
-    → zipWith f (take (i + 1) xs) (take (i + 1) ys) ≡ zipWith f (take i xs) (take i ys) ++ f (getD xs i 0) (getD ys i 0) ∷ []
-unfolding zipWith
-zip-more f i [] ys h g = absurd (omega arith)
-zip-more f i (x ∷ xs) [] h g = absurd (omega arith)
-zip-more f zero (x ∷ xs) (y ∷ ys) h g = refl
-zip-more f (suc i) (x ∷ xs) (y ∷ ys) h g =
-    let e : suc i + 1 ≡ suc (i + 1) = omega arith in
-    rw e (ap (λ (l : List ℕ). f x y ∷ l) (zip-more f i xs ys (omega arith) (omega arith)))
 
 -- n rows of s words: fewer rows, one row more, the rows between two, and a place in a row
 pub rows-le : (i n s : ℕ) → i ≤ n → i * s ≤ n * s

@@ -1,7 +1,7 @@
 -- One step of each walk over a node's slots: sums, the slot of a position, the slot of a child. Assumes nothing.
 use mathlib.Core.Path.{_≡_, refl, sym, ap, _∙_}
 use mathlib.Core.List.{List, [], _∷_, _++_, append-assoc, append-nil}
-use Prim.Native.Nat.{ℕ, suc, _+_, _-_, _*_, _<_, _≤_}
+use Prim.Native.Nat.{ℕ, zero, suc, _+_, _-_, _*_, _%_, _^_, _<_, _≤_}
 use native.Mathlib.Omega.{arith}
 use native.Mathlib.Nat.{add-zero}
 use native.Mathlib.Numerals.{add-one}
@@ -26,6 +26,16 @@ pub total-more : (s n p v q sum w : ℕ) (ws : List ℕ) → v + 1 < s → q ≡
     → sum + w ≡ total v (slotsFrom s (n + 1) p ws)
 unfolding slotsFrom sumBy
 total-more s n p v q sum w ws h hq hs hw = rw (slots-add, sum-append, getD-part (p + n * s) s (v + 1) ws h, add-zero, hs, hw, hq)
+
+-- the same modulo 2 ^ 32
+pub low-none : (s p v : ℕ) (ws : List ℕ) → 0 ≡ wrap (total v (slotsFrom s 0 p ws))
+low-none s p v ws = rw (total-none s p v ws)
+
+pub low-more : (s n p v q sum w : ℕ) (ws : List ℕ) → v + 1 < s → q ≡ p + n * s + (v + 1) → sum ≡ wrap (total v (slotsFrom s n p ws)) → w ≡ getD ws q 0
+    → (sum + w) % 2 ^ 32 ≡ wrap (total v (slotsFrom s (n + 1) p ws))
+low-more s n p v q sum w ws h hq hs hw =
+    let t : total v (slotsFrom s n p ws) + w ≡ total v (slotsFrom s (n + 1) p ws) = total-more s n p v q (total v (slotsFrom s n p ws)) w ws h hq refl hw in
+    omega (arith, hs, t)
 
 -- past the last slot
 pub past : (s n k p : ℕ) (ws : List ℕ) → n ≤ k → drop k (slotsFrom s n p ws) ≡ []
@@ -71,22 +81,22 @@ pub index-none : (s n p c k : ℕ) (ws : List ℕ) → n ≤ k → indexFrom c k
 unfolding indexFrom
 index-none s n p c k ws h = rw (past s n k p ws h)
 
--- the sums of all views: one more is written into x, the slot for the node
-module _ (s v : ℕ) (x : List ℕ) (slots : List (List ℕ)) (hx : length x ≡ s) where
-  pub totals-more : v + 1 < s → take (v + 1 + 1) (set x (v + 1) (wrap (total v slots))) ++ totalsFrom (s - 1 - (v + 1)) (v + 1) slots ≡ take (v + 1) x ++ totalsFrom (s - 1 - v) v slots
+-- the slot for a node in four words, from the sums in the views that a slot has
+module _ (k a b d : ℕ) (slots : List (List ℕ)) (ha : a ≡ wrap (total 0 slots)) where
+  slot-wide : (s : ℕ) → 2 ≤ s → s ≤ 4 → (2 < s → b ≡ wrap (total 1 slots)) → (3 < s → d ≡ wrap (total 2 slots)) → take s (k ∷ a ∷ b ∷ d ∷ []) ≡ k ∷ totalsFrom (s - 1) 0 slots
   unfolding totalsFrom
-  totals-more h =
-      let e : s - 1 - v ≡ suc (s - 1 - (v + 1)) = omega arith in
-      let t : take (v + 1 + 1) (set x (v + 1) (wrap (total v slots))) ≡ take (v + 1) x ++ wrap (total v slots) ∷ [] =
-      rw (add-one (v + 1), take-suc-set x (v + 1) (wrap (total v slots)) (omega arith)) in
-      rw (e, t, append-assoc, add-one v)
+  slot-wide zero h g hb hd = absurd (omega arith)
+  slot-wide (suc zero) h g hb hd = absurd (omega arith)
+  slot-wide (suc (suc zero)) h g hb hd = rw ha
+  slot-wide (suc (suc (suc zero))) h g hb hd = rw (ha, hb (omega arith))
+  slot-wide (suc (suc (suc (suc zero)))) h g hb hd = rw (ha, hb (omega arith), hd (omega arith))
+  slot-wide (suc (suc (suc (suc (suc s))))) h g hb hd = absurd (omega arith)
 
-  pub totals-none : s ≤ v + 1 → take (v + 1) x ++ totalsFrom (s - 1 - v) v slots ≡ x
-  unfolding totalsFrom
-  totals-none h =
-      let e : s - 1 - v ≡ 0 = omega arith in
-      rw (e, append-nil, take-all (v + 1) x (omega arith))
-
-pub totals-first : (s k : ℕ) (x : List ℕ) (slots : List (List ℕ)) → 0 < length x → take 1 (set x 0 k) ++ totalsFrom (s - 1) 0 slots ≡ k ∷ totalsFrom (s - 1) 0 slots
-totals-first s k [] slots h = absurd (omega arith)
-totals-first s k (a ∷ x) slots h = refl
+  pub slot-written : (s : ℕ) (x : List ℕ) → length x ≡ 4 → 2 ≤ s → s ≤ 4 → (2 < s → b ≡ wrap (total 1 slots)) → (3 < s → d ≡ wrap (total 2 slots))
+      → take s (set (set (set (set x 0 k) 1 a) 2 b) 3 d) ≡ k ∷ totalsFrom (s - 1) 0 slots
+  slot-written s [] e h g hb hd = absurd (omega arith)
+  slot-written s (u ∷ []) e h g hb hd = absurd (omega arith)
+  slot-written s (u ∷ v ∷ []) e h g hb hd = absurd (omega arith)
+  slot-written s (u ∷ v ∷ w ∷ []) e h g hb hd = absurd (omega arith)
+  slot-written s (u ∷ v ∷ w ∷ z ∷ []) e h g hb hd = slot-wide s h g hb hd
+  slot-written s (u ∷ v ∷ w ∷ z ∷ y ∷ x) e h g hb hd = absurd (omega arith)

@@ -182,13 +182,10 @@ put-over a c xs ys ws h g =
     let k : length (putAt c xs (part a (length ys) ws)) ≡ length ys = length-put c xs (part a (length ys) ws) (omega arith) ∙ l in
     ap (putAt a ys) (sym (put-inside a (length ys) c xs ws h g)) ∙ put-put a (putAt c xs (part a (length ys) ws)) ys ws (sym k) (omega arith)
 
--- a part lent from word a up to word a + n, or to the end, and the whole when it is back as xs
+-- a part lent from word a up to word a + n, and the whole when it is back as xs
 pub lent : (a n : ℕ) (ws : List ℕ) → take (a + n - a) (drop a ws) ≡ part a n ws
 unfolding part
 lent a n ws = rw add-sub-cancel-left
-
-pub lent-rest : (a : ℕ) (ws : List ℕ) → take (length ws - a) (drop a ws) ≡ drop a ws
-lent-rest a ws = take-all (length ws - a) (drop a ws) (rw length-drop (omega arith))
 
 pub lent-back : (a n : ℕ) (ws xs : List ℕ) → a + n ≤ length ws → length xs ≡ length (take (a + n - a) (drop a ws)) → putMid a (a + n - a) ws xs ≡ putAt a xs ws
 unfolding putAt

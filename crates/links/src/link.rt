@@ -6,7 +6,7 @@ use model::number::NodeNo;
 use model::shape::Shape;
 ghost use mathlib.Core.Path.{_≡_};
 ghost use Prim.Native.Nat.{_+_, _*_, _<_, _≤_};
-ghost use lib.ListN.{length};
+ghost use lib.ListN.{length, take};
 ghost use Rattle.model.specs.Node.{slotFor};
 ghost use Rattle.model.specs.State.{nodeAt};
 ghost use Rattle.model.specs.Grow.{areas, linked, nodeIn, link};
@@ -14,9 +14,9 @@ ghost use Rattle.node.specs.Shaped.{Shaped};
 ghost use Rattle.links.specs.Fits.{Fits, Room};
 
 // The slot that stands for node k of an area in its parent.
-pub fn sum_node(area: &[u32], g: Shape, k: u32, x: &mut [u32])
-    requires { ⌜ Shaped g × (k < g .nodes) × (g .nodes * g .size ≤ length (now area)) × (length (now x) ≡ g .stride) ⌝ }
-    ensures { λ _. ⌜ now (x .exit) ≡ slotFor (g .stride) k (nodeAt g k (now (area .entry))) ⌝ }
+pub fn sum_node(area: &[u32], g: Shape, k: u32, x: &mut [u32; 4])
+    requires { ⌜ Shaped g × (k < g .nodes) × (g .nodes * g .size ≤ length (now area)) × (length (now x) ≡ 4) ⌝ }
+    ensures { λ _. ⌜ (take (g .stride) (now (x .exit)) ≡ slotFor (g .stride) k (nodeAt g k (now (area .entry)))) × (length (now (x .exit)) ≡ 4) ⌝ }
 {
     let size = g.size;
     let a = k as usize * size;
@@ -25,9 +25,9 @@ pub fn sum_node(area: &[u32], g: Shape, k: u32, x: &mut [u32])
 }
 
 // The same for a node of the area that the level names.
-pub fn slot_of(leaves: &[u32], inners: &[u32], g: Shape, level: u32, k: u32, x: &mut [u32])
-    requires { ⌜ Fits g (length (now leaves)) (length (now inners)) × (k < g .nodes) × (length (now x) ≡ g .stride) ⌝ }
-    ensures { λ _. ⌜ now (x .exit) ≡ slotFor (g .stride) k (nodeIn g level k (areas (now (leaves .entry)) (now (inners .entry)))) ⌝ }
+pub fn slot_of(leaves: &[u32], inners: &[u32], g: Shape, level: u32, k: u32, x: &mut [u32; 4])
+    requires { ⌜ Fits g (length (now leaves)) (length (now inners)) × (k < g .nodes) × (length (now x) ≡ 4) ⌝ }
+    ensures { λ _. ⌜ (take (g .stride) (now (x .exit)) ≡ slotFor (g .stride) k (nodeIn g level k (areas (now (leaves .entry)) (now (inners .entry))))) × (length (now (x .exit)) ≡ 4) ⌝ }
 {
     if level == 1 {
         sum_node(leaves, g, k, x);
@@ -49,11 +49,10 @@ pub fn link(
     requires { ⌜ Fits g (length (now leaves)) (length (now inners)) × (p .0 < g .nodes) × (new < g .nodes) × Room g (p .0) i (now inners) ⌝ }
     ensures { λ r. ⌜ linked r (areas (now (leaves .exit)) (now (inners .exit))) ≡ link g level (p .0) i new (areas (now (leaves .entry)) (now (inners .entry))) ⌝ }
 {
-    let stride = g.stride;
     let k = p.0 as usize;
     let len = word(inners, g, k, 0) as usize;
     let mut x: [u32; 4] = [0; 4];
-    slot_of(leaves, inners, g, level, new, &mut x[0..stride]);
-    split_child(inners, g, p.0, false, i, &x[0..stride]);
+    slot_of(leaves, inners, g, level, new, &mut x);
+    split_child(inners, g, p.0, false, i, &x);
     adopt_all(leaves, inners, g, level, p, i + 1, len + 1)
 }

@@ -16,12 +16,9 @@ use Rattle.model.specs.declared.length.View.{View}
 use Rattle.model.specs.declared.length.View.the-variants as view
 use Rattle.model.specs.declared.answer.Target.{Target}
 use Rattle.model.specs.declared.answer.Target.the-variants as target
-use Rattle.marshal.specs.declared.flat.FlatCursor.{FlatCursor}
-use Rattle.marshal.specs.declared.flat.FlatLengths.{FlatLengths}
 use Rattle.marshal.specs.declared.flat.FlatNumber.{FlatNumber}
 use Rattle.marshal.specs.declared.flat.FlatMeasured.{FlatMeasured}
 use Rattle.marshal.specs.declared.flat.FlatStanding.{FlatStanding}
-use Rattle.marshal.specs.declared.flat.FlatSelected.{FlatSelected}
 use Rattle.marshal.specs.declared.flat.FlatLocated.{FlatLocated}
 use Rattle.marshal.specs.declared.flat.FlatInserted.{FlatInserted}
 use Rattle.marshal.specs.declared.flat.FlatDivided.{FlatDivided}
@@ -42,19 +39,19 @@ heldFrom w = cond (eqb (getD w 7 0) 0) held.Absent (held.At (fingerFrom w))
 unfoldable pub headFrom : List ℕ → Head
 headFrom w = headOf (getD w 0 0) (getD w 1 0) (getD w 2 0) (getD w 3 0) (getD w 4 0) (getD w 5 0) (getD w 6 0) (heldFrom w)
 
-abbrev pub cursorFrom : FlatCursor → Cursor
-cursorFrom c = record { leaf = record { 0 = c .leaf }; slot = c .slot; stamp = c .stamp }
+abbrev pub cursorFrom : ℕ → ℕ → ℕ → Cursor
+cursorFrom leaf slot stamp = record { leaf = record { 0 = leaf }; slot = slot; stamp = stamp }
 
-abbrev pub lengthsFrom : FlatLengths → Lengths
-lengthsFrom l = record { prepare = l .prepare; effect = l .effect }
+abbrev pub lengthsFrom : ℕ → ℕ → Lengths
+lengthsFrom prepare effect = record { prepare = prepare; effect = effect }
 
 -- a view is prepare (0) or effect (1); the calls refuse any other number
 unfoldable pub viewFrom : ℕ → View
 viewFrom n = cond (eqb n 0) view.Prepare view.Effect
 
 -- before a cursor (0) or at the end (1); the calls refuse any other number
-unfoldable pub targetFrom : ℕ → FlatCursor → Target
-targetFrom n c = cond (eqb n 0) (target.Before (cursorFrom c)) target.End
+unfoldable pub targetFrom : ℕ → Cursor → Target
+targetFrom n c = cond (eqb n 0) (target.Before c) target.End
 
 -- what it gets back -----------------------------------------------------------------------------------------------------------------------
 
@@ -66,6 +63,15 @@ presentOf (held.At f) = 1
 abbrev pub fingerOf : Held → Finger
 fingerOf held.Absent = record { view = 0; leaf = 0; start = 0; effect = 0; slot = 0; within = 0; «effect_within» = 0; prepare = 0; «prepare_within» = 0 }
 fingerOf (held.At f) = f
+
+-- root, levels and the counts; whether there is a finger, and its words
+abbrev pub countWords : Head → List ℕ
+countWords h = h .root .0 ∷ h .levels ∷ h .leaves ∷ h .inners ∷ h .entries ∷ []
+
+abbrev pub fingerWords : Held → List ℕ
+fingerWords t =
+    let f = fingerOf t in
+    presentOf t ∷ f .view ∷ f .leaf ∷ f .start ∷ f .effect ∷ f .slot ∷ f .within ∷ f .«effect_within» ∷ f .prepare ∷ f .«prepare_within» ∷ []
 
 abbrev pub wordsWith : Head → ℕ → Finger → List ℕ
 wordsWith h present f =
@@ -90,9 +96,6 @@ measuredOf a = record { number = a .number; prepare = value 0 a; effect = value 
 
 abbrev pub standingOf : Answer → FlatStanding
 standingOf a = record { number = a .number; leaf = value 0 a; slot = value 1 a; stamp = value 2 a }
-
-abbrev pub selectedOf : Answer → FlatSelected
-selectedOf a = record { number = a .number; leaf = value 0 a; slot = value 1 a; stamp = value 2 a; offset = value 3 a }
 
 abbrev pub locatedOf : Answer → FlatLocated
 locatedOf a = record { number = a .number; leaf = value 0 a; slot = value 1 a; stamp = value 2 a; offset = value 3 a; position = value 4 a; prepare = value 5 a }

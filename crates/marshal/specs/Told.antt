@@ -3,7 +3,7 @@ use mathlib.Core.Path.{_≡_, refl, ap}
 use mathlib.Core.Bool.{false}
 use Prim.Native.Nat.{ℕ}
 use Rattle.model.specs.State.{headOf}
-use Rattle.model.specs.Answer.{outcomeAnswer, numberAnswer, verdictAnswer, standingAnswer, nextAnswer, namedAnswer, measuredAnswer, comparedAnswer, selectedAnswer, locatedAnswer, insertedAnswer, dividedAnswer}
+use Rattle.model.specs.Answer.{outcomeAnswer, numberAnswer, verdictAnswer, standingAnswer, nextAnswer, namedAnswer, measuredAnswer, comparedAnswer, locatedAnswer, insertedAnswer, dividedAnswer}
 use Rattle.model.specs.declared.number.EntryId.{EntryId}
 use Rattle.model.specs.declared.head.Cursor.{Cursor}
 use Rattle.model.specs.declared.head.Head.{Head}
@@ -20,12 +20,10 @@ use Rattle.model.specs.declared.answer.Next.the-variants as following
 use Rattle.model.specs.declared.answer.Named.the-variants as named
 use Rattle.model.specs.declared.answer.Measured.the-variants as measured
 use Rattle.model.specs.declared.answer.Compared.the-variants as compared
-use Rattle.model.specs.declared.answer.Selected.the-variants as selected
 use Rattle.model.specs.declared.answer.Located.the-variants as located
 use Rattle.model.specs.declared.answer.Inserted.the-variants as inserted
 use Rattle.model.specs.declared.answer.Divided.the-variants as divided
-use Rattle.marshal.specs.Flat.{headFrom, heldFrom, headWords, wordsWith, presentOf, fingerOf, badHead, cursorFrom, viewFrom, targetFrom, numberOf, measuredOf, standingOf, selectedOf, locatedOf, insertedOf, dividedOf}
-use Rattle.marshal.specs.declared.flat.FlatCursor.{FlatCursor}
+use Rattle.marshal.specs.Flat.{headFrom, heldFrom, headWords, wordsWith, presentOf, fingerOf, badHead, cursorFrom, viewFrom, targetFrom, numberOf, measuredOf, standingOf, locatedOf, insertedOf, dividedOf}
 
 -- answers ---------------------------------------------------------------------------------------------------------------------------------
 
@@ -43,7 +41,6 @@ pub record Reads (c d : Cursor) (i : EntryId) (l : Lengths) (n offset position p
   pub cursor : standingOf (standingAnswer (standing.At c)) ≡ record { number = 0; leaf = c .leaf .0; slot = c .slot; stamp = c .stamp }
   pub next : standingOf (nextAnswer (following.At c)) ≡ record { number = 0; leaf = c .leaf .0; slot = c .slot; stamp = c .stamp }
   pub last : standingOf (nextAnswer following.Nothing) ≡ record { number = 0; leaf = 4294967295; slot = 0; stamp = 0 }
-  pub select : selectedOf (selectedAnswer (selected.At c offset)) ≡ record { number = 0; leaf = c .leaf .0; slot = c .slot; stamp = c .stamp; offset = offset }
   pub locate : locatedOf (locatedAnswer (located.At c offset position prepare)) ≡ record { number = 0; leaf = c .leaf .0; slot = c .slot; stamp = c .stamp; offset = offset; position = position; prepare = prepare }
   pub insert : insertedOf (insertedAnswer (inserted.At i position)) ≡ record { number = 0; id = i .0; position = position }
   pub split : dividedOf (dividedAnswer (divided.At i c d)) ≡ record { number = 0; id = i .0; leaf = c .leaf .0; slot = c .slot; stamp = c .stamp; «next_leaf» = d .leaf .0; «next_slot» = d .slot; «next_stamp» = d .stamp }
@@ -62,7 +59,6 @@ reads c d i l n offset position prepare = record {
   cursor = refl;
   next = refl;
   last = refl;
-  select = refl;
   locate = refl;
   insert = refl;
   split = refl;
@@ -78,7 +74,6 @@ pub record Refused (n : ℕ) : Type 0 where
   pub lengths : measuredOf (measuredAnswer (measured.Refused n)) ≡ record { number = n; prepare = 0; effect = 0 }
   pub cursor : standingOf (standingAnswer (standing.Refused n)) ≡ record { number = n; leaf = 0; slot = 0; stamp = 0 }
   pub next : standingOf (nextAnswer (following.Refused n)) ≡ record { number = n; leaf = 0; slot = 0; stamp = 0 }
-  pub select : selectedOf (selectedAnswer (selected.Refused n)) ≡ record { number = n; leaf = 0; slot = 0; stamp = 0; offset = 0 }
   pub locate : locatedOf (locatedAnswer (located.Refused n)) ≡ record { number = n; leaf = 0; slot = 0; stamp = 0; offset = 0; position = 0; prepare = 0 }
   pub insert : insertedOf (insertedAnswer (inserted.Refused n)) ≡ record { number = n; id = 0; position = 0 }
   pub split : dividedOf (dividedAnswer (divided.Refused n)) ≡ record { number = n; id = 0; leaf = 0; slot = 0; stamp = 0; «next_leaf» = 0; «next_slot» = 0; «next_stamp» = 0 }
@@ -93,7 +88,6 @@ refuses n = record {
   lengths = refl;
   cursor = refl;
   next = refl;
-  select = refl;
   locate = refl;
   insert = refl;
   split = refl;
@@ -101,7 +95,7 @@ refuses n = record {
 
 -- handed over again -----------------------------------------------------------------------------------------------------------------------
 
-pub cursor-back : (c : Cursor) → (let r = standingOf (standingAnswer (standing.At c)) in cursorFrom (record { leaf = r .leaf; slot = r .slot; stamp = r .stamp }) ≡ c)
+pub cursor-back : (c : Cursor) → (let r = standingOf (standingAnswer (standing.At c)) in cursorFrom (r .leaf) (r .slot) (r .stamp) ≡ c)
 cursor-back c = refl
 
 held-back : (h : Head) (f : Held) → heldFrom (wordsWith h (presentOf f) (fingerOf f)) ≡ f
@@ -128,6 +122,6 @@ pub views : (viewFrom 0 ≡ view.Prepare) × (viewFrom 1 ≡ view.Effect)
 unfolding viewFrom
 views = (refl, refl)
 
-pub targets : (c : FlatCursor) → (targetFrom 0 c ≡ target.Before (cursorFrom c)) × (targetFrom 1 c ≡ target.End)
+pub targets : (c : Cursor) → (targetFrom 0 c ≡ target.Before c) × (targetFrom 1 c ≡ target.End)
 unfolding targetFrom
 targets c = (refl, refl)

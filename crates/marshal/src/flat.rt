@@ -1,21 +1,9 @@
 // What crosses the C boundary: plain words in structs of C's layout, and the head as seventeen words that the host lends: fan, limit,
-// root, levels, the counts of leaves, inner nodes and entries in use, 1 or 0 for a finger or none, and the finger's seven words.
-
-#[repr(C)]
-pub struct FlatCursor {
-    pub leaf: u32,
-    pub slot: u32,
-    pub stamp: u32,
-}
-
-#[repr(C)]
-pub struct FlatLengths {
-    pub prepare: u32,
-    pub effect: u32,
-}
+// root, levels, the counts of leaves, inner nodes and entries in use, 1 or 0 for a finger or none, and the finger's nine words.
+// A cursor and lengths cross it as words, each an argument of its own: a struct would go through memory.
 
 // The answers: document 01's number, 0 where the call was done, then its values, zeros where it was refused.
-// len, is_empty, id, entry_to_char_index, cmp, audit, update, print, edits_difference. Those without a value answer the number alone.
+// len, is_empty, id, entry_to_char_index, cmp, audit, resize, print, edits_difference. Those without a value answer the number alone.
 #[repr(C)]
 pub struct FlatNumber {
     pub number: u32,
@@ -37,16 +25,6 @@ pub struct FlatStanding {
     pub leaf: u32,
     pub slot: u32,
     pub stamp: u32,
-}
-
-// char_index_to_entry.
-#[repr(C)]
-pub struct FlatSelected {
-    pub number: u32,
-    pub leaf: u32,
-    pub slot: u32,
-    pub stamp: u32,
-    pub offset: u32,
 }
 
 // locate.

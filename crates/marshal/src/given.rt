@@ -1,6 +1,4 @@
 // What a host hands over beside head and areas, as the calls take it.
-use crate::flat::FlatCursor;
-use crate::flat::FlatLengths;
 use model::answer::Target;
 use model::head::Cursor;
 use model::length::Lengths;
@@ -9,22 +7,22 @@ use model::number::LeafNo;
 ghost use mathlib.Core.Path.{_≡_};
 ghost use Rattle.marshal.specs.Flat.{cursorFrom, lengthsFrom, viewFrom, targetFrom};
 
-pub fn cursor_from(c: FlatCursor) -> Cursor
-    ensures { λ r. ⌜ r ≡ cursorFrom c ⌝ }
+pub fn cursor_from(leaf: u32, slot: u32, stamp: u32) -> Cursor
+    ensures { λ r. ⌜ r ≡ cursorFrom leaf slot stamp ⌝ }
 {
     Cursor {
-        leaf: LeafNo(c.leaf),
-        slot: c.slot,
-        stamp: c.stamp,
+        leaf: LeafNo(leaf),
+        slot: slot,
+        stamp: stamp,
     }
 }
 
-pub fn lengths_from(l: FlatLengths) -> Lengths
-    ensures { λ r. ⌜ r ≡ lengthsFrom l ⌝ }
+pub fn lengths_from(prepare: u32, effect: u32) -> Lengths
+    ensures { λ r. ⌜ r ≡ lengthsFrom prepare effect ⌝ }
 {
     Lengths {
-        prepare: l.prepare,
-        effect: l.effect,
+        prepare: prepare,
+        effect: effect,
     }
 }
 
@@ -38,11 +36,11 @@ pub fn view_from(view: u32) -> View
 }
 
 // Before a cursor, or at the end where end is 1.
-pub fn target_from(end: u32, before: FlatCursor) -> Target
+pub fn target_from(end: u32, before: Cursor) -> Target
     ensures { λ r. ⌜ r ≡ targetFrom end before ⌝ }
 {
     if end == 0 {
-        return Target::Before(cursor_from(before));
+        return Target::Before(before);
     }
     Target::End
 }

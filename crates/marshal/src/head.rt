@@ -6,8 +6,10 @@ use model::number::NodeNo;
 ghost use mathlib.Core.Path.{_≡_};
 ghost use mathlib.Core.Bool.{_||_};
 ghost use lib.Dec.{ltb};
-ghost use lib.ListN.{length};
-ghost use Rattle.marshal.specs.Flat.{badHead, heldFrom, headFrom, presentOf, fingerOf, headWords, headAfter};
+ghost use mathlib.Core.List.{_++_};
+ghost use lib.ListN.{length, getD, take, drop};
+ghost use Rattle.model.specs.Place.{withFinger};
+ghost use Rattle.marshal.specs.Flat.{badHead, heldFrom, headFrom, presentOf, fingerOf, countWords, fingerWords, headWords, headAfter};
 
 // Whether it isn't seventeen words, or has neither 0 nor 1 for its finger.
 pub fn bad_head(head: &[u32]) -> bool
@@ -95,21 +97,13 @@ fn finger_of(finger: Held) -> Finger
     }
 }
 
-pub fn put_head(head: &mut [u32], h: Head)
+// The finger's ten words.
+fn put_finger(head: &mut [u32], finger: Held)
     requires { ⌜ length (now head) ≡ 17 ⌝ }
-    ensures { λ _. ⌜ now (head .exit) ≡ headWords h ⌝ }
+    ensures { λ _. ⌜ now (head .exit) ≡ take 7 (now (head .entry)) ++ fingerWords finger ⌝ }
 {
-    let root = h.root;
-    let finger = h.finger;
     let present = present_of(finger);
     let f = finger_of(finger);
-    head[0] = h.fan;
-    head[1] = h.limit;
-    head[2] = root.0;
-    head[3] = h.levels;
-    head[4] = h.leaves;
-    head[5] = h.inners;
-    head[6] = h.entries;
     head[7] = present;
     head[8] = f.view;
     head[9] = f.leaf;
@@ -122,6 +116,30 @@ pub fn put_head(head: &mut [u32], h: Head)
     head[16] = f.prepare_within;
 }
 
+// Root, levels and the counts.
+fn put_counts(head: &mut [u32], h: Head)
+    requires { ⌜ length (now head) ≡ 17 ⌝ }
+    ensures { λ _. ⌜ now (head .exit) ≡ take 2 (now (head .entry)) ++ countWords h ++ drop 7 (now (head .entry)) ⌝ }
+{
+    let root = h.root;
+    head[2] = root.0;
+    head[3] = h.levels;
+    head[4] = h.leaves;
+    head[5] = h.inners;
+    head[6] = h.entries;
+}
+
+pub fn put_head(head: &mut [u32], h: Head)
+    requires { ⌜ length (now head) ≡ 17 ⌝ }
+    ensures { λ _. ⌜ now (head .exit) ≡ headWords h ⌝ }
+{
+    let finger = h.finger;
+    head[0] = h.fan;
+    head[1] = h.limit;
+    put_counts(head, h);
+    put_finger(head, finger);
+}
+
 // The head after a call that answered so: a refused one leaves it.
 pub fn settle(head: &mut [u32], number: u32, h: Head)
     requires { ⌜ length (now head) ≡ 17 ⌝ }
@@ -129,5 +147,28 @@ pub fn settle(head: &mut [u32], number: u32, h: Head)
 {
     if number == 0 {
         put_head(head, h);
+    }
+}
+
+// The same after a call that leaves fan and limit: what doesn't change isn't written.
+pub fn settle_grown(head: &mut [u32], number: u32, h: Head)
+    requires { ⌜ (length (now head) ≡ 17) × (number ≡ 0 → (h .fan ≡ getD (now head) 0 0) × (h .limit ≡ getD (now head) 1 0)) ⌝ }
+    ensures { λ _. ⌜ now (head .exit) ≡ headAfter number h (now (head .entry)) ⌝ }
+{
+    if number == 0 {
+        let finger = h.finger;
+        put_counts(head, h);
+        put_finger(head, finger);
+    }
+}
+
+// The same after a call that leaves all but the finger.
+pub fn settle_finger(head: &mut [u32], number: u32, h: Head)
+    requires { ⌜ (length (now head) ≡ 17) × (number ≡ 0 → h ≡ withFinger (h .finger) (headFrom (now head))) ⌝ }
+    ensures { λ _. ⌜ now (head .exit) ≡ headAfter number h (now (head .entry)) ⌝ }
+{
+    if number == 0 {
+        let finger = h.finger;
+        put_finger(head, finger);
     }
 }

@@ -15,6 +15,10 @@ viewsOf K = range 0 (K .views)
 abbrev pub prepare : ℕ
 prepare = 0
 
+-- so many lengths, and positions answered in that view
+abbrev pub kind : ℕ → ℕ → Kind
+kind views effect = record { views = views; effect = effect }
+
 -- the full tree: prepare is view 0 and effect view 1
 abbrev pub base : Kind
-base = record { views = 2; effect = 1 }
+base = kind 2 1

@@ -1,7 +1,7 @@
 use Prim.Native.Nat.{ℕ}
 use mathlib.Core.Path.{_≡_, refl}
 use mathlib.Core.List.{List, [], _∷_}
-use lib.ListN.{getD}
+use lib.ListN.{getD, take, drop}
 use Rattle.model.specs.declared.length.View.{View}
 use Rattle.model.specs.declared.length.View.the-variants.{Prepare, Effect}
 use Rattle.model.specs.declared.length.Lengths.{Lengths}
@@ -21,6 +21,10 @@ slotOf c l = record { child = c; «prepare_len» = l .prepare; «effect_len» = 
 -- one length a view
 abbrev pub listOf : Lengths → List ℕ
 listOf l = l .prepare ∷ l .effect ∷ []
+
+-- the lengths of a slot, which is lent as four words: those behind the first, as many as there are views
+abbrev pub lengthsIn : ℕ → List ℕ → List ℕ
+lengthsIn views x = take views (drop 1 x)
 
 -- the length in a view stands at the view's number
 pub by-view : (l : Lengths) (v : View) → getD (listOf l) (viewNumber v) 0 ≡ lengthsOf l v

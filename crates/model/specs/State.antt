@@ -1,7 +1,7 @@
 -- A tree as words: its head and the three areas that the caller lends (document 01, "Lengths, slots, nodes"). Assumes nothing.
 use mathlib.Core.Bool.{cond}
 use mathlib.Core.List.{List}
-use Prim.Native.Nat.{ℕ, _+_, _*_, _/_}
+use Prim.Native.Nat.{ℕ, suc, _+_, _*_, _/_}
 use lib.Dec.{ltb}
 use Rattle.model.specs.Lists.{part, putAt}
 use Rattle.model.specs.Node.{Node, nodeOf, wordsOf, half}
@@ -27,6 +27,10 @@ abbrev pub nodesFor : ℕ → ℕ → ℕ
 nodesFor fan limit = cond (ltb (limit / half fan) 1) 1 (limit / half fan)
 
 -- slots of s words, the fan and the limit give the sizes of everything
+-- the sizes of a tree with so many lengths a slot, slots a node and nodes an area
+abbrev pub shapeFor : ℕ → ℕ → ℕ → Shape
+shapeFor views fan nodes = record { stride = suc views; fan = fan; size = 3 + fan * suc views; nodes = nodes }
+
 abbrev pub shape : ℕ → ℕ → ℕ → Shape
 shape s fan limit = record { stride = s; fan = fan; size = 3 + fan * s; nodes = nodesFor fan limit }
 

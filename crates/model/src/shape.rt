@@ -1,4 +1,7 @@
 // What the functions over one node answer, and the sizes of a tree's nodes and areas.
+ghost use mathlib.Core.Path.{_≡_};
+ghost use Prim.Native.Nat.{_≤_};
+ghost use Rattle.model.specs.State.{shapeFor};
 
 // Words of a slot, slots of a node, words of a node, nodes that the leaf area and the inner area each hold.
 pub struct Shape {
@@ -6,6 +9,20 @@ pub struct Shape {
     pub fan: usize,
     pub size: usize,
     pub nodes: usize,
+}
+
+// The sizes of a tree whose slots have so many lengths. A function that isn't compiled into its callers is handed the three
+// numbers and makes its Shape anew: a Shape would go through memory, and the compiler wouldn't know how long a slot is.
+pub fn shape_for(views: usize, fan: usize, nodes: usize) -> Shape
+    requires { ⌜ (views ≤ 3) × (fan ≤ 32) ⌝ }
+    ensures { λ r. ⌜ r ≡ shapeFor views fan nodes ⌝ }
+{
+    Shape {
+        stride: views + 1,
+        fan: fan,
+        size: 3 + fan * (views + 1),
+        nodes: nodes,
+    }
 }
 
 // The kind of a tree: how many lengths a slot has, and the view in which calls answer positions.

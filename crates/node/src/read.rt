@@ -6,7 +6,7 @@ use model::shape::Shape;
 ghost use mathlib.Core.Path.{_≡_};
 ghost use Prim.Native.Nat.{_+_, _^_, _<_, _≤_};
 ghost use lib.ListN.{length, getD, take, drop};
-ghost use Rattle.model.specs.Node.{nodeOf, used, total, start, findFrom, indexFrom, scan, slotFor};
+ghost use Rattle.model.specs.Node.{nodeOf, used, total, start, findFrom, indexFrom, scan, slotFor, wrap};
 ghost use Rattle.node.specs.Shaped.{Shaped};
 
 // A word as a wider number, in which no sum over a node wraps.
@@ -27,6 +27,23 @@ pub fn start(node: &[u32], g: Shape, view: usize, i: usize) -> u64
     let mut k: usize = 0;
     while k < i {
         sum += wide(node[p]);
+        p += stride;
+        k += 1;
+    }
+    sum
+}
+
+// The same modulo 2^32, in which a position is stored.
+pub fn start_low(node: &[u32], g: Shape, view: usize, i: usize) -> u32
+    requires { ⌜ Shaped g × (length (now node) ≡ g .size) × (view + 1 < g .stride) × (i ≤ g .fan) ⌝ }
+    ensures { λ r. ⌜ r ≡ wrap (start view i (nodeOf (g .stride) (g .fan) (now (node .entry)))) ⌝ }
+{
+    let stride = g.stride;
+    let mut sum: u32 = 0;
+    let mut p = 3 + view + 1;
+    let mut k: usize = 0;
+    while k < i {
+        sum = std::num::wrapping_add_u32(sum, node[p]);
         p += stride;
         k += 1;
     }
@@ -108,18 +125,32 @@ pub fn index_of(node: &[u32], g: Shape, child: u32) -> Scan
     }
 }
 
-// The slot for node k in its parent: its number and its totals.
-pub fn slot_for(node: &[u32], g: Shape, k: u32, x: &mut [u32])
-    requires { ⌜ Shaped g × (length (now node) ≡ g .size) × (length (now x) ≡ g .stride) ⌝ }
-    ensures { λ _. ⌜ now (x .exit) ≡ slotFor (g .stride) k (nodeOf (g .stride) (g .fan) (now (node .entry))) ⌝ }
+// The slot for node k in its parent: its number and its totals, summed up in one pass, with a 0 for each length that a slot doesn't
+// have.
+pub fn slot_for(node: &[u32], g: Shape, k: u32, x: &mut [u32; 4])
+    requires { ⌜ Shaped g × (length (now node) ≡ g .size) × (length (now x) ≡ 4) ⌝ }
+    ensures { λ _. ⌜ (take (g .stride) (now (x .exit)) ≡ slotFor (g .stride) k (nodeOf (g .stride) (g .fan) (now (node .entry)))) × (length (now (x .exit)) ≡ 4) ⌝ }
 {
     let stride = g.stride;
     let fan = g.fan;
-    x[0] = k;
-    let mut v: usize = 0;
-    while v + 1 < stride {
-        let sum = start(node, g, v, fan);
-        x[v + 1] = (sum % 4294967296) as u32;
-        v += 1;
+    let mut first: u32 = 0;
+    let mut second: u32 = 0;
+    let mut third: u32 = 0;
+    let mut p: usize = 4;
+    let mut i: usize = 0;
+    while i < fan {
+        first = std::num::wrapping_add_u32(first, node[p]);
+        if 2 < stride {
+            second = std::num::wrapping_add_u32(second, node[p + 1]);
+        }
+        if 3 < stride {
+            third = std::num::wrapping_add_u32(third, node[p + 2]);
+        }
+        p += stride;
+        i += 1;
     }
+    x[0] = k;
+    x[1] = first;
+    x[2] = second;
+    x[3] = third;
 }

@@ -6,12 +6,12 @@ use native.Mathlib.Omega.{arith}
 use native.Mathlib.Nat.{lt-of-lt-of-le}
 use lib.ListN.{length, getD}
 use borrow.Author.Tests.{lt-ltb, le-ltb, eq-eqb, ne-eqb, lt-leb, le-leb, leb-false, ltb-false}
-use Rattle.model.specs.Kind.{base}
 use Rattle.model.specs.Lists.{refusal, All}
 use Rattle.model.specs.Node.{lengths}
 use Rattle.model.specs.State.{State, nodeAt}
 use Rattle.model.specs.Refuse.{shapeOf, opening, stale, atCursor, overfull}
 use Rattle.model.specs.Calls.{slotAt}
+use Rattle.model.specs.declared.shape.Kind.{Kind}
 use Rattle.model.specs.declared.shape.Shape.{Shape}
 use Rattle.model.specs.declared.head.Cursor.{Cursor}
 use Rattle.area.specs.Area.{Area}
@@ -24,95 +24,94 @@ use Rattle.open.specs.declared.open.Opened.{Opened}
 use Rattle.open.specs.declared.open.Opened.the-variants.{Good, Refused}
 
 -- what `fault` answers, test by test
-module _ (s : State) (c : Cursor) where
-  pub fault-stamp : (c .stamp ≡ s .head .entries → ⊥) → 3 ≡ refusal (stale base s c)
+module _ (K : Kind) (s : State) (c : Cursor) where
+  pub fault-stamp : (c .stamp ≡ s .head .entries → ⊥) → 3 ≡ refusal (stale K s c)
   unfolding refusal
   fault-stamp p = rw (ne-eqb (c .stamp) (s .head .entries) p)
 
-  pub fault-leaf : c .stamp ≡ s .head .entries → s .head .leaves ≤ c .leaf .0 → 13 ≡ refusal (stale base s c)
+  pub fault-leaf : c .stamp ≡ s .head .entries → s .head .leaves ≤ c .leaf .0 → 13 ≡ refusal (stale K s c)
   unfolding refusal
   fault-leaf p q = rw (eq-eqb (c .stamp) (s .head .entries) p, le-leb (s .head .leaves) (c .leaf .0) q)
 
-  module _ (g : Shape) (len : ℕ) (e : g ≡ shapeOf base (s .head)) (p : c .stamp ≡ s .head .entries) (q : c .leaf .0 < s .head .leaves) (r : len ≡ nodeAt g (c .leaf .0) (s .leaves) .len) where
-    own-len : nodeAt (shapeOf base (s .head)) (c .leaf .0) (s .leaves) .len ≡ len
+  module _ (g : Shape) (len : ℕ) (e : g ≡ shapeOf K (s .head)) (p : c .stamp ≡ s .head .entries) (q : c .leaf .0 < s .head .leaves) (r : len ≡ nodeAt g (c .leaf .0) (s .leaves) .len) where
+    own-len : nodeAt (shapeOf K (s .head)) (c .leaf .0) (s .leaves) .len ≡ len
     own-len = ap (λ (x : Shape). nodeAt x (c .leaf .0) (s .leaves) .len) (sym e) ∙ sym r
 
-    pub fault-slot : len ≤ c .slot → 14 ≡ refusal (stale base s c)
+    pub fault-slot : len ≤ c .slot → 14 ≡ refusal (stale K s c)
     unfolding refusal
     fault-slot h = rw (eq-eqb (c .stamp) (s .head .entries) p, lt-leb (s .head .leaves) (c .leaf .0) q, own-len, le-leb len (c .slot) h)
 
-    pub fault-none : c .slot < len → 0 ≡ refusal (stale base s c)
+    pub fault-none : c .slot < len → 0 ≡ refusal (stale K s c)
     unfolding refusal
     fault-none h = rw (eq-eqb (c .stamp) (s .head .entries) p, lt-leb (s .head .leaves) (c .leaf .0) q, own-len, lt-leb len (c .slot) h)
 
-  pub stale-numbered : Numbered (stale base s c)
+  pub stale-numbered : Numbered (stale K s c)
   unfolding All
   stale-numbered = (omega arith, (omega arith, (omega arith, tt)))
 
   -- a cursor that doesn't fail
-  pub clear-leaf : refusal (stale base s c) ≡ 0 → (c .leaf .0 < s .head .leaves) × (c .slot < nodeAt (shapeOf base (s .head)) (c .leaf .0) (s .leaves) .len)
+  pub clear-leaf : refusal (stale K s c) ≡ 0 → (c .leaf .0 < s .head .leaves) × (c .slot < nodeAt (shapeOf K (s .head)) (c .leaf .0) (s .leaves) .len)
   unfolding All
-  clear-leaf e = let n = none-applies (stale base s c) stale-numbered e in (leb-false _ _ (n .1 .0), leb-false _ _ (n .1 .1 .0))
+  clear-leaf e = let n = none-applies (stale K s c) stale-numbered e in (leb-false _ _ (n .1 .0), leb-false _ _ (n .1 .1 .0))
 
 -- what `open_at` answers, from what `open` answered
-module _ (s : State) (c : Cursor) (o : Opened) (e : o ≡ openedBy (opening base s) (shapeOf base (s .head))) where
-  pub at-refused : (n : ℕ) → o ≡ Refused n → Refused n ≡ openedBy (opening base s ++ atCursor base s c) (shapeOf base (s .head))
-  at-refused n d = sym (opened-stop (opening base s) (atCursor base s c) _ n (sym e ∙ d))
+module _ (K : Kind) (w : (1 ≤ K .views) × (K .views ≤ 3)) (s : State) (c : Cursor) (o : Opened) (e : o ≡ openedBy (opening K s) (shapeOf K (s .head))) where
+  pub at-refused : (n : ℕ) → o ≡ Refused n → Refused n ≡ openedBy (opening K s ++ atCursor K s c) (shapeOf K (s .head))
+  at-refused n d = sym (opened-stop (opening K s) (atCursor K s c) _ n (sym e ∙ d))
 
-  module _ (g : Shape) (d : o ≡ Good g) (n : ℕ) (en : n ≡ refusal (stale base s c)) where
-    rest : openedBy (opening base s ++ atCursor base s c) (shapeOf base (s .head)) ≡ openedBy (atCursor base s c) (shapeOf base (s .head))
-    rest = opened-more (opening base s) (atCursor base s c) _ g (opening-numbered s) (sym e ∙ d)
+  module _ (g : Shape) (d : o ≡ Good g) (n : ℕ) (told : g ≡ shapeOf K (s .head) → n ≡ refusal (stale K s c)) where
+    same : g ≡ shapeOf K (s .head)
+    same = ready K w s g o e d .same
 
-    pub at-stale : (n ≡ 0 → ⊥) → Refused n ≡ openedBy (opening base s ++ atCursor base s c) (shapeOf base (s .head))
-    at-stale h = sym (rest ∙ opened-stop (stale base s c) (overfull base s c ∷ []) _ n (opened-number (stale base s c) _ n (sym en) h))
+    en : n ≡ refusal (stale K s c)
+    en = told same
+
+    rest : openedBy (opening K s ++ atCursor K s c) (shapeOf K (s .head)) ≡ openedBy (atCursor K s c) (shapeOf K (s .head))
+    rest = opened-more (opening K s) (atCursor K s c) _ g (opening-numbered K s) (sym e ∙ d)
+
+    pub at-stale : (n ≡ 0 → ⊥) → Refused n ≡ openedBy (opening K s ++ atCursor K s c) (shapeOf K (s .head))
+    at-stale h = sym (rest ∙ opened-stop (stale K s c) (overfull K s c ∷ []) _ n (opened-number (stale K s c) _ n (sym en) h))
 
     -- the cursor is current: its leaf can be read
     pub at-leaf : n ≡ 0 → Area g (length (s .leaves)) × (c .leaf .0 < g .nodes)
     at-leaf h =
-        let r = ready s g o e d in
-        (leaf-area s g r, lt-of-lt-of-le (clear-leaf s c (sym en ∙ h) .0) (r .leaves))
+        let r = ready K w s g o e d in
+        (leaf-area s g r, lt-of-lt-of-le (clear-leaf K s c (sym en ∙ h) .0) (r .leaves))
 
     -- and its len is read
     module _ (h : n ≡ 0) (len : ℕ) (el : len ≡ nodeAt g (c .leaf .0) (s .leaves) .len) where
-      last : openedBy (opening base s ++ atCursor base s c) (shapeOf base (s .head)) ≡ openedBy (overfull base s c ∷ []) (shapeOf base (s .head))
-      last = rest ∙ opened-more (stale base s c) (overfull base s c ∷ []) _ _ (stale-numbered s c) (opened-zero (stale base s c) _ (sym en ∙ h))
+      last : openedBy (opening K s ++ atCursor K s c) (shapeOf K (s .head)) ≡ openedBy (overfull K s c ∷ []) (shapeOf K (s .head))
+      last = rest ∙ opened-more (stale K s c) (overfull K s c ∷ []) _ _ (stale-numbered K s c) (opened-zero (stale K s c) _ (sym en ∙ h))
 
-      same : g ≡ shapeOf base (s .head)
-      same = ready s g o e d .same
-
-      length-same : nodeAt (shapeOf base (s .head)) (c .leaf .0) (s .leaves) .len ≡ len
+      length-same : nodeAt (shapeOf K (s .head)) (c .leaf .0) (s .leaves) .len ≡ len
       length-same = ap (λ (x : Shape). nodeAt x (c .leaf .0) (s .leaves) .len) (sym same) ∙ sym el
 
       fan-same : s .head .fan ≡ g .fan
       fan-same = ap (λ (x : Shape). x .fan) (sym same)
 
-      pub at-overfull : g .fan < len → Refused 9 ≡ openedBy (opening base s ++ atCursor base s c) (shapeOf base (s .head))
+      pub at-overfull : g .fan < len → Refused 9 ≡ openedBy (opening K s ++ atCursor K s c) (shapeOf K (s .head))
       at-overfull f = sym (last ∙ opened-first 8 _ _ _ (rw (length-same, fan-same) (lt-ltb (g .fan) len f)))
 
-      pub at-good : len ≤ g .fan → Good g ≡ openedBy (opening base s ++ atCursor base s c) (shapeOf base (s .head))
+      pub at-good : len ≤ g .fan → Good g ≡ openedBy (opening K s ++ atCursor K s c) (shapeOf K (s .head))
       at-good f = sym (last ∙ opened-next 9 _ _ _ (rw (length-same, fan-same) (le-ltb (g .fan) len f)) ∙ opened-none _ ∙ ap Good (sym same))
 
-pub at-numbered : (s : State) (c : Cursor) → Numbered (opening base s ++ atCursor base s c)
+pub at-numbered : (K : Kind) (s : State) (c : Cursor) → Numbered (opening K s ++ atCursor K s c)
 unfolding opening All
-at-numbered s c = (omega arith, (omega arith, (omega arith, (omega arith, (omega arith, (omega arith, (omega arith, tt)))))))
+at-numbered K s c = (omega arith, (omega arith, (omega arith, (omega arith, (omega arith, (omega arith, (omega arith, tt)))))))
 
 -- what is known where `open_at` gives no number
-pub stands : (s : State) (c : Cursor) (g : Shape) (o : Opened) → o ≡ openedBy (opening base s ++ atCursor base s c) (shapeOf base (s .head)) → o ≡ Good g → Stands s c g
+pub stands : (K : Kind) → (1 ≤ K .views) × (K .views ≤ 3) → (s : State) (c : Cursor) (g : Shape) (o : Opened) → o ≡ openedBy (opening K s ++ atCursor K s c) (shapeOf K (s .head)) → o ≡ Good g → Stands K s c g
 unfolding opening All
-stands s c g o e d =
-    let n = none-applies (opening base s ++ atCursor base s c) (at-numbered s c) (good-number (opening base s ++ atCursor base s c) (shapeOf base (s .head)) g (sym e ∙ d)) in
-    rw (← good-shape (opening base s ++ atCursor base s c) (shapeOf base (s .head)) g (sym e ∙ d))
-    (record { ready = ready-here s (n .0) (n .1 .0) (n .1 .1 .0); leaf = leb-false _ _ (n .1 .1 .1 .1 .0); slot = leb-false _ _ (n .1 .1 .1 .1 .1 .0); few = ltb-false _ _ (n .1 .1 .1 .1 .1 .1 .0) })
+stands K w s c g o e d =
+    let n = none-applies (opening K s ++ atCursor K s c) (at-numbered K s c) (good-number (opening K s ++ atCursor K s c) (shapeOf K (s .head)) g (sym e ∙ d)) in
+    rw (← good-shape (opening K s ++ atCursor K s c) (shapeOf K (s .head)) g (sym e ∙ d))
+    (record { ready = ready-here K w s (n .0) (n .1 .0) (n .1 .1 .0); leaf = leb-false _ _ (n .1 .1 .1 .1 .0); slot = leb-false _ _ (n .1 .1 .1 .1 .1 .0); few = ltb-false _ _ (n .1 .1 .1 .1 .1 .1 .0) })
 
 -- the slot of a cursor can be read
-pub slot-in : (s : State) (c : Cursor) (g : Shape) → Stands s c g → Area g (length (s .leaves)) × (c .leaf .0 < g .nodes) × (c .slot < g .fan)
+pub slot-in : {K : Kind} (s : State) (c : Cursor) (g : Shape) → Stands K s c g → Area g (length (s .leaves)) × (c .leaf .0 < g .nodes) × (c .slot < g .fan)
 slot-in s c g h = (leaf-area s g (h .ready), lt-of-lt-of-le (h .leaf) (h .ready .leaves), lt-of-lt-of-le (h .slot) (h .few))
 
--- and so can its lengths
-pub both-in : (s : State) (c : Cursor) (g : Shape) → Stands s c g → Area g (length (s .leaves)) × (g .stride ≡ 3) × (c .leaf .0 < g .nodes) × (c .slot < g .fan)
-both-in s c g h = let i = slot-in s c g h in (i .0, ap (λ (x : Shape). x .stride) (h .ready .same), i .1, i .2)
-
 -- the lengths that were read are those of the cursor's slot
-pub own-lengths : (s : State) (c : Cursor) (g : Shape) (ls : List ℕ) → shapeOf base (s .head) ≡ g → lengths (getD (nodeAt g (c .leaf .0) (s .leaves) .slots) (c .slot) []) ≡ ls
-    → ls ≡ lengths (slotAt base s c)
-own-lengths s c g ls e h = sym h ∙ ap (λ (x : Shape). lengths (getD (nodeAt x (c .leaf .0) (s .leaves) .slots) (c .slot) [])) (sym e)
+pub own-lengths : (K : Kind) (s : State) (c : Cursor) (g : Shape) (ls : List ℕ) → shapeOf K (s .head) ≡ g → ls ≡ lengths (getD (nodeAt g (c .leaf .0) (s .leaves) .slots) (c .slot) [])
+    → ls ≡ lengths (slotAt K s c)
+own-lengths K s c g ls e h = h ∙ ap (λ (x : Shape). lengths (getD (nodeAt x (c .leaf .0) (s .leaves) .slots) (c .slot) [])) (sym e)

@@ -1,63 +1,125 @@
--- The lengths of a slot of three words, whether others are more, and which of the two totals passes u32. Assumes nothing.
+-- The lengths of a slot, and a test of each of them in the views that a slot has. Assumes nothing.
 use mathlib.Core.Path.{_≡_, refl, sym, ap, _∙_}
 use mathlib.Core.Bool.{Bool, true, false, cond, _||_}
 use mathlib.Core.List.{List, [], _∷_}
-use Prim.Native.Nat.{ℕ, _+_, _*_, _<_, _≤_}
+use Prim.Native.Nat.{ℕ, zero, suc, _+_, _-_, _*_, _<_, _≤_}
 use native.Mathlib.Omega.{arith}
-use lib.ListN.{length, getD, take, drop}
+use lib.ListN.{length, getD, set, take}
 use lib.Seq.{take-all}
 use lib.Dec.{ltb}
-use borrow.Author.Tests.{ltb-true, ltb-false}
-use Rattle.model.specs.Kind.{base}
+use borrow.Author.Tests.{ltb-true, ltb-false, lt-ltb, le-ltb}
 use Rattle.model.specs.Lists.{some, part, range}
-use Rattle.model.specs.Length.{listOf}
-use Rattle.model.specs.Node.{slotsFrom, nodeOf, lengths, lengthIn, total, used}
-use Rattle.model.specs.State.{state, nodeAt}
-use Rattle.model.specs.Refuse.{shapeOf, tooMuch, past}
+use Rattle.model.specs.Length.{lengthsIn}
+use Rattle.model.specs.Node.{slotsFrom, nodeOf, lengths, lengthIn, used}
+use Rattle.model.specs.State.{nodeAt}
 use Rattle.model.specs.declared.shape.Shape.{Shape}
-use Rattle.model.specs.declared.head.Head.{Head}
-use Rattle.model.specs.declared.length.Lengths.{Lengths}
 use Rattle.laws.specs.Lists.{row-end}
-use Rattle.laws.specs.Words.{length-part}
+use Rattle.laws.specs.Words.{length-part, getD-part}
 use Rattle.laws.specs.Lens.{by-test}
 use Rattle.laws.specs.Slots.{slots-at, slots-length, slots-take}
 use Rattle.laws.specs.Areas.{length-node}
 use Rattle.laws.specs.AreaRead.{node-end}
 use Rattle.area.specs.Area.{Area}
 
-behind : (x : List ℕ) → length x ≡ 3 → lengths x ≡ getD x 1 0 ∷ getD x 2 0 ∷ []
-behind [] e = absurd (omega arith)
-behind (x ∷ []) e = absurd (omega arith)
-behind (x ∷ y ∷ []) e = absurd (omega arith)
-behind (x ∷ y ∷ z ∷ []) e = refl
-behind (x ∷ y ∷ z ∷ w ∷ xs) e = absurd (omega arith)
+-- the lengths of a slot of two, three, four words
+behind-one : (x : List ℕ) → length x ≡ 2 → lengths x ≡ getD x 1 0 ∷ []
+behind-one [] e = absurd (omega arith)
+behind-one (x ∷ []) e = absurd (omega arith)
+behind-one (x ∷ y ∷ []) e = refl
+behind-one (x ∷ y ∷ z ∷ xs) e = absurd (omega arith)
 
--- the two lengths that are read are all that the slot has
-module _ (g : Shape) (xs : List ℕ) (k i : ℕ) (a : Area g (length xs)) (three : g .stride ≡ 3) (hk : k < g .nodes) (hi : i < g .fan) where
-  width : length (getD (nodeAt g k xs .slots) i []) ≡ 3
+behind-two : (x : List ℕ) → length x ≡ 3 → lengths x ≡ getD x 1 0 ∷ getD x 2 0 ∷ []
+behind-two [] e = absurd (omega arith)
+behind-two (x ∷ []) e = absurd (omega arith)
+behind-two (x ∷ y ∷ []) e = absurd (omega arith)
+behind-two (x ∷ y ∷ z ∷ []) e = refl
+behind-two (x ∷ y ∷ z ∷ w ∷ xs) e = absurd (omega arith)
+
+behind-three : (x : List ℕ) → length x ≡ 4 → lengths x ≡ getD x 1 0 ∷ getD x 2 0 ∷ getD x 3 0 ∷ []
+behind-three [] e = absurd (omega arith)
+behind-three (x ∷ []) e = absurd (omega arith)
+behind-three (x ∷ y ∷ []) e = absurd (omega arith)
+behind-three (x ∷ y ∷ z ∷ []) e = absurd (omega arith)
+behind-three (x ∷ y ∷ z ∷ w ∷ []) e = refl
+behind-three (x ∷ y ∷ z ∷ w ∷ v ∷ xs) e = absurd (omega arith)
+
+-- the lengths of a slot put behind the first of four words, the second and the third where there are such: y after the second, z after the third
+module _ (slot : List ℕ) (p : ℕ) (first : p ≡ lengthIn 0 slot) where
+  put-wide : (s c₀ c₁ c₂ c₃ : ℕ) (y z : List ℕ) → length slot ≡ s → 2 ≤ s → s ≤ 4 → (2 < s → y ≡ c₀ ∷ p ∷ lengthIn 1 slot ∷ c₃ ∷ []) → (s ≤ 2 → y ≡ c₀ ∷ p ∷ c₂ ∷ c₃ ∷ [])
+      → (3 < s → z ≡ set y 3 (lengthIn 2 slot)) → (s ≤ 3 → z ≡ y) → lengthsIn (s - 1) z ≡ lengths slot
+  put-wide zero c₀ c₁ c₂ c₃ y z e h g y₁ y₂ z₁ z₂ = absurd (omega arith)
+  put-wide (suc zero) c₀ c₁ c₂ c₃ y z e h g y₁ y₂ z₁ z₂ = absurd (omega arith)
+  put-wide (suc (suc zero)) c₀ c₁ c₂ c₃ y z e h g y₁ y₂ z₁ z₂ = rw (z₂ (omega arith), y₂ (omega arith), first) (sym (behind-one slot e))
+  put-wide (suc (suc (suc zero))) c₀ c₁ c₂ c₃ y z e h g y₁ y₂ z₁ z₂ = rw (z₂ (omega arith), y₁ (omega arith), first) (sym (behind-two slot e))
+  put-wide (suc (suc (suc (suc zero)))) c₀ c₁ c₂ c₃ y z e h g y₁ y₂ z₁ z₂ = rw (z₁ (omega arith), y₁ (omega arith), first) (sym (behind-three slot e))
+  put-wide (suc (suc (suc (suc (suc s))))) c₀ c₁ c₂ c₃ y z e h g y₁ y₂ z₁ z₂ = absurd (omega arith)
+
+  put-lengths : (s : ℕ) (x y z : List ℕ) → length x ≡ 4 → length slot ≡ s → 2 ≤ s → s ≤ 4 → (2 < s → y ≡ set (set x 1 p) 2 (lengthIn 1 slot)) → (s ≤ 2 → y ≡ set x 1 p)
+      → (3 < s → z ≡ set y 3 (lengthIn 2 slot)) → (s ≤ 3 → z ≡ y) → lengthsIn (s - 1) z ≡ lengths slot
+  put-lengths s [] y z f e h g y₁ y₂ z₁ z₂ = absurd (omega arith)
+  put-lengths s (a ∷ []) y z f e h g y₁ y₂ z₁ z₂ = absurd (omega arith)
+  put-lengths s (a ∷ b ∷ []) y z f e h g y₁ y₂ z₁ z₂ = absurd (omega arith)
+  put-lengths s (a ∷ b ∷ c ∷ []) y z f e h g y₁ y₂ z₁ z₂ = absurd (omega arith)
+  put-lengths s (a ∷ b ∷ c ∷ d ∷ []) y z f e h g y₁ y₂ z₁ z₂ = put-wide s a b c d y z e h g y₁ y₂ z₁ z₂
+  put-lengths s (a ∷ b ∷ c ∷ d ∷ u ∷ x) y z f e h g y₁ y₂ z₁ z₂ = absurd (omega arith)
+
+-- the lengths that are read are all that slot i of node k has
+module _ (g : Shape) (xs : List ℕ) (k i : ℕ) (a : Area g (length xs)) (hk : k < g .nodes) (hi : i < g .fan) where
+  width : length (getD (nodeAt g k xs .slots) i []) ≡ g .stride
   unfolding nodeOf
   width =
       let ws : List ℕ = part (k * g .size) (g .size) xs in
       let l : length ws ≡ 3 + g .fan * g .stride = length-node g k xs (a .shaped .words) (node-end g k (length xs) hk (a .room)) in
-      ap length (slots-at (g .stride) (g .fan) i 3 ws hi) ∙ length-part (3 + i * g .stride) (g .stride) ws (omega (arith, l, row-end i (g .fan) (g .stride) hi)) ∙ three
+      ap length (slots-at (g .stride) (g .fan) i 3 ws hi) ∙ length-part (3 + i * g .stride) (g .stride) ws (omega (arith, l, row-end i (g .fan) (g .stride) hi))
 
-  pub lengths-read : (p e : ℕ) → p ≡ lengthIn 0 (getD (nodeAt g k xs .slots) i []) → e ≡ lengthIn 1 (getD (nodeAt g k xs .slots) i [])
-      → lengths (getD (nodeAt g k xs .slots) i []) ≡ p ∷ e ∷ []
-  lengths-read p e ep ee = rw (ep, ee) (behind (getD (nodeAt g k xs .slots) i []) width)
+  pub lengths-read : (x y z : List ℕ) (p : ℕ) → length x ≡ 4 → p ≡ lengthIn 0 (getD (nodeAt g k xs .slots) i [])
+      → (2 < g .stride → y ≡ set (set x 1 p) 2 (lengthIn 1 (getD (nodeAt g k xs .slots) i []))) → (g .stride ≤ 2 → y ≡ set x 1 p)
+      → (3 < g .stride → z ≡ set y 3 (lengthIn 2 (getD (nodeAt g k xs .slots) i []))) → (g .stride ≤ 3 → z ≡ y)
+      → lengthsIn (g .stride - 1) z ≡ lengths (getD (nodeAt g k xs .slots) i [])
+  lengths-read x y z p four e = put-lengths (getD (nodeAt g k xs .slots) i []) p e (g .stride) x y z four width (a .shaped .columns) (a .shaped .narrow)
 
-last : (b : Bool) → b ≡ (b || false)
-last true = refl
-last false = refl
+-- a test of two slots' lengths in each view: t of the view, of a's length and of b's
+module _ (t : ℕ → ℕ → ℕ → Bool) (a b : List ℕ) where
+  abbrev testAt : ℕ → Bool
+  testAt v = t v (getD a (v + 1) 0) (getD b (v + 1) 0)
 
-module _ (given ls : Lengths) where
-  pub more-first : (b : Bool) → b ≡ ltb (ls .prepare) (given .prepare) → b ≡ true → true ≡ tooMuch base (listOf given) (listOf ls) .applies
-  unfolding some range
-  more-first b e t = rw (sym e ∙ t)
+  abbrev testSome : ℕ → Bool
+  testSome s = some (λ v. t v (getD (lengthsIn (s - 1) a) v 0) (getD (lengthsIn (s - 1) b) v 0)) (range 0 (s - 1))
 
-  pub more-second : (b : Bool) → b ≡ ltb (ls .prepare) (given .prepare) → b ≡ false → (r : Bool) → r ≡ ltb (ls .effect) (given .effect)
-      → r ≡ tooMuch base (listOf given) (listOf ls) .applies
-  unfolding some range
-  more-second b e f r q = rw (sym e ∙ f) (q ∙ last (ltb (ls .effect) (given .effect)))
+  each : (s : ℕ) → 2 ≤ s → s ≤ 4 → testSome s ≡ (testAt 0 || (cond (ltb 2 s) (testAt 1) false || (cond (ltb 3 s) (testAt 2) false || false)))
+  unfolding some range part
+  each zero h g = absurd (omega arith)
+  each (suc zero) h g = absurd (omega arith)
+  each (suc (suc zero)) h g = rw (getD-part 1 1 0 a (omega arith), getD-part 1 1 0 b (omega arith))
+  each (suc (suc (suc zero))) h g =
+      rw (getD-part 1 2 0 a (omega arith), getD-part 1 2 0 b (omega arith), getD-part 1 2 1 a (omega arith), getD-part 1 2 1 b (omega arith))
+  each (suc (suc (suc (suc zero)))) h g =
+      rw
+      (getD-part 1 3 0 a (omega arith), getD-part 1 3 0 b (omega arith), getD-part 1 3 1 a (omega arith), getD-part 1 3 1 b (omega arith), getD-part 1 3 2 a (omega arith), getD-part 1 3 2 b (omega arith))
+  each (suc (suc (suc (suc (suc s))))) h g = absurd (omega arith)
+
+  -- by tests one after the other
+  module _ (s : ℕ) (h : 2 ≤ s) (g : s ≤ 4) where
+    pub some-first : testAt 0 ≡ true → true ≡ testSome s
+    some-first e = sym (each s h g ∙ rw e)
+
+    module _ (no : testAt 0 ≡ false) where
+      pub some-second : 2 < s → testAt 1 ≡ true → true ≡ testSome s
+      some-second l e = sym (each s h g ∙ rw (no, lt-ltb 2 s l, e))
+
+      pub some-third : (2 < s → testAt 1 ≡ false) → 3 < s → (r : Bool) → r ≡ testAt 2 → r ≡ testSome s
+      some-third f l r e = sym (each s h g ∙ rw (no, lt-ltb 2 s (omega arith), f (omega arith), lt-ltb 3 s l) (last (testAt 2) ∙ sym e))
+        where
+          last : (c : Bool) → (c || false) ≡ c
+          last true = refl
+          last false = refl
+
+      pub some-none : (2 < s → testAt 1 ≡ false) → s ≤ 3 → false ≡ testSome s
+      some-none f l = sym (each s h g ∙ rw (no, le-ltb 3 s l) (go (ltb 2 s) refl))
+        where
+          go : (c : Bool) → ltb 2 s ≡ c → (cond c (testAt 1) false || false) ≡ false
+          go true e = rw (f (ltb-true 2 s e))
+          go false e = refl
 
 -- the slots in use are the first k, which are as many as len or, where that is past the fan, as the fan
 pub in-use : (s fan n k : ℕ) (ws : List ℕ) → n ≡ cond (ltb (getD ws 0 0) fan) (getD ws 0 0) fan → k ≤ n → n ≤ k → slotsFrom s k 3 ws ≡ used (nodeOf s fan ws)
@@ -69,18 +131,3 @@ in-use s fan n k ws e a b =
     (by-test (λ (y : ℕ). slotsFrom s y 3 ws ≡ take (getD ws 0 0) (slotsFrom s fan 3 ws)) (ltb (getD ws 0 0) fan) _ _
     (λ t. sym (slots-take s fan (getD ws 0 0) 3 ws (omega (arith, ltb-true (getD ws 0 0) fan t))))
     (λ t. sym (take-all (getD ws 0 0) (slotsFrom s fan 3 ws) (omega (arith, l, ltb-false (getD ws 0 0) fan t)))))
-
-module _ (h : Head) (xs : List ℕ) (g : Shape) (old new : Lengths) (b : Bool) (eg : g ≡ shapeOf base h)
-    (eb : b ≡ ltb (4294967295 + old .prepare) (total 0 (used (nodeAt g (h .root .0) xs)) + new .prepare)) where
-  own : (v o n : ℕ) → ltb (4294967295 + o) (total v (used (nodeAt g (h .root .0) xs)) + n) ≡ ltb (4294967295 + o) (total v (used (nodeAt (shapeOf base h) (h .root .0) xs)) + n)
-  own v o n = ap (λ (x : Shape). ltb (4294967295 + o) (total v (used (nodeAt x (h .root .0) xs)) + n)) eg
-
-  pub past-first : b ≡ true → true ≡ past base (state h [] xs []) (listOf old) (listOf new) .applies
-  unfolding some range
-  past-first e = rw (sym (own 0 (old .prepare) (new .prepare)) ∙ sym eb ∙ e)
-
-  pub past-second : b ≡ false → (c : Bool) → c ≡ ltb (4294967295 + old .effect) (total 1 (used (nodeAt g (h .root .0) xs)) + new .effect)
-      → c ≡ past base (state h [] xs []) (listOf old) (listOf new) .applies
-  unfolding some range
-  past-second e c ec = rw (sym (own 0 (old .prepare) (new .prepare)) ∙ sym eb ∙ e)
-      (ec ∙ own 1 (old .effect) (new .effect) ∙ last (ltb (4294967295 + old .effect) (total 1 (used (nodeAt (shapeOf base h) (h .root .0) xs)) + new .effect)))

@@ -1,6 +1,9 @@
 pub mod Bools
+pub mod Quotient
 pub mod Causes
 pub mod OpenLaws
 pub mod ReadyLaws
 pub mod CursorLaws
 pub mod LengthLaws
+pub mod TotalLaws
+pub mod WidthLaws

@@ -1,16 +1,17 @@
 -- What the first tests of a call answer. Assumes nothing.
 use mathlib.Core.Path.{_≡_, refl, sym, ap, _∙_}
-use mathlib.Core.Bool.{Bool, true, false, cond, _||_}
-use mathlib.Core.List.{List, [], _∷_, _++_}
-use Prim.Native.Nat.{ℕ, suc, _+_, _*_, _≤_, _<_}
+use mathlib.Core.Bool.{Bool, true, false}
+use mathlib.Core.List.{List, [], _∷_}
+use Prim.Native.Nat.{ℕ, suc, _*_, _≤_}
 use native.Mathlib.Omega.{arith}
 use native.Mathlib.Nat.{mul-le-mul}
-use borrow.Author.Tests.{ltb-false, leb-false}
-use Rattle.model.specs.Kind.{base, stride}
+use borrow.Author.Tests.{ltb-false}
+use Rattle.model.specs.Kind.{stride}
 use Rattle.model.specs.Lists.{Cause, All}
-use Rattle.model.specs.State.{State, shape}
+use Rattle.model.specs.State.{State, shape, shapeFor, nodesFor}
 use Rattle.model.specs.Refuse.{badSize, tooShort, astray, shapeOf, opening}
 use Rattle.model.specs.Calls.{makeCauses}
+use Rattle.model.specs.declared.shape.Kind.{Kind}
 use Rattle.model.specs.declared.shape.Shape.{Shape}
 use Rattle.node.specs.Shaped.{Shaped}
 use Rattle.open.proofs.Bools.{or-false}
@@ -40,49 +41,57 @@ few-words g h =
     let c : g .size ≤ 131 = omega arith in
     mul-le-mul (h .areas) c
 
+-- the sizes of everything, from the nodes of a good fan and limit
+pub made : (views fan limit nodes : ℕ) (r : Shape) → r ≡ shapeFor views fan nodes → (nodes ≡ nodesFor fan limit) × (nodes ≤ 65536)
+    → (1 ≤ views) × (views ≤ 3) × (4 ≤ fan) × (fan ≤ 32) × (limit ≤ 65536) → (r ≡ shape (suc views) fan limit) × Shaped r
+made views fan limit nodes r e n p = (
+  e ∙ ap (shapeFor views fan) (n .0),
+  rw e (record { columns = omega (arith, p .0); narrow = omega (arith, p .1); slots = p .2; few = p .3; words = refl; areas = n .1 }),
+)
+
 -- what `open_areas` answers
-module _ (fan limit : ℕ) (ls xs hs : List ℕ) (g : Shape) (b t : Bool) (eb : b ≡ badSize fan limit .applies) (nb : b ≡ false)
-    (eg : g ≡ shape (stride base) fan limit) (et : t ≡ tooShort g limit ls xs hs .applies) where
-  pub short-areas : t ≡ true → Refused 2 ≡ openedBy (makeCauses base fan limit ls xs hs) (shape (stride base) fan limit)
+module _ (K : Kind) (fan limit : ℕ) (ls xs hs : List ℕ) (g : Shape) (b t : Bool) (eb : b ≡ badSize fan limit .applies) (nb : b ≡ false)
+    (eg : g ≡ shape (stride K) fan limit) (et : t ≡ tooShort g limit ls xs hs .applies) where
+  pub short-areas : t ≡ true → Refused 2 ≡ openedBy (makeCauses K fan limit ls xs hs) (shape (stride K) fan limit)
   short-areas e =
       sym (opened-next 1 _ _ _ (sym eb ∙ nb) ∙ opened-first 1 _ [] _ (ap (λ (x : Shape). tooShort x limit ls xs hs .applies) (sym eg) ∙ sym et ∙ e))
 
-  pub long-areas : t ≡ false → Good g ≡ openedBy (makeCauses base fan limit ls xs hs) (shape (stride base) fan limit)
+  pub long-areas : t ≡ false → Good g ≡ openedBy (makeCauses K fan limit ls xs hs) (shape (stride K) fan limit)
   long-areas e =
       ap Good eg
       ∙ sym (opened-next 1 _ _ _ (sym eb ∙ nb) ∙ opened-next 2 _ [] _ (ap (λ (x : Shape). tooShort x limit ls xs hs .applies) (sym eg) ∙ sym et ∙ e) ∙ opened-none _)
 
 -- the causes of make and of every other call
-abbrev pub areasOf : State → List Cause
-areasOf s = makeCauses base (s .head .fan) (s .head .limit) (s .leaves) (s .inners) (s .homes)
+abbrev pub areasOf : Kind → State → List Cause
+areasOf K s = makeCauses K (s .head .fan) (s .head .limit) (s .leaves) (s .inners) (s .homes)
 
-pub areas-numbered : (s : State) → Numbered (areasOf s)
+pub areas-numbered : (K : Kind) (s : State) → Numbered (areasOf K s)
 unfolding All
-areas-numbered s = (omega arith, (omega arith, tt))
+areas-numbered K s = (omega arith, (omega arith, tt))
 
-pub opening-numbered : (s : State) → Numbered (opening base s)
+pub opening-numbered : (K : Kind) (s : State) → Numbered (opening K s)
 unfolding opening All
-opening-numbered s = (omega arith, (omega arith, (omega arith, tt)))
+opening-numbered K s = (omega arith, (omega arith, (omega arith, tt)))
 
 -- what `open` answers, from what `open_areas` answered
-module _ (s : State) (o : Opened) (e : o ≡ openedBy (areasOf s) (shapeOf base (s .head))) where
-  pub open-refused : (n : ℕ) → o ≡ Refused n → Refused n ≡ openedBy (opening base s) (shapeOf base (s .head))
+module _ (K : Kind) (s : State) (o : Opened) (e : o ≡ openedBy (areasOf K s) (shapeOf K (s .head))) where
+  pub open-refused : (n : ℕ) → o ≡ Refused n → Refused n ≡ openedBy (opening K s) (shapeOf K (s .head))
   unfolding opening
-  open-refused n d = sym (opened-stop (areasOf s) (astray (shapeOf base (s .head)) (s .head) ∷ []) _ n (sym e ∙ d))
+  open-refused n d = sym (opened-stop (areasOf K s) (astray (shapeOf K (s .head)) (s .head) ∷ []) _ n (sym e ∙ d))
 
   module _ (g : Shape) (d : o ≡ Good g) (t : Bool) (et : t ≡ astray g (s .head) .applies) where
-    last : openedBy (opening base s) (shapeOf base (s .head)) ≡ openedBy (astray (shapeOf base (s .head)) (s .head) ∷ []) (shapeOf base (s .head))
+    last : openedBy (opening K s) (shapeOf K (s .head)) ≡ openedBy (astray (shapeOf K (s .head)) (s .head) ∷ []) (shapeOf K (s .head))
     unfolding opening
-    last = opened-more (areasOf s) (astray (shapeOf base (s .head)) (s .head) ∷ []) _ g (areas-numbered s) (sym e ∙ d)
+    last = opened-more (areasOf K s) (astray (shapeOf K (s .head)) (s .head) ∷ []) _ g (areas-numbered K s) (sym e ∙ d)
 
-    same : shapeOf base (s .head) ≡ g
-    same = good-shape (areasOf s) _ g (sym e ∙ d)
+    same : shapeOf K (s .head) ≡ g
+    same = good-shape (areasOf K s) _ g (sym e ∙ d)
 
-    here : t ≡ astray (shapeOf base (s .head)) (s .head) .applies
+    here : t ≡ astray (shapeOf K (s .head)) (s .head) .applies
     here = et ∙ ap (λ (x : Shape). astray x (s .head) .applies) (sym same)
 
-    pub open-astray : t ≡ true → Refused 9 ≡ openedBy (opening base s) (shapeOf base (s .head))
+    pub open-astray : t ≡ true → Refused 9 ≡ openedBy (opening K s) (shapeOf K (s .head))
     open-astray h = sym (last ∙ opened-first 8 _ [] _ (sym here ∙ h))
 
-    pub open-good : t ≡ false → Good g ≡ openedBy (opening base s) (shapeOf base (s .head))
+    pub open-good : t ≡ false → Good g ≡ openedBy (opening K s) (shapeOf K (s .head))
     open-good h = sym (last ∙ opened-next 9 _ [] _ (sym here ∙ h) ∙ opened-none _ ∙ ap Good same)

@@ -1,59 +1,57 @@
-// The lengths that a call tests: those of the entry at a cursor, and the tree's totals.
+// The lengths that a call tests: those of the entry at a cursor, and the tree's totals. Lengths are lent as a slot: four words, the
+// child first; those count that a slot of the tree has.
 use area::word::length_of;
-use model::head::Head;
-use model::length::Lengths;
-use model::length::View;
 use model::number::LeafNo;
 use model::number::NodeNo;
 use model::shape::Shape;
+use model::shape::shape_for;
 ghost use mathlib.Core.Path.{_≡_};
-ghost use mathlib.Core.Bool.{cond};
+ghost use mathlib.Core.Bool.{cond, true};
 ghost use mathlib.Core.List.{[]};
-ghost use Prim.Native.Nat.{_+_, _<_, _≤_};
+ghost use Prim.Native.Nat.{ℕ, _+_, _-_, _*_, _<_, _≤_};
 ghost use lib.Dec.{ltb};
-ghost use lib.ListN.{length, getD};
-ghost use Rattle.model.specs.Kind.{base};
-ghost use Rattle.model.specs.Length.{listOf, lengthsOf};
-ghost use Rattle.model.specs.Node.{lengths, total, used, nodeOf};
-ghost use Rattle.model.specs.State.{state, nodeAt};
-ghost use Rattle.model.specs.Refuse.{shapeOf, tooMuch, past};
+ghost use lib.ListN.{length, getD, take, drop};
+ghost use Rattle.model.specs.Length.{lengthsIn};
+ghost use Rattle.model.specs.Node.{nodeOf, lengths, total, used};
+ghost use Rattle.model.specs.State.{shapeFor, nodeAt};
 ghost use Rattle.node.specs.Shaped.{Shaped};
 ghost use Rattle.area.specs.Area.{Area};
+ghost use Rattle.open.specs.Lengths.{moreIn, pastIn, below, Low, TotalsIn};
 
-// The lengths in slot i of leaf k.
-pub fn lengths_at(leaves: &[u32], g: Shape, k: LeafNo, i: u32) -> Lengths
-    requires { ⌜ Area g (length (now leaves)) × (g .stride ≡ 3) × (k .0 < g .nodes) × (i < g .fan) ⌝ }
-    ensures { λ r. ⌜ lengths (getD (nodeAt g (k .0) (now (leaves .entry)) .slots) i []) ≡ listOf r ⌝ }
+// The lengths in slot i of leaf k; those that a slot doesn't have stay as they are.
+pub fn lengths_at(leaves: &[u32], g: Shape, k: LeafNo, i: u32, x: &mut [u32; 4])
+    requires { ⌜ Area g (length (now leaves)) × (k .0 < g .nodes) × (i < g .fan) × (length (now x) ≡ 4) ⌝ }
+    ensures { λ _. ⌜ (lengthsIn (g .stride - 1) (now (x .exit)) ≡ lengths (getD (nodeAt g (k .0) (now (leaves .entry)) .slots) i [])) × (length (now (x .exit)) ≡ 4) ⌝ }
 {
-    let prepare = length_of(leaves, g, 0, k.0, i as usize);
-    let effect = length_of(leaves, g, 1, k.0, i as usize);
-    Lengths {
-        prepare: prepare,
-        effect: effect,
+    let stride = g.stride;
+    let at = i as usize;
+    x[1] = length_of(leaves, g, 0, k.0, at);
+    if 2 < stride {
+        x[2] = length_of(leaves, g, 1, k.0, at);
+    }
+    if 3 < stride {
+        x[3] = length_of(leaves, g, 2, k.0, at);
     }
 }
 
-// Whether lengths are more than an entry has in a view.
-fn more_in(given: Lengths, own: Lengths, view: View) -> bool
-    ensures { λ r. ⌜ r ≡ ltb (lengthsOf own view) (lengthsOf given view) ⌝ }
+// Whether lengths are more than an entry has, in some view.
+pub fn too_much(g: Shape, given: &[u32; 4], own: &[u32; 4]) -> bool
+    requires { ⌜ Shaped g × (length (now given) ≡ 4) × (length (now own) ≡ 4) ⌝ }
+    ensures { λ r. ⌜ r ≡ moreIn (g .stride - 1) (lengthsIn (g .stride - 1) (now (given .entry))) (lengthsIn (g .stride - 1) (now (own .entry))) ⌝ }
 {
-    own.of(view) < given.of(view)
-}
-
-// The same in either view.
-pub fn too_much(given: Lengths, own: Lengths) -> bool
-    ensures { λ r. ⌜ r ≡ tooMuch base (listOf given) (listOf own) .applies ⌝ }
-{
-    if more_in(given, own, View::Prepare) {
+    let stride = g.stride;
+    if own[1] < given[1] {
         return true;
     }
-    more_in(given, own, View::Effect)
-}
-
-// The lengths of all slots in use of a node, in both views.
-struct Totals {
-    prepare: u64,
-    effect: u64,
+    if 2 < stride {
+        if own[2] < given[2] {
+            return true;
+        }
+    }
+    if 3 < stride {
+        return own[3] < given[3];
+    }
+    false
 }
 
 // How many of a node's slots are in use: all where its len is past the fan.
@@ -66,33 +64,91 @@ fn in_use(len: usize, fan: usize) -> usize
     fan
 }
 
+// Whether the words of a node's first len slots are all below 2^26, by one pass over words that stand side by side.
+fn low(node: &[u32], g: Shape, len: usize) -> bool
+    requires { ⌜ Shaped g × (length (now node) ≡ g .size) × (len ≤ g .fan) ⌝ }
+    ensures { λ r. ⌜ Low r (take (len * g .stride) (drop 3 (now (node .entry)))) ⌝ }
+{
+    let stride = g.stride;
+    let n = 3 + len * stride;
+    let mut all: u32 = 0;
+    let mut p: usize = 3;
+    while p < n {
+        all = all | node[p];
+        p += 1;
+    }
+    all < 67108864
+}
+
+// The same of the slots in use of inner node k: then no total of theirs passes 2^31.
+fn low_in(inners: &[u32], g: Shape, k: NodeNo) -> bool
+    requires { ⌜ Area g (length (now inners)) × (k .0 < g .nodes) ⌝ }
+    ensures { λ r. ⌜ (r ≡ true → (v : ℕ) → v + 1 < g .stride → total v (used (nodeAt g (k .0) (now (inners .entry)))) ≤ 2147483648) ⌝ }
+{
+    let size = g.size;
+    let a = k.0 as usize * size;
+    let e = a + size;
+    let len = in_use(inners[a] as usize, g.fan);
+    low(&inners[a..e], g, len)
+}
+
+// Whether every length is below 2^31.
+fn small(g: Shape, new: &[u32; 4]) -> bool
+    requires { ⌜ Shaped g × (length (now new) ≡ 4) ⌝ }
+    ensures { λ r. ⌜ (r ≡ true → below 2147483648 (lengthsIn (g .stride - 1) (now (new .entry)))) ⌝ }
+{
+    let stride = g.stride;
+    let mut all = new[1];
+    if 2 < stride {
+        all = all | new[2];
+    }
+    if 3 < stride {
+        all = all | new[3];
+    }
+    all < 2147483648
+}
+
+// The lengths of all slots in use of a node, view by view, with 0 for a view that there isn't.
+struct Totals {
+    first: u64,
+    second: u64,
+    third: u64,
+}
+
 // The totals of one node, in one pass over its slots: at most 32 words each.
 fn used_totals(node: &[u32], g: Shape) -> Totals
-    requires { ⌜ Shaped g × (length (now node) ≡ g .size) × (g .stride ≡ 3) ⌝ }
-    ensures { λ r. ⌜ (r .prepare ≡ total 0 (used (nodeOf (g .stride) (g .fan) (now (node .entry))))) × (r .effect ≡ total 1 (used (nodeOf (g .stride) (g .fan) (now (node .entry))))) × (r .prepare ≤ 137438953440) × (r .effect ≤ 137438953440) ⌝ }
+    requires { ⌜ Shaped g × (length (now node) ≡ g .size) ⌝ }
+    ensures { λ r. ⌜ TotalsIn g (nodeOf (g .stride) (g .fan) (now (node .entry))) (r .first) (r .second) (r .third) ⌝ }
 {
     let stride = g.stride;
     let len = in_use(node[0] as usize, g.fan);
-    let mut prepare: u64 = 0;
-    let mut effect: u64 = 0;
+    let mut first: u64 = 0;
+    let mut second: u64 = 0;
+    let mut third: u64 = 0;
     let mut p: usize = 4;
     let mut k: usize = 0;
     while k < len {
-        prepare += node[p] as u64;
-        effect += node[p + 1] as u64;
+        first += node[p] as u64;
+        if 2 < stride {
+            second += node[p + 1] as u64;
+        }
+        if 3 < stride {
+            third += node[p + 2] as u64;
+        }
         p += stride;
         k += 1;
     }
     Totals {
-        prepare: prepare,
-        effect: effect,
+        first: first,
+        second: second,
+        third: third,
     }
 }
 
 // The totals of inner node k.
 fn totals_in(inners: &[u32], g: Shape, k: NodeNo) -> Totals
-    requires { ⌜ Area g (length (now inners)) × (g .stride ≡ 3) × (k .0 < g .nodes) ⌝ }
-    ensures { λ r. ⌜ (r .prepare ≡ total 0 (used (nodeAt g (k .0) (now (inners .entry))))) × (r .effect ≡ total 1 (used (nodeAt g (k .0) (now (inners .entry))))) × (r .prepare ≤ 137438953440) × (r .effect ≤ 137438953440) ⌝ }
+    requires { ⌜ Area g (length (now inners)) × (k .0 < g .nodes) ⌝ }
+    ensures { λ r. ⌜ TotalsIn g (nodeAt g (k .0) (now (inners .entry))) (r .first) (r .second) (r .third) ⌝ }
 {
     let size = g.size;
     let a = k.0 as usize * size;
@@ -100,23 +156,53 @@ fn totals_in(inners: &[u32], g: Shape, k: NodeNo) -> Totals
     used_totals(&inners[a..e], g)
 }
 
-// Whether the total in a view would pass u32 with new for old.
-fn past_in(sum: u64, old: Lengths, new: Lengths, view: View) -> bool
+// Whether a total would pass u32 with new for old.
+fn past_in(sum: u64, old: u32, new: u32) -> bool
     requires { ⌜ sum ≤ 137438953440 ⌝ }
-    ensures { λ r. ⌜ r ≡ ltb (4294967295 + lengthsOf old view) (sum + lengthsOf new view) ⌝ }
+    ensures { λ r. ⌜ r ≡ ltb (4294967295 + old) (sum + new) ⌝ }
 {
-    let most = 4294967295 + (old.of(view) as u64);
-    most < sum + (new.of(view) as u64)
+    4294967295 + (old as u64) < sum + (new as u64)
 }
 
-// Whether either of the root's totals would.
-pub fn past(head: Head, inners: &[u32], g: Shape, old: Lengths, new: Lengths) -> bool
-    requires { ⌜ (g ≡ shapeOf base head) × Area g (length (now inners)) × (head .root .0 < g .nodes) ⌝ }
-    ensures { λ r. ⌜ r ≡ past base (state head [] (now (inners .entry)) []) (listOf old) (listOf new) .applies ⌝ }
+// The same in some view.
+fn past_some(root: NodeNo, inners: &[u32], g: Shape, old: &[u32; 4], new: &[u32; 4]) -> bool
+    requires { ⌜ Area g (length (now inners)) × (root .0 < g .nodes) × (length (now old) ≡ 4) × (length (now new) ≡ 4) ⌝ }
+    ensures { λ r. ⌜ r ≡ pastIn g (root .0) (now (inners .entry)) (lengthsIn (g .stride - 1) (now (old .entry))) (lengthsIn (g .stride - 1) (now (new .entry))) ⌝ }
 {
-    let t = totals_in(inners, g, head.root);
-    if past_in(t.prepare, old, new, View::Prepare) {
+    let stride = g.stride;
+    let t = totals_in(inners, g, root);
+    if past_in(t.first, old[1], new[1]) {
         return true;
     }
-    past_in(t.effect, old, new, View::Effect)
+    if 2 < stride {
+        if past_in(t.second, old[2], new[2]) {
+            return true;
+        }
+    }
+    if 3 < stride {
+        return past_in(t.third, old[3], new[3]);
+    }
+    false
+}
+
+// Whether one of the root's totals would pass u32 with new for old. Most often one look at the words says no, and nothing is summed up.
+pub fn past(
+    root: NodeNo,
+    inners: &[u32],
+    views: usize,
+    fan: usize,
+    nodes: usize,
+    old: &[u32; 4],
+    new: &[u32; 4],
+) -> bool
+    requires { ⌜ Area (shapeFor views fan nodes) (length (now inners)) × (root .0 < nodes) × (length (now old) ≡ 4) × (length (now new) ≡ 4) ⌝ }
+    ensures { λ r. ⌜ r ≡ pastIn (shapeFor views fan nodes) (root .0) (now (inners .entry)) (lengthsIn views (now (old .entry))) (lengthsIn views (now (new .entry))) ⌝ }
+{
+    let g = shape_for(views, fan, nodes);
+    if small(g, new) {
+        if low_in(inners, g, root) {
+            return false;
+        }
+    }
+    past_some(root, inners, g, old, new)
 }

@@ -3,15 +3,17 @@ use area::word::len_of;
 use model::head::Cursor;
 use model::head::Head;
 use model::shape::Shape;
+use model::shape::shape_for;
 ghost use mathlib.Core.Path.{_≡_};
 ghost use mathlib.Core.List.{[], _++_};
-ghost use Prim.Native.Nat.{_+_, _*_, _<_, _≤_};
+ghost use Prim.Native.Nat.{ℕ, suc, _+_, _*_, _<_, _≤_};
 ghost use lib.ListN.{length, getD};
-ghost use Rattle.model.specs.Kind.{base, stride};
+ghost use Rattle.model.specs.Kind.{kind};
 ghost use Rattle.model.specs.Lists.{refusal};
 ghost use Rattle.model.specs.State.{state, shape, nodesFor, nodeAt};
 ghost use Rattle.model.specs.Refuse.{badSize, tooShort, astray, shapeOf, opening, stale, atCursor, full};
 ghost use Rattle.model.specs.Calls.{makeCauses};
+ghost use Rattle.model.specs.declared.shape.Kind.{Kind};
 ghost use Rattle.node.specs.Shaped.{Shaped};
 ghost use Rattle.area.specs.Area.{Area};
 ghost use Rattle.open.specs.Open.{openedBy};
@@ -37,12 +39,39 @@ pub fn bad_size(fan: u32, limit: u32) -> bool
     65536 < limit
 }
 
+// 2^21 over half, and a little more: what is multiplied by in place of a division by half, which costs more than all other
+// tests of a call. Every remainder has its arm, so that the compiler makes a table of them and drops the last.
+fn reciprocal(half: u32) -> u64
+    requires { ⌜ (2 ≤ half) × (half ≤ 16) ⌝ }
+    ensures { λ r. ⌜ (2097152 < r * half) × (r * half ≤ 2097152 + half) × (r ≤ 1048577) ⌝ }
+{
+    match half % 16 {
+        0 => 131073,
+        1 => 2097153,
+        2 => 1048577,
+        3 => 699051,
+        4 => 524289,
+        5 => 419431,
+        6 => 349526,
+        7 => 299594,
+        8 => 262145,
+        9 => 233017,
+        10 => 209716,
+        11 => 190651,
+        12 => 174763,
+        13 => 161320,
+        14 => 149797,
+        15 => 139811,
+        _ => 2097152 / (half as u64) + 1,
+    }
+}
+
 // The nodes that the leaf area and the inner area each need.
 fn nodes_for(fan: u32, limit: u32) -> usize
     requires { ⌜ (4 ≤ fan) × (fan ≤ 32) × (limit ≤ 65536) ⌝ }
     ensures { λ r. ⌜ (r ≡ nodesFor fan limit) × (r ≤ 65536) ⌝ }
 {
-    let n = limit / (fan / 2);
+    let n = limit as u64 * reciprocal(fan / 2) / 2097152;
     if n < 1 {
         return 1;
     }
@@ -50,18 +79,12 @@ fn nodes_for(fan: u32, limit: u32) -> usize
 }
 
 // The sizes of everything, from a good fan and limit.
-pub fn shape_of(fan: u32, limit: u32) -> Shape
-    requires { ⌜ (4 ≤ fan) × (fan ≤ 32) × (limit ≤ 65536) ⌝ }
-    ensures { λ r. ⌜ (r ≡ shape (stride base) fan limit) × Shaped r ⌝ }
+pub fn shape_of(views: usize, fan: u32, limit: u32) -> Shape
+    requires { ⌜ (1 ≤ views) × (views ≤ 3) × (4 ≤ fan) × (fan ≤ 32) × (limit ≤ 65536) ⌝ }
+    ensures { λ r. ⌜ (r ≡ shape (suc views) fan limit) × Shaped r ⌝ }
 {
-    let slots = fan as usize;
     let nodes = nodes_for(fan, limit);
-    Shape {
-        stride: 3,
-        fan: slots,
-        size: 3 + slots * 3,
-        nodes: nodes,
-    }
+    shape_for(views, fan as usize, nodes)
 }
 
 pub fn too_short(g: Shape, limit: u32, leaves: &[u32], inners: &[u32], homes: &[u32]) -> bool
@@ -101,13 +124,21 @@ pub fn astray(g: Shape, head: Head) -> bool
 }
 
 // What make and reset test.
-pub fn open_areas(fan: u32, limit: u32, leaves: &[u32], inners: &[u32], homes: &[u32]) -> Opened
-    ensures { λ r. ⌜ r ≡ openedBy (makeCauses base fan limit (now (leaves .entry)) (now (inners .entry)) (now (homes .entry))) (shape (stride base) fan limit) ⌝ }
+pub fn open_areas(
+    views: usize,
+    fan: u32,
+    limit: u32,
+    leaves: &[u32],
+    inners: &[u32],
+    homes: &[u32],
+) -> Opened
+    requires { ⌜ (1 ≤ views) × (views ≤ 3) ⌝ }
+    ensures { λ r. ⌜ ((effect : ℕ) → r ≡ openedBy (makeCauses (kind views effect) fan limit (now (leaves .entry)) (now (inners .entry)) (now (homes .entry))) (shape (suc views) fan limit)) ⌝ }
 {
     if bad_size(fan, limit) {
         return Opened::Refused(1);
     }
-    let g = shape_of(fan, limit);
+    let g = shape_of(views, fan, limit);
     if too_short(g, limit, leaves, inners, homes) {
         return Opened::Refused(2);
     }
@@ -115,12 +146,13 @@ pub fn open_areas(fan: u32, limit: u32, leaves: &[u32], inners: &[u32], homes: &
 }
 
 // What every call tests that reads links.
-pub fn open(head: Head, leaves: &[u32], inners: &[u32], homes: &[u32]) -> Opened
-    ensures { λ r. ⌜ r ≡ openedBy (opening base (state head (now (leaves .entry)) (now (inners .entry)) (now (homes .entry)))) (shapeOf base head) ⌝ }
+pub fn open(views: usize, head: Head, leaves: &[u32], inners: &[u32], homes: &[u32]) -> Opened
+    requires { ⌜ (1 ≤ views) × (views ≤ 3) ⌝ }
+    ensures { λ r. ⌜ ((effect : ℕ) → r ≡ openedBy (opening (kind views effect) (state head (now (leaves .entry)) (now (inners .entry)) (now (homes .entry)))) (shapeOf (kind views effect) head)) ⌝ }
 {
     let fan = head.fan;
     let limit = head.limit;
-    match open_areas(fan, limit, leaves, inners, homes) {
+    match open_areas(views, fan, limit, leaves, inners, homes) {
         Opened::Refused(n) => Opened::Refused(n),
         Opened::Good(g) => {
             if astray(g, head) {
@@ -134,8 +166,8 @@ pub fn open(head: Head, leaves: &[u32], inners: &[u32], homes: &[u32]) -> Opened
 // The number by which a cursor fails: its stamp isn't the entry count (3), its leaf isn't in use (13), its slot is at or past
 // the leaf's len (14). 0: it is current.
 pub fn fault(head: Head, leaves: &[u32], g: Shape, c: Cursor) -> u32
-    requires { ⌜ (g ≡ shapeOf base head) × Area g (length (now leaves)) × (head .leaves ≤ g .nodes) ⌝ }
-    ensures { λ r. ⌜ r ≡ refusal (stale base (state head (now (leaves .entry)) [] []) c) ⌝ }
+    requires { ⌜ Area g (length (now leaves)) × (head .leaves ≤ g .nodes) ⌝ }
+    ensures { λ r. ⌜ ((K : Kind) → g ≡ shapeOf K head → r ≡ refusal (stale K (state head (now (leaves .entry)) [] []) c)) ⌝ }
 {
     let k = c.leaf.0;
     if c.stamp != head.entries {
@@ -159,10 +191,18 @@ pub fn full(head: Head) -> bool
 }
 
 // What every call tests that takes a cursor.
-pub fn open_at(head: Head, leaves: &[u32], inners: &[u32], homes: &[u32], c: Cursor) -> Opened
-    ensures { λ r. ⌜ r ≡ openedBy (opening base (state head (now (leaves .entry)) (now (inners .entry)) (now (homes .entry))) ++ atCursor base (state head (now (leaves .entry)) (now (inners .entry)) (now (homes .entry))) c) (shapeOf base head) ⌝ }
+pub fn open_at(
+    views: usize,
+    head: Head,
+    leaves: &[u32],
+    inners: &[u32],
+    homes: &[u32],
+    c: Cursor,
+) -> Opened
+    requires { ⌜ (1 ≤ views) × (views ≤ 3) ⌝ }
+    ensures { λ r. ⌜ ((effect : ℕ) → r ≡ openedBy (opening (kind views effect) (state head (now (leaves .entry)) (now (inners .entry)) (now (homes .entry))) ++ atCursor (kind views effect) (state head (now (leaves .entry)) (now (inners .entry)) (now (homes .entry))) c) (shapeOf (kind views effect) head)) ⌝ }
 {
-    match open(head, leaves, inners, homes) {
+    match open(views, head, leaves, inners, homes) {
         Opened::Refused(n) => Opened::Refused(n),
         Opened::Good(g) => {
             let n = fault(head, leaves, g, c);

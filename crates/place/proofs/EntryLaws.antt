@@ -1,26 +1,21 @@
--- One entry more in a leaf: where there is no room, and where there is. Assumes nothing.
+-- One entry more in a leaf: where room couldn't be made, where there is none, and where there is. Assumes nothing.
 use mathlib.Core.Path.{_≡_, refl, sym, ap, _∙_}
-use mathlib.Core.Bool.{Bool, true, false, cond, _&&_}
-use mathlib.Core.List.{List}
-use Prim.Native.Nat.{ℕ, _+_, _<_, _≤_}
-use lib.ListN.{set}
-use lib.Dec.{ltb, leb, eqb}
-use borrow.Author.Tests.{ltb-true, leb-true, eq-eqb, ne-eqb}
+use mathlib.Core.Bool.{true, false}
+use mathlib.Core.List.{List, [], _∷_}
+use Prim.Native.Nat.{ℕ, suc, _+_, _<_, _≤_}
+use native.Mathlib.Omega.{arith}
+use lib.ListN.{length, getD, set, take}
+use lib.Dec.{eqb}
+use borrow.Author.Tests.{ltb-true, leb-true, lt-ltb, le-leb, eq-eqb, ne-eqb}
+use Rattle.model.specs.Length.{lengthsIn}
 use Rattle.model.specs.Node.{Node}
-use Rattle.model.specs.State.{state, nodeAt, putNode}
+use Rattle.model.specs.State.{state, shapeFor, nodeAt, putNode}
 use Rattle.model.specs.Locate.{changing}
-use Rattle.model.specs.Grow.{Top, top}
 use Rattle.model.specs.Place.{Change, change, withEntry, enter, entering}
 use Rattle.model.specs.declared.shape.Shape.{Shape}
 use Rattle.model.specs.declared.head.Head.{Head}
-use Rattle.model.specs.declared.head.Held.{Held}
-use Rattle.model.specs.declared.number.LeafNo.{LeafNo}
-use Rattle.place.specs.declared.change.Room.{Room}
-use Rattle.place.specs.Room.{roomyIn, least, putBy, lost, counted, headIn, changeOf, headEntered}
-
-both : (a b : Bool) → (a && b) ≡ true → (a ≡ true) × (b ≡ true)
-both true b e = (refl, e)
-both false b e = (e, cc)
+use Rattle.laws.specs.Lens.{by-test, both}
+use Rattle.place.specs.Room.{roomyIn, settledIn}
 
 pub record Roomy (g : Shape) (k i w : ℕ) (ls : List ℕ) : Type 0 where
   pub leaf : k < g .nodes
@@ -33,69 +28,56 @@ roomy g k i w ls e =
     let p = both _ _ (o .0) in
     record { leaf = ltb-true _ _ (p .0); slot = leb-true _ _ (p .1); room = ltb-true _ _ (o .1) }
 
-module _ (g : Shape) (f : Node → Node) (w k i : ℕ) (h : Head) (ls xs hs : List ℕ) (b : Bool) (eb : b ≡ roomyIn g k i w ls) where
-  pub enter-none : b ≡ false → change 9 (state h ls xs hs) k i ≡ enter g f w (state h ls xs hs) k i
+pub is-roomy : (g : Shape) (k i w : ℕ) (ls : List ℕ) → k < g .nodes → i + w ≤ nodeAt g k ls .len → nodeAt g k ls .len < g .fan → roomyIn g k i w ls ≡ true
+is-roomy g k i w ls a b d = rw (lt-ltb _ _ a, le-leb _ _ b, lt-ltb _ _ d)
+
+-- the words of the entry that comes
+pub next-slot : (views n : ℕ) (g : Shape) (x : List ℕ) → g ≡ shapeFor views (g .fan) (g .nodes) → length x ≡ 4 → getD x 0 0 ≡ n → take (g .stride) x ≡ n ∷ lengthsIn views x
+next-slot views n g [] eg e en = absurd (omega arith)
+next-slot views n g (a ∷ x) eg e en =
+    let s : g .stride ≡ suc views = ap (λ (h : Shape). h .stride) eg in
+    ap (λ (m : ℕ). take m (a ∷ x)) s ∙ ap (λ (y : ℕ). y ∷ take views x) en
+
+module _ (g : Shape) (f : Node → Node) (w k i : ℕ) (h : Head) (ls xs hs : List ℕ) where
+  enter-none : roomyIn g k i w ls ≡ false → change 9 (state h ls xs hs) k i ≡ enter g f w (state h ls xs hs) k i
   unfolding enter
-  enter-none e = rw (sym eb ∙ e)
+  enter-none e = rw e
 
-  pub enter-done : b ≡ true → (ls′ : List ℕ) (fin : Held) (h′ : Head) → ls′ ≡ putNode g k (f (nodeAt g k ls)) ls → fin ≡ changing k i (h .finger) → h′ ≡ withEntry fin h
-      → change 0 (state h′ ls′ xs (set hs (h .entries) k)) k i ≡ enter g f w (state h ls xs hs) k i
+  enter-done : roomyIn g k i w ls ≡ true → (ls′ : List ℕ) → ls′ ≡ putNode g k (f (nodeAt g k ls)) ls
+      → change 0 (state (withEntry (changing k i (h .finger)) h) ls′ xs (set hs (h .entries) k)) k i ≡ enter g f w (state h ls xs hs) k i
   unfolding enter
-  enter-done e ls′ fin h′ el ef eh = rw (sym eb ∙ e, eh, ef, el)
+  enter-done e ls′ el = rw (e, el)
 
--- what `put_slot` answers and leaves, by the way s that it went: b is whether the leaf has room for that
-module _ (g : Shape) (split before s b : Bool) (k i : ℕ) (x ls : List ℕ) (es : split ≡ s) (eb : b ≡ roomyIn g k i (least s) ls) where
-  tested : b ≡ roomyIn g k i (least split) ls
-  tested = eb ∙ ap (λ (y : Bool). roomyIn g k i (least y) ls) (sym es)
+-- a change that its call settles: the number stays, and with 0 all
+settled-number : (h : Head) (m : Change) → settledIn h m .number ≡ m .number
+settled-number h m = by-test (λ (r : Change). r .number ≡ m .number) (eqb (m .number) 0) _ _ (λ _. refl) (λ _. refl)
 
-  pub put-none : b ≡ false → (false ≡ roomyIn g k i (least split) ls) × (ls ≡ ls)
-  put-none e = (sym e ∙ tested, refl)
+settled-same : (h : Head) (m : Change) → m .number ≡ 0 → settledIn h m ≡ m
+settled-same h m z = rw (eq-eqb _ _ z)
 
-  pub put-done : b ≡ true → (ls′ : List ℕ) → ls′ ≡ putNode g k (putBy s before i x (nodeAt g k ls)) ls
-      → (true ≡ roomyIn g k i (least split) ls) × (ls′ ≡ putNode g k (putBy split before i x (nodeAt g k ls)) ls)
-  put-done e ls′ el = (sym e ∙ tested, el ∙ ap (λ (y : Bool). putNode g k (putBy y before i x (nodeAt g k ls)) ls) (sym es))
+-- m is what making room gives; n, the areas and the slot are what the code has of it
+module _ (h h1 : Head) (ls xs hs : List ℕ) (k i n : ℕ) (m : Change) (e : settledIn h (change n (state h1 ls xs hs) k i) ≡ settledIn h m) where
+  same-number : n ≡ m .number
+  same-number = sym (settled-number h (change n (state h1 ls xs hs) k i)) ∙ ap (λ (r : Change). r .number) e ∙ settled-number h m
 
--- an entry comes where room was made, or a 9 is passed on
-module _ (g : Shape) (f : ℕ → Node → Node) (w : ℕ) (r : Room) (entries : ℕ) (h : Head) (ls xs hs : List ℕ) (m : Change) (er : changeOf r entries h ls xs hs ≡ m) where
-  pub entered-not : (r .number ≡ 0 → ⊥) → change (r .number) (state (headEntered r entries h) ls xs hs) (r .leaf .0) (r .slot) ≡ entering g f w m
-  entered-not d = rw (ne-eqb _ _ d) (er ∙ sym (rw (ne-eqb _ _ (λ z. d (ap (λ (c : Change). c .number) er ∙ z)))))
+  pub room-lost : (n ≡ 0 → ⊥) → ((m .number ≡ 0 → ⊥) → m .number ≡ 9) → (g : Shape) (f : ℕ → Node → Node) (w : ℕ) → change 9 (state h ls xs hs) 0 0 ≡ settledIn h (entering g f w m)
+  room-lost d nine g f w =
+      let d′ : m .number ≡ 0 → ⊥ = λ z. d (same-number ∙ z) in
+      let passed : entering g f w m ≡ m = rw (ne-eqb _ _ d′) in
+      sym (ap (λ (x : ℕ). settledIn h (change x (state h1 ls xs hs) k i)) (same-number ∙ nine d′)) ∙ e ∙ ap (settledIn h) (sym passed)
 
-  module _ (z : r .number ≡ 0) (b : Bool) (ls′ : List ℕ)
-      (e : (b ≡ roomyIn g (r .leaf .0) (r .slot) w ls) × (ls′ ≡ cond b (putNode g (r .leaf .0) (f (r .slot) (nodeAt g (r .leaf .0) ls)) ls) ls)) where
-    wrote : ls′ ≡ cond b (putNode g (r .leaf .0) (f (r .slot) (nodeAt g (r .leaf .0) ls)) ls) ls → (y : Bool) → b ≡ y
-        → ls′ ≡ cond y (putNode g (r .leaf .0) (f (r .slot) (nodeAt g (r .leaf .0) ls)) ls) ls
-    wrote q y d = rw (← d) q
+  pub room-is : n ≡ 0 → m ≡ change 0 (state h1 ls xs hs) k i
+  room-is z =
+      sym (settled-same h m (sym same-number ∙ z)) ∙ sym e ∙ settled-same h (change n (state h1 ls xs hs) k i) z ∙ ap (λ (x : ℕ). change x (state h1 ls xs hs) k i) z
 
-    came : enter g (f (r .slot)) w (state (headIn r entries h) ls xs hs) (r .leaf .0) (r .slot) ≡ entering g f w m
-    came = sym (ap (entering g f w) (sym er) ∙ rw (eq-eqb _ _ z))
+-- where room was made, an entry comes if the leaf has room
+module _ (g : Shape) (f : ℕ → Node → Node) (w : ℕ) (h h1 : Head) (ls xs hs : List ℕ) (k i : ℕ) (m : Change) (e : m ≡ change 0 (state h1 ls xs hs) k i) where
+  on : enter g (f i) w (state h1 ls xs hs) k i ≡ entering g f w m
+  on = sym (ap (entering g f w) e)
 
-    pub entered-none : b ≡ false → (s : Room) → s ≡ lost r → change (s .number) (state (headEntered s entries h) ls′ xs hs) (s .leaf .0) (s .slot) ≡ entering g f w m
-    entered-none d s es =
-        ap (λ (y : Room). change (y .number) (state (headEntered y entries h) ls′ xs hs) (y .leaf .0) (y .slot)) es
-        ∙ ap (λ (l : List ℕ). change 9 (state (headIn r entries h) l xs hs) (r .leaf .0) (r .slot)) (wrote (e .1) false d)
-        ∙ enter-none g (f (r .slot)) w (r .leaf .0) (r .slot) (headIn r entries h) ls xs hs b (e .0) d
-        ∙ came
+  pub entered-none : roomyIn g k i w ls ≡ false → change 9 (state h ls xs hs) 0 0 ≡ settledIn h (entering g f w m)
+  entered-none b = ap (settledIn h) (enter-none g (f i) w k i h1 ls xs hs b ∙ on)
 
-    pub entered-done : b ≡ true → change (r .number) (state (headEntered r entries h) ls′ xs (set hs entries (r .leaf .0))) (r .leaf .0) (r .slot) ≡ entering g f w m
-    entered-done d =
-        ap (λ (n : ℕ). change n (state (cond (eqb n 0) (withEntry (changing (r .leaf .0) (r .slot) (h .finger)) (headIn r entries h)) (headIn r entries h)) ls′ xs
-        (set hs entries (r .leaf .0))) (r .leaf .0) (r .slot)) z
-        ∙ enter-done g (f (r .slot)) w (r .leaf .0) (r .slot) (headIn r entries h) ls xs hs b (e .0) d ls′ _ _ (wrote (e .1) true d) refl refl
-        ∙ came
-
--- the head when an entry has come, or not
-module _ (r : Room) (h after : Head) (ea : after ≡ headIn r (h .entries) h) where
-  pub head-not : (r .number ≡ 0 → ⊥) → after ≡ headEntered r (h .entries) h
-  head-not d = ea ∙ sym (rw (ne-eqb _ _ d))
-
-  pub head-done : r .number ≡ 0 → (fin : Held) (h′ : Head) → fin ≡ changing (r .leaf .0) (r .slot) (after .finger) → h′ ≡ withEntry fin after → h′ ≡ headEntered r (h .entries) h
-  head-done z fin h′ ef eh = eh ∙ ap (λ (f : Held). withEntry f after) ef ∙ ap (λ (y : Head). withEntry (changing (r .leaf .0) (r .slot) (y .finger)) y) ea ∙ sym (rw (eq-eqb _ _ z))
-
--- a change field by field
-pub by-field : {n n′ i i′ : ℕ} {a b : Head} {k k′ : LeafNo} (ls xs hs : List ℕ) → (n ≡ n′) × (a ≡ b) × (k ≡ k′) × (i ≡ i′)
-    → change n (state a ls xs hs) (k .0) i ≡ change n′ (state b ls xs hs) (k′ .0) i′
-by-field ls xs hs (p, q, r, s) = rw (p, q, r, s)
-
--- a head's own counts
-pub own : (h : Head) (t : Top) → t ≡ top (h .inners) (h .root .0) (h .levels) → counted (h .leaves) t (h .entries) h ≡ h
-own h t e = ap (λ (u : Top). counted (h .leaves) u (h .entries) h) e
+  pub entered-done : roomyIn g k i w ls ≡ true → (ls′ : List ℕ) → ls′ ≡ putNode g k (f i (nodeAt g k ls)) ls
+      → change 0 (state (withEntry (changing k i (h1 .finger)) h1) ls′ xs (set hs (h1 .entries) k)) k i ≡ settledIn h (entering g f w m)
+  entered-done b ls′ el = ap (settledIn h) (enter-done g (f i) w k i h1 ls xs hs b ls′ el ∙ on)

@@ -1,5 +1,5 @@
 -- One entry more leaves one level more at most, and stands in a slot that its leaf has. Assumes nothing.
-use mathlib.Core.Path.{_≡_, refl, ap, _∙_}
+use mathlib.Core.Path.{_≡_, refl}
 use mathlib.Core.Bool.{_&&_}
 use mathlib.Core.List.{List}
 use Prim.Native.Nat.{ℕ, zero, suc, _+_, _-_, _<_, _≤_}
@@ -12,6 +12,7 @@ use Rattle.model.specs.Grow.{Areas, areas, Top, top, Grown, Above, nodeIn, divi
 use Rattle.model.specs.Place.{Change, linkLeaf, splitLeaf, makeRoom, enter, entering}
 use Rattle.model.specs.declared.shape.Shape.{Shape}
 use Rattle.laws.specs.Lens.{by-test}
+use Rattle.place.specs.Room.{settledIn}
 use Rattle.place.proofs.EntryLaws.{roomy}
 
 -- no level more
@@ -107,10 +108,16 @@ module _ (g : Shape) where
       (λ _ d. enter-in (f (r .slot)) w (r .state) (r .leaf) (r .slot) d)
       (λ e d. absurd (eqb-false _ _ e d))
 
-  -- c is what an entry more leaves
-  module _ (f : ℕ → Node → Node) (w : ℕ) (s : State) (k i : ℕ) (c : Change) (e : c ≡ entering g f w (makeRoom g s k i)) where
+  -- c is what an entry more leaves, as its call settles it
+  module _ (f : ℕ → Node → Node) (w : ℕ) (s : State) (k i : ℕ) (c : Change) (e : c ≡ settledIn (s .head) (entering g f w (makeRoom g s k i))) where
     pub entered-levels : c .state .head .levels ≤ s .head .levels + 1
-    entered-levels = omega (arith, ap (λ (x : Change). x .state .head .levels) e ∙ entering-same f w (makeRoom g s k i), room-low s k i)
+    entered-levels =
+        rw e (by-test (λ (r : Change). r .state .head .levels ≤ s .head .levels + 1) (eqb (entering g f w (makeRoom g s k i) .number) 0) _ _
+        (λ _. omega (arith, entering-same f w (makeRoom g s k i), room-low s k i))
+        (λ _. same (s .head .levels)))
 
     pub entered-in : c .number ≡ 0 → (c .leaf < g .nodes) × (c .slot < g .fan)
-    entered-in d = rw e (entering-in f w (makeRoom g s k i) (rw e at d))
+    entered-in =
+        rw e (by-test (λ (r : Change). r .number ≡ 0 → (r .leaf < g .nodes) × (r .slot < g .fan)) (eqb (entering g f w (makeRoom g s k i) .number) 0) _ _
+        (λ _. entering-in f w (makeRoom g s k i))
+        (λ b d. absurd (eqb-false _ _ b d)))

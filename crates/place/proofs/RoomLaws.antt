@@ -1,20 +1,19 @@
 -- A leaf divided between itself and the next unused leaf: what both are then, and what the whole split answers. Assumes nothing.
-use mathlib.Core.Path.{_≡_, refl, sym, ap, ap₂, _∙_}
-use mathlib.Core.Bool.{true, false, cond}
+use mathlib.Core.Path.{_≡_, refl, sym, ap, _∙_}
+use mathlib.Core.Bool.{Bool, true, false, cond}
 use mathlib.Core.List.{List}
 use Prim.Native.Nat.{ℕ, _+_, _-_, _*_, _/_, _<_, _≤_}
 use native.Mathlib.Omega.{arith}
 use lib.ListN.{length}
-use lib.Dec.{ltb, eqb}
-use borrow.Author.Tests.{lt-ltb, le-ltb, le-leb, lt-leb, eq-eqb, ne-eqb}
-use Rattle.model.specs.Node.{Node, used, half, lowerHalf, upperHalf}
-use Rattle.model.specs.State.{state, nodeAt, putNode}
-use Rattle.model.specs.Grow.{areas, Top, top, Grown, grown, addTo, aboveOf}
-use Rattle.model.specs.Place.{Change, change, withLeaf, rehome, linkLeaf, splitLeaf, makeRoom}
+use lib.Dec.{ltb}
+use borrow.Author.Tests.{lt-ltb, le-ltb, le-leb, eq-eqb, ne-eqb}
+use Rattle.model.specs.Node.{Node, used, lowerHalf, upperHalf}
+use Rattle.model.specs.State.{State, state, nodeAt, putNode}
+use Rattle.model.specs.Grow.{areas, top, Grown, addTo, aboveOf}
+use Rattle.model.specs.Place.{change, withLeaf, rehome, linkLeaf, splitLeaf, makeRoom}
 use Rattle.model.specs.declared.shape.Shape.{Shape}
 use Rattle.model.specs.declared.head.Head.{Head}
-use Rattle.place.specs.declared.change.Room.{Room}
-use Rattle.place.specs.Room.{roomAt, counted, changeOf}
+use Rattle.place.specs.Room.{roomAt, halved}
 use Rattle.laws.specs.Lists.{row-end}
 use Rattle.laws.specs.Nodes.{Formed}
 use Rattle.laws.specs.Formed.{formed-lower, formed-upper}
@@ -54,21 +53,23 @@ few-upper s fan n = omega arith
 pub few : {g : Shape} {k j : ℕ} {ls now : List ℕ} → Halves g k j ls now → nodeAt g j now .len ≤ g .fan
 few {g} {k} {j} {ls} {now} z = rw (z .upper) (few-upper (g .stride) (g .fan) (nodeAt g k ls))
 
+-- a slot in one half or the other, as a change and as a room
+by-half : (b : Bool) (n : ℕ) (s : State) (u k i l j : ℕ)
+    → cond b (change n s k i) (change n s l j) ≡ change n s (cond b (roomAt u k i) (roomAt u l j) .leaf .0) (cond b (roomAt u k i) (roomAt u l j) .slot)
+by-half true n s u k i l j = refl
+by-half false n s u k i l j = refl
+
 -- the new leaf's slot above: not where a home led outside; else in the half where slot i stands now
 module _ (g : Shape) (k i parent : ℕ) (h : Head) (ls xs hs now : List ℕ) (homes : ℕ × List ℕ) where
   link-lost : (homes .0 ≡ 0 → ⊥) → linkLeaf g (state h ls xs hs) k i parent now homes ≡ change 9 (state h now xs (homes .1)) k i
   unfolding linkLeaf
   link-lost d = rw (ne-eqb _ _ d)
 
-  module _ (r : Grown) (h2 : Head) (d : homes .0 ≡ 0) (er : r ≡ addTo g (aboveOf g (h .levels - 1)) (top (h .inners) (h .root .0) (h .levels)) 1 parent k (h .leaves) (areas now xs))
-      (e2 : h2 ≡ withLeaf (r .top) h) where
-    link-low : i < half (g .fan) → linkLeaf g (state h ls xs hs) k i parent now homes ≡ change (r .number) (state h2 (r .areas .leaves) (r .areas .inners) (homes .1)) k i
-    unfolding linkLeaf
-    link-low l = rw (eq-eqb _ _ d, lt-ltb _ _ l, e2, er)
-
-    link-high : half (g .fan) ≤ i → linkLeaf g (state h ls xs hs) k i parent now homes ≡ change (r .number) (state h2 (r .areas .leaves) (r .areas .inners) (homes .1)) (h .leaves) (i - half (g .fan))
-    unfolding linkLeaf
-    link-high l = rw (eq-eqb _ _ d, le-ltb _ _ l, e2, er)
+  link-done : (r : Grown) → homes .0 ≡ 0 → r ≡ addTo g (aboveOf g (h .levels - 1)) (top (h .inners) (h .root .0) (h .levels)) 1 parent k (h .leaves) (areas now xs)
+      → linkLeaf g (state h ls xs hs) k i parent now homes
+      ≡ change (r .number) (state (withLeaf (r .top) h) (r .areas .leaves) (r .areas .inners) (homes .1)) (halved (g .fan) (h .leaves) k i .leaf .0) (halved (g .fan) (h .leaves) k i .slot)
+  unfolding linkLeaf
+  link-done r d er = rw (eq-eqb _ _ d, er) (by-half (ltb i (g .fan / 2)) _ _ (h .leaves + 1) k i (h .leaves) (i - g .fan / 2))
 
 module _ (g : Shape) (k i : ℕ) (h : Head) (ls xs hs : List ℕ) where
   pub split-none : g .nodes ≤ h .leaves → change 9 (state h ls xs hs) k i ≡ splitLeaf g (state h ls xs hs) k i
@@ -84,38 +85,23 @@ module _ (g : Shape) (k i : ℕ) (h : Head) (ls xs hs : List ℕ) where
     pub split-lost : (n ≡ 0 → ⊥) → change 9 (state h now xs homes) k i ≡ splitLeaf g (state h ls xs hs) k i
     split-lost d = sym (begun ∙ link-lost g k i (nodeAt g k now .parent) h ls xs hs now (n, homes) d)
 
-    -- u is what add_child answers, h2 the head then
-    module _ (r : Grown) (h2 : Head) (d : n ≡ 0) (er : r ≡ addTo g (aboveOf g (h .levels - 1)) (top (h .inners) (h .root .0) (h .levels)) 1 (nodeAt g k now .parent) k (h .leaves) (areas now xs))
-        (e2 : h2 ≡ withLeaf (r .top) h) where
-      pub split-low : i < half (g .fan) → change (r .number) (state h2 (r .areas .leaves) (r .areas .inners) homes) k i ≡ splitLeaf g (state h ls xs hs) k i
-      split-low l = sym (begun ∙ link-low g k i (nodeAt g k now .parent) h ls xs hs now (n, homes) r h2 d er e2 l)
+    -- r is what add_child answers
+    pub split-done : (r : Grown) → n ≡ 0 → r ≡ addTo g (aboveOf g (h .levels - 1)) (top (h .inners) (h .root .0) (h .levels)) 1 (nodeAt g k now .parent) k (h .leaves) (areas now xs)
+        → change (r .number) (state (withLeaf (r .top) h) (r .areas .leaves) (r .areas .inners) homes) (halved (g .fan) (h .leaves) k i .leaf .0) (halved (g .fan) (h .leaves) k i .slot)
+        ≡ splitLeaf g (state h ls xs hs) k i
+    split-done r d er = sym (begun ∙ link-done g k i (nodeAt g k now .parent) h ls xs hs now (n, homes) r d er)
 
-      pub split-high : half (g .fan) ≤ i → change (r .number) (state h2 (r .areas .leaves) (r .areas .inners) homes) (h .leaves) (i - half (g .fan)) ≡ splitLeaf g (state h ls xs hs) k i
-      split-high l = sym (begun ∙ link-high g k i (nodeAt g k now .parent) h ls xs hs now (n, homes) r h2 d er e2 l)
-
--- what a room at hand answers
-pub at-room : {r : Room} {number leaves : ℕ} {k i : ℕ} {m : Change} (t : Top) (entries : ℕ) (h : Head) (ls xs hs : List ℕ) → r ≡ roomAt number leaves t k i
-    → change number (state (counted leaves t entries h) ls xs hs) k i ≡ m → changeOf r entries h ls xs hs ≡ m
-at-room t entries h ls xs hs e q = ap (λ (r : Room). changeOf r entries h ls xs hs) e ∙ q
-
--- `make_room` test by test: len is the leaf's as it was read
-module _ (g : Shape) (k i len : ℕ) (h : Head) (ls xs hs : List ℕ) (el : len ≡ nodeAt g k ls .len) where
-  pub room-unused : h .leaves ≤ k → change 9 (state h ls xs hs) k i ≡ makeRoom g (state h ls xs hs) k i
+-- a leaf that has room, and one that is split for it
+module _ (g : Shape) (k i : ℕ) (h : Head) (ls xs hs : List ℕ) (a : k < h .leaves) (b : i ≤ nodeAt g k ls .len) where
+  pub room-there : nodeAt g k ls .len < g .fan → makeRoom g (state h ls xs hs) k i ≡ change 0 (state h ls xs hs) k i
   unfolding makeRoom
-  room-unused q = rw (le-ltb _ _ q)
+  room-there e =
+      let d : nodeAt g k ls .len ≤ g .fan = omega arith in
+      rw (lt-ltb _ _ a, le-leb _ _ b, le-leb _ _ d, lt-ltb _ _ e)
 
-  pub room-past : k < h .leaves → len < i → change 9 (state h ls xs hs) k i ≡ makeRoom g (state h ls xs hs) k i
+  pub room-made : nodeAt g k ls .len ≡ g .fan → makeRoom g (state h ls xs hs) k i ≡ splitLeaf g (state h ls xs hs) k i
   unfolding makeRoom
-  room-past a b = rw (lt-ltb _ _ a, ← el, lt-leb _ _ b)
-
-  pub room-over : k < h .leaves → i ≤ len → g .fan < len → change 9 (state h ls xs hs) k i ≡ makeRoom g (state h ls xs hs) k i
-  unfolding makeRoom
-  room-over a b d = rw (lt-ltb _ _ a, ← el, le-leb _ _ b, lt-leb _ _ d)
-
-  pub room-there : k < h .leaves → i ≤ len → len ≤ g .fan → len < g .fan → change 0 (state h ls xs hs) k i ≡ makeRoom g (state h ls xs hs) k i
-  unfolding makeRoom
-  room-there a b d e = rw (lt-ltb _ _ a, ← el, le-leb _ _ b, le-leb _ _ d, lt-ltb _ _ e)
-
-  pub room-made : k < h .leaves → i ≤ len → len ≤ g .fan → g .fan ≤ len → (r : Change) → r ≡ splitLeaf g (state h ls xs hs) k i → r ≡ makeRoom g (state h ls xs hs) k i
-  unfolding makeRoom
-  room-made a b d e r er = er ∙ rw (lt-ltb _ _ a, ← el, le-leb _ _ b, le-leb _ _ d, le-ltb _ _ e)
+  room-made e =
+      let d : nodeAt g k ls .len ≤ g .fan = omega (arith, e) in
+      let o : g .fan ≤ nodeAt g k ls .len = omega (arith, e) in
+      rw (lt-ltb _ _ a, le-leb _ _ b, le-leb _ _ d, le-ltb _ _ o)

@@ -1,2 +1,3 @@
 mod FlatLaws
-mod LessLaws
+mod KeptLaws
+mod ResizeLaws

@@ -9,16 +9,15 @@ use lib.Dec.{ltb, eqb}
 use Rattle.model.specs.Length.{listOf, viewNumber}
 use Rattle.model.specs.Kind.{base}
 use Rattle.model.specs.Row.{Answer, refused}
-use Rattle.model.specs.Answer.{outcomeAnswer, numberAnswer, selectedAnswer, locatedAnswer, insertedAnswer, dividedAnswer}
+use Rattle.model.specs.Answer.{outcomeAnswer, numberAnswer, locatedAnswer, insertedAnswer, dividedAnswer}
 use Rattle.model.specs.Calls as calls
 use Rattle.model.specs.Calls.{Reply}
+use Rattle.model.specs.declared.head.Cursor.{Cursor}
 use Rattle.model.specs.declared.head.Head.{Head}
-use Rattle.marshal.specs.Flat.{cursorFrom, lengthsFrom, viewFrom, targetFrom, badHead, headWords, headAfter, numberOf, selectedOf, locatedOf, insertedOf, dividedOf}
+use Rattle.model.specs.declared.length.Lengths.{Lengths}
+use Rattle.marshal.specs.Flat.{viewFrom, targetFrom, badHead, headWords, headAfter, numberOf, locatedOf, insertedOf, dividedOf}
 use Rattle.smelvock.specs.Reads.{Given, stateOf}
-use Rattle.marshal.specs.declared.flat.FlatCursor.{FlatCursor}
-use Rattle.marshal.specs.declared.flat.FlatLengths.{FlatLengths}
 use Rattle.marshal.specs.declared.flat.FlatNumber.{FlatNumber}
-use Rattle.marshal.specs.declared.flat.FlatSelected.{FlatSelected}
 use Rattle.marshal.specs.declared.flat.FlatLocated.{FlatLocated}
 use Rattle.marshal.specs.declared.flat.FlatInserted.{FlatInserted}
 use Rattle.marshal.specs.declared.flat.FlatDivided.{FlatDivided}
@@ -44,30 +43,27 @@ abbrev pub numberAlone : Answer → ℕ
 numberAlone a = a .number
 
 -- a refused make leaves a head of zeros
-unfoldable pub make : ℕ → ℕ → FlatLengths → Given → Left ℕ
+unfoldable pub make : ℕ → ℕ → Lengths → Given → Left ℕ
 make fan limit l g =
-    leftBy numberAlone outcomeAnswer (λ n h w. headWords h) (not (eqb (length (g .head)) 17)) g (calls.make base fan limit (listOf (lengthsFrom l)) (g .leaves) (g .inners) (g .homes))
+    leftBy numberAlone outcomeAnswer (λ n h w. headWords h) (not (eqb (length (g .head)) 17)) g (calls.make base fan limit (listOf l) (g .leaves) (g .inners) (g .homes))
 
-unfoldable pub reset : Given → FlatLengths → Left ℕ
-reset g l = leftBy numberAlone outcomeAnswer headAfter (badHead (g .head)) g (calls.reset base (stateOf g) (listOf (lengthsFrom l)))
-
-unfoldable pub charIndexToEntry : Given → ℕ → ℕ → Left FlatSelected
-charIndexToEntry g v index =
-    leftBy selectedOf selectedAnswer headAfter (badHead (g .head) || ltb 1 v) g (calls.charIndexToEntry base (stateOf g) (viewNumber (viewFrom v)) index)
+unfoldable pub reset : Given → Lengths → Left ℕ
+reset g l = leftBy numberAlone outcomeAnswer headAfter (badHead (g .head)) g (calls.reset base (stateOf g) (listOf l))
 
 unfoldable pub locate : Given → ℕ → ℕ → Left FlatLocated
 locate g v index = leftBy locatedOf locatedAnswer headAfter (badHead (g .head) || ltb 1 v) g (calls.locate base (stateOf g) (viewNumber (viewFrom v)) index)
 
-unfoldable pub setLengths : Given → FlatCursor → FlatLengths → Left ℕ
-setLengths g c l = leftBy numberAlone outcomeAnswer headAfter (badHead (g .head)) g (calls.setLengths base (stateOf g) (cursorFrom c) (listOf (lengthsFrom l)))
+-- `update` where summed is 1; where it is 0, `set_lengths`, whose value is 0
+unfoldable pub resize : Given → Cursor → Lengths → ℕ → Left FlatNumber
+resize g c l summed =
+    let bad = badHead (g .head) || ltb 1 summed in
+    cond (eqb summed 1) (leftBy numberOf numberAnswer headAfter bad g (calls.update base (stateOf g) c (listOf l)))
+    (leftBy numberOf outcomeAnswer headAfter bad g (calls.setLengths base (stateOf g) c (listOf l)))
 
-unfoldable pub update : Given → FlatCursor → FlatLengths → Left FlatNumber
-update g c l = leftBy numberOf numberAnswer headAfter (badHead (g .head)) g (calls.update base (stateOf g) (cursorFrom c) (listOf (lengthsFrom l)))
-
-unfoldable pub insert : Given → ℕ → FlatCursor → FlatLengths → Left FlatInserted
+unfoldable pub insert : Given → ℕ → Cursor → Lengths → Left FlatInserted
 insert g end c l =
-    leftBy insertedOf insertedAnswer headAfter (badHead (g .head) || ltb 1 end) g (calls.insert base (stateOf g) (targetFrom end c) (listOf (lengthsFrom l)))
+    leftBy insertedOf insertedAnswer headAfter (badHead (g .head) || ltb 1 end) g (calls.insert base (stateOf g) (targetFrom end c) (listOf l))
 
-unfoldable pub splitEntry : Given → FlatCursor → FlatLengths → ℕ → Left FlatDivided
+unfoldable pub splitEntry : Given → Cursor → Lengths → ℕ → Left FlatDivided
 splitEntry g c l before =
-    leftBy dividedOf dividedAnswer headAfter (badHead (g .head) || ltb 1 before) g (calls.splitEntry base (stateOf g) (cursorFrom c) (listOf (lengthsFrom l)) (eqb before 1))
+    leftBy dividedOf dividedAnswer headAfter (badHead (g .head) || ltb 1 before) g (calls.splitEntry base (stateOf g) c (listOf l) (eqb before 1))

@@ -16,12 +16,12 @@ use Rattle.model.specs.Calls as calls
 use Rattle.model.specs.Calls.{Reply, reply}
 use Rattle.model.specs.declared.head.Held.the-variants as held
 use Rattle.model.specs.declared.answer.Outcome.the-variants as outcome
-use Rattle.marshal.specs.Flat.{lengthsFrom, headWords, headAfter}
-use Rattle.marshal.specs.declared.flat.FlatLengths.{FlatLengths}
+use Rattle.model.specs.declared.length.Lengths.{Lengths}
+use Rattle.marshal.specs.Flat.{headWords, headAfter}
 use Rattle.smelvock.specs.Reads.{Given}
 use Rattle.smelvock.specs.Changes.{Left, leftBy, numberAlone, make}
 
-module _ (fan limit : ℕ) (l : FlatLengths) (g : Given) where
+module _ (fan limit : ℕ) (l : Lengths) (g : Given) where
   abbrev causes : ℕ
   causes = refusal (calls.makeCauses base fan limit (g .leaves) (g .inners) (g .homes))
 
@@ -29,7 +29,7 @@ module _ (fan limit : ℕ) (l : FlatLengths) (g : Given) where
   abbrev made : Bool → Left ℕ
   made good =
       leftBy numberAlone outcomeAnswer (λ n h w. headWords h) false g
-      (cond good (reply (calls.begun base fan limit (listOf (lengthsFrom l)) (g .leaves) (g .inners) (g .homes)) outcome.Done)
+      (cond good (reply (calls.begun base fan limit (listOf l) (g .leaves) (g .inners) (g .homes)) outcome.Done)
       (reply (state (headOf 0 0 0 0 0 0 0 held.Absent) (g .leaves) (g .inners) (g .homes)) (outcome.Refused causes)))
 
   zeros : (good : Bool) → made good .reply ≢ 0 → made good .head ≡ replicate 17 0

@@ -3,4 +3,3 @@ pub mod Edits
 pub mod Heads
 pub mod Prints
 pub mod Reads
-pub mod Shared

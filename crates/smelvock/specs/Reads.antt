@@ -10,9 +10,9 @@ use Rattle.model.specs.Row.{Answer, refused}
 use Rattle.model.specs.State.{State, state}
 use Rattle.model.specs.Answer.{numberAnswer, verdictAnswer, standingAnswer, nextAnswer, namedAnswer, comparedAnswer}
 use Rattle.model.specs.Calls as calls
+use Rattle.model.specs.declared.head.Cursor.{Cursor}
 use Rattle.model.specs.Audit as checks
-use Rattle.marshal.specs.Flat.{badHead, headFrom, cursorFrom, viewFrom, numberOf, measuredOf, standingOf}
-use Rattle.marshal.specs.declared.flat.FlatCursor.{FlatCursor}
+use Rattle.marshal.specs.Flat.{badHead, headFrom, viewFrom, numberOf, measuredOf, standingOf}
 use Rattle.marshal.specs.declared.flat.FlatNumber.{FlatNumber}
 use Rattle.marshal.specs.declared.flat.FlatMeasured.{FlatMeasured}
 use Rattle.marshal.specs.declared.flat.FlatStanding.{FlatStanding}
@@ -39,27 +39,27 @@ len w = numberOf (unlessBad (badHead w) (numberAnswer (calls.len (headFrom w))))
 unfoldable pub isEmpty : List ℕ → FlatNumber
 isEmpty w = numberOf (unlessBad (badHead w) (verdictAnswer (calls.isEmpty (headFrom w))))
 
-unfoldable pub id : Given → FlatCursor → FlatNumber
-id g c = numberOf (unlessBad (badHead (g .head)) (namedAnswer (calls.id base (stateOf g) (cursorFrom c))))
+unfoldable pub id : Given → Cursor → FlatNumber
+id g c = numberOf (unlessBad (badHead (g .head)) (namedAnswer (calls.id base (stateOf g) c)))
 
-unfoldable pub lengths : Given → FlatCursor → FlatMeasured
-lengths g c = measuredOf (unlessBad (badHead (g .head)) (calls.lengthsOf base (stateOf g) (cursorFrom c)))
+unfoldable pub lengths : Given → Cursor → FlatMeasured
+lengths g c = measuredOf (unlessBad (badHead (g .head)) (calls.lengthsOf base (stateOf g) c))
 
 unfoldable pub cursor : Given → ℕ → FlatStanding
 cursor g i = standingOf (unlessBad (badHead (g .head)) (standingAnswer (calls.cursor base (stateOf g) i)))
 
-unfoldable pub entryToCharIndex : Given → ℕ → FlatCursor → FlatNumber
+unfoldable pub entryToCharIndex : Given → ℕ → Cursor → FlatNumber
 entryToCharIndex g v c =
-    numberOf (unlessBad (badHead (g .head) || ltb 1 v) (numberAnswer (calls.entryToCharIndex base (stateOf g) (viewNumber (viewFrom v)) (cursorFrom c))))
+    numberOf (unlessBad (badHead (g .head) || ltb 1 v) (numberAnswer (calls.entryToCharIndex base (stateOf g) (viewNumber (viewFrom v)) c)))
 
 unfoldable pub first : Given → FlatStanding
 first g = standingOf (unlessBad (badHead (g .head)) (standingAnswer (calls.first base (stateOf g))))
 
-unfoldable pub next : Given → FlatCursor → FlatStanding
-next g c = standingOf (unlessBad (badHead (g .head)) (nextAnswer (calls.nextAfter base (stateOf g) (cursorFrom c))))
+unfoldable pub next : Given → Cursor → FlatStanding
+next g c = standingOf (unlessBad (badHead (g .head)) (nextAnswer (calls.nextAfter base (stateOf g) c)))
 
-unfoldable pub cmp : Given → FlatCursor → FlatCursor → FlatNumber
-cmp g a b = numberOf (unlessBad (badHead (g .head)) (comparedAnswer (calls.cmp base (stateOf g) (cursorFrom a) (cursorFrom b))))
+unfoldable pub cmp : Given → Cursor → Cursor → FlatNumber
+cmp g a b = numberOf (unlessBad (badHead (g .head)) (comparedAnswer (calls.cmp base (stateOf g) a b)))
 
 unfoldable pub audit : Given → FlatNumber
 audit g = numberOf (unlessBad (badHead (g .head)) (verdictAnswer (checks.audit base (stateOf g))))

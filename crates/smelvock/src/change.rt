@@ -1,4 +1,4 @@
-// The exported calls that change lengths or add an entry.
+// The exported calls that change lengths or add an entry. Each is the one caller of its call, which is compiled into it.
 use calls_insert::insert::insert;
 use calls_size::size::resize;
 use calls_split::split::split_entry;
@@ -8,141 +8,119 @@ use marshal::answered::number_of;
 use marshal::answered::refused_divided;
 use marshal::answered::refused_inserted;
 use marshal::answered::refused_number;
-use marshal::flat::FlatCursor;
 use marshal::flat::FlatDivided;
 use marshal::flat::FlatInserted;
-use marshal::flat::FlatLengths;
 use marshal::flat::FlatNumber;
 use marshal::given::cursor_from;
 use marshal::given::lengths_from;
 use marshal::given::target_from;
 use marshal::head::bad_flag;
-use marshal::head::bad_head;
 use marshal::head::head_from;
-use marshal::head::settle;
+use marshal::head::settle_finger;
+use marshal::head::settle_grown;
 ghost use mathlib.Core.Path.{_≡_};
+ghost use Rattle.marshal.specs.Flat.{cursorFrom, lengthsFrom};
 ghost use Rattle.smelvock.specs.Reads.{given};
 ghost use Rattle.smelvock.specs.Changes as flat;
 ghost use Rattle.smelvock.specs.Changes.{left};
-ghost use Rattle.smelvock.specs.Shared as shared;
 
-// Both exports that give an entry other lengths: one function, so that the call is compiled into it once.
-fn resized(
+// update where summed is 1; where it is 0, set_lengths, with 0 for the position.
+#[no_mangle]
+pub extern "C" fn smelvock_resize(
     head: &mut [u32],
     leaves: &mut [u32],
     inners: &mut [u32],
     homes: &[u32],
-    at: FlatCursor,
-    lengths: FlatLengths,
-    summed: bool,
+    leaf: u32,
+    slot: u32,
+    stamp: u32,
+    prepare: u32,
+    effect: u32,
+    summed: u32,
 ) -> FlatNumber
-    ensures { λ r. ⌜ left r (now (head .exit)) (now (leaves .exit)) (now (inners .exit)) (now (homes .exit)) ≡ shared.resize summed (given (now (head .entry)) (now (leaves .entry)) (now (inners .entry)) (now (homes .entry))) at lengths ⌝ }
+    ensures { λ r. ⌜ left r (now (head .exit)) (now (leaves .exit)) (now (inners .exit)) (now (homes .exit)) ≡ flat.resize (given (now (head .entry)) (now (leaves .entry)) (now (inners .entry)) (now (homes .entry))) (cursorFrom leaf slot stamp) (lengthsFrom prepare effect) summed ⌝ }
 {
-    if bad_head(head) {
+    if bad_flag(head, summed) {
         return refused_number(10);
     }
+    let at = cursor_from(leaf, slot, stamp);
+    let lengths = lengths_from(prepare, effect);
     let r = resize(
         head_from(head),
         leaves,
         inners,
         homes,
-        cursor_from(at),
-        lengths_from(lengths),
-        summed,
+        at,
+        lengths,
+        summed == 1,
     );
     let after = r.head;
     let answer = r.answer;
     let a = number_of(answer);
-    settle(head, a.number, after);
+    settle_finger(head, a.number, after);
     a
 }
 
 #[no_mangle]
-pub extern "C" fn smelvock_set_lengths(
-    head: &mut [u32],
-    leaves: &mut [u32],
-    inners: &mut [u32],
-    homes: &[u32],
-    at: FlatCursor,
-    lengths: FlatLengths,
-) -> u32
-    ensures { λ r. ⌜ left r (now (head .exit)) (now (leaves .exit)) (now (inners .exit)) (now (homes .exit)) ≡ flat.setLengths (given (now (head .entry)) (now (leaves .entry)) (now (inners .entry)) (now (homes .entry))) at lengths ⌝ }
-{
-    let a = resized(head, leaves, inners, homes, at, lengths, false);
-    a.number
-}
-
-#[no_mangle]
-pub extern "C" fn smelvock_update(
-    head: &mut [u32],
-    leaves: &mut [u32],
-    inners: &mut [u32],
-    homes: &[u32],
-    at: FlatCursor,
-    lengths: FlatLengths,
-) -> FlatNumber
-    ensures { λ r. ⌜ left r (now (head .exit)) (now (leaves .exit)) (now (inners .exit)) (now (homes .exit)) ≡ flat.update (given (now (head .entry)) (now (leaves .entry)) (now (inners .entry)) (now (homes .entry))) at lengths ⌝ }
-{
-    resized(head, leaves, inners, homes, at, lengths, true)
-}
-
-#[no_mangle]
-pub extern "C" fn smelvock_insert(
+pub extern "C" fn smelvock_insert_words(
     head: &mut [u32],
     leaves: &mut [u32],
     inners: &mut [u32],
     homes: &mut [u32],
     end: u32,
-    before: FlatCursor,
-    lengths: FlatLengths,
+    leaf: u32,
+    slot: u32,
+    stamp: u32,
+    prepare: u32,
+    effect: u32,
 ) -> FlatInserted
-    ensures { λ r. ⌜ left r (now (head .exit)) (now (leaves .exit)) (now (inners .exit)) (now (homes .exit)) ≡ flat.insert (given (now (head .entry)) (now (leaves .entry)) (now (inners .entry)) (now (homes .entry))) end before lengths ⌝ }
+    ensures { λ r. ⌜ left r (now (head .exit)) (now (leaves .exit)) (now (inners .exit)) (now (homes .exit)) ≡ flat.insert (given (now (head .entry)) (now (leaves .entry)) (now (inners .entry)) (now (homes .entry))) end (cursorFrom leaf slot stamp) (lengthsFrom prepare effect) ⌝ }
 {
     if bad_flag(head, end) {
         return refused_inserted(10);
     }
-    let r = insert(
-        head_from(head),
-        leaves,
-        inners,
-        homes,
-        target_from(end, before),
-        lengths_from(lengths),
-    );
+    let before = target_from(end, cursor_from(leaf, slot, stamp));
+    let lengths = lengths_from(prepare, effect);
+    let r = insert(head_from(head), leaves, inners, homes, before, lengths);
     let after = r.head;
     let answer = r.answer;
     let a = inserted_of(answer);
-    settle(head, a.number, after);
+    settle_grown(head, a.number, after);
     a
 }
 
 #[no_mangle]
-pub extern "C" fn smelvock_split_entry(
+pub extern "C" fn smelvock_split_entry_words(
     head: &mut [u32],
     leaves: &mut [u32],
     inners: &mut [u32],
     homes: &mut [u32],
-    at: FlatCursor,
-    lengths: FlatLengths,
+    leaf: u32,
+    slot: u32,
+    stamp: u32,
+    prepare: u32,
+    effect: u32,
     before: u32,
 ) -> FlatDivided
-    ensures { λ r. ⌜ left r (now (head .exit)) (now (leaves .exit)) (now (inners .exit)) (now (homes .exit)) ≡ flat.splitEntry (given (now (head .entry)) (now (leaves .entry)) (now (inners .entry)) (now (homes .entry))) at lengths before ⌝ }
+    ensures { λ r. ⌜ left r (now (head .exit)) (now (leaves .exit)) (now (inners .exit)) (now (homes .exit)) ≡ flat.splitEntry (given (now (head .entry)) (now (leaves .entry)) (now (inners .entry)) (now (homes .entry))) (cursorFrom leaf slot stamp) (lengthsFrom prepare effect) before ⌝ }
 {
     if bad_flag(head, before) {
         return refused_divided(10);
     }
+    let at = cursor_from(leaf, slot, stamp);
+    let lengths = lengths_from(prepare, effect);
     let r = split_entry(
         head_from(head),
         leaves,
         inners,
         homes,
-        cursor_from(at),
-        lengths_from(lengths),
+        at,
+        lengths,
         before == 1,
     );
     let after = r.head;
     let answer = r.answer;
     let a = divided_of(answer);
-    settle(head, a.number, after);
+    settle_grown(head, a.number, after);
     a
 }

@@ -1,13 +1,12 @@
-// The exported lookups.
+// The exported lookup.
 use calls_look::lookup::locate;
 use marshal::answered::located_of;
 use marshal::answered::refused_located;
 use marshal::flat::FlatLocated;
-use marshal::flat::FlatSelected;
 use marshal::given::view_from;
 use marshal::head::bad_flag;
 use marshal::head::head_from;
-use marshal::head::settle;
+use marshal::head::settle_finger;
 ghost use mathlib.Core.Path.{_≡_};
 ghost use Rattle.smelvock.specs.Reads.{given};
 ghost use Rattle.smelvock.specs.Changes as flat;
@@ -38,28 +37,6 @@ pub extern "C" fn smelvock_locate(
     let after = r.head;
     let answer = r.answer;
     let a = located_of(answer);
-    settle(head, a.number, after);
+    settle_finger(head, a.number, after);
     a
-}
-
-// The same without the effect position. It goes through smelvock_locate, so that the lookup itself has one caller and is compiled into it.
-#[no_mangle]
-pub extern "C" fn smelvock_char_index_to_entry(
-    head: &mut [u32],
-    leaves: &[u32],
-    inners: &[u32],
-    homes: &[u32],
-    view: u32,
-    index: u32,
-) -> FlatSelected
-    ensures { λ r. ⌜ left r (now (head .exit)) (now (leaves .exit)) (now (inners .exit)) (now (homes .exit)) ≡ flat.charIndexToEntry (given (now (head .entry)) (now (leaves .entry)) (now (inners .entry)) (now (homes .entry))) view index ⌝ }
-{
-    let r = smelvock_locate(head, leaves, inners, homes, view, index);
-    FlatSelected {
-        number: r.number,
-        leaf: r.leaf,
-        slot: r.slot,
-        stamp: r.stamp,
-        offset: r.offset,
-    }
 }

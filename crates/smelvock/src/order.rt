@@ -7,13 +7,13 @@ use marshal::answered::refused_number;
 use marshal::answered::refused_standing;
 use marshal::answered::standing_of;
 use marshal::answered::standing_of_next;
-use marshal::flat::FlatCursor;
 use marshal::flat::FlatNumber;
 use marshal::flat::FlatStanding;
 use marshal::given::cursor_from;
 use marshal::head::bad_head;
 use marshal::head::head_from;
 ghost use mathlib.Core.Path.{_≡_};
+ghost use Rattle.marshal.specs.Flat.{cursorFrom};
 ghost use Rattle.smelvock.specs.Reads as flat;
 ghost use Rattle.smelvock.specs.Reads.{given};
 
@@ -34,32 +34,44 @@ pub extern "C" fn smelvock_first(
 }
 
 #[no_mangle]
-pub extern "C" fn smelvock_next(
+pub extern "C" fn smelvock_next_words(
     head: &[u32],
     leaves: &[u32],
     inners: &[u32],
     homes: &[u32],
-    at: FlatCursor,
+    leaf: u32,
+    slot: u32,
+    stamp: u32,
 ) -> FlatStanding
-    ensures { λ r. ⌜ r ≡ flat.next (given (now (head .entry)) (now (leaves .entry)) (now (inners .entry)) (now (homes .entry))) at ⌝ }
+    ensures { λ r. ⌜ r ≡ flat.next (given (now (head .entry)) (now (leaves .entry)) (now (inners .entry)) (now (homes .entry))) (cursorFrom leaf slot stamp) ⌝ }
 {
     if bad_head(head) {
         return refused_standing(10);
     }
-    let a = next(head_from(head), leaves, inners, homes, cursor_from(at));
+    let a = next(
+        head_from(head),
+        leaves,
+        inners,
+        homes,
+        cursor_from(leaf, slot, stamp),
+    );
     standing_of_next(a)
 }
 
 #[no_mangle]
-pub extern "C" fn smelvock_cmp(
+pub extern "C" fn smelvock_cmp_words(
     head: &[u32],
     leaves: &[u32],
     inners: &[u32],
     homes: &[u32],
-    a: FlatCursor,
-    b: FlatCursor,
+    leaf: u32,
+    slot: u32,
+    stamp: u32,
+    other_leaf: u32,
+    other_slot: u32,
+    other_stamp: u32,
 ) -> FlatNumber
-    ensures { λ r. ⌜ r ≡ flat.cmp (given (now (head .entry)) (now (leaves .entry)) (now (inners .entry)) (now (homes .entry))) a b ⌝ }
+    ensures { λ r. ⌜ r ≡ flat.cmp (given (now (head .entry)) (now (leaves .entry)) (now (inners .entry)) (now (homes .entry))) (cursorFrom leaf slot stamp) (cursorFrom «other_leaf» «other_slot» «other_stamp») ⌝ }
 {
     if bad_head(head) {
         return refused_number(10);
@@ -69,8 +81,8 @@ pub extern "C" fn smelvock_cmp(
         leaves,
         inners,
         homes,
-        cursor_from(a),
-        cursor_from(b),
+        cursor_from(leaf, slot, stamp),
+        cursor_from(other_leaf, other_slot, other_stamp),
     );
     number_of_compared(c)
 }

@@ -13,7 +13,6 @@ use marshal::answered::refused_measured;
 use marshal::answered::refused_number;
 use marshal::answered::refused_standing;
 use marshal::answered::standing_of;
-use marshal::flat::FlatCursor;
 use marshal::flat::FlatMeasured;
 use marshal::flat::FlatNumber;
 use marshal::flat::FlatStanding;
@@ -24,6 +23,7 @@ use marshal::head::bad_head;
 use marshal::head::head_from;
 use model::number::EntryId;
 ghost use mathlib.Core.Path.{_≡_};
+ghost use Rattle.marshal.specs.Flat.{cursorFrom};
 ghost use Rattle.smelvock.specs.Reads as flat;
 ghost use Rattle.smelvock.specs.Reads.{given};
 
@@ -50,36 +50,52 @@ pub extern "C" fn smelvock_is_empty(head: &[u32]) -> FlatNumber
 }
 
 #[no_mangle]
-pub extern "C" fn smelvock_id(
+pub extern "C" fn smelvock_id_words(
     head: &[u32],
     leaves: &[u32],
     inners: &[u32],
     homes: &[u32],
-    at: FlatCursor,
+    leaf: u32,
+    slot: u32,
+    stamp: u32,
 ) -> FlatNumber
-    ensures { λ r. ⌜ r ≡ flat.id (given (now (head .entry)) (now (leaves .entry)) (now (inners .entry)) (now (homes .entry))) at ⌝ }
+    ensures { λ r. ⌜ r ≡ flat.id (given (now (head .entry)) (now (leaves .entry)) (now (inners .entry)) (now (homes .entry))) (cursorFrom leaf slot stamp) ⌝ }
 {
     if bad_head(head) {
         return refused_number(10);
     }
-    let a = id(head_from(head), leaves, inners, homes, cursor_from(at));
+    let a = id(
+        head_from(head),
+        leaves,
+        inners,
+        homes,
+        cursor_from(leaf, slot, stamp),
+    );
     number_of_named(a)
 }
 
 #[no_mangle]
-pub extern "C" fn smelvock_lengths(
+pub extern "C" fn smelvock_lengths_words(
     head: &[u32],
     leaves: &[u32],
     inners: &[u32],
     homes: &[u32],
-    at: FlatCursor,
+    leaf: u32,
+    slot: u32,
+    stamp: u32,
 ) -> FlatMeasured
-    ensures { λ r. ⌜ r ≡ flat.lengths (given (now (head .entry)) (now (leaves .entry)) (now (inners .entry)) (now (homes .entry))) at ⌝ }
+    ensures { λ r. ⌜ r ≡ flat.lengths (given (now (head .entry)) (now (leaves .entry)) (now (inners .entry)) (now (homes .entry))) (cursorFrom leaf slot stamp) ⌝ }
 {
     if bad_head(head) {
         return refused_measured(10);
     }
-    let a = lengths(head_from(head), leaves, inners, homes, cursor_from(at));
+    let a = lengths(
+        head_from(head),
+        leaves,
+        inners,
+        homes,
+        cursor_from(leaf, slot, stamp),
+    );
     measured_of(a)
 }
 
@@ -101,15 +117,17 @@ pub extern "C" fn smelvock_cursor(
 }
 
 #[no_mangle]
-pub extern "C" fn smelvock_entry_to_char_index(
+pub extern "C" fn smelvock_entry_to_char_index_words(
     head: &[u32],
     leaves: &[u32],
     inners: &[u32],
     homes: &[u32],
     view: u32,
-    at: FlatCursor,
+    leaf: u32,
+    slot: u32,
+    stamp: u32,
 ) -> FlatNumber
-    ensures { λ r. ⌜ r ≡ flat.entryToCharIndex (given (now (head .entry)) (now (leaves .entry)) (now (inners .entry)) (now (homes .entry))) view at ⌝ }
+    ensures { λ r. ⌜ r ≡ flat.entryToCharIndex (given (now (head .entry)) (now (leaves .entry)) (now (inners .entry)) (now (homes .entry))) view (cursorFrom leaf slot stamp) ⌝ }
 {
     if bad_flag(head, view) {
         return refused_number(10);
@@ -120,7 +138,7 @@ pub extern "C" fn smelvock_entry_to_char_index(
         inners,
         homes,
         view_from(view),
-        cursor_from(at),
+        cursor_from(leaf, slot, stamp),
     );
     number_of(a)
 }

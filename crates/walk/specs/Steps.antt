@@ -1,14 +1,9 @@
--- A path as the code holds it, and the list of its steps. Assumes nothing.
-use mathlib.Core.Path.{_≡_}
-use mathlib.Core.List.{List}
-use Prim.Native.Nat.{ℕ, _≤_}
-use lib.ListN.{length, take}
-use Rattle.model.specs.declared.head.Path.{Path}
+-- The steps of a path as the code holds them, in the front of sixteen bytes. Assumes nothing.
+use mathlib.Core.Bool.{Bool, cond}
+use mathlib.Core.List.{List, []}
+use Prim.Native.Nat.{ℕ}
+use lib.ListN.{take}
 
-abbrev pub stepsOf : Path → List ℕ
-stepsOf p = take (p .len) (p .steps)
-
--- no more steps than levels, in sixteen places
-pub record Stepped (p : Path) : Type 0 where
-  pub few : p .len ≤ 15
-  pub places : length (p .steps) ≡ 16
+-- the first n bytes, or none where the way was broken
+abbrev pub stepsBy : Bool → ℕ → List ℕ → List ℕ
+stepsBy whole n xs = cond whole (take n xs) []

@@ -4,20 +4,21 @@ use area::word::at_of;
 use area::word::parent_of;
 use area::word::raise_in;
 use area::word::start_in;
+use area::word::start_low_in;
 use model::answer::Compared;
-use model::head::Path;
 use model::number::NodeNo;
 use model::shape::Shape;
 use model::way::Sum;
 ghost use mathlib.Core.Path.{_≡_};
 ghost use mathlib.Core.List.{[]};
-ghost use Prim.Native.Nat.{_+_, _<_, _≤_};
-ghost use lib.ListN.{length};
+ghost use Prim.Native.Nat.{_+_, _-_, _<_, _≤_};
+ghost use lib.ListN.{length, take};
 ghost use Rattle.model.specs.Climb.{rankUp, climbUp, stepsUp};
 ghost use Rattle.model.specs.Calls.{inOrder};
 ghost use Rattle.area.specs.Area.{Area};
 ghost use Rattle.walk.specs.Raise.{raiseUp};
-ghost use Rattle.walk.specs.Steps.{stepsOf, Stepped};
+ghost use Rattle.walk.specs.Low.{lowWay};
+ghost use Rattle.walk.specs.Steps.{stepsBy};
 
 // sum and the lengths before place i of inner node k, and so on up (entry_to_char_index).
 pub fn rank_up(inners: &[u32], g: Shape, view: usize, left: u32, k: NodeNo, i: u32, sum: u64) -> Sum
@@ -41,19 +42,19 @@ pub fn rank_up(inners: &[u32], g: Shape, view: usize, left: u32, k: NodeNo, i: u
     Sum::Is(total)
 }
 
-// The same sum, with delta added to the lengths on the way (climb).
+// The same sum modulo 2^32, with delta added to the lengths on the way (climb).
 pub fn climb_up(
     inners: &mut [u32],
     g: Shape,
     view: usize,
-    delta: &[u32],
+    delta: &[u32; 3],
     left: u32,
     k: NodeNo,
     i: u32,
-    sum: u64,
+    sum: u32,
 ) -> Sum
-    requires { ⌜ Area g (length (now inners)) × (view + 1 < g .stride) × (length (now delta) + 1 ≡ g .stride) × (left ≤ 16) × (sum ≤ 137438953440) ⌝ }
-    ensures { λ r. ⌜ (r, now (inners .exit)) ≡ climbUp g view (now (delta .entry)) left (k .0) i sum (now (inners .entry)) ⌝ }
+    requires { ⌜ Area g (length (now inners)) × (view + 1 < g .stride) × (left ≤ 16) × (length (now delta) ≡ 3) ⌝ }
+    ensures { λ r. ⌜ (r, now (inners .exit)) ≡ lowWay (climbUp g view (take (g .stride - 1) (now (delta .entry))) left (k .0) i sum (now (inners .entry))) ⌝ }
 {
     let mut index = sum;
     let mut levels = left;
@@ -63,7 +64,8 @@ pub fn climb_up(
         if !inside(g, node_id, child) {
             return Sum::Broken;
         }
-        index += start_in(inners, g, view, node_id, child);
+        let here = start_low_in(inners, g, view, node_id, child);
+        index = std::num::wrapping_add_u32(index, here);
         let up = parent_of(inners, g, node_id);
         let place = at_of(inners, g, node_id);
         raise_in(inners, g, delta, node_id, child);
@@ -71,13 +73,13 @@ pub fn climb_up(
         child = place;
         levels -= 1;
     }
-    Sum::Is(index)
+    Sum::Is(index as u64)
 }
 
 // The same walk without the sum; whether it came to the root (add_to_ancestors).
-pub fn add_up(inners: &mut [u32], g: Shape, delta: &[u32], left: u32, k: NodeNo, i: u32) -> bool
-    requires { ⌜ Area g (length (now inners)) × (length (now delta) + 1 ≡ g .stride) ⌝ }
-    ensures { λ r. ⌜ (r, now (inners .exit)) ≡ raiseUp g (now (delta .entry)) left (k .0) i (now (inners .entry)) ⌝ }
+pub fn add_up(inners: &mut [u32], g: Shape, delta: &[u32; 3], left: u32, k: NodeNo, i: u32) -> bool
+    requires { ⌜ Area g (length (now inners)) × (length (now delta) ≡ 3) ⌝ }
+    ensures { λ r. ⌜ (r, now (inners .exit)) ≡ raiseUp g (take (g .stride - 1) (now (delta .entry))) left (k .0) i (now (inners .entry)) ⌝ }
 {
     let mut n = left;
     let mut node_id = k.0;
@@ -96,21 +98,24 @@ pub fn add_up(inners: &mut [u32], g: Shape, delta: &[u32], left: u32, k: NodeNo,
     true
 }
 
-// The places on the way up, the highest first; none where the way is broken (path).
-pub fn steps_up(inners: &[u32], g: Shape, left: u32, k: NodeNo, i: u32) -> Path
-    requires { ⌜ Area g (length (now inners)) × (left ≤ 15) ⌝ }
-    ensures { λ r. ⌜ (stepsOf r ≡ stepsUp g left (k .0) i [] (now (inners .entry))) × Stepped r ⌝ }
+// The places on the way up, the highest first, into the front of steps; whether the way came to the root (path).
+pub fn steps_up(
+    inners: &[u32],
+    g: Shape,
+    left: u32,
+    k: NodeNo,
+    i: u32,
+    steps: &mut [u8; 16],
+) -> bool
+    requires { ⌜ Area g (length (now inners)) × (left ≤ 15) × (length (now steps) ≡ 16) ⌝ }
+    ensures { λ r. ⌜ (stepsBy r left (now (steps .exit)) ≡ stepsUp g left (k .0) i [] (now (inners .entry))) × (length (now (steps .exit)) ≡ 16) ⌝ }
 {
-    let mut steps: [u8; 16] = [0; 16];
     let mut level = left as usize;
     let mut node_id = k.0;
     let mut at = i;
     while 0 < level {
         if !inside(g, node_id, at) {
-            return Path {
-                steps: steps,
-                len: 0,
-            };
+            return false;
         }
         level -= 1;
         steps[level] = at as u8;
@@ -118,26 +123,16 @@ pub fn steps_up(inners: &[u32], g: Shape, left: u32, k: NodeNo, i: u32) -> Path
         at = at_of(inners, g, node_id);
         node_id = up;
     }
-    Path {
-        steps: steps,
-        len: left as usize,
-    }
+    true
 }
 
-// Two paths compared in order.
-pub fn in_order(a: Path, b: Path) -> Compared
-    requires { ⌜ Stepped a × Stepped b ⌝ }
-    ensures { λ r. ⌜ r ≡ inOrder (stepsOf a) (stepsOf b) ⌝ }
+// The first n steps of two paths compared in order.
+pub fn in_order(xs: &[u8; 16], ys: &[u8; 16], n: usize) -> Compared
+    requires { ⌜ (n ≤ 16) × (length (now xs) ≡ 16) × (length (now ys) ≡ 16) ⌝ }
+    ensures { λ r. ⌜ r ≡ inOrder (take n (now (xs .entry))) (take n (now (ys .entry))) ⌝ }
 {
-    let xs = a.steps;
-    let ys = b.steps;
-    let n = a.len;
-    let m = b.len;
     let mut j: usize = 0;
     while j < n {
-        if j >= m {
-            return Compared::Same;
-        }
         if xs[j] < ys[j] {
             return Compared::Before;
         }

@@ -1,46 +1,16 @@
 -- One turn of each loop that writes words. Assumes nothing.
 use mathlib.Core.Path.{_≡_, refl, sym, ap, _∙_}
-use mathlib.Core.List.{List, _∷_, _++_, zipWith}
+use mathlib.Core.List.{List, _∷_, _++_}
 use Prim.Native.Nat.{ℕ, zero, suc, _+_, _-_, _*_, _%_, _^_, _<_, _≤_}
 use native.Mathlib.Omega.{arith}
-use native.Mathlib.Numerals.{add-one, unary-clauses}
-use lib.ListN.{length, getD, take, drop, set, replicate, length-drop, length-replicate, replicate-append-replicate}
-use lib.Seq.{length-take-le, take-all, take-suc, getD-drop}
+use native.Mathlib.Numerals.{unary-clauses}
+use lib.ListN.{length, getD, take, drop, set, replicate, length-replicate, replicate-append-replicate}
 use Rattle.model.specs.Lists.{part, putAt}
 use Rattle.model.specs.Node.{none, wrap, emptySlot, emptySlots}
-use Rattle.laws.specs.Lists.{length-zip, zip-more, row-end}
+use Rattle.laws.specs.Lists.{row-end}
 use Rattle.laws.specs.Slots.{flat, flat-append, flat-one, length-flat}
 use Rattle.laws.specs.Formed.{length-empty, empty-wide}
-use Rattle.laws.specs.Words.{length-part, part-front, part-part, part-same, part-after, put-none, put-next, put-on, put-back, put-same, put-put, getD-before, getD-after}
-
--- one word more of src written
-pub copy-turn : (p i : ℕ) (src ws : List ℕ) → i < length src → p + length src ≤ length ws
-    → set (putAt p (take i src) ws) (p + i) (getD src i 0) ≡ putAt p (take (i + 1) src) ws
-copy-turn p i src ws h g =
-    let l : length (take i src) ≡ i = length-take-le i src (omega arith) in
-    rw (add-one, take-suc src i 0) (put-on p (p + i) (getD src i 0) (take i src) ws (omega arith) (omega arith))
-
--- each word from word p on changed by a word of xs: none yet, one more, all
-module _ (f : ℕ → ℕ → ℕ) (p i : ℕ) (xs ws : List ℕ) where
-  pub each-none : ws ≡ putAt p (zipWith f (part p 0 ws) (take 0 xs)) ws
-  unfolding zipWith part
-  each-none = sym (put-none p ws)
-
-  pub each-turn : (v : ℕ) (now : List ℕ) → i < length xs → p + length xs ≤ length ws → now ≡ putAt p (zipWith f (part p i ws) (take i xs)) ws
-      → v ≡ f (getD now (p + i) 0) (getD xs i 0) → set now (p + i) v ≡ putAt p (zipWith f (part p (i + 1) ws) (take (i + 1) xs)) ws
-  unfolding part
-  each-turn v now h g en ev =
-      let a : length (part p i ws) ≡ i = length-part p i ws (omega arith) in
-      let b : length (take i xs) ≡ i = length-take-le i xs (omega arith) in
-      let l : length (zipWith f (part p i ws) (take i xs)) ≡ i = length-zip f (part p i ws) (take i xs) (omega arith) ∙ a in
-      let d : i < length (drop p ws) = rw length-drop (omega arith) in
-      rw (ev, en, getD-after p (p + i) (zipWith f (part p i ws) (take i xs)) ws (omega arith) (omega arith), zip-more f i (drop p ws) xs d h, ← getD-drop p ws i 0)
-      (put-on p (p + i) _ (zipWith f (part p i ws) (take i xs)) ws (omega arith) (omega arith))
-
-  pub each-all : i ≤ length xs → length xs ≤ i → putAt p (zipWith f (part p i ws) (take i xs)) ws ≡ putAt p (zipWith f (part p (length xs) ws) xs) ws
-  each-all h g =
-      let e : i ≡ length xs = omega arith in
-      rw (take-all i xs g, e)
+use Rattle.laws.specs.Words.{length-part, part-front, part-part, part-same, part-after, put-next, put-on, put-back, put-same, put-put, getD-before}
 
 -- the difference modulo 2 ^ 32 is the number that, added again, gives the first
 pub wrapped-less : (a b r : ℕ) → (r + b) % 2 ^ 32 ≡ a → r < 2 ^ 32 → b < 2 ^ 32 → r ≡ wrap (a + (2 ^ 32 - b))

@@ -1,26 +1,11 @@
-// Runs of words: written, moved up, emptied, and each changed by a length.
+// Runs of words: moved up, and emptied.
 use model::length::Slot;
 ghost use mathlib.Core.Path.{_≡_};
-ghost use mathlib.Core.List.{zipWith};
 ghost use Prim.Native.Nat.{_+_, _-_, _*_, _<_, _≤_};
 ghost use lib.ListN.{length, replicate};
 ghost use Rattle.model.specs.Lists.{part, putAt};
 ghost use Rattle.model.specs.Node.{emptySlots};
 ghost use Rattle.laws.specs.Slots.{flat};
-ghost use Rattle.words.specs.Changed.{changed};
-
-// Writes src over the words from word p on.
-pub fn put(ws: &mut [u32], p: usize, src: &[u32])
-    requires { ⌜ p + length (now src) ≤ length (now ws) ⌝ }
-    ensures { λ _. ⌜ now (ws .exit) ≡ putAt p (now (src .entry)) (now (ws .entry)) ⌝ }
-{
-    let n = src.len();
-    let mut i: usize = 0;
-    while i < n {
-        ws[p + i] = src[i];
-        i += 1;
-    }
-}
 
 // Moves the words from p up to q by s words, the last first.
 pub fn shift(ws: &mut [u32], p: usize, q: usize, s: usize)
@@ -31,30 +16,6 @@ pub fn shift(ws: &mut [u32], p: usize, q: usize, s: usize)
     while p < w {
         w -= 1;
         ws[w + s] = ws[w];
-    }
-}
-
-// The word b taken from the word a, or added to it, modulo 2^32.
-fn changed(a: u32, b: u32, less: bool) -> u32
-    ensures { λ r. ⌜ r ≡ changed less a b ⌝ }
-{
-    if less {
-        return std::num::wrapping_sub_u32(a, b);
-    }
-    std::num::wrapping_add_u32(a, b)
-}
-
-// Changes each word from word p on by one of xs.
-pub fn change_each(ws: &mut [u32], p: usize, xs: &[u32], less: bool)
-    requires { ⌜ p + length (now xs) ≤ length (now ws) ⌝ }
-    ensures { λ _. ⌜ now (ws .exit) ≡ putAt p (zipWith (changed less) (part p (length (now (xs .entry))) (now (ws .entry))) (now (xs .entry))) (now (ws .entry)) ⌝ }
-{
-    let n = xs.len();
-    let mut i: usize = 0;
-    while i < n {
-        let word = changed(ws[p + i], xs[i], less);
-        ws[p + i] = word;
-        i += 1;
     }
 }
 

@@ -1,4 +1,4 @@
-//! `cargo run --release -p bench [ROUNDS]`: nanoseconds per call of lib.rs and of the port, and their ratio, for every kind of
+//! `cargo run --release -p bench [ROUNDS [ENTRIES]]`: nanoseconds per call of lib.rs and of the port, and their ratio, for every kind of
 //! call. One process, the same inputs, the two in turn in every round; the median of the rounds is printed, and
 //! the least.
 
@@ -17,7 +17,8 @@ use timing::Table;
 
 fn main() {
     let rounds = std::env::args().nth(1).map_or(25, |rounds| rounds.parse().expect("a number of rounds"));
-    for entries in [512, 65_536] {
+    let sizes = std::env::args().nth(2).map_or(vec![512, 65_536], |entries| vec![entries.parse().expect("a number")]);
+    for entries in sizes {
         run::<4>(entries, rounds);
         run::<8>(entries, rounds);
         run::<32>(entries, rounds);

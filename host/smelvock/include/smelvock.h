@@ -94,42 +94,88 @@ typedef struct {
 #define SMELVOCK_AREAS_WRITTEN \
     uint32_t *leaves, size_t leaf_words, uint32_t *inners, size_t inner_words, uint32_t *homes, size_t home_words
 
+#define SMELVOCK_GIVEN head, head_words, leaves, leaf_words, inners, inner_words, homes, home_words
+#define SMELVOCK_CURSOR uint32_t leaf, uint32_t slot, uint32_t stamp
+#define SMELVOCK_LENGTHS uint32_t prepare, uint32_t effect
+
+/* The library's calls. Those whose names end in _words take cursors and lengths word by word, for a struct that is handed over by
+ * value goes through memory, which costs time; below, each has a function with structs. */
+uint32_t smelvock_new_words(uint32_t fan, uint32_t limit, SMELVOCK_LENGTHS, SMELVOCK_HEAD_WRITTEN, SMELVOCK_AREAS_WRITTEN);
+uint32_t smelvock_reset_words(SMELVOCK_HEAD_WRITTEN, SMELVOCK_AREAS_WRITTEN, SMELVOCK_LENGTHS);
+smelvock_number smelvock_id_words(SMELVOCK_HEAD, SMELVOCK_AREAS, SMELVOCK_CURSOR);
+smelvock_measured smelvock_lengths_words(SMELVOCK_HEAD, SMELVOCK_AREAS, SMELVOCK_CURSOR);
+smelvock_number smelvock_entry_to_char_index_words(SMELVOCK_HEAD, SMELVOCK_AREAS, uint32_t view, SMELVOCK_CURSOR);
+smelvock_standing smelvock_next_words(SMELVOCK_HEAD, SMELVOCK_AREAS, SMELVOCK_CURSOR);
+smelvock_number smelvock_cmp_words(SMELVOCK_HEAD, SMELVOCK_AREAS, SMELVOCK_CURSOR, uint32_t other_leaf, uint32_t other_slot, uint32_t other_stamp);
+smelvock_inserted smelvock_insert_words(SMELVOCK_HEAD_WRITTEN, SMELVOCK_AREAS_WRITTEN, uint32_t end, SMELVOCK_CURSOR, SMELVOCK_LENGTHS);
+smelvock_divided smelvock_split_entry_words(SMELVOCK_HEAD_WRITTEN, SMELVOCK_AREAS_WRITTEN, SMELVOCK_CURSOR, SMELVOCK_LENGTHS, uint32_t before);
+/* update where summed is 1; where it is 0, set_lengths, with 0 for the position. */
+smelvock_number smelvock_resize(SMELVOCK_HEAD_WRITTEN, SMELVOCK_AREAS_WRITTEN, SMELVOCK_CURSOR, SMELVOCK_LENGTHS, uint32_t summed);
+
 /* A tree of one entry, id 0; what the head holds before is of no account to new. A make refused by another number than 10 leaves a
  * head of zeros. */
-uint32_t smelvock_new(uint32_t fan, uint32_t limit, smelvock_length lengths, SMELVOCK_HEAD_WRITTEN, SMELVOCK_AREAS_WRITTEN);
-uint32_t smelvock_reset(SMELVOCK_HEAD_WRITTEN, SMELVOCK_AREAS_WRITTEN, smelvock_length lengths);
+static inline uint32_t smelvock_new(uint32_t fan, uint32_t limit, smelvock_length lengths, SMELVOCK_HEAD_WRITTEN, SMELVOCK_AREAS_WRITTEN) {
+    return smelvock_new_words(fan, limit, lengths.prepare, lengths.effect, SMELVOCK_GIVEN);
+}
+static inline uint32_t smelvock_reset(SMELVOCK_HEAD_WRITTEN, SMELVOCK_AREAS_WRITTEN, smelvock_length lengths) {
+    return smelvock_reset_words(SMELVOCK_GIVEN, lengths.prepare, lengths.effect);
+}
 
 /* value: the number of entries; 0, for a tree is never empty. */
 smelvock_number smelvock_len(SMELVOCK_HEAD);
 smelvock_number smelvock_is_empty(SMELVOCK_HEAD);
 
 /* The entry at a cursor: its id, its lengths, its position in a view. */
-smelvock_number smelvock_id(SMELVOCK_HEAD, SMELVOCK_AREAS, smelvock_cursor_at at);
-smelvock_measured smelvock_lengths(SMELVOCK_HEAD, SMELVOCK_AREAS, smelvock_cursor_at at);
-smelvock_number smelvock_entry_to_char_index(SMELVOCK_HEAD, SMELVOCK_AREAS, uint32_t view, smelvock_cursor_at at);
+static inline smelvock_number smelvock_id(SMELVOCK_HEAD, SMELVOCK_AREAS, smelvock_cursor_at at) {
+    return smelvock_id_words(SMELVOCK_GIVEN, at.leaf, at.slot, at.stamp);
+}
+static inline smelvock_measured smelvock_lengths(SMELVOCK_HEAD, SMELVOCK_AREAS, smelvock_cursor_at at) {
+    return smelvock_lengths_words(SMELVOCK_GIVEN, at.leaf, at.slot, at.stamp);
+}
+static inline smelvock_number smelvock_entry_to_char_index(SMELVOCK_HEAD, SMELVOCK_AREAS, uint32_t view, smelvock_cursor_at at) {
+    return smelvock_entry_to_char_index_words(SMELVOCK_GIVEN, view, at.leaf, at.slot, at.stamp);
+}
 
 /* The cursor of an entry, of the first, and of the one after a cursor's. */
 smelvock_standing smelvock_cursor(SMELVOCK_HEAD, SMELVOCK_AREAS, uint32_t id);
 smelvock_standing smelvock_first(SMELVOCK_HEAD, SMELVOCK_AREAS);
-smelvock_standing smelvock_next(SMELVOCK_HEAD, SMELVOCK_AREAS, smelvock_cursor_at at);
+static inline smelvock_standing smelvock_next(SMELVOCK_HEAD, SMELVOCK_AREAS, smelvock_cursor_at at) {
+    return smelvock_next_words(SMELVOCK_GIVEN, at.leaf, at.slot, at.stamp);
+}
 
 /* value: 0, 1, 2 as a stands before, is or stands after b. */
-smelvock_number smelvock_cmp(SMELVOCK_HEAD, SMELVOCK_AREAS, smelvock_cursor_at a, smelvock_cursor_at b);
+static inline smelvock_number smelvock_cmp(SMELVOCK_HEAD, SMELVOCK_AREAS, smelvock_cursor_at a, smelvock_cursor_at b) {
+    return smelvock_cmp_words(SMELVOCK_GIVEN, a.leaf, a.slot, a.stamp, b.leaf, b.slot, b.stamp);
+}
 
 /* The entry that holds a position of a view, and the offset into it; locate also its effect position
  * (position) and its prepare position. */
-smelvock_selected smelvock_char_index_to_entry(SMELVOCK_HEAD_WRITTEN, SMELVOCK_AREAS, uint32_t view, uint32_t index);
 smelvock_located smelvock_locate(SMELVOCK_HEAD_WRITTEN, SMELVOCK_AREAS, uint32_t view, uint32_t index);
+static inline smelvock_selected smelvock_char_index_to_entry(SMELVOCK_HEAD_WRITTEN, SMELVOCK_AREAS, uint32_t view, uint32_t index) {
+    smelvock_located found = smelvock_locate(SMELVOCK_GIVEN, view, index);
+    smelvock_selected selected = {found.number, found.at, found.offset};
+    return selected;
+}
 
 /* Gives an entry lengths; update also answers its effect position. */
-uint32_t smelvock_set_lengths(SMELVOCK_HEAD_WRITTEN, SMELVOCK_AREAS_WRITTEN, smelvock_cursor_at at, smelvock_length lengths);
-smelvock_number smelvock_update(SMELVOCK_HEAD_WRITTEN, SMELVOCK_AREAS_WRITTEN, smelvock_cursor_at at, smelvock_length lengths);
+static inline uint32_t smelvock_set_lengths(SMELVOCK_HEAD_WRITTEN, SMELVOCK_AREAS_WRITTEN, smelvock_cursor_at at, smelvock_length lengths) {
+    return smelvock_resize(SMELVOCK_GIVEN, at.leaf, at.slot, at.stamp, lengths.prepare, lengths.effect, 0).number;
+}
+static inline smelvock_number smelvock_update(SMELVOCK_HEAD_WRITTEN, SMELVOCK_AREAS_WRITTEN, smelvock_cursor_at at, smelvock_length lengths) {
+    return smelvock_resize(SMELVOCK_GIVEN, at.leaf, at.slot, at.stamp, lengths.prepare, lengths.effect, 1);
+}
 
 /* A new entry before a cursor, or at the end where end is 1 and the cursor is of no account: its id, and its effect position. */
-smelvock_inserted smelvock_insert(SMELVOCK_HEAD_WRITTEN, SMELVOCK_AREAS_WRITTEN, uint32_t end, smelvock_cursor_at before, smelvock_length lengths);
+static inline smelvock_inserted smelvock_insert(
+    SMELVOCK_HEAD_WRITTEN, SMELVOCK_AREAS_WRITTEN, uint32_t end, smelvock_cursor_at before, smelvock_length lengths) {
+    return smelvock_insert_words(SMELVOCK_GIVEN, end, before.leaf, before.slot, before.stamp, lengths.prepare, lengths.effect);
+}
 
 /* Takes lengths out of an entry into a new one just before it (before 1) or after it (0): its id, and both cursors in order. */
-smelvock_divided smelvock_split_entry(SMELVOCK_HEAD_WRITTEN, SMELVOCK_AREAS_WRITTEN, smelvock_cursor_at at, smelvock_length lengths, uint32_t before);
+static inline smelvock_divided smelvock_split_entry(
+    SMELVOCK_HEAD_WRITTEN, SMELVOCK_AREAS_WRITTEN, smelvock_cursor_at at, smelvock_length lengths, uint32_t before) {
+    return smelvock_split_entry_words(SMELVOCK_GIVEN, at.leaf, at.slot, at.stamp, lengths.prepare, lengths.effect, before);
+}
 
 /* Prints the entries in order from the start of the buffer on; value: the number of pages. A line is 55 bytes: id, prepare position,
  * effect position, prepare length and effect length, each right-justified in 10 columns, one blank between, then a line feed. The

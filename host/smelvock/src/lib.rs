@@ -218,6 +218,7 @@ impl<const N: usize> PrepareEffectTree<N> {
 }
 
 /// The end, or before a cursor.
+#[inline]
 fn target(before: Option<Cursor>) -> (u32, raw::Cursor) {
     (before.is_none() as u32, before.map_or(raw::Cursor::default(), raw::Cursor::from))
 }

@@ -144,30 +144,70 @@ macro_rules! exports {
 
 exports! {
     reading: Areas, &[u32], as_ptr, *const u32, as_ptr, *const u32;
-    id as smelvock_id(; at: Cursor) -> Number;
-    lengths as smelvock_lengths(; at: Cursor) -> Measured;
+    id_words as smelvock_id_words(; leaf: u32, slot: u32, stamp: u32) -> Number;
+    lengths_words as smelvock_lengths_words(; leaf: u32, slot: u32, stamp: u32) -> Measured;
     cursor as smelvock_cursor(; id: u32) -> Standing;
-    entry_to_char_index as smelvock_entry_to_char_index(; view: u32, at: Cursor) -> Number;
+    entry_to_char_index_words as smelvock_entry_to_char_index_words(; view: u32, leaf: u32, slot: u32, stamp: u32) -> Number;
     first as smelvock_first(;) -> Standing;
-    next as smelvock_next(; at: Cursor) -> Standing;
-    cmp as smelvock_cmp(; a: Cursor, b: Cursor) -> Number;
+    next_words as smelvock_next_words(; leaf: u32, slot: u32, stamp: u32) -> Standing;
+    cmp_words as smelvock_cmp_words(; leaf: u32, slot: u32, stamp: u32, other_leaf: u32, other_slot: u32, other_stamp: u32) -> Number;
     audit as smelvock_audit(;) -> Number;
 }
 
 exports! {
     looking: Areas, &mut [u32], as_mut_ptr, *mut u32, as_ptr, *const u32;
-    char_index_to_entry as smelvock_char_index_to_entry(; view: u32, index: u32) -> Selected;
     locate as smelvock_locate(; view: u32, index: u32) -> Located;
 }
 
 exports! {
     changing: AreasMut, &mut [u32], as_mut_ptr, *mut u32, as_mut_ptr, *mut u32;
-    new as smelvock_new(fan: u32, limit: u32, lengths: Lengths;) -> u32;
-    reset as smelvock_reset(; lengths: Lengths) -> u32;
-    insert as smelvock_insert(; end: u32, before: Cursor, lengths: Lengths) -> Inserted;
-    split_entry as smelvock_split_entry(; at: Cursor, lengths: Lengths, before: u32) -> Divided;
-    set_lengths as smelvock_set_lengths(; at: Cursor, lengths: Lengths) -> u32;
-    update as smelvock_update(; at: Cursor, lengths: Lengths) -> Number;
+    new_words as smelvock_new_words(fan: u32, limit: u32, prepare: u32, effect: u32;) -> u32;
+    reset_words as smelvock_reset_words(; prepare: u32, effect: u32) -> u32;
+    insert_words as smelvock_insert_words(; end: u32, leaf: u32, slot: u32, stamp: u32, prepare: u32, effect: u32) -> Inserted;
+    split_entry_words as smelvock_split_entry_words(; leaf: u32, slot: u32, stamp: u32, prepare: u32, effect: u32, before: u32) -> Divided;
+    resize as smelvock_resize(; leaf: u32, slot: u32, stamp: u32, prepare: u32, effect: u32, summed: u32) -> Number;
+}
+
+/// A tree's calls with cursors and lengths as structs, as the header has them: the exports take their words one by one, since a
+/// struct that is handed over by value goes through memory.
+macro_rules! calls {
+    ($($name:ident($head:ty, $areas:ident; $($given:ident: $kind:ty),*) -> $reply:ty = $export:ident($($word:expr),*);)*) => {
+        $(#[inline(always)]
+        pub fn $name(head: $head, areas: $areas<'_>, $($given: $kind),*) -> $reply {
+            $export(head, areas, $($word),*)
+        })*
+    };
+}
+
+calls! {
+    id(&[u32], Areas; at: Cursor) -> Number = id_words(at.leaf, at.slot, at.stamp);
+    lengths(&[u32], Areas; at: Cursor) -> Measured = lengths_words(at.leaf, at.slot, at.stamp);
+    entry_to_char_index(&[u32], Areas; view: u32, at: Cursor) -> Number = entry_to_char_index_words(view, at.leaf, at.slot, at.stamp);
+    next(&[u32], Areas; at: Cursor) -> Standing = next_words(at.leaf, at.slot, at.stamp);
+    cmp(&[u32], Areas; a: Cursor, b: Cursor) -> Number = cmp_words(a.leaf, a.slot, a.stamp, b.leaf, b.slot, b.stamp);
+    reset(&mut [u32], AreasMut; lengths: Lengths) -> u32 = reset_words(lengths.prepare, lengths.effect);
+    insert(&mut [u32], AreasMut; end: u32, before: Cursor, lengths: Lengths) -> Inserted =
+        insert_words(end, before.leaf, before.slot, before.stamp, lengths.prepare, lengths.effect);
+    split_entry(&mut [u32], AreasMut; at: Cursor, lengths: Lengths, before: u32) -> Divided =
+        split_entry_words(at.leaf, at.slot, at.stamp, lengths.prepare, lengths.effect, before);
+    update(&mut [u32], AreasMut; at: Cursor, lengths: Lengths) -> Number =
+        resize(at.leaf, at.slot, at.stamp, lengths.prepare, lengths.effect, 1);
+}
+
+#[inline(always)]
+pub fn new(fan: u32, limit: u32, lengths: Lengths, head: &mut [u32], areas: AreasMut<'_>) -> u32 {
+    new_words(fan, limit, lengths.prepare, lengths.effect, head, areas)
+}
+
+#[inline(always)]
+pub fn set_lengths(head: &mut [u32], areas: AreasMut<'_>, at: Cursor, lengths: Lengths) -> u32 {
+    resize(head, areas, at.leaf, at.slot, at.stamp, lengths.prepare, lengths.effect, 0).number
+}
+
+#[inline(always)]
+pub fn char_index_to_entry(head: &mut [u32], areas: Areas<'_>, view: u32, index: u32) -> Selected {
+    let Located { number, at, offset, .. } = locate(head, areas, view, index);
+    Selected { number, at, offset }
 }
 
 mod heads {

@@ -26,7 +26,8 @@ returns-2 : tie.Need-returns-2
 returns-2 c =
     let args = c .before .before .before .before .before .before .before .args in
     let child-of = c .before .before .before .before .child-of in
-    entry-away (args .g) _ (now (args .leaves)) (now (args .homes)) _ _ _ (child-of .ensures) (c .before .before .before .if1 .left) (c .if2 .taken)
+    let if1 = c .before .before .before .if1 in
+    entry-away (args .g) _ (now (args .leaves)) (now (args .homes)) _ _ _ (child-of .ensures) (if1 .left) (c .if2 .taken)
 
 is-new-requires : tie.Need-is-new-requires
 is-new-requires c κs =

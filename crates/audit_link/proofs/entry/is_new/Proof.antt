@@ -33,7 +33,8 @@ returns : tie.Need-returns Inv-loop μ-loop
 returns c =
     let args = c .before .before .before .before .before .before .args in
     let the-loop = c .before .before .before .before .loop in
-    sym (every-stop (isOther (nodeAt (args .g) (args .k .0) (now (args .leaves))) (args .id .0)) _ _ (c .before .before .before .loop-test .taken)
+    let loop-test = c .before .before .before .loop-test in
+    sym (every-stop (isOther (nodeAt (args .g) (args .k .0) (now (args .leaves))) (args .id .0)) _ _ (loop-test .taken)
     (other-met (nodeAt (args .g) (args .k .0) (now (args .leaves))) (args .id .0) (the-loop .j) _ (c .before .before .child-of .ensures) (c .if1 .taken))) ∙ the-loop .inv
 
 add-j : tie.Need-add-j Inv-loop μ-loop
@@ -46,7 +47,8 @@ loop-again : tie.Need-loop-again Inv-loop μ-loop
 loop-again c =
     let args = c .before .before .before .before .before .before .args in
     let the-loop = c .before .before .before .before .loop in
-    sym (every-on (isOther (nodeAt (args .g) (args .k .0) (now (args .leaves))) (args .id .0)) _ _ (c .before .before .before .loop-test .taken)
+    let loop-test = c .before .before .before .loop-test in
+    sym (every-on (isOther (nodeAt (args .g) (args .k .0) (now (args .leaves))) (args .id .0)) _ _ (loop-test .taken)
     (other-passed (nodeAt (args .g) (args .k .0) (now (args .leaves))) (args .id .0) (the-loop .j) _ (c .before .before .child-of .ensures) (c .if1 .left))) ∙ the-loop .inv
 
 returns-2 : tie.Need-returns-2 Inv-loop μ-loop

@@ -24,7 +24,7 @@ loop-holds c = every-all (childBy (c .before .before .args .g) (c .before .befor
 is-child-requires : tie.Need-is-child-requires Inv-loop μ-loop
 is-child-requires c κs =
     let pre = c .before .before .before .before .pre in
-    (pre .0, pre .1, pre .2, pre .3, lt-of-lt-of-le (c .loop-test .taken) (pre .4), pre .5)
+    (pre .0, pre .1, pre .2, pre .3, lt-of-lt-of-le (c .loop-test .taken) (pre .4))
 
 returns : tie.Need-returns Inv-loop μ-loop
 returns c =

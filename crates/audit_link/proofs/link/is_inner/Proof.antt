@@ -1,88 +1,80 @@
 -- `audit_link::link::is_inner`: each test is one of the five of the definition, in its order.
 use borrow.Author.Needs.{needs}
-use mathlib.Core.Path.{ap}
 use mathlib.Core.List.{[]}
 use native.Mathlib.Nat.{lt-of-lt-of-le}
 use denote.Ref.{now}
-use Rattle.model.specs.declared.shape.Shape.{Shape}
-use Rattle.audit_link.proofs.InnerLaws.{inner-low, inner-deep, inner-unfilled, inner-few, inner-misplaced, inner-lowest, inner-higher}
+use borrow.Author.Tests.{not-false}
+use Rattle.model.specs.Kind.{stride}
+use Rattle.audit_link.proofs.InnerLaws.{inner-low, inner-deep, inner-unfilled, inner-misplaced, inner-lowest, inner-higher}
 use Rattle.audit_link.proofs.link.is_inner.Statement.{statement}
 use Rattle.audit_link.proofs.link.is_inner.Tie as tie
 
 depth-requires : tie.Need-depth-requires
-depth-requires c κs = search needs
+depth-requires c κs = (c .before .before .pre .0 .inner-area, c .before .before .pre .0 .inners, c .before .before .pre .0 .levels)
 
 returns : tie.Need-returns
-returns c =
+returns c K e =
     let args = c .before .before .before .before .args in
-    let pre = c .before .before .before .before .pre in
-    inner-low (args .head) (now (args .leaves)) (now (args .inners)) [] _ (pre .0 .same) _ _ (c .before .depth .ensures) (c .if1 .taken)
+    inner-low K (args .head) (now (args .leaves)) (now (args .inners)) [] _ e _ _ (c .before .depth .ensures) (c .if1 .taken)
 
 returns-2 : tie.Need-returns-2
-returns-2 c =
+returns-2 c K e =
     let args = c .before .before .before .before .before .args in
-    let pre = c .before .before .before .before .before .pre in
-    inner-deep (args .head) (now (args .leaves)) (now (args .inners)) [] _ (pre .0 .same) _ _ (c .before .before .depth .ensures) (c .before .if1 .left) (c .if2 .taken)
+    inner-deep K (args .head) (now (args .leaves)) (now (args .inners)) [] _ e _ _ (c .before .before .depth .ensures) (c .before .if1 .left) (c .if2 .taken)
 
 least-inner-requires : tie.Need-least-inner-requires
 least-inner-requires c κs = search needs
 
 is-filled-requires : tie.Need-is-filled-requires
-is-filled-requires c κs = search needs
+is-filled-requires c κs =
+    let pre = c .before .before .before .before .before .before .pre in
+    (pre .0 .inner-area, lt-of-lt-of-le (pre .1) (pre .0 .inners))
 
 returns-3 : tie.Need-returns-3
-returns-3 c =
+returns-3 c K e =
     let args = c .before .before .before .before .before .before .before .before .args in
-    let pre = c .before .before .before .before .before .before .before .before .pre in
     let depth = c .before .before .before .before .before .depth in
     let if1 = c .before .before .before .before .if1 in
     let if2 = c .before .before .before .if2 in
-    inner-unfilled (args .head) (now (args .leaves)) (now (args .inners)) [] _ (pre .0 .same) _ _ (depth .ensures) (if1 .left) (if2 .left) _
-    (c .before .before .least-inner .ensures) _ (c .before .is-filled .ensures) (c .if3 .taken)
+    inner-unfilled K (args .head) (now (args .leaves)) (now (args .inners)) [] _ e _ _ (depth .ensures) (if1 .left) (if2 .left) _
+    (c .before .before .least-inner .ensures (stride K)) _ (c .before .is-filled .ensures .0 K e) (c .if3 .taken)
 
 is-below-requires : tie.Need-is-below-requires
-is-below-requires c κs = search needs
+is-below-requires c κs =
+    let pre = c .before .before .before .before .before .before .before .before .pre in
+    (pre .0 .inner-area, pre .0 .inners, lt-of-lt-of-le (pre .1) (pre .0 .inners))
 
 returns-4 : tie.Need-returns-4
-returns-4 c =
+returns-4 c K e =
     let args = c .before .before .before .before .before .before .before .before .before .before .args in
-    let pre = c .before .before .before .before .before .before .before .before .before .before .pre in
     let depth = c .before .before .before .before .before .before .before .depth in
     let if1 = c .before .before .before .before .before .before .if1 in
     let if2 = c .before .before .before .before .before .if2 in
     let least-inner = c .before .before .before .before .least-inner in
     let is-filled = c .before .before .before .is-filled in
-    inner-misplaced (args .head) (now (args .leaves)) (now (args .inners)) [] _ (pre .0 .same) _ _ (depth .ensures) (if1 .left) (if2 .left) _ (least-inner .ensures) _
-    (is-filled .ensures) (c .before .before .if3 .left) _ (c .before .is-below .ensures) (c .if4 .taken)
+    inner-misplaced K (args .head) (now (args .leaves)) (now (args .inners)) [] _ e _ _ (depth .ensures) (if1 .left) (if2 .left) _ (least-inner .ensures (stride K)) _
+    (is-filled .ensures .0 K e) (c .before .before .if3 .left) _ (c .before .is-below .ensures) (c .if4 .taken)
 
 len-of-requires : tie.Need-len-of-requires
-len-of-requires c κs = search needs
+len-of-requires c κs =
+    let pre = c .before .before .before .before .before .before .before .before .before .before .pre in
+    (pre .0 .inner-area, lt-of-lt-of-le (pre .1) (pre .0 .inners))
 
 are-children-requires : tie.Need-are-children-requires
 are-children-requires c κs =
     let pre = c .before .before .before .before .before .before .before .before .before .before .before .before .pre in
-    let args = c .before .before .before .before .before .before .before .before .before .before .before .before .args in
-    let depth = c .before .before .before .before .before .before .before .before .before .depth in
-    let if1 = c .before .before .before .before .before .before .before .before .if1 in
-    let if2 = c .before .before .before .before .before .before .before .if2 in
-    let least-inner = c .before .before .before .before .before .before .least-inner in
     let is-filled = c .before .before .before .before .before .is-filled in
-    let if3 = c .before .before .before .before .if3 in
-    let is-below = c .before .before .before .is-below in (
+    let if3 = c .before .before .before .before .if3 in (
       pre .0 .inner-area,
       pre .0 .leaf-area,
       pre .0 .leaves,
       lt-of-lt-of-le (pre .1) (pre .0 .inners),
-      rw (c .before .len-of .ensures)
-          (inner-few (args .head) (now (args .leaves)) (now (args .inners)) [] _ (pre .0 .same) _ _ (depth .ensures) (if1 .left) (if2 .left) _ (least-inner .ensures) _
-          (is-filled .ensures) (if3 .left) _ (is-below .ensures)),
-      ap (λ (x : Shape). x .stride) (pre .0 .same),
+      rw (c .before .len-of .ensures) (is-filled .ensures .1 (not-false _ (if3 .left))),
     )
 
 returns-5 : tie.Need-returns-5
-returns-5 c =
+returns-5 c K e =
     let args = c .before .before .before .before .before .before .before .before .before .before .before .before .before .args in
-    let pre = c .before .before .before .before .before .before .before .before .before .before .before .before .before .pre in
     let depth = c .before .before .before .before .before .before .before .before .before .before .depth in
     let if1 = c .before .before .before .before .before .before .before .before .before .if1 in
     let if2 = c .before .before .before .before .before .before .before .before .if2 in
@@ -91,34 +83,24 @@ returns-5 c =
     let if3 = c .before .before .before .before .before .if3 in
     let is-below = c .before .before .before .before .is-below in
     let if4 = c .before .before .before .if4 in
-    inner-lowest (args .head) (now (args .leaves)) (now (args .inners)) [] _ (pre .0 .same) _ _ (depth .ensures) (if1 .left) (if2 .left) _ (least-inner .ensures) _
-    (is-filled .ensures) (if3 .left) _ (is-below .ensures) (if4 .left) _ (c .before .before .len-of .ensures) _ (c .before .if5 .taken) (c .are-children .ensures)
+    inner-lowest K (args .head) (now (args .leaves)) (now (args .inners)) [] _ e _ _ (depth .ensures) (if1 .left) (if2 .left) _ (least-inner .ensures (stride K)) _
+    (is-filled .ensures .0 K e) (if3 .left) _ (is-below .ensures) (if4 .left) _ (c .before .before .len-of .ensures) _ (c .before .if5 .taken) (c .are-children .ensures)
 
 are-children-requires-2 : tie.Need-are-children-requires-2
 are-children-requires-2 c κs =
     let pre = c .before .before .before .before .before .before .before .before .before .before .before .before .pre in
-    let args = c .before .before .before .before .before .before .before .before .before .before .before .before .args in
-    let depth = c .before .before .before .before .before .before .before .before .before .depth in
-    let if1 = c .before .before .before .before .before .before .before .before .if1 in
-    let if2 = c .before .before .before .before .before .before .before .if2 in
-    let least-inner = c .before .before .before .before .before .before .least-inner in
     let is-filled = c .before .before .before .before .before .is-filled in
-    let if3 = c .before .before .before .before .if3 in
-    let is-below = c .before .before .before .is-below in (
+    let if3 = c .before .before .before .before .if3 in (
       pre .0 .inner-area,
       pre .0 .inner-area,
       pre .0 .inners,
       lt-of-lt-of-le (pre .1) (pre .0 .inners),
-      rw (c .before .len-of .ensures)
-          (inner-few (args .head) (now (args .leaves)) (now (args .inners)) [] _ (pre .0 .same) _ _ (depth .ensures) (if1 .left) (if2 .left) _ (least-inner .ensures) _
-          (is-filled .ensures) (if3 .left) _ (is-below .ensures)),
-      ap (λ (x : Shape). x .stride) (pre .0 .same),
+      rw (c .before .len-of .ensures) (is-filled .ensures .1 (not-false _ (if3 .left))),
     )
 
 returns-6 : tie.Need-returns-6
-returns-6 c =
+returns-6 c K e =
     let args = c .before .before .before .before .before .before .before .before .before .before .before .before .before .args in
-    let pre = c .before .before .before .before .before .before .before .before .before .before .before .before .before .pre in
     let depth = c .before .before .before .before .before .before .before .before .before .before .depth in
     let if1 = c .before .before .before .before .before .before .before .before .before .if1 in
     let if2 = c .before .before .before .before .before .before .before .before .if2 in
@@ -127,8 +109,8 @@ returns-6 c =
     let if3 = c .before .before .before .before .before .if3 in
     let is-below = c .before .before .before .before .is-below in
     let if4 = c .before .before .before .if4 in
-    inner-higher (args .head) (now (args .leaves)) (now (args .inners)) [] _ (pre .0 .same) _ _ (depth .ensures) (if1 .left) (if2 .left) _ (least-inner .ensures) _
-    (is-filled .ensures) (if3 .left) _ (is-below .ensures) (if4 .left) _ (c .before .before .len-of .ensures) _ (c .before .if5 .left) (c .are-children2 .ensures)
+    inner-higher K (args .head) (now (args .leaves)) (now (args .inners)) [] _ e _ _ (depth .ensures) (if1 .left) (if2 .left) _ (least-inner .ensures (stride K)) _
+    (is-filled .ensures .0 K e) (if3 .left) _ (is-below .ensures) (if4 .left) _ (c .before .before .len-of .ensures) _ (c .before .if5 .left) (c .are-children2 .ensures)
 
 pub is-inner-spec : {M : Type 1} → statement M
 is-inner-spec =

@@ -1,53 +1,99 @@
--- `audit_node::nodes::is_empty_slot`: each test is one of the three of the definition, in its order.
-use borrow.Author.Needs.{needs}
-use borrow.Author.Tests.{eq-eqb, ne-eqb}
+-- `audit_node::nodes::is_empty_slot`: the child is tested first; then the test of the views from here on is the test of all.
+use Prim.Native.Nat.{ℕ, _+_, _-_, _≤_}
+use mathlib.Core.Path.{_≡_, sym, _∙_}
+use mathlib.Core.List.{List, []}
+use native.Mathlib.Omega.{arith}
+use lib.ListN.{getD}
+use denote.Ref.{now}
+use Rattle.model.specs.State.{nodeAt}
 use Rattle.model.specs.Audit.{every}
+use Rattle.model.specs.declared.shape.Shape.{Shape}
+use Rattle.audit_node.proofs.AreaLaws.{noLength, view-some, view-none, slot-held, slot-views}
+use Rattle.audit_node.proofs.Every.{every-all, every-stop, every-on, every-end}
 use Rattle.audit_node.proofs.nodes.is_empty_slot.Statement.{statement}
 use Rattle.audit_node.proofs.nodes.is_empty_slot.Tie as tie
 
-child-of-requires : tie.Need-child-of-requires
-child-of-requires c κs = search needs
+abbrev slotAt : List ℕ → Shape → ℕ → ℕ → List ℕ
+slotAt area g k i = getD (nodeAt g k area .slots) i []
 
-returns : tie.Need-returns
-unfolding every
-returns c = rw (← c .before .before .child-of .ensures, ne-eqb _ _ (c .if1 .taken))
+abbrev Inv-loop : tie.InvT-loop
+Inv-loop area g k i stride v₀ v =
+    (v + 1 ≤ stride) × (every (noLength (slotAt area g k i)) v (stride - 1 - v) ≡ every (noLength (slotAt area g k i)) 0 (stride - 1))
 
-length-of-requires : tie.Need-length-of-requires
-length-of-requires c κs = search needs
+abbrev μ-loop : tie.MeasureT-loop
+μ-loop area g k i stride v₀ v = stride - v
 
-returns-2 : tie.Need-returns-2
-unfolding every
-returns-2 c =
-    let child-of = c .before .before .before .before .before .child-of in
-    rw (← child-of .ensures, eq-eqb _ _ (c .before .before .before .if1 .left), ← c .before .before .length-of .ensures, ne-eqb _ _ (c .if2 .taken))
+child-of-requires : tie.Need-child-of-requires Inv-loop μ-loop
+child-of-requires c κs = (c .before .pre .0, c .before .pre .1, c .before .pre .2)
 
-length-of-requires-2 : tie.Need-length-of-requires-2
-length-of-requires-2 c κs = search needs
+returns : tie.Need-returns Inv-loop μ-loop
+returns c K e =
+    let a = c .before .before .before .before .args in
+    slot-held K _ e (slotAt (now (a .area)) (a .g) (a .k) (a .i)) _ (c .before .before .child-of .ensures) (c .if1 .taken)
 
-returns-3 : tie.Need-returns-3
-unfolding every
-returns-3 c =
-    let child-of = c .before .before .before .before .before .before .before .before .child-of in
-    let if1 = c .before .before .before .before .before .before .if1 in
-    let length-of = c .before .before .before .before .before .length-of in
-    rw (← child-of .ensures, eq-eqb _ _ (if1 .left), ← length-of .ensures, eq-eqb _ _ (c .before .before .before .if2 .left), ← c .before .before .length-of2 .ensures, ne-eqb _ _ (c .if3 .taken))
+loop-holds : tie.Need-loop-holds Inv-loop μ-loop
+loop-holds c =
+    let a = c .before .before .before .before .args in
+    let pre = c .before .before .before .before .pre in
+    (omega (arith, pre .0 .shaped), every-all (noLength (slotAt (now (a .area)) (a .g) (a .k) (a .i))) (a .g .stride - 1))
 
-returns-4 : tie.Need-returns-4
-unfolding every
-returns-4 c =
-    let child-of = c .before .before .before .before .before .before .before .before .child-of in
-    let if1 = c .before .before .before .before .before .before .if1 in
-    let length-of = c .before .before .before .before .before .length-of in
-    rw (← child-of .ensures, eq-eqb _ _ (if1 .left), ← length-of .ensures, eq-eqb _ _ (c .before .before .before .if2 .left), ← c .before .before .length-of2 .ensures, eq-eqb _ _ (c .if3 .left))
+add-loop : tie.Need-add-loop Inv-loop μ-loop
+add-loop c =
+    let pre = c .before .before .before .before .before .pre in
+    omega (arith, pre .0 .shaped)
+
+length-of-requires : tie.Need-length-of-requires Inv-loop μ-loop
+length-of-requires c κs =
+    let pre = c .before .before .before .before .before .before .pre in
+    (pre .0, c .loop-test .taken, pre .1, pre .2)
+
+returns-2 : tie.Need-returns-2 Inv-loop μ-loop
+returns-2 c K e =
+    let a = c .before .before .before .before .before .before .before .before .args in
+    let child-of = c .before .before .before .before .before .before .child-of in
+    let if1 = c .before .before .before .before .if1 in
+    let l = c .before .before .before .loop in
+    let x = slotAt (now (a .area)) (a .g) (a .k) (a .i) in
+    let stop = every-stop (noLength x) (l .v) (a .g .stride - 1) (omega (arith, c .before .before .loop-test .taken)) (view-some x (l .v) _ (c .before .length-of .ensures) (c .if2 .taken)) in
+    slot-views K _ e x _ (child-of .ensures) (if1 .left) _ (sym stop ∙ l .inv .1)
+
+add-v : tie.Need-add-v Inv-loop μ-loop
+add-v c =
+    let pre = c .before .before .before .before .before .before .before .before .pre in
+    omega (arith, pre .0 .shaped)
+
+loop-less : tie.Need-loop-less Inv-loop μ-loop
+loop-less c = omega arith
+
+loop-again : tie.Need-loop-again Inv-loop μ-loop
+loop-again c =
+    let a = c .before .before .before .before .before .before .before .before .args in
+    let l = c .before .before .before .loop in
+    let x = slotAt (now (a .area)) (a .g) (a .k) (a .i) in
+    let on = every-on (noLength x) (l .v) (a .g .stride - 1) (omega (arith, c .before .before .loop-test .taken)) (view-none x (l .v) _ (c .before .length-of .ensures) (c .if2 .left)) in
+    (omega (arith, c .before .before .loop-test .taken), sym on ∙ l .inv .1)
+
+returns-3 : tie.Need-returns-3 Inv-loop μ-loop
+returns-3 c K e =
+    let a = c .before .before .before .before .before .before .args in
+    let child-of = c .before .before .before .before .child-of in
+    let x = slotAt (now (a .area)) (a .g) (a .k) (a .i) in
+    let end = every-end (noLength x) (c .before .loop .v) (a .g .stride - 1) (omega (arith, c .loop-test .left)) in
+    slot-views K _ e x _ (child-of .ensures) (c .before .before .if1 .left) _ (sym end ∙ c .before .loop .inv .1)
 
 pub is-empty-slot-spec : {M : Type 1} → statement M
 is-empty-slot-spec =
     tie.close
     (tie.spec
+    Inv-loop
+    μ-loop
     child-of-requires
     returns
+    loop-holds
+    add-loop
     length-of-requires
     returns-2
-    length-of-requires-2
-    returns-3
-    returns-4)
+    add-v
+    loop-less
+    loop-again
+    returns-3)

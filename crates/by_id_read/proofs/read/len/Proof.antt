@@ -22,13 +22,13 @@ returns : tie.Need-returns
 returns c =
     let args = c .before .before .before .before .before .before .before .args in
     let open-areas = c .before .before .before .open-areas in
-    count-refused (state (args .head) (now (args .leaves)) (now (args .inners)) (now (args .homes))) _ (open-areas .ensures) _ (c .before .n .given .1)
+    count-refused (state (args .head) (now (args .leaves)) (now (args .inners)) (now (args .homes))) _ (open-areas .ensures 1) _ (c .before .n .given .1)
 
 returns-2 : tie.Need-returns-2
 returns-2 c =
     let args = c .before .before .before .before .before .before .before .args in
     let open-areas = c .before .before .before .open-areas in
-    count-good (state (args .head) (now (args .leaves)) (now (args .inners)) (now (args .homes))) _ (open-areas .ensures) _ (c .before .enum-told .given .1) _ (c .len .ensures)
+    count-good (state (args .head) (now (args .leaves)) (now (args .inners)) (now (args .homes))) _ (open-areas .ensures 1) _ (c .before .enum-told .given .1) _ (c .len .ensures)
 
 pub len-spec : {M : Type 1} → statement M
 len-spec = tie.close (tie.spec open-areas-requires enum-known-n enum-told len-requires returns returns-2)

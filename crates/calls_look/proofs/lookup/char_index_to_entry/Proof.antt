@@ -1,5 +1,7 @@
 -- `calls_look::lookup::char_index_to_entry`: `locate`, less the two positions.
 use borrow.Author.Needs.{needs}
+use Rattle.model.specs.Kind.{base}
+use Rattle.model.specs.Length.{viewNumber}
 use Rattle.calls_look.proofs.LookupLaws.{less-positions}
 use Rattle.calls_look.proofs.lookup.char_index_to_entry.Statement.{statement}
 use Rattle.calls_look.proofs.lookup.char_index_to_entry.Tie as tie
@@ -17,13 +19,13 @@ returns : tie.Need-returns
 returns c =
     let args = c .before .before .before .before .before .before .before .before .args in
     let locate = c .before .before .before .before .locate in
-    less-positions _ (args .view) _ _ (locate .ensures) _ (c .before .answer .given .1)
+    less-positions _ base (viewNumber (args .view)) _ _ (locate .ensures) _ (c .before .answer .given .1)
 
 returns-2 : tie.Need-returns-2
 returns-2 c =
     let args = c .before .before .before .before .before .before .before .before .args in
     let locate = c .before .before .before .before .locate in
-    less-positions _ (args .view) _ _ (locate .ensures) _ (c .before .answer2 .given .1)
+    less-positions _ base (viewNumber (args .view)) _ _ (locate .ensures) _ (c .before .answer2 .given .1)
 
 pub char-index-to-entry-spec : {M : Type 1} → statement M
 char-index-to-entry-spec =

@@ -1,71 +1,42 @@
--- `calls_make::begin::new`: fan, limit and areas are tested, then the tree's first words are written.
-use borrow.Author.Needs.{needs}
-use denote.Ref.{now}
-use Rattle.calls_make.proofs.BeginLaws.{room, make-refused, make-good}
+-- `calls_make::begin::new`: the call at any width, at the full tree's.
+use mathlib.Core.List.{[], _∷_}
+use mathlib.Core.Path.{refl, ap, _∙_}
+use native.Mathlib.Omega.{arith}
+use Rattle.model.specs.Kind.{base}
+use Rattle.model.specs.Calls.{make}
+use Rattle.model.specs.declared.length.Slot.{Slot}
 use Rattle.calls_make.proofs.begin.new.Statement.{statement}
 use Rattle.calls_make.proofs.begin.new.Tie as tie
 
-open-areas-requires : tie.Need-open-areas-requires
-open-areas-requires c κs = search needs
+new-requires : tie.Need-new-requires
+new-requires c κs = tt
 
-enum-known-n : tie.Need-enum-known-n
-enum-known-n c = search needs
-
-enum-known-g : tie.Need-enum-known-g
-enum-known-g c = search needs
-
-begin-requires : tie.Need-begin-requires
-begin-requires c κs =
-    let args = c .before .before .before .before .before .before .before .before .before .before .before .before .before .args in
-    let open-areas = c .before .before .before .before .before .before .open-areas in
-    let g = c .before .before .before .before .g in
-    let r = room _ _ (now (args .leaves)) (now (args .inners)) (now (args .homes)) _ (open-areas .ensures) _ (g .given .1) in (r .same, r .shaped, r .leaves, r .inners, r .homes)
+new-requires-2 : tie.Need-new-requires-2
+new-requires-2 c κs =
+    let the-new = c .before .before .before .before .new in
+    (omega arith, omega arith, ap (λ (y : Slot). y .child) (the-new .ensures), refl)
 
 same-length : tie.Need-same-length
-same-length c = search needs
+same-length c =
+    let new2 = c .before .before .before .before .before .before .new2 in
+    new2 .kept .1 .1 .1 .1 .0
 
 same-length-2 : tie.Need-same-length-2
-same-length-2 c = search needs
+same-length-2 c =
+    let new2 = c .before .before .before .before .before .before .new2 in
+    new2 .kept .1 .1 .1 .1 .1 .0
 
 same-length-3 : tie.Need-same-length-3
-same-length-3 c = search needs
+same-length-3 c =
+    let new2 = c .before .before .before .before .before .before .new2 in
+    new2 .kept .1 .1 .1 .1 .1 .1 .0
 
 returns : tie.Need-returns
 returns c =
-    let args = c .before .before .before .before .before .before .before .before .before .before .args in
-    let open-areas = c .before .before .before .open-areas in
-    make-refused _ _ (now (args .leaves)) (now (args .inners)) (now (args .homes)) _ (open-areas .ensures) _ _ (c .before .n .given .1)
-
-same-length-4 : tie.Need-same-length-4
-same-length-4 c = search needs
-
-same-length-5 : tie.Need-same-length-5
-same-length-5 c = search needs
-
-same-length-6 : tie.Need-same-length-6
-same-length-6 c = search needs
-
-returns-2 : tie.Need-returns-2
-returns-2 c =
-    let args = c .before .before .before .before .before .before .before .before .before .before .before .before .before .before .before .before .before .before .before .before .args in
-    let open-areas = c .before .before .before .before .before .before .before .before .before .before .before .before .before .open-areas in
-    let g = c .before .before .before .before .before .before .before .before .before .before .before .g in
-    let the-begin = c .before .before .before .before .before .before .begin in
-    make-good _ _ (now (args .leaves)) (now (args .inners)) (now (args .homes)) _ (open-areas .ensures) _ _ (g .given .1) _ (the-begin .ensures)
+    let args = c .before .before .before .before .before .before .before .before .before .before .before .before .before .before .before .args in
+    let slot = c .before .before .before .before .before .before .before .before .before .before .before .new in
+    c .before .before .before .before .before .before .new2 .ensures 1
+    ∙ ap (λ (y : Slot). make base (args .fan) (args .limit) (y .«prepare_len» ∷ y .«effect_len» ∷ []) (args .leaves .now) (args .inners .now) (args .homes .now)) (slot .ensures)
 
 pub new-spec : {M : Type 1} → statement M
-new-spec =
-    tie.close
-    (tie.spec
-    open-areas-requires
-    enum-known-n
-    enum-known-g
-    begin-requires
-    same-length
-    same-length-2
-    same-length-3
-    returns
-    same-length-4
-    same-length-5
-    same-length-6
-    returns-2)
+new-spec = tie.close (tie.spec new-requires new-requires-2 same-length same-length-2 same-length-3 returns)

@@ -1,109 +1,17 @@
--- `calls_order::order::entry_to_char_index`: the lengths before the slot in its leaf, and those before the leaf on the way up.
-use borrow.Author.Needs.{needs}
+-- `calls_order::order::entry_to_char_index`: the position on a tree of any kind, with two lengths an entry.
 use native.Mathlib.Omega.{arith}
-use Rattle.open.proofs.CursorLaws.{stands, slot-in}
-use Rattle.open.proofs.ReadyLaws.{inner-area, view-in, view-few}
-use Rattle.calls_order.proofs.OrderLaws.{rank-refused, rank-good}
+use Rattle.open.proofs.ReadyLaws.{view-few}
 use Rattle.calls_order.proofs.order.entry_to_char_index.Statement.{statement}
 use Rattle.calls_order.proofs.order.entry_to_char_index.Tie as tie
 
-open-at-requires : tie.Need-open-at-requires
-open-at-requires c κs = search needs
-
-enum-known-n : tie.Need-enum-known-n
-enum-known-n c = search needs
-
-enum-known-g : tie.Need-enum-known-g
-enum-known-g c = search needs
-
 number-requires : tie.Need-number-requires
-number-requires c κs = search needs
+number-requires c κs = tt
 
-start-in-requires : tie.Need-start-in-requires
-start-in-requires c κs =
-    let args = c .before .before .before .before .before .before .before .before .args in
-    let open-at = c .before .before .before .before .open-at in
-    let h = stands _ (args .at) _ _ (open-at .ensures) (c .before .before .g .given .1) in let i = slot-in _ (args .at) _ h in
-    (i .0, i .1, view-in _ _ _ (h .ready) (rw (c .number .ensures) (view-few (args .view))), omega (arith, i .2))
-
-parent-of-requires : tie.Need-parent-of-requires
-parent-of-requires c κs =
-    let args = c .before .before .before .before .before .before .before .before .before .args in
-    let open-at = c .before .before .before .before .before .open-at in
-    let g = c .before .before .before .g in
-    let i = slot-in _ (args .at) _ (stands _ (args .at) _ _ (open-at .ensures) (g .given .1)) in (i .0, i .1)
-
-at-of-requires : tie.Need-at-of-requires
-at-of-requires c κs =
-    let args = c .before .before .before .before .before .before .before .before .before .before .args in
-    let open-at = c .before .before .before .before .before .before .open-at in
-    let g = c .before .before .before .before .g in
-    let i = slot-in _ (args .at) _ (stands _ (args .at) _ _ (open-at .ensures) (g .given .1)) in (i .0, i .1)
-
-rank-up-requires : tie.Need-rank-up-requires
-rank-up-requires c κs =
-    let args = c .before .before .before .before .before .before .before .before .before .before .before .args in
-    let open-at = c .before .before .before .before .before .before .before .open-at in
-    let g = c .before .before .before .before .before .g in
-    let number = c .before .before .before .number in
-    let h = stands _ (args .at) _ _ (open-at .ensures) (g .given .1) in
-    (inner-area _ _ (h .ready), view-in _ _ _ (h .ready) (rw (number .ensures) (view-few (args .view))), h .ready .levels-most, c .before .before .start-in .ensures .1)
-
-enum-known-n-2 : tie.Need-enum-known-n-2
-enum-known-n-2 c = search needs
-
-cast-t21 : tie.Need-cast-t21
-cast-t21 c = search needs
-
-enum-told : tie.Need-enum-told
-enum-told c = search needs
+entry-to-char-index-requires : tie.Need-entry-to-char-index-requires
+entry-to-char-index-requires c κs = (omega arith, omega arith, rw (c .number .ensures) (view-few (c .before .before .before .before .args .view)))
 
 returns : tie.Need-returns
-returns c =
-    let args = c .before .before .before .before .before .before .before .args in
-    let open-at = c .before .before .before .open-at in
-    rank-refused _ (args .at) _ (open-at .ensures) (args .view) _ (c .before .n .given .1)
-
-returns-2 : tie.Need-returns-2
-returns-2 c =
-    let args = c .before .before .before .before .before .before .before .before .before .before .before .before .before .before .before .args in
-    let open-at = c .before .before .before .before .before .before .before .before .before .before .before .open-at in
-    let g = c .before .before .before .before .before .before .before .before .before .g in
-    let number = c .before .before .before .before .before .before .before .number in
-    let start-in = c .before .before .before .before .before .before .start-in in
-    let parent-of = c .before .before .before .before .before .parent-of in
-    let at-of = c .before .before .before .before .at-of in
-    let rank-up = c .before .before .before .rank-up in
-    rank-good _ (args .at) _ (open-at .ensures) _ (g .given .1) (args .view) _ _ _ _ _ _ (number .ensures) (start-in .ensures .0) (parent-of .ensures) (at-of .ensures)
-    (rank-up .ensures) (c .before .n2 .given .1)
-
-returns-3 : tie.Need-returns-3
-returns-3 c =
-    let args = c .before .before .before .before .before .before .before .before .before .before .before .before .before .before .args in
-    let open-at = c .before .before .before .before .before .before .before .before .before .before .open-at in
-    let g = c .before .before .before .before .before .before .before .before .g in
-    let number = c .before .before .before .before .before .before .number in
-    let start-in = c .before .before .before .before .before .start-in in
-    let parent-of = c .before .before .before .before .parent-of in
-    let at-of = c .before .before .before .at-of in
-    rank-good _ (args .at) _ (open-at .ensures) _ (g .given .1) (args .view) _ _ _ _ _ _ (number .ensures) (start-in .ensures .0) (parent-of .ensures) (at-of .ensures)
-    (c .before .before .rank-up .ensures) (c .enum-told .given .1)
+returns c = rw (c .before .number .ensures) at (c .entry-to-char-index .ensures 1)
 
 pub entry-to-char-index-spec : {M : Type 1} → statement M
-entry-to-char-index-spec =
-    tie.close
-    (tie.spec
-    open-at-requires
-    enum-known-n
-    enum-known-g
-    number-requires
-    start-in-requires
-    parent-of-requires
-    at-of-requires
-    rank-up-requires
-    enum-known-n-2
-    cast-t21
-    enum-told
-    returns
-    returns-2
-    returns-3)
+entry-to-char-index-spec = tie.close (tie.spec number-requires entry-to-char-index-requires returns)

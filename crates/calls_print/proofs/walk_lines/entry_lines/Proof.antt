@@ -10,11 +10,11 @@ use Rattle.calls_print.proofs.walk_lines.entry_lines.Statement.{stateme
 use Rattle.calls_print.proofs.walk_lines.entry_lines.Tie as tie
 
 abbrev Inv-loop : tie.InvT-loop
-Inv-loop leaves inners g levels root entries page₀ fan leaf₀ left₀ lines₀ page leaf left lines =
-    Within g leaf × Going g levels leaves inners entries (firstDown g levels root inners) page₀ left leaf (laid (lines .at) (lines .p) (lines .q) page)
+Inv-loop leaves inners g effect levels root entries page₀ fan leaf₀ left₀ lines₀ page leaf left lines =
+    Within g leaf × Going effect g levels leaves inners entries (firstDown g levels root inners) page₀ left leaf (laid (lines .at) (lines .p) (lines .q) page)
 
 abbrev μ-loop : tie.MeasureT-loop
-μ-loop leaves inners g levels root entries page₀ fan leaf₀ left₀ lines₀ page leaf left lines = left
+μ-loop leaves inners g effect levels root entries page₀ fan leaf₀ left₀ lines₀ page leaf left lines = left
 
 first-down-requires : tie.Need-first-down-requires Inv-loop μ-loop
 first-down-requires c κs =
@@ -25,7 +25,7 @@ loop-holds : tie.Need-loop-holds Inv-loop μ-loop
 loop-holds c =
     let args = c .before .before .before .before .args in
     let pre = c .before .before .before .before .pre in
-    (subst (Within (args .g)) (sym (c .first-down .ensures)) (first-within _ _ _ _), start _ _ _ _ _ _ _ (pre .4) _ (c .first-down .ensures))
+    (subst (Within (args .g)) (sym (c .first-down .ensures)) (first-within _ _ _ _), start _ _ _ _ _ _ _ _ (pre .4) _ (c .first-down .ensures))
 
 enum-known-leaf : tie.Need-enum-known-leaf Inv-loop μ-loop
 enum-known-leaf c = search needs
@@ -50,7 +50,7 @@ returns c =
     let the-loop = c .before .before .before .before .before .before .loop in
     let leaf = c .before .before .before .leaf in
     let loop-test = c .before .before .before .before .before .loop-test in
-    stopped _ _ _ _ _ _ _ (pre .4) _ _ _ (the-loop .inv .1) (rw (leaf .given .1) (met-empty _ _ _ _ _ _ (c .before .len-of .ensures) _ (c .if1 .taken))) (loop-test .taken)
+    stopped _ _ _ _ _ _ _ _ (pre .4) _ _ _ (the-loop .inv .1) (rw (leaf .given .1) (met-empty _ _ _ _ _ _ (c .before .len-of .ensures) _ (c .if1 .taken))) (loop-test .taken)
 
 same-length-2 : tie.Need-same-length-2 Inv-loop μ-loop
 same-length-2 c =
@@ -63,7 +63,7 @@ returns-2 c =
     let the-loop = c .before .before .before .before .before .before .before .loop in
     let leaf = c .before .before .before .before .leaf in
     let loop-test = c .before .before .before .before .before .before .loop-test in
-    stopped _ _ _ _ _ _ _ (pre .4) _ _ _ (the-loop .inv .1) (rw (leaf .given .1) (met-over _ _ _ _ _ _ (c .before .before .len-of .ensures) _ (c .if2 .taken))) (loop-test .taken)
+    stopped _ _ _ _ _ _ _ _ (pre .4) _ _ _ (the-loop .inv .1) (rw (leaf .given .1) (met-over _ _ _ _ _ _ (c .before .before .len-of .ensures) _ (c .if2 .taken))) (loop-test .taken)
 
 least-requires : tie.Need-least-requires Inv-loop μ-loop
 least-requires c κs = tt
@@ -128,7 +128,7 @@ loop-again c =
     let least = c .before .before .before .before .before .before .before .least in
     let leaf-lines = c .before .before .before .before .before .leaf-lines in (
       subst (Within (args .g)) (sym (c .next-up .ensures)) (next-within _ _ _ _ _ _),
-      onward _ _ _ _ _ _ _ (pre .4) _ _ _ (the-loop .inv .1) _ (leaf .given .1) _ (len-of .ensures) (if1 .left) (if2 .left) _ (least .ensures) _ (leaf-lines .ensures) (leaf-lines .kept .1 .1 .1 .1 .0)
+      onward _ _ _ _ _ _ _ _ (pre .4) _ _ _ (the-loop .inv .1) _ (leaf .given .1) _ (len-of .ensures) (if1 .left) (if2 .left) _ (least .ensures) _ (leaf-lines .ensures) (leaf-lines .kept .1 .1 .1 .1 .1 .0)
           _ _ (c .before .before .parent-of .ensures) (c .before .at-of .ensures) _ (c .next-up .ensures),
     )
 
@@ -144,7 +144,7 @@ returns-3 : tie.Need-returns-3 Inv-loop μ-loop
 returns-3 c =
     let pre = c .before .before .before .before .before .before .before .before .pre in
     let the-loop = c .before .before .before .loop in
-    stopped _ _ _ _ _ _ _ (pre .4) _ _ _ (the-loop .inv .1) (met-nothing _ _ _ _ _ _ _ (c .enum-told .given .1)) (c .before .before .loop-test .taken)
+    stopped _ _ _ _ _ _ _ _ (pre .4) _ _ _ (the-loop .inv .1) (met-nothing _ _ _ _ _ _ _ (c .enum-told .given .1)) (c .before .before .loop-test .taken)
 
 enum-told-2 : tie.Need-enum-told-2 Inv-loop μ-loop
 enum-told-2 c = search needs
@@ -158,7 +158,7 @@ returns-4 : tie.Need-returns-4 Inv-loop μ-loop
 returns-4 c =
     let pre = c .before .before .before .before .before .before .before .before .pre in
     let the-loop = c .before .before .before .loop in
-    stopped _ _ _ _ _ _ _ (pre .4) _ _ _ (the-loop .inv .1) (met-broken _ _ _ _ _ _ _ (c .enum-told2 .given .1)) (c .before .before .loop-test .taken)
+    stopped _ _ _ _ _ _ _ _ (pre .4) _ _ _ (the-loop .inv .1) (met-broken _ _ _ _ _ _ _ (c .enum-told2 .given .1)) (c .before .before .loop-test .taken)
 
 same-length-5 : tie.Need-same-length-5 Inv-loop μ-loop
 same-length-5 c = c .before .loop .inv .1 .long
@@ -166,7 +166,7 @@ same-length-5 c = c .before .loop .inv .1 .long
 returns-5 : tie.Need-returns-5 Inv-loop μ-loop
 returns-5 c =
     let pre = c .before .before .before .before .before .before .pre in
-    ended _ _ _ _ _ _ _ (pre .4) _ _ _ (c .before .loop .inv .1) (met-none _ _ _ _ _ _ _ (c .loop-test .left)) (c .loop-test .left)
+    ended _ _ _ _ _ _ _ _ (pre .4) _ _ _ (c .before .loop .inv .1) (met-none _ _ _ _ _ _ _ (c .loop-test .left)) (c .loop-test .left)
 
 pub entry-lines-spec : {M : Type 1} → statement M
 entry-lines-spec =

@@ -11,12 +11,12 @@ use Rattle.calls_print.proofs.walk_lines.leaf_lines.Statement.{statemen
 use Rattle.calls_print.proofs.walk_lines.leaf_lines.Tie as tie
 
 abbrev Inv-loop : tie.InvT-loop
-Inv-loop leaves g k n page₀ at₀ p₀ q₀ i₀ page at p q i =
+Inv-loop leaves g view k n page₀ at₀ p₀ q₀ i₀ page at p q i =
     (i ≤ n) × (at ≡ at₀ + 55 * i) × (length page ≡ length page₀)
-    × (laidBy (drop i (take n (nodeAt g (k .0) leaves .slots))) (laid at p q page) ≡ laidBy (take n (nodeAt g (k .0) leaves .slots)) (laid at₀ p₀ q₀ page₀))
+    × (laidBy view (drop i (take n (nodeAt g (k .0) leaves .slots))) (laid at p q page) ≡ laidBy view (take n (nodeAt g (k .0) leaves .slots)) (laid at₀ p₀ q₀ page₀))
 
 abbrev μ-loop : tie.MeasureT-loop
-μ-loop leaves g k n page₀ at₀ p₀ q₀ i₀ page at p q i = n - i
+μ-loop leaves g view k n page₀ at₀ p₀ q₀ i₀ page at p q i = n - i
 
 loop-holds : tie.Need-loop-holds Inv-loop μ-loop
 loop-holds c = (omega arith, omega arith, refl, refl)
@@ -29,12 +29,12 @@ child-of-requires c κs =
 length-of-requires : tie.Need-length-of-requires Inv-loop μ-loop
 length-of-requires c κs =
     let pre = c .before .before .before .before .before .pre in
-    (pre .0, omega (arith, pre .1), pre .2, omega (arith, pre .3))
+    (pre .0, omega (arith, pre .0 .shaped .columns), pre .2, omega (arith, pre .3))
 
 length-of-requires-2 : tie.Need-length-of-requires-2 Inv-loop μ-loop
 length-of-requires-2 c κs =
     let pre = c .before .before .before .before .before .before .pre in
-    (pre .0, omega (arith, pre .1), pre .2, omega (arith, pre .3))
+    (pre .0, pre .1, pre .2, omega (arith, pre .3))
 
 line-requires : tie.Need-line-requires Inv-loop μ-loop
 line-requires c κs =
@@ -73,7 +73,7 @@ loop-again c =
       omega arith,
       omega (arith, the-loop .inv .1),
       line .kept .0 ∙ the-loop .inv .2,
-      one-slot (args .n) (the-loop .i) _ _ _ _ _ _ _ _ (nodeAt (args .g) (args .k .0) (args .leaves .now) .slots) _ _ _ (loop-test .taken) (omega (arith, slots-are (args .g) (args .k .0) (args .leaves .now), pre .3))
+      one-slot (args .view) (args .n) (the-loop .i) _ _ _ _ _ _ _ _ (nodeAt (args .g) (args .k .0) (args .leaves .now) .slots) _ _ _ (loop-test .taken) (omega (arith, slots-are (args .g) (args .k .0) (args .leaves .now), pre .3))
           (child-of .ensures) (length-of .ensures) (length-of2 .ensures) (line .ensures) (c .before .wrapping-add-u32 .ensures) (c .wrapping-add-u322 .ensures) (the-loop .inv .3),
     )
 
@@ -84,7 +84,7 @@ returns : tie.Need-returns Inv-loop μ-loop
 returns c =
     let args = c .before .before .before .before .args in
     let pre = c .before .before .before .before .pre in
-    no-slot (args .n) (c .before .loop .i) (nodeAt (args .g) (args .k .0) (args .leaves .now) .slots) _ _ (c .loop-test .left) (omega (arith, slots-are (args .g) (args .k .0) (args .leaves .now), pre .3)) (c .before .loop .inv .3)
+    no-slot (args .view) (args .n) (c .before .loop .i) (nodeAt (args .g) (args .k .0) (args .leaves .now) .slots) _ _ (c .loop-test .left) (omega (arith, slots-are (args .g) (args .k .0) (args .leaves .now), pre .3)) (c .before .loop .inv .3)
 
 pub leaf-lines-spec : {M : Type 1} → statement M
 leaf-lines-spec =

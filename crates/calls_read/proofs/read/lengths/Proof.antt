@@ -1,38 +1,25 @@
--- `calls_read::read::lengths`: a current cursor's slot holds the lengths behind its child.
+-- `calls_read::read::lengths`: the call at any width, at the full tree's; the two lengths stand behind the first of the four words.
+use mathlib.Core.Path.{refl}
+use native.Mathlib.Omega.{arith}
 use borrow.Author.Needs.{needs}
-use mathlib.Core.Path.{ap}
-use Rattle.model.specs.declared.shape.Shape.{Shape}
-use Rattle.open.proofs.CursorLaws.{stands, slot-in}
-use Rattle.calls_read.proofs.ReadLaws.{lengths-refused, lengths-good}
+use Rattle.calls_read.proofs.ReadLaws.{told-refused, told-good}
 use Rattle.calls_read.proofs.read.lengths.Statement.{statement}
 use Rattle.calls_read.proofs.read.lengths.Tie as tie
 
-open-at-requires : tie.Need-open-at-requires
-open-at-requires c κs = search needs
-
-enum-known-n : tie.Need-enum-known-n
-enum-known-n c = search needs
-
-enum-known-g : tie.Need-enum-known-g
-enum-known-g c = search needs
-
-lengths-at-requires : tie.Need-lengths-at-requires
-lengths-at-requires c κs =
-    let st = stands _ (c .before .before .before .before .before .before .before .args .at) _ _ (c .before .before .before .open-at .ensures) (c .before .g .given .1) in
-    let i = slot-in _ (c .before .before .before .before .before .before .before .args .at) _ st in
-    (i .0, ap (λ (x : Shape). x .stride) (st .ready .same), i .1, i .2)
+lengths-requires : tie.Need-lengths-requires
+lengths-requires c κs = (omega arith, omega arith, refl)
 
 returns : tie.Need-returns
-returns c =
-    let args = c .before .before .before .before .before .before .before .args in
-    let open-at = c .before .before .before .open-at in
-    lengths-refused _ (args .at) _ (open-at .ensures) _ (c .before .n .given .1)
+returns c = told-refused _ _ (c .before .lengths .last .1 .1 .1 .1 .1 .1 .0) (c .before .lengths .ensures .0 1) (c .if1 .taken)
+
+array-read-t12 : tie.Need-array-read-t12
+array-read-t12 c = search needs
+
+array-read-t15 : tie.Need-array-read-t15
+array-read-t15 c = search needs
 
 returns-2 : tie.Need-returns-2
-returns-2 c =
-    let args = c .before .before .before .before .before .before .before .before .args in
-    let open-at = c .before .before .before .before .open-at in
-    lengths-good _ (args .at) _ (open-at .ensures) _ (c .before .before .g .given .1) _ (c .lengths-at .ensures)
+returns-2 c = told-good _ _ (c .before .lengths .last .1 .1 .1 .1 .1 .1 .0) (c .before .lengths .ensures .0 1) (c .if1 .left) (c .before .lengths .ensures .1)
 
 pub lengths-spec : {M : Type 1} → statement M
-lengths-spec = tie.close (tie.spec open-at-requires enum-known-n enum-known-g lengths-at-requires returns returns-2)
+lengths-spec = tie.close (tie.spec lengths-requires returns array-read-t12 array-read-t15 returns-2)

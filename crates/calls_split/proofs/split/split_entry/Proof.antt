@@ -1,101 +1,49 @@
--- `calls_split::split::split_entry`: the entry is divided, and the answer is made of where it stands then; a 9 on the way gives the head as it was.
-use borrow.Author.Needs.{needs}
-use Rattle.calls_split.proofs.SplitLaws.{divide-in, answer-in, entry-refused, entry-broken, entry-whole}
+-- `calls_split::split::split_entry`: the call of a tree with two lengths an entry.
+use mathlib.Core.Path.{refl, ap, _∙_}
+use mathlib.Core.List.{[], _∷_}
+use native.Mathlib.Omega.{arith}
+use Rattle.model.specs.Kind.{base}
+use Rattle.model.specs.State.{State, state}
+use Rattle.model.specs.Calls.{splitEntry}
+use Rattle.model.specs.declared.length.Slot.{Slot}
 use Rattle.calls_split.proofs.split.split_entry.Statement.{statement}
 use Rattle.calls_split.proofs.split.split_entry.Tie as tie
 
-open-split-requires : tie.Need-open-split-requires
-open-split-requires c κs = search needs
+-- the tree as it was lent
+abbrev entry : tie.Start → State
+entry a = state (a .args .head) (a .args .leaves .now) (a .args .inners .now) (a .args .homes .now)
 
-enum-known-n : tie.Need-enum-known-n
-enum-known-n c = search needs
+new-requires : tie.Need-new-requires
+new-requires c κs = tt
 
-enum-known-g : tie.Need-enum-known-g
-enum-known-g c = search needs
-
-divide-requires : tie.Need-divide-requires
-divide-requires c κs =
-    let args = c .before .before .before .before .before .before .before .before .before .before .before .before .before .before .args in
-    let open-split = c .before .before .before .before .before .before .before .open-split in
-    let g = c .before .before .before .before .before .g in
-    divide-in _ (args .at) (args .lengths) _ _ (open-split .ensures) (g .given .1)
+split-entry-requires : tie.Need-split-entry-requires
+split-entry-requires c κs =
+    let new = c .before .before .before .before .new in
+    (omega arith, omega arith, ap (λ (z : Slot). z .child) (new .ensures), refl)
 
 same-length : tie.Need-same-length
-same-length c = search needs
+same-length c =
+    let split-entry = c .before .before .before .before .before .before .split-entry in
+    split-entry .kept .1 .1 .0
 
 same-length-2 : tie.Need-same-length-2
-same-length-2 c = search needs
+same-length-2 c =
+    let split-entry = c .before .before .before .before .before .before .split-entry in
+    split-entry .kept .1 .1 .1 .0
 
 same-length-3 : tie.Need-same-length-3
-same-length-3 c = search needs
+same-length-3 c =
+    let split-entry = c .before .before .before .before .before .before .split-entry in
+    split-entry .kept .1 .1 .1 .1 .0
 
 returns : tie.Need-returns
 returns c =
-    let args = c .before .before .before .before .before .before .before .before .before .before .before .before .before .before .before .before .before .before .before .before .before .before .before .args in
-    let open-split = c .before .before .before .before .before .before .before .before .before .before .before .before .before .before .before .before .open-split in
-    let g = c .before .before .before .before .before .before .before .before .before .before .before .before .before .before .g in
-    let divide = c .before .before .before .before .before .before .before .before .divide in
-    entry-broken _ (args .at) (args .lengths) (args .before) _ (open-split .ensures) _ (g .given .1) _ (divide .ensures) (c .if1 .taken)
-
-divided-at-requires : tie.Need-divided-at-requires
-divided-at-requires c κs =
-    let args = c .before .before .before .before .before .before .before .before .before .before .before .before .before .before .before .before .before .before .before .before .before .before .before .before .before .args in
-    let open-split = c .before .before .before .before .before .before .before .before .before .before .before .before .before .before .before .before .before .before .open-split in
-    let g = c .before .before .before .before .before .before .before .before .before .before .before .before .before .before .before .before .g in
-    let divide = c .before .before .before .before .before .before .before .before .before .before .divide in
-    answer-in _ (args .at) (args .lengths) (args .before) _ (open-split .ensures) _ (g .given .1) _ (divide .ensures) (c .before .before .if1 .left)
-
-same-length-4 : tie.Need-same-length-4
-same-length-4 c = search needs
-
-same-length-5 : tie.Need-same-length-5
-same-length-5 c = search needs
-
-same-length-6 : tie.Need-same-length-6
-same-length-6 c = search needs
-
-returns-2 : tie.Need-returns-2
-returns-2 c =
-    let args = c .before .before .before .before .before .before .before .before .before .before .args in
-    let open-split = c .before .before .before .open-split in
-    entry-refused _ (args .at) (args .lengths) (args .before) _ (open-split .ensures) _ (c .before .n .given .1)
-
-same-length-7 : tie.Need-same-length-7
-same-length-7 c = search needs
-
-same-length-8 : tie.Need-same-length-8
-same-length-8 c = search needs
-
-same-length-9 : tie.Need-same-length-9
-same-length-9 c = search needs
-
-returns-3 : tie.Need-returns-3
-returns-3 c =
-    let args = c .before .before .before .before .before .before .before .before .before .before .before .before .before .before .before .before .before .before .before .before .before .before .before .before .before .before .args in
-    let open-split = c .before .before .before .before .before .before .before .before .before .before .before .before .before .before .before .before .before .before .before .open-split in
-    let g = c .before .before .before .before .before .before .before .before .before .before .before .before .before .before .before .before .before .g in
-    let divide = c .before .before .before .before .before .before .before .before .before .before .before .divide in
-    let if1 = c .before .before .before .if1 in
-    entry-whole _ (args .at) (args .lengths) (args .before) _ (open-split .ensures) _ (g .given .1) _ (divide .ensures) (if1 .left) _ (c .divided-at .ensures)
+    let s = c .before .before .before .before .before .before .before .before .before .before .before .before .before .before .before in
+    let slot = c .before .before .before .before .before .before .before .before .before .before .before .new in
+    c .before .before .before .before .before .before .split-entry .ensures 1
+    ∙ ap (λ (z : Slot). splitEntry base (entry s) (s .args .at) (z .«prepare_len» ∷ z .«effect_len» ∷ []) (s .args .before)) (slot .ensures)
 
 pub split-entry-spec : {M : Type 1} → statement M
 split-entry-spec =
     tie.close
-    (tie.spec
-    open-split-requires
-    enum-known-n
-    enum-known-g
-    divide-requires
-    same-length
-    same-length-2
-    same-length-3
-    returns
-    divided-at-requires
-    same-length-4
-    same-length-5
-    same-length-6
-    returns-2
-    same-length-7
-    same-length-8
-    same-length-9
-    returns-3)
+    (tie.spec new-requires split-entry-requires same-length same-length-2 same-length-3 returns)

@@ -1,12 +1,9 @@
 -- `links::link::link`: the slot is summed up from the new node, put in, and every child from it on learns its place.
-use Prim.Native.Nat.{_-_, zero-le}
-use mathlib.Core.Path.{_∙_}
-use mathlib.Core.List.{[], _∷_}
+use mathlib.Core.Path.{refl, _∙_}
 use native.Mathlib.Omega.{arith}
 use lib.ListN.{length}
 use Rattle.model.specs.Node.{nodeOf}
 use Rattle.laws.specs.AreaRead.{node-end}
-use Rattle.laws.specs.Fronts.{front-length, front-in, front-back, front-again}
 use Rattle.laws.specs.Grow.{link-as}
 use Rattle.links.proofs.link.link.Statement.{statement}
 use Rattle.links.proofs.link.link.Tie as tie
@@ -25,65 +22,32 @@ word-requires c κs =
 cast-len : tie.Need-cast-len
 cast-len c = omega (arith, c .word .ok)
 
-sub-slot-of : tie.Need-sub-slot-of
-sub-slot-of c = zero-le
-
-part-x-start : tie.Need-part-x-start
-part-x-start c = zero-le
-
-part-x-end : tie.Need-part-x-end
-part-x-end c =
-    let pre = c .before .before .before .before .before .before .before .pre in
-    pre .0 .shaped .narrow
-
 slot-of-requires : tie.Need-slot-of-requires
 slot-of-requires c κs =
     let pre = c .before .before .before .before .before .before .before .before .pre in
-    let args = c .before .before .before .before .before .before .before .before .args in
-    (pre .0, pre .2, front-length (args .g .stride) (0 ∷ 0 ∷ 0 ∷ 0 ∷ []) (pre .0 .shaped .narrow))
-
-sub-split-child : tie.Need-sub-split-child
-sub-split-child c = zero-le
-
-part-split-child-start : tie.Need-part-split-child-start
-part-split-child-start c = zero-le
-
-part-split-child-end : tie.Need-part-split-child-end
-part-split-child-end c =
-    let args = c .before .before .before .before .before .before .before .before .before .before .before .before .args in
-    let slot-of = c .before .before .before .slot-of in
-    let pre = c .before .before .before .before .before .before .before .before .before .before .before .before .pre in
-    front-in (args .g .stride) (slot-of .last .1 .1 .1 .1 .1 .0) _ (0 ∷ 0 ∷ 0 ∷ 0 ∷ []) (slot-of .kept .1 .1 .1 .1 .1 .0) (pre .0 .shaped .narrow)
+    (pre .0, pre .2, refl)
 
 split-child-requires : tie.Need-split-child-requires
 split-child-requires c κs =
-    let pre = c .before .before .before .before .before .before .before .before .before .before .before .before .before .pre in
-    let args = c .before .before .before .before .before .before .before .before .before .before .before .before .before .args in
-    let slot-of = c .before .before .before .before .slot-of in (
-      record { shaped = pre .0 .shaped; room = pre .0 .inners },
-      pre .1,
-      pre .3 .place,
-      pre .3 .space,
-      front-again (args .g .stride) (slot-of .last .1 .1 .1 .1 .1 .0) _
-          (0 ∷ 0 ∷ 0 ∷ 0 ∷ []) (slot-of .kept .1 .1 .1 .1 .1 .0) (pre .0 .shaped .narrow),
-    )
+    let pre = c .before .before .before .before .before .before .before .before .before .before .before .pre in
+    (record { shaped = pre .0 .shaped; room = pre .0 .inners }, pre .1, pre .3 .place, pre .3 .space, c .before .before .slot-of .ensures .1)
 
 add-adopt-all : tie.Need-add-adopt-all
 add-adopt-all c =
-    let pre = c .before .before .before .before .before .before .before .before .before .before .before .before .before .before .before .before .before .before .pre in
+    let pre = c .before .before .before .before .before .before .before .before .before .before .before .before .before .before .before .before .pre in
     omega (arith, pre .0 .shaped .few, pre .3)
 
 add-adopt-all-2 : tie.Need-add-adopt-all-2
 add-adopt-all-2 c =
-    let word = c .before .before .before .before .before .before .before .before .before .before .before .before .before .word in
+    let word = c .before .before .before .before .before .before .before .before .before .before .before .word in
     omega (arith, word .ok)
 
 adopt-all-requires : tie.Need-adopt-all-requires
 unfolding nodeOf
 adopt-all-requires c κs =
     let split-child = c .before .before .before .before .split-child in
-    let pre = c .before .before .before .before .before .before .before .before .before .before .before .before .before .before .before .before .before .before .pre in
-    let word = c .before .before .before .before .before .before .before .before .before .before .before .before .before .word in
+    let pre = c .before .before .before .before .before .before .before .before .before .before .before .before .before .before .before .before .pre in
+    let word = c .before .before .before .before .before .before .before .before .before .before .before .word in
     (rw (split-child .kept .0) (pre .0), pre .1, omega (arith, word .ensures, pre .3 .space))
 
 same-length : tie.Need-same-length
@@ -99,14 +63,11 @@ same-length-2 c =
 
 returns : tie.Need-returns
 returns c =
-    let slot-of = c .before .before .before .before .before .before .before .before .before .before .before .before .before .before .slot-of in
-    let word = c .before .before .before .before .before .before .before .before .before .before .before .before .before .before .before .before .before .before .word in
-    let args = c .before .before .before .before .before .before .before .before .before .before .before .before .before .before .before .before .before .before .before .before .before .before .before .args in
-    let pre = c .before .before .before .before .before .before .before .before .before .before .before .before .before .before .before .before .before .before .before .before .before .before .before .pre in
+    let word = c .before .before .before .before .before .before .before .before .before .before .before .before .before .before .before .before .word in
+    let slot-of = c .before .before .before .before .before .before .before .before .before .before .before .before .slot-of in
     let split-child = c .before .before .before .before .before .before .before .before .before .split-child in
     let adopt-all = c .before .before .before .before .adopt-all in
-    link-as _ _ _ _ _ _ _ _ (slot-of .last .1 .1 .1 .1 .1 .0) _ _ _ (word .ensures) (slot-of .ensures)
-    (front-back (args .g .stride) (slot-of .last .1 .1 .1 .1 .1 .0) _ (0 ∷ 0 ∷ 0 ∷ 0 ∷ []) (slot-of .kept .1 .1 .1 .1 .1 .0) (pre .0 .shaped .narrow)) (split-child .ensures) (adopt-all .ensures)
+    link-as _ _ _ _ _ _ _ _ _ _ _ _ (word .ensures) (slot-of .ensures .0) refl (split-child .ensures) (adopt-all .ensures)
 
 pub link-spec : {M : Type 1} → statement M
 link-spec =
@@ -115,13 +76,7 @@ link-spec =
     cast-k
     word-requires
     cast-len
-    sub-slot-of
-    part-x-start
-    part-x-end
     slot-of-requires
-    sub-split-child
-    part-split-child-start
-    part-split-child-end
     split-child-requires
     add-adopt-all
     add-adopt-all-2

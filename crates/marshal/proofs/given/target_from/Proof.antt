@@ -1,24 +1,19 @@
 -- `marshal::given::target_from`: the end unless the flag is 0.
-use borrow.Author.Needs.{needs}
-use mathlib.Core.Path.{sym, ap, _∙_}
+use mathlib.Core.Path.{sym, ap}
 use mathlib.Core.Bool.{Bool, cond}
 use borrow.Author.Tests.{eq-eqb, ne-eqb}
 use Rattle.model.specs.declared.answer.Target.the-variants.{Before, End}
-use Rattle.marshal.specs.Flat.{targetFrom, cursorFrom}
+use Rattle.marshal.specs.Flat.{targetFrom}
 use Rattle.marshal.proofs.given.target_from.Statement.{statement}
 use Rattle.marshal.proofs.given.target_from.Tie as tie
 
-cursor-from-requires : tie.Need-cursor-from-requires
-cursor-from-requires c κs = search needs
-
 returns : tie.Need-returns
 unfolding targetFrom
-returns c = ap Before (c .cursor-from .ensures)
-    ∙ sym (ap (λ (t : Bool). cond t (Before (cursorFrom (c .before .before .args .before))) End) (eq-eqb (c .before .before .args .end) 0 (c .before .if1 .taken)))
+returns c = sym (ap (λ (t : Bool). cond t (Before (c .before .args .before)) End) (eq-eqb (c .before .args .end) 0 (c .if1 .taken)))
 
 returns-2 : tie.Need-returns-2
 unfolding targetFrom
-returns-2 c = sym (ap (λ (t : Bool). cond t (Before (cursorFrom (c .before .args .before))) End) (ne-eqb (c .before .args .end) 0 (c .if1 .left)))
+returns-2 c = sym (ap (λ (t : Bool). cond t (Before (c .before .args .before)) End) (ne-eqb (c .before .args .end) 0 (c .if1 .left)))
 
 pub target-from-spec : {M : Type 1} → statement M
-target-from-spec = tie.close (tie.spec cursor-from-requires returns returns-2)
+target-from-spec = tie.close (tie.spec returns returns-2)

@@ -5,6 +5,7 @@ use native.Mathlib.Omega.{arith}
 use lib.ListN.{length, getD, length-set}
 use Rattle.laws.specs.Lists.{rows-le}
 use Rattle.laws.specs.Changes.{insert-words}
+use Rattle.node_write.proofs.WriteLaws.{front-length}
 use Rattle.node.specs.Shaped.{whole, slot-in}
 use Rattle.node_write.proofs.write.insert.Statement.{statement}
 use Rattle.node_write.proofs.write.insert.Tie as tie
@@ -15,56 +16,54 @@ room : (c : tie.Start) → (c .args .i * c .args .g .stride ≤ getD (c .args .n
 room c = (rows-le (c .args .i) (getD (c .args .node .now) 0 0) (c .args .g .stride) (c .pre .2), slot-in (c .args .g) _ (c .pre .0) (c .pre .1) _ (c .pre .3))
 
 slice-read-len : tie.Need-slice-read-len
-slice-read-len c = omega (arith, room (c .before .before .before))
+slice-read-len c = omega (arith, room (c .before .before))
 
 mul-p : tie.Need-mul-p
-mul-p c = omega (arith, room (c .before .before .before))
+mul-p c = omega (arith, room (c .before .before))
 
 add-p : tie.Need-add-p
-add-p c = omega (arith, room (c .before .before .before))
+add-p c = omega (arith, room (c .before .before))
 
 cast-q : tie.Need-cast-q
 cast-q c = omega (arith, c .slice-known2 .given 0)
 
 mul-q : tie.Need-mul-q
-mul-q c = omega (arith, room (c .before .before .before))
+mul-q c = omega (arith, room (c .before .before))
 
 add-q : tie.Need-add-q
-add-q c = omega (arith, room (c .before .before .before))
+add-q c = omega (arith, room (c .before .before))
 
 shift-requires : tie.Need-shift-requires
-shift-requires c κs =
-    let before = c .before .before .before .before in
-    omega (arith, room before)
+shift-requires c κs = omega (arith, room (c .before .before .before))
 
-put-requires : tie.Need-put-requires
-put-requires c κs =
-    let before = c .before .before .before .before .before .before .before .before in
+put-slot-requires : tie.Need-put-slot-requires
+put-slot-requires c κs =
+    let pre = c .before .before .before .before .before .before .before .pre in
+    let before = c .before .before .before .before .before .before .before in
     let shift = c .before .before .before .shift in
-    let pre = c .before .before .before .before .before .before .before .before .pre in
-    omega (arith, room before, shift .kept .0, pre .4)
+    (pre .0, omega (arith, room before, shift .kept .0), pre .4)
 
 add-node : tie.Need-add-node
 add-node c =
-    let s = c .before .before .before .before .before .before .before .before .before .before .before in
-    omega (arith, s .pre .0, s .pre .3)
+    let pre = c .before .before .before .before .before .before .before .before .before .before .pre in
+    omega (arith, pre .0, pre .3)
 
 slice-write-node : tie.Need-slice-write-node
 slice-write-node c =
-    let before = c .before .before .before .before .before .before .before .before .before .before .before in
+    let before = c .before .before .before .before .before .before .before .before .before .before in
     let shift = c .before .before .before .before .before .before .shift in
-    omega (arith, room before, c .before .before .put .kept .0, shift .kept .0)
+    omega (arith, room before, c .before .before .put-slot .kept .0, shift .kept .0)
 
 same-length : tie.Need-same-length
 same-length c =
     let shift = c .before .before .before .before .before .before .shift in
-    simp length-set (c .before .before .put .kept .0 ∙ shift .kept .0)
+    simp length-set (c .before .before .put-slot .kept .0 ∙ shift .kept .0)
 
 returns : tie.Need-returns
 returns c =
-    let s = c .before .before .before .before .before .before .before .before .before .before .before in
-    rw (c .before .before .put .ensures, c .before .before .before .before .before .before .shift .ensures)
-    (insert-words _ _ _ (whole _ _ (s .pre .0) (s .pre .1)) _ _ (s .pre .4) (s .pre .2) (s .pre .3))
+    let s = c .before .before .before .before .before .before .before .before .before .before in
+    rw (c .before .before .put-slot .ensures, c .before .before .before .before .before .before .shift .ensures)
+    (insert-words _ _ _ (whole _ _ (s .pre .0) (s .pre .1)) _ _ (front-length (s .args .g .stride) (s .args .x .now) (omega (arith, s .pre .0, s .pre .4))) (s .pre .2) (s .pre .3))
 
 pub insert-spec : {M : Type 1} → statement M
 insert-spec =
@@ -77,7 +76,7 @@ insert-spec =
     mul-q
     add-q
     shift-requires
-    put-requires
+    put-slot-requires
     add-node
     slice-write-node
     same-length

@@ -1,5 +1,4 @@
 -- `open::lengths::in_use`: the test is the definition's.
-use mathlib.Core.Path.{sym}
 use native.Mathlib.Omega.{arith}
 use borrow.Author.Tests.{lt-ltb, le-ltb}
 use Rattle.open.proofs.lengths.in_use.Statement.{statement}

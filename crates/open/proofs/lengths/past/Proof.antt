@@ -1,34 +1,48 @@
--- `open::lengths::past`: one test for each view, prepare first.
-use mathlib.Core.Path.{ap}
-use Rattle.model.specs.declared.shape.Shape.{Shape}
-use Rattle.open.proofs.LengthLaws.{past-first, past-second}
-use borrow.Author.Needs.{needs}
+-- `open::lengths::past`: where all words are low no total passes; else the sums say it.
+use mathlib.Core.Bool.{false}
+use native.Mathlib.Omega.{arith}
+use Rattle.open.proofs.TotalLaws.{past-none, past-for}
 use Rattle.open.proofs.lengths.past.Statement.{statement}
 use Rattle.open.proofs.lengths.past.Tie as tie
 
-totals-in-requires : tie.Need-totals-in-requires
-totals-in-requires c κs = (c .before .pre .1, ap (λ (x : Shape). x .stride) (c .before .pre .0), c .before .pre .2)
+shape-for-requires : tie.Need-shape-for-requires
+shape-for-requires c κs = (omega (arith, c .before .pre .0 .shaped .narrow), c .before .pre .0 .shaped .few)
 
-past-in-requires : tie.Need-past-in-requires
-past-in-requires c κs = search needs
+small-requires : tie.Need-small-requires
+small-requires c κs = (rw (c .shape-for .ensures) (c .before .before .pre .0 .shaped), c .before .before .pre .3)
+
+low-in-requires : tie.Need-low-in-requires
+low-in-requires c κs =
+    let pre = c .before .before .before .before .pre in
+    (rw (c .before .before .shape-for .ensures) (pre .0), rw (c .before .before .shape-for .ensures) (pre .1))
 
 returns : tie.Need-returns
 returns c =
-    let args = c .before .before .before .before .args in
-    let pre = c .before .before .before .before .pre in
-    past-first (args .head) (args .inners .now) (args .g) (args .old) (args .new) _ (pre .0) (rw (c .before .before .totals-in .ensures .0) at (c .before .past-in .ensures)) (c .if1 .taken)
+    let args = c .before .before .before .before .before .before .args in
+    let pre = c .before .before .before .before .before .before .pre in
+    let g = c .before .before .before .before .shape-for in
+    past-for (args .views) (args .fan) (args .nodes) (args .root .0) (args .inners .now) (args .old .now) (args .new .now) (g .result) false (g .ensures)
+    (past-none (g .result) (args .root .0) (args .inners .now) (args .old .now) (args .new .now) (rw (g .ensures) (pre .0 .shaped)) (pre .3) (c .before .before .before .small .ensures (c .before .before .if1 .taken))
+    (c .before .low-in .ensures (c .if2 .taken)))
 
-past-in-requires-2 : tie.Need-past-in-requires-2
-past-in-requires-2 c κs = search needs
+past-some-requires : tie.Need-past-some-requires
+past-some-requires c κs =
+    let pre = c .before .before .before .before .pre in
+    (rw (c .before .before .shape-for .ensures) (pre .0), rw (c .before .before .shape-for .ensures) (pre .1), pre .2, pre .3)
 
 returns-2 : tie.Need-returns-2
 returns-2 c =
     let args = c .before .before .before .before .before .args in
-    let pre = c .before .before .before .before .before .pre in
-    let totals-in = c .before .before .before .totals-in in
-    past-second (args .head) (args .inners .now) (args .g) (args .old) (args .new) _ (pre .0) (rw (totals-in .ensures .0) at (c .before .before .past-in .ensures))
-    (c .before .if1 .left) _ (rw (totals-in .ensures .1) at (c .past-in2 .ensures))
+    let g = c .before .before .before .shape-for in
+    past-for (args .views) (args .fan) (args .nodes) (args .root .0) (args .inners .now) (args .old .now) (args .new .now) (g .result) (c .past-some .result) (g .ensures) (c .past-some .ensures)
 
 pub past-spec : {M : Type 1} → statement M
 past-spec =
-    tie.close (tie.spec totals-in-requires past-in-requires returns past-in-requires-2 returns-2)
+    tie.close
+    (tie.spec
+    shape-for-requires
+    small-requires
+    low-in-requires
+    returns
+    past-some-requires
+    returns-2)

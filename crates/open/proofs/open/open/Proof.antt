@@ -1,5 +1,6 @@
 -- `open::open::open`: the areas are tested first, then the head's counts.
 use borrow.Author.Needs.{needs}
+use Rattle.model.specs.Kind.{kind}
 use Rattle.open.proofs.OpenLaws.{open-refused, open-astray, open-good}
 use Rattle.open.proofs.open.open.Statement.{statement}
 use Rattle.open.proofs.open.open.Tie as tie
@@ -17,21 +18,21 @@ astray-requires : tie.Need-astray-requires
 astray-requires c κs = search needs
 
 returns : tie.Need-returns
-returns c =
+returns c effect =
     let open-areas = c .before .before .before .before .before .open-areas in
     let g = c .before .before .before .g in
-    open-astray _ _ (open-areas .ensures) _ (g .given .1) _ (c .before .astray .ensures) (c .if1 .taken)
+    open-astray (kind _ effect) _ _ (open-areas .ensures effect) _ (g .given .1) _ (c .before .astray .ensures) (c .if1 .taken)
 
 returns-2 : tie.Need-returns-2
-returns-2 c =
+returns-2 c effect =
     let open-areas = c .before .before .before .open-areas in
-    open-refused _ _ (open-areas .ensures) _ (c .before .n .given .1)
+    open-refused (kind _ effect) _ _ (open-areas .ensures effect) _ (c .before .n .given .1)
 
 returns-3 : tie.Need-returns-3
-returns-3 c =
+returns-3 c effect =
     let open-areas = c .before .before .before .before .before .open-areas in
     let g = c .before .before .before .g in
-    open-good _ _ (open-areas .ensures) _ (g .given .1) _ (c .before .astray .ensures) (c .if1 .left)
+    open-good (kind _ effect) _ _ (open-areas .ensures effect) _ (g .given .1) _ (c .before .astray .ensures) (c .if1 .left)
 
 pub open-spec : {M : Type 1} → statement M
 open-spec = tie.close (tie.spec open-areas-requires enum-known-n enum-known-g astray-requires returns returns-2 returns-3)

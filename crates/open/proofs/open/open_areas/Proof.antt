@@ -2,6 +2,7 @@
 use mathlib.Core.Path.{sym, _∙_}
 use denote.Ref.{now}
 use borrow.Author.Needs.{needs}
+use Rattle.model.specs.Kind.{kind}
 use Rattle.open.proofs.OpenLaws.{short-areas, long-areas, sized}
 use Rattle.open.proofs.Causes.{opened-first}
 use Rattle.open.proofs.open.open_areas.Statement.{statement}
@@ -11,28 +12,30 @@ bad-size-requires : tie.Need-bad-size-requires
 bad-size-requires c κs = search needs
 
 returns : tie.Need-returns
-returns c = sym (opened-first 0 _ _ _ (sym (c .before .bad-size .ensures) ∙ c .if1 .taken))
+returns c effect = sym (opened-first 0 _ _ _ (sym (c .before .bad-size .ensures) ∙ c .if1 .taken))
 
 shape-of-requires : tie.Need-shape-of-requires
-shape-of-requires c κs = let z = sized _ _ (sym (c .before .bad-size .ensures) ∙ c .if1 .left) in (z .fan-least, z .fan-most, z .limit-most)
+shape-of-requires c κs =
+    let z = sized _ _ (sym (c .before .bad-size .ensures) ∙ c .if1 .left) in
+    (c .before .before .before .before .before .pre .0, c .before .before .before .before .before .pre .1, z .fan-least, z .fan-most, z .limit-most)
 
 too-short-requires : tie.Need-too-short-requires
-too-short-requires c κs = search needs
+too-short-requires c κs = c .shape-of .ensures .1
 
 returns-2 : tie.Need-returns-2
-returns-2 c =
+returns-2 c effect =
     let args = c .before .before .before .before .before .before .before .before .args in
     let bad-size = c .before .before .before .before .bad-size in
     let if1 = c .before .before .before .if1 in
-    short-areas _ _ (now (args .leaves)) (now (args .inners)) (now (args .homes)) _ _ _ (bad-size .ensures) (if1 .left) (c .before .before .shape-of .ensures .0)
+    short-areas (kind (args .views) effect) _ _ (now (args .leaves)) (now (args .inners)) (now (args .homes)) _ _ _ (bad-size .ensures) (if1 .left) (c .before .before .shape-of .ensures .0)
     (c .before .too-short .ensures) (c .if2 .taken)
 
 returns-3 : tie.Need-returns-3
-returns-3 c =
+returns-3 c effect =
     let args = c .before .before .before .before .before .before .before .before .args in
     let bad-size = c .before .before .before .before .bad-size in
     let if1 = c .before .before .before .if1 in
-    long-areas _ _ (now (args .leaves)) (now (args .inners)) (now (args .homes)) _ _ _ (bad-size .ensures) (if1 .left) (c .before .before .shape-of .ensures .0)
+    long-areas (kind (args .views) effect) _ _ (now (args .leaves)) (now (args .inners)) (now (args .homes)) _ _ _ (bad-size .ensures) (if1 .left) (c .before .before .shape-of .ensures .0)
     (c .before .too-short .ensures) (c .if2 .left)
 
 pub open-areas-spec : {M : Type 1} → statement M

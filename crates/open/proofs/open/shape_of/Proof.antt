@@ -1,24 +1,18 @@
--- `open::open::shape_of`: the four numbers are those of the definition.
-use mathlib.Core.Path.{refl}
-use native.Mathlib.Omega.{arith}
-use borrow.Author.Needs.{needs}
+-- `open::open::shape_of`: the nodes are those of the definition, and so are the other sizes.
+use Rattle.open.proofs.OpenLaws.{made}
 use Rattle.open.proofs.open.shape_of.Statement.{statement}
 use Rattle.open.proofs.open.shape_of.Tie as tie
 
 nodes-for-requires : tie.Need-nodes-for-requires
-nodes-for-requires c κs = search needs
+nodes-for-requires c κs = (c .pre .2, c .pre .3, c .pre .4)
 
-mul-t5 : tie.Need-mul-t5
-mul-t5 c = search needs
-
-add-t6 : tie.Need-add-t6
-add-t6 c = search needs
+shape-for-requires : tie.Need-shape-for-requires
+shape-for-requires c κs = (c .before .pre .1, c .before .pre .3)
 
 returns : tie.Need-returns
-returns c = (
-  rw (c .nodes-for .ensures .0),
-  record { columns = omega arith; narrow = omega arith; slots = search needs; few = search needs; words = refl; areas = c .nodes-for .ensures .1 },
-)
+returns c =
+    let pre = c .before .before .pre in
+    made _ _ _ _ _ (c .shape-for .ensures) (c .before .nodes-for .ensures) pre
 
 pub shape-of-spec : {M : Type 1} → statement M
-shape-of-spec = tie.close (tie.spec nodes-for-requires mul-t5 add-t6 returns)
+shape-of-spec = tie.close (tie.spec nodes-for-requires shape-for-requires returns)

@@ -1,26 +1,26 @@
 -- `place::size::replace`: the leaf gets the lengths, and the finger learns of the change.
 use Rattle.place.proofs.SizeLaws.{replaced}
-use borrow.Author.Needs.{needs}
 use Rattle.place.proofs.size.replace.Statement.{statement}
 use Rattle.place.proofs.size.replace.Tie as tie
 
 set-lengths-requires : tie.Need-set-lengths-requires
-set-lengths-requires c κs = search needs
+set-lengths-requires c κs = c .before .before .pre
 
 changing-requires : tie.Need-changing-requires
-changing-requires c κs = search needs
+changing-requires c κs = tt
 
 with-finger-requires : tie.Need-with-finger-requires
-with-finger-requires c κs = search needs
+with-finger-requires c κs = tt
 
 same-length : tie.Need-same-length
-same-length c = search needs
+same-length c =
+    let set-lengths = c .before .before .before .before .set-lengths in
+    set-lengths .kept .0
 
 returns : tie.Need-returns
 returns c =
-    let args = c .before .before .before .before .before .before .before .before .args in
-    let set-lengths = c .before .before .before .before .set-lengths in
-    λ xs hs. replaced (args .g) _ _ _ _ _ _ (args .leaves .now) _ xs hs (set-lengths .ensures) (c .before .changing .ensures) (c .with-finger .ensures)
+    let args = c .before .before .before .before .before .before .before .args in
+    λ xs hs. replaced (args .g) _ _ _ _ _ _ (args .leaves .now) _ xs hs (c .before .before .before .before .set-lengths .ensures) (c .before .changing .ensures) (c .with-finger .ensures)
 
 pub replace-spec : {M : Type 1} → statement M
 replace-spec =

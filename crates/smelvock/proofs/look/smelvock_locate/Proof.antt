@@ -1,4 +1,4 @@
--- `smelvock::look::smelvock_locate`: 10 where head or flag is bad, else the call's answer in words, and its head where it was done.
+-- `smelvock::look::smelvock_locate`: 10 where head or flag is bad, else the call's answer in words, and its finger where it was done.
 use borrow.Author.Needs.{needs}
 use mathlib.Core.Path.{refl, sym, ap₂, _∙_}
 use Rattle.marshal.specs.Flat.{headAfter, locatedOf}
@@ -9,6 +9,7 @@ use Rattle.model.specs.State.{state}
 use Rattle.smelvock.specs.Reads.{given}
 use Rattle.smelvock.specs.Changes as flat
 use Rattle.smelvock.proofs.FlatLaws.{reply-refused, reply-settled}
+use Rattle.smelvock.proofs.KeptLaws.{locate-fingered, finger-alone}
 use Rattle.marshal.proofs.HeadLaws.{good-flag}
 use Rattle.model.specs.Calls as calls
 use Rattle.model.specs.declared.head.Head.{Head}
@@ -29,8 +30,8 @@ same-length c = search needs
 returns : tie.Need-returns
 unfolding flat.locate
 returns c =
-    let a = c .before .before .before .before .before .before .before .before .args in
-    reply-refused locatedOf locatedAnswer headAfter _ (given (a .head .now) (a .leaves .now) (a .inners .now) (a .homes .now)) _ _
+    let args = c .before .before .before .before .before .before .before .before .args in
+    reply-refused locatedOf locatedAnswer headAfter _ (given (args .head .now) (args .leaves .now) (args .inners .now) (args .homes .now)) _ _
     (sym (c .before .before .bad-flag .ensures) ∙ c .before .if1 .taken) (c .refused-located .ensures)
 
 head-from-requires : tie.Need-head-from-requires
@@ -45,11 +46,19 @@ locate-requires c κs = search needs
 located-of-requires : tie.Need-located-of-requires
 located-of-requires c κs = search needs
 
-settle-requires : tie.Need-settle-requires
-settle-requires c κs =
+settle-finger-requires : tie.Need-settle-finger-requires
+settle-finger-requires c κs =
     let bad-flag = c .before .before .before .before .before .before .before .before .bad-flag in
     let if1 = c .before .before .before .before .before .before .before .if1 in
-    good-flag _ _ (sym (bad-flag .ensures) ∙ if1 .left)
+    let args = c .before .before .before .before .before .before .before .before .before .before .before .before .before .before .args in
+    let head-from = c .before .before .before .before .before .head-from in
+    let locate = c .before .before .before .locate in
+    let view-from = c .before .before .before .before .view-from in (
+      good-flag _ _ (sym (bad-flag .ensures) ∙ if1 .left),
+      λ _. finger-alone (args .head .now) (head-from .result) _ (args .leaves .now) (args .inners .now) (args .homes .now) _ _ _ _ _
+          (head-from .ensures) (locate .ensures)
+          (locate-fingered base (state (head-from .result) (args .leaves .now) (args .inners .now) (args .homes .now)) (viewNumber (view-from .result)) (args .index)),
+    )
 
 same-length-2 : tie.Need-same-length-2
 same-length-2 c = search needs
@@ -57,13 +66,19 @@ same-length-2 c = search needs
 returns-2 : tie.Need-returns-2
 unfolding flat.locate
 returns-2 c =
-    let a = c .before .before .before .before .before .before .before .before .before .before .before .before .before .before .before .before .before .args in
-    reply-settled locatedOf locatedAnswer (λ (q : FlatLocated). q .number) (λ x. refl) _ (given (a .head .now) (a .leaves .now) (a .inners .now) (a .homes .now)) _ _ _ _ _ _ _ _
-    (sym (c .before .before .before .before .before .before .before .before .before .before .before .bad-flag .ensures)
-    ∙ c .before .before .before .before .before .before .before .before .before .before .if1 .left) (c .before .before .before .before .located-of .ensures)
-    (c .before .before .settle .ensures) (c .before .before .before .before .before .before .locate .ensures
-    ∙ ap₂ (λ (h : Head) (v : View). calls.locate base (state h (a .leaves .now) (a .inners .now) (a .homes .now)) (viewNumber v) (a .index))
-    (c .before .before .before .before .before .before .before .before .head-from .ensures) (c .before .before .before .before .before .before .before .view-from .ensures))
+    let args = c .before .before .before .before .before .before .before .before .before .before .before .before .before .before .before .before .before .args in
+    let bad-flag = c .before .before .before .before .before .before .before .before .before .before .before .bad-flag in
+    let if1 = c .before .before .before .before .before .before .before .before .before .before .if1 in
+    let located-of = c .before .before .before .before .located-of in
+    let locate = c .before .before .before .before .before .before .locate in
+    let head-from = c .before .before .before .before .before .before .before .before .head-from in
+    let view-from = c .before .before .before .before .before .before .before .view-from in
+    reply-settled locatedOf locatedAnswer (λ (q : FlatLocated). q .number) (λ x. refl) _ (given (args .head .now) (args .leaves .now) (args .inners .now) (args .homes .now)) _ _ _ _ _ _ _ _
+    (sym (bad-flag .ensures)
+    ∙ if1 .left) (located-of .ensures)
+    (c .before .before .settle-finger .ensures) (locate .ensures
+    ∙ ap₂ (λ (h : Head) (v : View). calls.locate base (state h (args .leaves .now) (args .inners .now) (args .homes .now)) (viewNumber v) (args .index))
+    (head-from .ensures) (view-from .ensures))
 
 pub smelvock-locate-spec : {M : Type 1} → statement M
 smelvock-locate-spec =
@@ -77,6 +92,6 @@ smelvock-locate-spec =
     view-from-requires
     locate-requires
     located-of-requires
-    settle-requires
+    settle-finger-requires
     same-length-2
     returns-2)

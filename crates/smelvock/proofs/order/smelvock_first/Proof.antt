@@ -35,9 +35,11 @@ standing-of-requires c κs = search needs
 returns-2 : tie.Need-returns-2
 unfolding flat.first
 returns-2 c =
-    let a = c .before .before .before .before .before .before .before .before .before .args in
-    answer-good standingOf _ _ _ _ (sym (c .before .before .before .before .bad-head .ensures) ∙ c .before .before .before .if1 .left) (c .standing-of .ensures)
-    (ap standingAnswer (c .before .first .ensures ∙ ap (λ (h : Head). calls.first base (state h (a .leaves .now) (a .inners .now) (a .homes .now))) (c .before .before .head-from .ensures)))
+    let bad-head = c .before .before .before .before .bad-head in
+    let if1 = c .before .before .before .if1 in
+    let args = c .before .before .before .before .before .before .before .before .before .args in
+    answer-good standingOf _ _ _ _ (sym (bad-head .ensures) ∙ if1 .left) (c .standing-of .ensures)
+    (ap standingAnswer (c .before .first .ensures ∙ ap (λ (h : Head). calls.first base (state h (args .leaves .now) (args .inners .now) (args .homes .now))) (c .before .before .head-from .ensures)))
 
 pub smelvock-first-spec : {M : Type 1} → statement M
 smelvock-first-spec =

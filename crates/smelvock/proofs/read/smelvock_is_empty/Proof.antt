@@ -32,8 +32,10 @@ number-of-verdict-requires c κs = search needs
 returns-2 : tie.Need-returns-2
 unfolding flat.isEmpty
 returns-2 c =
-    let bad-head = c .before .before .before .before .bad-head in
-    let if1 = c .before .before .before .if1 in
+    let the-bad-head = c .before .before .before .before .bad-head in
+    let the-if1 = c .before .before .before .if1 in
+    let bad-head = the-bad-head in
+    let if1 = the-if1 in
     answer-good numberOf _ _ _ _ (sym (bad-head .ensures) ∙ if1 .left) (c .number-of-verdict .ensures)
     (ap verdictAnswer (c .before .is-empty .ensures ∙ ap calls.isEmpty (c .before .before .head-from .ensures)))
 

@@ -32,8 +32,10 @@ number-of-requires c κs = search needs
 returns-2 : tie.Need-returns-2
 unfolding flat.len
 returns-2 c =
-    let bad-head = c .before .before .before .before .bad-head in
-    let if1 = c .before .before .before .if1 in
+    let the-bad-head = c .before .before .before .before .bad-head in
+    let the-if1 = c .before .before .before .if1 in
+    let bad-head = the-bad-head in
+    let if1 = the-if1 in
     answer-good numberOf _ _ _ _ (sym (bad-head .ensures) ∙ if1 .left) (c .number-of .ensures) (ap numberAnswer (c .before .len .ensures ∙ ap calls.len (c .before .before .head-from .ensures)))
 
 pub smelvock-len-spec : {M : Type 1} → statement M

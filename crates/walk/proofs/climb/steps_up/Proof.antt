@@ -14,7 +14,7 @@ use Rattle.walk.proofs.climb.steps_up.Tie as tie
 
 abbrev Inv-loop : tie.InvT-loop
 Inv-loop inners g left i steps₀ level₀ node-id₀ at₀ steps level node-id at =
-    (level ≤ left) × (length steps ≡ 16) × (stepsUp g level node-id at (part level (left - level) steps) inners ≡ stepsUp g left node-id₀ i [] inners)
+    (level ≤ left) × (length steps ≡ length steps₀) × (stepsUp g level node-id at (part level (left - level) steps) inners ≡ stepsUp g left node-id₀ i [] inners)
 
 abbrev μ-loop : tie.MeasureT-loop
 μ-loop inners g left i steps₀ level₀ node-id₀ at₀ steps level node-id at = level
@@ -31,10 +31,10 @@ inside-requires c κs = tt
 
 returns : tie.Need-returns Inv-loop μ-loop
 returns c =
+    let s = c .before .before .before .before .before in
     let l = c .before .before .before .loop in (
-      sym (steps-broken (c .before .before .before .before .before .args .g) _ _ _ _ _ (c .before .before .loop-test .taken)
-          (sym (c .before .inside .ensures) ∙ not-true _ (c .if1 .taken))) ∙ l .inv .2,
-      record { few = omega arith; places = l .inv .1 },
+      sym (steps-broken (s .args .g) _ _ _ _ _ (c .before .before .loop-test .taken) (sym (c .before .inside .ensures) ∙ not-true _ (c .if1 .taken))) ∙ l .inv .2,
+      l .inv .1 ∙ s .pre .2,
     )
 
 sub-level : tie.Need-sub-level Inv-loop μ-loop
@@ -42,21 +42,27 @@ sub-level c = omega arith
 
 cast-steps : tie.Need-cast-steps Inv-loop μ-loop
 cast-steps c =
-    let s = c .before .before .before .before .before in
-    omega (arith, in-both (s .args .g) _ _ (turn c) .1, s .pre .0 .shaped)
+    let args = c .before .before .before .before .before .args in
+    let pre = c .before .before .before .before .before .pre in
+    omega (arith, in-both (args .g) _ _ (turn c) .1, pre .0 .shaped)
 
-array-write-steps : tie.Need-array-write-steps Inv-loop μ-loop
-array-write-steps c = omega arith
+element-write-steps : tie.Need-element-write-steps Inv-loop μ-loop
+element-write-steps c =
+    let the-loop = c .before .before .before .loop in
+    let pre = c .before .before .before .before .before .pre in
+    omega (arith, the-loop .inv, pre)
 
 parent-of-requires : tie.Need-parent-of-requires Inv-loop μ-loop
 parent-of-requires c κs =
-    let s = c .before .before .before .before .before in
-    (s .pre .0, in-both (s .args .g) _ _ (turn (c)) .0)
+    let pre = c .before .before .before .before .before .pre in
+    let args = c .before .before .before .before .before .args in
+    (pre .0, in-both (args .g) _ _ (turn c) .0)
 
 at-of-requires : tie.Need-at-of-requires Inv-loop μ-loop
 at-of-requires c κs =
-    let s = c .before .before .before .before .before .before in
-    (s .pre .0, in-both (s .args .g) _ _ (turn (c .before)) .0)
+    let pre = c .before .before .before .before .before .before .pre in
+    let args = c .before .before .before .before .before .before .args in
+    (pre .0, in-both (args .g) _ _ (turn (c .before)) .0)
 
 loop-less : tie.Need-loop-less Inv-loop μ-loop
 loop-less c = omega arith
@@ -64,18 +70,19 @@ loop-less c = omega arith
 loop-again : tie.Need-loop-again Inv-loop μ-loop
 loop-again c =
     let s = c .before .before .before .before .before .before .before in
-    let l = c .before .before .before .before .before .loop in (
+    let l = c .before .before .before .before .before .loop in
+    let more = c .before .before .before .before .loop-test .taken in (
       omega arith,
       simp length-set (l .inv .1),
-      rw (c .before .parent-of .ensures, c .at-of .ensures, step-more (l .level) (s .args .left) (l .at) (l .steps) (c .before .before .before .before .loop-test .taken) (l .inv .0) (omega arith))
-          (sym (steps-on (s .args .g) _ _ _ _ _ (c .before .before .before .before .loop-test .taken) (turn (c .before .before))) ∙ l .inv .2),
+      rw (c .before .parent-of .ensures, c .at-of .ensures, step-more (l .level) (s .args .left) (l .at) (l .steps) more (l .inv .0) (omega (arith, l .inv, s .pre)))
+          (sym (steps-on (s .args .g) _ _ _ _ _ more (turn (c .before .before))) ∙ l .inv .2),
     )
 
 returns-2 : tie.Need-returns-2 Inv-loop μ-loop
 returns-2 c =
-    let args = c .before .before .before .args in
-    let pre = c .before .before .before .pre in
-    (all-steps _ _ _ (c .loop-test .left) ∙ sym (steps-end (args .g) _ _ _ _ _ (c .loop-test .left)) ∙ c .before .loop .inv .2, record { few = pre .1; places = c .before .loop .inv .1 })
+    let s = c .before .before .before in
+    let l = c .before .loop in
+    (all-steps _ _ _ (c .loop-test .left) ∙ sym (steps-end (s .args .g) _ _ _ _ _ (c .loop-test .left)) ∙ l .inv .2, l .inv .1 ∙ s .pre .2)
 
 pub steps-up-spec : {M : Type 1} → statement M
 steps-up-spec =
@@ -88,7 +95,7 @@ steps-up-spec =
     returns
     sub-level
     cast-steps
-    array-write-steps
+    element-write-steps
     parent-of-requires
     at-of-requires
     loop-less

@@ -1,0 +1,124 @@
+// The calls that begin a tree with views lengths an entry: one leaf with the entry 0, and one inner node above it.
+use model::answer::Outcome;
+use model::answer::OutcomeReply;
+use model::head::Head;
+use model::head::Held;
+use model::length::Slot;
+use model::number::NodeNo;
+use model::shape::Shape;
+use node_write::split::new_one;
+use open::open::Opened;
+use open::open::open_areas;
+ghost use mathlib.Core.Path.{_≡_};
+ghost use mathlib.Core.List.{[], _∷_};
+ghost use Prim.Native.Nat.{ℕ, suc, _<_, _≤_};
+ghost use lib.ListN.{length, getD, take};
+ghost use Rattle.model.specs.Length.{lengthsIn};
+ghost use Rattle.model.specs.Kind.{kind};
+ghost use Rattle.model.specs.Node.{newNode};
+ghost use Rattle.model.specs.State.{state, shape, putNode};
+ghost use Rattle.model.specs.Calls as calls;
+ghost use Rattle.model.specs.Calls.{begun, reply};
+ghost use Rattle.node.specs.Shaped.{Shaped};
+
+// Node 0 of an area written anew with the slot x.
+fn write_first(area: &mut [u32], g: Shape, parent: u32, x: &[u32; 4])
+    requires { ⌜ Shaped g × (g .size ≤ length (now area)) × (length (now x) ≡ 4) ⌝ }
+    ensures { λ _. ⌜ now (area .exit) ≡ putNode g 0 (newNode (g .stride) (g .fan) parent (take (g .stride) (now (x .entry)) ∷ [])) (now (area .entry)) ⌝ }
+{
+    let a: usize = 0;
+    let e = g.size;
+    new_one(&mut area[a..e], g, parent, x);
+}
+
+// The tree's first words, and its head. x: the entry 0.
+fn begin(
+    fan: u32,
+    limit: u32,
+    g: Shape,
+    x: &[u32; 4],
+    leaves: &mut [u32],
+    inners: &mut [u32],
+    homes: &mut [u32],
+) -> Head
+    requires { ⌜ Shaped g × (g .size ≤ length (now leaves)) × (g .size ≤ length (now inners)) × (0 < length (now homes)) × (getD (now x) 0 0 ≡ 0) × (length (now x) ≡ 4) ⌝ }
+    ensures { λ r. ⌜ ((views effect : ℕ) → g ≡ shape (suc views) fan limit → state r (now (leaves .exit)) (now (inners .exit)) (now (homes .exit)) ≡ begun (kind views effect) fan limit (lengthsIn views (now (x .entry))) (now (leaves .entry)) (now (inners .entry)) (now (homes .entry))) ⌝ }
+{
+    let empty = Slot::EMPTY;
+    write_first(leaves, g, 0, x);
+    write_first(inners, g, empty.child, x);
+    homes[0] = 0;
+    Head {
+        fan: fan,
+        limit: limit,
+        root: NodeNo(0),
+        levels: 1,
+        leaves: 1,
+        inners: 1,
+        entries: 1,
+        finger: Held::Absent,
+    }
+}
+
+// A new tree with the entry x, 0; a refused one is a head of zeros without finger.
+pub fn new(
+    views: usize,
+    fan: u32,
+    limit: u32,
+    x: &[u32; 4],
+    leaves: &mut [u32],
+    inners: &mut [u32],
+    homes: &mut [u32],
+) -> OutcomeReply
+    requires { ⌜ (1 ≤ views) × (views ≤ 3) × (getD (now x) 0 0 ≡ 0) × (length (now x) ≡ 4) ⌝ }
+    ensures { λ r. ⌜ ((effect : ℕ) → reply (state (r .head) (now (leaves .exit)) (now (inners .exit)) (now (homes .exit))) (r .answer) ≡ calls.make (kind views effect) fan limit (lengthsIn views (now (x .entry))) (now (leaves .entry)) (now (inners .entry)) (now (homes .entry))) ⌝ }
+{
+    match open_areas(views, fan, limit, leaves, inners, homes) {
+        Opened::Refused(n) => {
+            let zeros = Head {
+                fan: 0,
+                limit: 0,
+                root: NodeNo(0),
+                levels: 0,
+                leaves: 0,
+                inners: 0,
+                entries: 0,
+                finger: Held::Absent,
+            };
+            OutcomeReply {
+                head: zeros,
+                answer: Outcome::Refused(n),
+            }
+        }
+        Opened::Good(g) => OutcomeReply {
+            head: begin(fan, limit, g, x, leaves, inners, homes),
+            answer: Outcome::Done,
+        },
+    }
+}
+
+// The tree begun anew, with its own fan and limit.
+pub fn reset(
+    views: usize,
+    head: Head,
+    x: &[u32; 4],
+    leaves: &mut [u32],
+    inners: &mut [u32],
+    homes: &mut [u32],
+) -> OutcomeReply
+    requires { ⌜ (1 ≤ views) × (views ≤ 3) × (getD (now x) 0 0 ≡ 0) × (length (now x) ≡ 4) ⌝ }
+    ensures { λ r. ⌜ ((effect : ℕ) → reply (state (r .head) (now (leaves .exit)) (now (inners .exit)) (now (homes .exit))) (r .answer) ≡ calls.reset (kind views effect) (state head (now (leaves .entry)) (now (inners .entry)) (now (homes .entry))) (lengthsIn views (now (x .entry)))) ⌝ }
+{
+    let fan = head.fan;
+    let limit = head.limit;
+    match open_areas(views, fan, limit, leaves, inners, homes) {
+        Opened::Refused(n) => OutcomeReply {
+            head: head,
+            answer: Outcome::Refused(n),
+        },
+        Opened::Good(g) => OutcomeReply {
+            head: begin(fan, limit, g, x, leaves, inners, homes),
+            answer: Outcome::Done,
+        },
+    }
+}

@@ -1,0 +1,112 @@
+// One entry divided in two, of a tree with views lengths an entry.
+use model::answer::Divided;
+use model::answer::DividedReply;
+use model::head::Cursor;
+use model::head::Head;
+use model::number::EntryId;
+use model::number::LeafNo;
+use open::lengths::lengths_at;
+use open::lengths::too_much;
+use open::open::Opened;
+use open::open::full;
+use open::open::open_at;
+use place::entry::divide;
+ghost use mathlib.Core.Path.{_≡_};
+ghost use Prim.Native.Nat.{ℕ, _<_, _≤_};
+ghost use lib.ListN.{length, getD};
+ghost use Rattle.model.specs.Length.{lengthsIn};
+ghost use Rattle.model.specs.Kind.{kind};
+ghost use Rattle.model.specs.State.{state};
+ghost use Rattle.model.specs.Refuse.{shapeOf};
+ghost use Rattle.model.specs.Calls as calls;
+ghost use Rattle.model.specs.Calls.{reply, dividedAt};
+ghost use Rattle.open.specs.Open.{openedBy};
+ghost use Rattle.calls_split.specs.Split.{splitCauses};
+
+// What split_entry tests.
+fn open_split(
+    views: usize,
+    head: Head,
+    leaves: &[u32],
+    inners: &[u32],
+    homes: &[u32],
+    at: Cursor,
+    x: &[u32; 4],
+) -> Opened
+    requires { ⌜ (1 ≤ views) × (views ≤ 3) × (length (now x) ≡ 4) ⌝ }
+    ensures { λ r. ⌜ ((effect : ℕ) → r ≡ openedBy (splitCauses (kind views effect) (state head (now (leaves .entry)) (now (inners .entry)) (now (homes .entry))) at (lengthsIn views (now (x .entry)))) (shapeOf (kind views effect) head)) ⌝ }
+{
+    match open_at(views, head, leaves, inners, homes, at) {
+        Opened::Refused(n) => Opened::Refused(n),
+        Opened::Good(g) => {
+            let mut own: [u32; 4] = [0; 4];
+            lengths_at(leaves, g, at.leaf, at.slot, &mut own);
+            if too_much(g, x, &own) {
+                return Opened::Refused(6);
+            }
+            if full(head) {
+                return Opened::Refused(8);
+            }
+            Opened::Good(g)
+        }
+    }
+}
+
+// The new entry's id, and the cursors of both entries in order, which bear the new count.
+fn divided_at(id: EntryId, leaf: LeafNo, slot: u32) -> Divided
+    requires { ⌜ (id .0 < 4294967295) × (slot < 4294967295) ⌝ }
+    ensures { λ r. ⌜ r ≡ dividedAt (id .0) (leaf .0) slot ⌝ }
+{
+    let stamp = id.0 + 1;
+    let first = Cursor {
+        leaf: leaf,
+        slot: slot,
+        stamp: stamp,
+    };
+    let second = Cursor {
+        leaf: leaf,
+        slot: slot + 1,
+        stamp: stamp,
+    };
+    Divided::At(id, first, second)
+}
+
+// The lengths of x leave the entry at a cursor for the entry x, which is the next, just before it or just after.
+pub fn split_entry(
+    views: usize,
+    head: Head,
+    leaves: &mut [u32],
+    inners: &mut [u32],
+    homes: &mut [u32],
+    at: Cursor,
+    x: &[u32; 4],
+    before: bool,
+) -> DividedReply
+    requires { ⌜ (1 ≤ views) × (views ≤ 3) × (getD (now x) 0 0 ≡ head .entries) × (length (now x) ≡ 4) ⌝ }
+    ensures { λ r. ⌜ ((effect : ℕ) → reply (state (r .head) (now (leaves .exit)) (now (inners .exit)) (now (homes .exit))) (r .answer) ≡ calls.splitEntry (kind views effect) (state head (now (leaves .entry)) (now (inners .entry)) (now (homes .entry))) at (lengthsIn views (now (x .entry))) before) ⌝ }
+{
+    match open_split(views, head, leaves, inners, homes, at, x) {
+        Opened::Refused(n) => DividedReply {
+            head: head,
+            answer: Divided::Refused(n),
+        },
+        Opened::Good(g) => {
+            let id = EntryId(head.entries);
+            let k = at.leaf;
+            let i = at.slot;
+            let r = divide(views, head, leaves, inners, homes, g, before, k, i, x);
+            let after = r.head;
+            let leaf = r.leaf;
+            if r.number != 0 {
+                return DividedReply {
+                    head: after,
+                    answer: Divided::Refused(r.number),
+                };
+            }
+            DividedReply {
+                head: after,
+                answer: divided_at(id, leaf, r.slot),
+            }
+        }
+    }
+}

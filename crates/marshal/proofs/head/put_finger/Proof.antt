@@ -1,0 +1,78 @@
+-- `marshal::head::put_finger`: ten words written to the last ten are those words.
+use mathlib.Core.Path.{_≡_, refl}
+use mathlib.Core.Bool.{true}
+use mathlib.Core.List.{List, [], _∷_}
+use Prim.Native.Nat.{ℕ, _<_}
+use lib.Dec.{ltb}
+use lib.ListN.{length}
+use lib.Seq.{sets, length-sets}
+use Rattle.marshal.proofs.HeadLaws.{in-head, finger-written}
+use Rattle.marshal.proofs.head.put_finger.Statement.{statement}
+use Rattle.marshal.proofs.head.put_finger.Tie as tie
+
+present-of-requires : tie.Need-present-of-requires
+present-of-requires c κs = tt
+
+finger-of-requires : tie.Need-finger-of-requires
+finger-of-requires c κs = tt
+
+-- a place is within the seventeen words, whatever was written to some of them
+inside : (c : tie.After-finger-of) (vs : List ℕ) (j : ℕ) → ltb j 17 ≡ true → j < length (sets (c .before .before .before .args .head .now) 7 vs)
+inside c vs j t = in-head (c .before .before .before .args .head .now) vs 7 j t (c .before .before .before .pre)
+
+slice-write-head : tie.Need-slice-write-head
+slice-write-head c = inside c [] 7 refl
+
+slice-write-head-2 : tie.Need-slice-write-head-2
+slice-write-head-2 c = inside c (_ ∷ []) 8 refl
+
+slice-write-head-3 : tie.Need-slice-write-head-3
+slice-write-head-3 c = inside c (_ ∷ _ ∷ []) 9 refl
+
+slice-write-head-4 : tie.Need-slice-write-head-4
+slice-write-head-4 c = inside c (_ ∷ _ ∷ _ ∷ []) 10 refl
+
+slice-write-head-5 : tie.Need-slice-write-head-5
+slice-write-head-5 c = inside c (_ ∷ _ ∷ _ ∷ _ ∷ []) 11 refl
+
+slice-write-head-6 : tie.Need-slice-write-head-6
+slice-write-head-6 c = inside c (_ ∷ _ ∷ _ ∷ _ ∷ _ ∷ []) 12 refl
+
+slice-write-head-7 : tie.Need-slice-write-head-7
+slice-write-head-7 c = inside c (_ ∷ _ ∷ _ ∷ _ ∷ _ ∷ _ ∷ []) 13 refl
+
+slice-write-head-8 : tie.Need-slice-write-head-8
+slice-write-head-8 c = inside c (_ ∷ _ ∷ _ ∷ _ ∷ _ ∷ _ ∷ _ ∷ []) 14 refl
+
+slice-write-head-9 : tie.Need-slice-write-head-9
+slice-write-head-9 c = inside c (_ ∷ _ ∷ _ ∷ _ ∷ _ ∷ _ ∷ _ ∷ _ ∷ []) 15 refl
+
+slice-write-head-10 : tie.Need-slice-write-head-10
+slice-write-head-10 c = inside c (_ ∷ _ ∷ _ ∷ _ ∷ _ ∷ _ ∷ _ ∷ _ ∷ _ ∷ []) 16 refl
+
+same-length : tie.Need-same-length
+same-length c = length-sets (c .before .before .before .args .head .now) 7 (_ ∷ _ ∷ _ ∷ _ ∷ _ ∷ _ ∷ _ ∷ _ ∷ _ ∷ _ ∷ [])
+
+returns : tie.Need-returns
+returns c =
+    finger-written (c .before .before .before .args .head .now) (c .before .before .before .args .finger) _ _ (c .before .before .before .pre)
+    (c .before .present-of .ensures) (c .finger-of .ensures)
+
+pub put-finger-spec : {M : Type 1} → statement M
+put-finger-spec =
+    tie.close
+    (tie.spec
+    present-of-requires
+    finger-of-requires
+    slice-write-head
+    slice-write-head-2
+    slice-write-head-3
+    slice-write-head-4
+    slice-write-head-5
+    slice-write-head-6
+    slice-write-head-7
+    slice-write-head-8
+    slice-write-head-9
+    slice-write-head-10
+    same-length
+    returns)

@@ -1,0 +1,110 @@
+-- What a call leaves of the head: a lookup and other lengths all but the finger, one entry more the fan and the limit. Assumes nothing.
+use mathlib.Core.Path.{_≡_, refl, sym, ap, subst, _∙_}
+use mathlib.Core.Bool.{Bool, true, false, cond}
+use mathlib.Core.List.{List}
+use Prim.Native.Nat.{ℕ}
+use lib.ListN.{getD}
+use lib.Dec.{eqb}
+use Rattle.model.specs.declared.shape.Kind.{Kind}
+use Rattle.model.specs.declared.shape.Shape.{Shape}
+use Rattle.model.specs.Lists.{Cause, refusal}
+use Rattle.model.specs.Node.{lengths, start, minus}
+use Rattle.model.specs.State.{State, state, nodeAt}
+use Rattle.model.specs.Climb.{climbUp}
+use Rattle.model.specs.Locate.{servedBy, fromRoot}
+use Rattle.model.specs.Place as place
+use Rattle.model.specs.Place.{Change, withFinger}
+use Rattle.model.specs.Refuse.{shapeOf, opening}
+use Rattle.model.specs.Calls as calls
+use Rattle.model.specs.Calls.{Reply, reply}
+use Rattle.model.specs.Promise.{Fixed}
+use Rattle.model.specs.declared.head.Head.{Head}
+use Rattle.model.specs.declared.head.Cursor.{Cursor}
+use Rattle.model.specs.declared.way.Sum.{Sum}
+use Rattle.model.specs.declared.way.Sum.the-variants as sum
+use Rattle.model.specs.declared.way.Search.{Search}
+use Rattle.model.specs.declared.way.Search.the-variants as search
+use Rattle.model.specs.declared.answer.Number.the-variants as number
+use Rattle.model.specs.declared.answer.Located.the-variants as located
+use Rattle.place.specs.Asked.{asked}
+use Rattle.calls_size.specs.Size as size
+use Rattle.marshal.specs.Flat.{headFrom}
+
+-- t has the head of s but for the finger
+abbrev Fingered : State → State → Type 0
+Fingered s t = t .head ≡ withFinger (t .head .finger) (s .head)
+
+module _ {A : Type 0} (s : State) (refuse : ℕ → A) where
+  unless-fingered : (cs : List Cause) (r : Reply A) → Fingered s (r .after) → Fingered s (calls.unless cs (λ n. reply s (refuse n)) r .after)
+  unless-fingered cs r h = go (eqb (refusal cs) 0)
+    where
+      go : (b : Bool) → Fingered s (cond b r (reply s (refuse (refusal cs))) .after)
+      go true = h
+      go false = refl
+
+  settled-fingered : (r : Change) (a : A) → Fingered s (r .state) → Fingered s (calls.settled s r refuse a .after)
+  settled-fingered r a h = go (eqb (r .number) 0)
+    where
+      go : (b : Bool) → Fingered s (cond b (reply (r .state) a) (reply (state (s .head) (r .state .leaves) (r .state .inners) (r .state .homes)) (refuse (r .number))) .after)
+      go true = h
+      go false = refl
+
+module _ (g : Shape) (s : State) where
+  replace-fingered : (k i : ℕ) (ls : List ℕ) → Fingered s (place.replace g s k i ls .state)
+  unfolding place.replace
+  replace-fingered k i ls = refl
+
+  summed-fingered : (r : Change) (p : Sum × List ℕ) → Fingered s (r .state) → Fingered s (place.summed g r p .0 .state)
+  summed-fingered r (sum.Is n, xs) h = h
+  summed-fingered r (sum.Broken, xs) h = h
+
+  climb-fingered : (e : ℕ) (delta : List ℕ) (r : Change) → Fingered s (r .state) → Fingered s (place.climb g e delta r .0 .state)
+  unfolding place.climb
+  climb-fingered e delta r h =
+      let m = nodeAt g (r .leaf) (r .state .leaves) in
+      go (eqb (r .number) 0) (climbUp g e delta (r .state .head .levels) (m .parent) (m .at) (start e (r .slot) m) (r .state .inners))
+    where
+      go : (b : Bool) (p : Sum × List ℕ) → Fingered s (cond b (place.summed g r p) (r, 0) .0 .state)
+      go true p = summed-fingered r p h
+      go false p = h
+
+module _ (K : Kind) (s : State) where
+  pub resize-fingered : (b : Bool) (c : Cursor) (l : List ℕ) → Fingered s (size.resize K b s c l .after)
+  resize-fingered b c l =
+      let g = shapeOf K (s .head) in
+      let r = calls.resized K s c l in
+      let a = number.Is (asked b (r .1)) in
+      unless-fingered s number.Refused (calls.resizeCauses K s c l) (calls.settled s (r .0) number.Refused a)
+      (settled-fingered s number.Refused (r .0) a
+      (climb-fingered g s (K .effect) (minus l (lengths (calls.slotAt K s c))) (place.replace g s (c .leaf .0) (c .slot) l) (replace-fingered g s (c .leaf .0) (c .slot) l)))
+
+  search-fingered : (b : Search) → Fingered s (calls.bySearch s b .after)
+  search-fingered (search.At f offset) = refl
+  search-fingered search.Nothing = refl
+  search-fingered search.Broken = refl
+
+  found-fingered : (a b : Search) → Fingered s (calls.byFinger s a b .after)
+  found-fingered (search.At f offset) b = refl
+  found-fingered search.Nothing b = search-fingered b
+  found-fingered search.Broken b = refl
+
+  pub locate-fingered : (v x : ℕ) → Fingered s (calls.locate K s v x .after)
+  unfolding calls.locate
+  locate-fingered v x =
+      let h = s .head in
+      let g = shapeOf K h in
+      let a = servedBy v (K .effect) g (h .finger) (h .leaves) x (s .leaves) in
+      let b = fromRoot v (K .effect) g (h .levels) (h .root .0) (h .leaves) x (s .leaves) (s .inners) in
+      unless-fingered s located.Refused (opening K s) (calls.byFinger s a b) (found-fingered a b)
+
+-- the same of a reply's head h, where the call was given the head k of the words w
+module _ {A : Type 0} (w : List ℕ) (k h : Head) (ls xs hs ls′ xs′ hs′ : List ℕ) (a : A) (y : Reply A) (ek : k ≡ headFrom w) (e : reply (state h ls′ xs′ hs′) a ≡ y) where
+  pub finger-alone : Fingered (state k ls xs hs) (y .after) → h ≡ withFinger (h .finger) (headFrom w)
+  finger-alone f = subst (λ (z : Reply A). Fingered (state k ls xs hs) (z .after)) (sym e) f ∙ ap (withFinger (h .finger)) ek
+
+  pub sizes-kept : Fixed (state k ls xs hs) (y .after) → (h .fan ≡ getD w 0 0) × (h .limit ≡ getD w 1 0)
+  unfolding headFrom
+  sizes-kept f = (
+    ap (λ (z : Reply A). z .after .head .fan) e ∙ f .fan ∙ ap (λ (x : Head). x .fan) ek,
+    ap (λ (z : Reply A). z .after .head .limit) e ∙ f .limit ∙ ap (λ (x : Head). x .limit) ek,
+  )

@@ -1,0 +1,60 @@
+-- `smelvock::read::smelvock_lengths_words`: 10 where head or flag is bad, else the call's answer in words.
+use borrow.Author.Needs.{needs}
+use mathlib.Core.Path.{sym, ap, ap₂, _∙_}
+use Rattle.marshal.specs.Flat.{measuredOf}
+use Rattle.model.specs.Kind.{base}
+use Rattle.model.specs.State.{state}
+use Rattle.smelvock.specs.Reads as flat
+use Rattle.smelvock.proofs.FlatLaws.{answer-refused, answer-good}
+use Rattle.marshal.proofs.HeadLaws.{good-head}
+use Rattle.model.specs.Calls as calls
+use Rattle.model.specs.declared.head.Head.{Head}
+use Rattle.model.specs.declared.head.Cursor.{Cursor}
+use Rattle.smelvock.proofs.read.smelvock_lengths_words.Statement.{statement}
+use Rattle.smelvock.proofs.read.smelvock_lengths_words.Tie as tie
+
+bad-head-requires : tie.Need-bad-head-requires
+bad-head-requires c κs = search needs
+
+refused-measured-requires : tie.Need-refused-measured-requires
+refused-measured-requires c κs = search needs
+
+returns : tie.Need-returns
+unfolding flat.lengths
+returns c = answer-refused measuredOf _ _ _ (sym (c .before .before .bad-head .ensures) ∙ c .before .if1 .taken) (c .refused-measured .ensures)
+
+head-from-requires : tie.Need-head-from-requires
+head-from-requires c κs = good-head _ (sym (c .before .bad-head .ensures) ∙ c .if1 .left)
+
+cursor-from-requires : tie.Need-cursor-from-requires
+cursor-from-requires c κs = search needs
+
+lengths-requires : tie.Need-lengths-requires
+lengths-requires c κs = search needs
+
+measured-of-requires : tie.Need-measured-of-requires
+measured-of-requires c κs = search needs
+
+returns-2 : tie.Need-returns-2
+unfolding flat.lengths
+returns-2 c =
+    let bad-head = c .before .before .before .before .before .bad-head in
+    let if1 = c .before .before .before .before .if1 in
+    let args = c .before .before .before .before .before .before .before .before .before .before .args in
+    let head-from = c .before .before .before .head-from in
+    answer-good measuredOf _ _ _ _ (sym (bad-head .ensures) ∙ if1 .left) (c .measured-of .ensures)
+    (c .before .lengths .ensures ∙ ap₂ (λ (h : Head) (k : Cursor). calls.lengthsOf base (state h (args .leaves .now) (args .inners .now) (args .homes .now)) k)
+    (head-from .ensures) (c .before .before .cursor-from .ensures))
+
+pub smelvock-lengths-words-spec : {M : Type 1} → statement M
+smelvock-lengths-words-spec =
+    tie.close
+    (tie.spec
+    bad-head-requires
+    refused-measured-requires
+    returns
+    head-from-requires
+    cursor-from-requires
+    lengths-requires
+    measured-of-requires
+    returns-2)
