@@ -1,7 +1,7 @@
 //! lib.rs and the port as one subject: every call is made on both, and everything is compared after it.
 
 use crate::port::{pair, side, Port};
-use crate::words::{head_of, raw_of};
+use crate::words::{head_of, on_zeros, raw_of};
 use oracle::calls::{entries, play};
 use oracle::cursors::{Held, Source};
 use oracle::record::Call;
@@ -29,7 +29,7 @@ fn words<const N: usize>(tree: &PrepareEffectTree<N>) -> [&[u32]; 3] {
 
 impl<const N: usize> Both<N> {
     pub fn make(limit: u32, lengths: [u32; 2]) -> Self {
-        let port = PrepareEffectTree::with_limit(limit, pair(lengths)).expect("fan and limit are good");
+        let port = on_zeros(limit, lengths);
         let before = words(&port).map(|area| vec![0; area.len()]);
         let mut both = Both { rust: Rust::make(limit, lengths), port: Port(port), held: Held::default(), before };
         both.same_words("make");
@@ -84,24 +84,29 @@ impl<const N: usize> Both<N> {
         let mut head = self.port.0.head();
         Some((raw::char_index_to_entry(&mut head, self.port.0.areas(), view as u32, index), head))
     }
+}
 
-    /// What the port answers to a row call that is refused: the refusal of `cursor` or of the call itself.
-    fn refusal(&mut self, call: Call, from: Source) -> Option<Refusal> {
-        let ([first, second], by_id) = (call.ids(), |id| self.port.0.cursor(id));
-        let first = self.held.handed(from).map(|(_, cursor)| Ok(cursor)).or_else(|| first.map(by_id));
-        if let Some(refusal) = [first, second.map(by_id)].into_iter().flatten().find_map(Result::err) {
-            return Some(refusal);
-        }
-        let (tree, at) = (&mut self.port.0, first.and_then(Result::ok));
-        match call {
-            Call::Insert { lengths, .. } => tree.insert(at, pair(lengths)).err(),
-            Call::Split { lengths, before, .. } => tree.split_entry(at?, pair(lengths), before).err(),
-            Call::Set { lengths, .. } => tree.set_lengths(at?, pair(lengths)).err(),
-            Call::Update { lengths, .. } => tree.update(at?, pair(lengths)).err(),
-            Call::Lookup { view, index } => tree.locate(side(view), index).err(),
-            Call::Select { view, index } => tree.char_index_to_entry(side(view), index).err(),
-            _ => None,
-        }
+/// What the port answers to a row call that is refused: the refusal of `cursor` or of the call itself.
+pub fn refusal<const N: usize>(
+    tree: &mut PrepareEffectTree<N>,
+    held: &Held<Cursor>,
+    call: Call,
+    from: Source,
+) -> Option<Refusal> {
+    let ([first, second], by_id) = (call.ids(), |id| tree.cursor(id));
+    let first = held.handed(from).map(|(_, cursor)| Ok(cursor)).or_else(|| first.map(by_id));
+    if let Some(refusal) = [first, second.map(by_id)].into_iter().flatten().find_map(Result::err) {
+        return Some(refusal);
+    }
+    let at = first.and_then(Result::ok);
+    match call {
+        Call::Insert { lengths, .. } => tree.insert(at, pair(lengths)).err(),
+        Call::Split { lengths, before, .. } => tree.split_entry(at?, pair(lengths), before).err(),
+        Call::Set { lengths, .. } => tree.set_lengths(at?, pair(lengths)).err(),
+        Call::Update { lengths, .. } => tree.update(at?, pair(lengths)).err(),
+        Call::Lookup { view, index } => tree.locate(side(view), index).err(),
+        Call::Select { view, index } => tree.char_index_to_entry(side(view), index).err(),
+        _ => None,
     }
 }
 
@@ -127,7 +132,7 @@ impl<const N: usize> Subject for Both<N> {
         if let Some((selected, head)) = self.selected(call) {
             assert_eq!((selected.number, head), (number as u32, self.port.0.head()), "N {N}, {call:?}");
         }
-        let refusal = self.refusal(call, from);
+        let refusal = refusal(&mut self.port.0, &self.held, call, from);
         assert_eq!(refusal.map(|refusal| refusal.number), Some(number as u32), "N {N}, {call:?} from {from:?}");
         self.same_words(call);
     }

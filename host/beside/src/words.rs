@@ -1,7 +1,7 @@
 //! A tree's words between oracle's form and the port's.
 
 use oracle::state::{Finger, Head, State};
-use smelvock::raw;
+use smelvock::{raw, PrepareEffectTree};
 
 /// The head as the oracle has it; a finger is there unless `present` is 0.
 pub fn head_of(head: raw::Head) -> Head {
@@ -24,6 +24,17 @@ pub fn raw_of(head: Head) -> raw::Head {
 }
 
 /// The port's tree with the words of a state.
-pub fn tree_of<const N: usize>(state: State) -> smelvock::PrepareEffectTree<N> {
-    smelvock::PrepareEffectTree::from_words(raw_of(state.head), state.leaves, state.inners, state.homes)
+pub fn tree_of<const N: usize>(state: State) -> PrepareEffectTree<N> {
+    PrepareEffectTree::from_words(raw_of(state.head), state.leaves, state.inners, state.homes)
+}
+
+/// A new tree of the port on areas of zeros, so that every word of them is known, not those in use alone.
+pub fn on_zeros<const N: usize>(limit: u32, [prepare, effect]: [u32; 2]) -> PrepareEffectTree<N> {
+    let nodes = (limit as usize / (N / 2)).max(1) * (3 + 3 * N);
+    let (mut head, mut leaves, mut inners, mut homes) =
+        ([0; 17], vec![0; nodes], vec![0; nodes], vec![0; limit as usize]);
+    let areas = raw::AreasMut { leaves: &mut leaves, inners: &mut inners, homes: &mut homes };
+    let number = raw::new(N as u32, limit, raw::Lengths { prepare, effect }, &mut head, areas);
+    assert_eq!(number, 0, "fan and limit are good");
+    PrepareEffectTree::from_words(head, leaves, inners, homes)
 }

@@ -8,6 +8,7 @@ use beside::exports::{Export, Given, Tree};
 use beside::met::{Met, Thing, FAULTS};
 use beside::plays::Plays;
 use beside::port::pair;
+use beside::words::on_zeros;
 use oracle::at_fan;
 use oracle::fans::FANS;
 use smelvock::{raw, Cursor, PrepareEffectTree, Refusal};
@@ -25,7 +26,7 @@ const STYLES: [(Style, u32); 3] = [
 ];
 
 fn made<const N: usize>(limit: u32) -> PrepareEffectTree<N> {
-    PrepareEffectTree::with_limit(limit, pair([2, 1])).unwrap()
+    on_zeros(limit, [2, 1])
 }
 
 fn played<const N: usize, P: Plays>(style: Style, make: fn(&PrepareEffectTree<N>) -> P) -> Met {
@@ -144,7 +145,7 @@ fn fails<const N: usize>(tree: &PrepareEffectTree<N>, old: Cursor, restamped: Re
 
 /// A tree with those entries, each inserted at the end.
 fn grown<const N: usize>(entries: &[[u32; 2]]) -> PrepareEffectTree<N> {
-    let mut tree = PrepareEffectTree::with_limit(40, pair(entries[0])).unwrap();
+    let mut tree = on_zeros(40, entries[0]);
     entries[1..].iter().for_each(|&lengths| assert!(tree.insert(None, pair(lengths)).is_ok()));
     tree
 }

@@ -6,11 +6,10 @@ use beside::cursors::TAKING;
 use beside::exports::{Answer, Export, Given, Tree};
 use beside::met::{needed, Met};
 use beside::plays::Plays;
-use beside::port::pair;
+use beside::words::on_zeros;
 use oracle::driver::Parted;
 use smelvock::raw::word::{ENTRIES, FAN, LEAVES};
 use smelvock::raw::Cursor;
-use smelvock::PrepareEffectTree;
 
 type Wrong = fn(&mut Tree, Export, &Given) -> Answer;
 
@@ -197,7 +196,7 @@ const STYLE: Style = Style { name: "can fail", limit: 120, reset_every: 1_000 };
 
 /// Plays a list of 6,000 calls at fan 4.
 fn play(wrong: Wrong, only: Export) -> Result<Met, Parted> {
-    let tree = Tree::of(&PrepareEffectTree::<4>::with_limit(STYLE.limit, pair([2, 1])).unwrap());
+    let tree = Tree::of(&on_zeros::<4>(STYLE.limit, [2, 1]));
     let beside = Beside::<4, _>::new(StandIn { tree, wrong, only }, STYLE.limit, [2, 1]);
     let mut list = List::new(beside, STYLE, 5);
     list.play(6_000).map(|()| list.met)

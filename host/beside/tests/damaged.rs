@@ -3,7 +3,7 @@
 
 use beside::exports::{unprinted, Area, Export, Given, Tree, EXPORTS, UNPRINTED};
 use beside::port::pair;
-use beside::words::head_of;
+use beside::words::{head_of, on_zeros};
 use oracle::at_fan;
 use oracle::audit::{audit, Verdict};
 use oracle::fans::FANS;
@@ -11,7 +11,7 @@ use oracle::random::Random;
 use oracle::state::State;
 use smelvock::raw::word::{ENTRIES, FAN, LEAVES, LIMIT, PRESENT};
 use smelvock::raw::{Cursor, Lengths};
-use smelvock::{PrepareEffectTree, View, PAGE_BYTES};
+use smelvock::{View, PAGE_BYTES};
 
 const SCALE: u64 = if cfg!(debug_assertions) { 1 } else { 10 };
 
@@ -26,7 +26,7 @@ struct Met {
 }
 
 fn sound<const N: usize>(entries: u32) -> Tree {
-    let mut tree = PrepareEffectTree::<N>::with_limit(entries + 3, pair([1, 7])).unwrap();
+    let mut tree = on_zeros::<N>(entries + 3, [1, 7]);
     for id in 1..entries {
         let before = (id % 3 != 0).then(|| tree.cursor(id * 7 % id).unwrap());
         tree.insert(before, pair([1 + id % 5, 3 + id % 11])).unwrap();

@@ -3,11 +3,12 @@
 
 use beside::exports::{unprinted, Area, Export, Given, Tree, EXPORTS};
 use beside::port::pair;
+use beside::words::on_zeros;
 use oracle::at_fan;
 use oracle::fans::FANS;
 use smelvock::raw::word::{FAN, LEAVES, LIMIT, PRESENT, ROOT};
 use smelvock::raw::{Cursor, Lengths};
-use smelvock::{PrepareEffectTree, View, PAGE_BYTES};
+use smelvock::{View, PAGE_BYTES};
 use std::sync::atomic::{AtomicU64, Ordering};
 
 /// Refusals played, over all tests of this file.
@@ -22,7 +23,7 @@ const VIEWS: [Export; 3] = [CharIndexToEntry, Locate, EntryToCharIndex];
 /// Thirty entries of lengths (1 to 5, 1 to 3) with room for one more, a finger in the effect view, and what every export
 /// answers on it without a refusal.
 fn whole<const N: usize>() -> (Tree, Given) {
-    let mut tree = PrepareEffectTree::<N>::with_limit(31, pair([2, 3])).unwrap();
+    let mut tree = on_zeros::<N>(31, [2, 3]);
     for id in 1..30 {
         let before = (id % 3 != 0).then(|| tree.cursor(id * 7 % id).unwrap());
         tree.insert(before, pair([1 + id % 5, 1 + id % 3])).unwrap();

@@ -4,7 +4,7 @@
 use beside::both::Both;
 use beside::exports::{unprinted, Export, Given, Tree, UNPRINTED};
 use beside::port::pair;
-use beside::words::tree_of;
+use beside::words::{on_zeros, tree_of};
 use oracle::driver::Driver;
 use oracle::fans::FANS;
 use oracle::lists::{with_resets, Lister, Sizes, Style, EVEN, GROWING};
@@ -164,7 +164,7 @@ fn of_65536_entries() {
 
 /// A tree of so many entries of lengths (0 to 4, 3 to 13), with a finger.
 fn some<const N: usize>(entries: u32) -> PrepareEffectTree<N> {
-    let mut tree = PrepareEffectTree::<N>::with_limit(entries, pair([1, 7])).unwrap();
+    let mut tree = on_zeros::<N>(entries, [1, 7]);
     for id in 1..entries {
         let before = (id % 3 != 0).then(|| tree.cursor(id * 7 % id).unwrap());
         tree.insert(before, pair([id % 5, 3 + id % 11])).unwrap();

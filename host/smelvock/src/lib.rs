@@ -1,15 +1,18 @@
 //! lib.rs's `PrepareEffectTree` over the proved calls: its names and signatures but for `add`, on areas that the tree owns, with
 //! a [`Refusal`] where lib.rs panics, wraps or answers by chance.
 
+mod area;
 mod door;
 pub mod edits;
 pub mod raw;
 mod refusal;
 
+use area::{Area, Own};
 pub use door::{door, door_into};
-use raw::{Areas, AreasMut};
+use raw::{word, Areas, AreasMut};
 pub use refusal::Refusal;
 use std::cmp::Ordering;
+use std::fmt;
 
 /// An entry's permanent id, numbered from 0 in creation order.
 pub type EntryId = u32;
@@ -46,12 +49,27 @@ pub const PAGE_BYTES: usize = 2_750;
 
 /// An order-statistic B+ tree over a sequence of entries, indexed by position in both the prepare
 /// and effect versions.
-#[derive(Clone, PartialEq, Eq, Debug)]
+#[derive(Clone)]
 pub struct PrepareEffectTree<const N: usize = 32> {
     head: raw::Head,
-    leaves: Vec<u32>,
-    inners: Vec<u32>,
-    homes: Vec<u32>,
+    leaves: Area,
+    inners: Area,
+    homes: Area,
+}
+
+/// The same head, and the same words in their areas as far as these hold any.
+impl<const N: usize> PartialEq for PrepareEffectTree<N> {
+    fn eq(&self, other: &Self) -> bool {
+        self.head == other.head && self.areas() == other.areas()
+    }
+}
+
+impl<const N: usize> Eq for PrepareEffectTree<N> {}
+
+impl<const N: usize> fmt::Debug for PrepareEffectTree<N> {
+    fn fmt(&self, to: &mut fmt::Formatter<'_>) -> fmt::Result {
+        to.debug_struct("PrepareEffectTree").field("head", &self.head).field("areas", &self.areas()).finish()
+    }
 }
 
 impl<const N: usize> PrepareEffectTree<N> {
@@ -64,8 +82,12 @@ impl<const N: usize> PrepareEffectTree<N> {
     pub fn with_limit(limit: u32, lengths: Lengths) -> Result<Self, Refusal> {
         let fan = u32::try_from(N).unwrap_or(0);
         let [nodes, homes] = words(fan, limit);
-        let mut tree =
-            PrepareEffectTree { head: [0; 17], leaves: vec![0; nodes], inners: vec![0; nodes], homes: vec![0; homes] };
+        let mut tree = PrepareEffectTree {
+            head: [0; 17],
+            leaves: Area::unwritten(nodes),
+            inners: Area::unwritten(nodes),
+            homes: Area::unwritten(homes),
+        };
         let (head, areas) = tree.parts();
         let number = raw::new(fan, limit, lengths.into(), head, areas);
         Refusal::unless(number, || tree)
@@ -73,20 +95,35 @@ impl<const N: usize> PrepareEffectTree<N> {
 
     /// A tree of any words: every call ends on them, and [`audit`](Self::audit) says whether they are a sound tree.
     pub fn from_words(head: raw::Head, leaves: Vec<u32>, inners: Vec<u32>, homes: Vec<u32>) -> Self {
-        PrepareEffectTree { head, leaves, inners, homes }
+        PrepareEffectTree { head, leaves: Area::given(leaves), inners: Area::given(inners), homes: Area::given(homes) }
     }
 
     pub fn head(&self) -> raw::Head {
         self.head
     }
 
+    /// The words that hold a number: all of a tree of given words, those in use of any other.
     pub fn areas(&self) -> Areas<'_> {
-        Areas { leaves: &self.leaves, inners: &self.inners, homes: &self.homes }
+        let node = N.saturating_mul(3).saturating_add(3);
+        let in_use = |word: usize| self.head[word] as usize;
+        Areas {
+            leaves: self.leaves.known(in_use(word::LEAVES).saturating_mul(node)),
+            inners: self.inners.known(in_use(word::INNERS).saturating_mul(node)),
+            homes: self.homes.known(in_use(word::ENTRIES)),
+        }
     }
 
-    fn parts(&mut self) -> (&mut raw::Head, AreasMut<'_>) {
+    /// The areas for a call that reads them.
+    #[inline]
+    fn lent(&self) -> Areas<'_, Own> {
+        Areas { leaves: &self.leaves.words, inners: &self.inners.words, homes: &self.homes.words }
+    }
+
+    /// Head and areas for a call that changes them.
+    #[inline]
+    fn parts(&mut self) -> (&mut raw::Head, AreasMut<'_, Own>) {
         let PrepareEffectTree { head, leaves, inners, homes } = self;
-        (head, AreasMut { leaves, inners, homes })
+        (head, AreasMut { leaves: &mut leaves.words, inners: &mut inners.words, homes: &mut homes.words })
     }
 
     /// Makes this a tree of one entry again, reusing its memory.
@@ -109,32 +146,32 @@ impl<const N: usize> PrepareEffectTree<N> {
     }
 
     pub fn first(&self) -> Result<Cursor, Refusal> {
-        let reply = raw::first(&self.head, self.areas());
+        let reply = raw::first(&self.head, self.lent());
         Refusal::unless(reply.number, || reply.at.into())
     }
 
     pub fn next(&self, at: Cursor) -> Result<Option<Cursor>, Refusal> {
-        let reply = raw::next(&self.head, self.areas(), at.into());
+        let reply = raw::next(&self.head, self.lent(), at.into());
         Refusal::unless(reply.number, || (reply.at.leaf != raw::NONE).then(|| reply.at.into()))
     }
 
     pub fn id(&self, at: Cursor) -> Result<EntryId, Refusal> {
-        let reply = raw::id(&self.head, self.areas(), at.into());
+        let reply = raw::id(&self.head, self.lent(), at.into());
         Refusal::unless(reply.number, || reply.value)
     }
 
     pub fn lengths(&self, at: Cursor) -> Result<Lengths, Refusal> {
-        let reply = raw::lengths(&self.head, self.areas(), at.into());
+        let reply = raw::lengths(&self.head, self.lent(), at.into());
         Refusal::unless(reply.number, || reply.lengths.into())
     }
 
     pub fn cursor(&self, id: EntryId) -> Result<Cursor, Refusal> {
-        let reply = raw::cursor(&self.head, self.areas(), id);
+        let reply = raw::cursor(&self.head, self.lent(), id);
         Refusal::unless(reply.number, || reply.at.into())
     }
 
     pub fn cmp(&self, a: Cursor, b: Cursor) -> Result<Ordering, Refusal> {
-        let reply = raw::cmp(&self.head, self.areas(), a.into(), b.into());
+        let reply = raw::cmp(&self.head, self.lent(), a.into(), b.into());
         Refusal::unless(reply.number, || reply.value.cmp(&1))
     }
 
@@ -148,13 +185,14 @@ impl<const N: usize> PrepareEffectTree<N> {
     /// entry's positions in the effect and in the prepare version; lib.rs's has the first alone.
     pub fn locate(&mut self, view: View, index: u32) -> Result<(Cursor, u32, u32, u32), Refusal> {
         let PrepareEffectTree { head, leaves, inners, homes } = self;
-        let reply = raw::locate(head, Areas { leaves, inners, homes }, view as u32, index);
+        let areas = Areas { leaves: &leaves.words, inners: &inners.words, homes: &homes.words };
+        let reply = raw::locate(head, areas, view as u32, index);
         Refusal::unless(reply.number, || (reply.at.into(), reply.offset, reply.position, reply.prepare))
     }
 
     /// Ranks an entry: its position in `view`.
     pub fn entry_to_char_index(&self, view: View, at: Cursor) -> Result<u32, Refusal> {
-        let reply = raw::entry_to_char_index(&self.head, self.areas(), view as u32, at.into());
+        let reply = raw::entry_to_char_index(&self.head, self.lent(), view as u32, at.into());
         Refusal::unless(reply.number, || reply.value)
     }
 
@@ -197,7 +235,7 @@ impl<const N: usize> PrepareEffectTree<N> {
     /// id, prepare position, effect position, prepare length and effect length in ten columns each, and a last page filled up
     /// with blank lines. Bytes past the last page stay. Refused by 12 where `page` is below [`PAGE_BYTES`] a page.
     pub fn print(&self, page: &mut [u8]) -> Result<u32, Refusal> {
-        let reply = raw::print(&self.head, self.areas(), page);
+        let reply = raw::print(&self.head, self.lent(), page);
         Refusal::unless(reply.number, || reply.value)
     }
 
@@ -212,7 +250,7 @@ impl<const N: usize> PrepareEffectTree<N> {
 
     /// Whether the tree is sound.
     pub fn audit(&self) -> Result<bool, Refusal> {
-        let reply = raw::audit(&self.head, self.areas());
+        let reply = raw::audit(&self.head, self.lent());
         Refusal::unless(reply.number, || reply.value == 1)
     }
 }

@@ -1,6 +1,8 @@
 //! The exports themselves, on words: crates/smelvock declares each with its contract. Every function here takes any
 //! words for head and areas, however many, and any number for a view or a flag.
 
+use crate::area::Word;
+
 /// What a tree keeps beside its areas, as the words that the exports are lent: fan, limit, root, levels, the counts of leaves, inner
 /// nodes and entries in use, 1 or 0 for a finger or none, and the finger's nine words.
 pub type Head = [u32; 17];
@@ -93,18 +95,18 @@ pub struct Divided {
 pub const NONE: u32 = u32::MAX;
 
 /// The three areas, lent to a call that only reads them.
-#[derive(Clone, Copy)]
-pub struct Areas<'a> {
-    pub leaves: &'a [u32],
-    pub inners: &'a [u32],
-    pub homes: &'a [u32],
+#[derive(Clone, Copy, PartialEq, Eq, Debug)]
+pub struct Areas<'a, W = u32> {
+    pub leaves: &'a [W],
+    pub inners: &'a [W],
+    pub homes: &'a [W],
 }
 
 /// The three areas, lent to a call that may write them.
-pub struct AreasMut<'a> {
-    pub leaves: &'a mut [u32],
-    pub inners: &'a mut [u32],
-    pub homes: &'a mut [u32],
+pub struct AreasMut<'a, W = u32> {
+    pub leaves: &'a mut [W],
+    pub inners: &'a mut [W],
+    pub homes: &'a mut [W],
 }
 
 /// Declares exports with the kinds of pointers to head and areas that they are lent, each with a safe function over it.
@@ -125,16 +127,17 @@ macro_rules! exports {
             }
         }
         $(#[inline]
-        pub fn $name($($before: $kind_before,)* head: $head, areas: $areas<'_>, $($after: $kind_after),*) -> $reply {
+        pub fn $name<W: Word>($($before: $kind_before,)* head: $head, areas: $areas<'_, W>, $($after: $kind_after),*) -> $reply {
             let $areas { leaves, inners, homes } = areas;
             // SAFETY: the export is proved to read these words, and to write those lent for that, and no others, whatever they hold.
+            // A tree's own areas may have words that weren't written yet; of these a call reads none.
             unsafe {
                 $module::$export(
                     $($before,)*
                     head.$head_ptr(), head.len(),
-                    leaves.$area_ptr(), leaves.len(),
-                    inners.$area_ptr(), inners.len(),
-                    homes.$area_ptr(), homes.len(),
+                    leaves.$area_ptr().cast(), leaves.len(),
+                    inners.$area_ptr().cast(), inners.len(),
+                    homes.$area_ptr().cast(), homes.len(),
                     $($after),*
                 )
             }
@@ -173,7 +176,7 @@ exports! {
 macro_rules! calls {
     ($($name:ident($head:ty, $areas:ident; $($given:ident: $kind:ty),*) -> $reply:ty = $export:ident($($word:expr),*);)*) => {
         $(#[inline(always)]
-        pub fn $name(head: $head, areas: $areas<'_>, $($given: $kind),*) -> $reply {
+        pub fn $name<W: Word>(head: $head, areas: $areas<'_, W>, $($given: $kind),*) -> $reply {
             $export(head, areas, $($word),*)
         })*
     };
@@ -195,17 +198,17 @@ calls! {
 }
 
 #[inline(always)]
-pub fn new(fan: u32, limit: u32, lengths: Lengths, head: &mut [u32], areas: AreasMut<'_>) -> u32 {
+pub fn new<W: Word>(fan: u32, limit: u32, lengths: Lengths, head: &mut [u32], areas: AreasMut<'_, W>) -> u32 {
     new_words(fan, limit, lengths.prepare, lengths.effect, head, areas)
 }
 
 #[inline(always)]
-pub fn set_lengths(head: &mut [u32], areas: AreasMut<'_>, at: Cursor, lengths: Lengths) -> u32 {
+pub fn set_lengths<W: Word>(head: &mut [u32], areas: AreasMut<'_, W>, at: Cursor, lengths: Lengths) -> u32 {
     resize(head, areas, at.leaf, at.slot, at.stamp, lengths.prepare, lengths.effect, 0).number
 }
 
 #[inline(always)]
-pub fn char_index_to_entry(head: &mut [u32], areas: Areas<'_>, view: u32, index: u32) -> Selected {
+pub fn char_index_to_entry<W: Word>(head: &mut [u32], areas: Areas<'_, W>, view: u32, index: u32) -> Selected {
     let Located { number, at, offset, .. } = locate(head, areas, view, index);
     Selected { number, at, offset }
 }
@@ -249,18 +252,18 @@ mod printing {
 }
 
 #[inline]
-pub fn print(head: &[u32], areas: Areas<'_>, page: &mut [u8]) -> Number {
+pub fn print<W: Word>(head: &[u32], areas: Areas<'_, W>, page: &mut [u8]) -> Number {
     let Areas { leaves, inners, homes } = areas;
     // SAFETY: the export is proved to read these words, and to write bytes of the page and nothing else, whatever they hold.
     unsafe {
         printing::smelvock_print(
             head.as_ptr(),
             head.len(),
-            leaves.as_ptr(),
+            leaves.as_ptr().cast(),
             leaves.len(),
-            inners.as_ptr(),
+            inners.as_ptr().cast(),
             inners.len(),
-            homes.as_ptr(),
+            homes.as_ptr().cast(),
             homes.len(),
             page.as_mut_ptr(),
             page.len(),
