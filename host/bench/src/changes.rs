@@ -1,7 +1,9 @@
 //! The calls that change a tree.
 
+use crate::called::Called;
 use crate::reads::{cursors, each, CALLS};
 use crate::timing::Table;
+use crate::trees::Trees;
 use beside::port::{self, Port};
 use oracle::calls::Calls;
 use oracle::random::Random;
@@ -9,20 +11,23 @@ use oracle::tree::{Lengths, PrepareEffectTree};
 use std::hint::black_box;
 
 /// The calls that keep the number of entries, at random entries.
-pub fn resizes<A: Calls, B: Calls>(table: &mut Table, rust: &mut A, port: &mut B) {
+pub fn resizes<A: Calls, B: Calls, C: Calls>(table: &mut Table, trees: &mut Trees<A, B, C>) {
+    let Trees { rust, called, port } = trees;
     let mut random = Random::new(11);
     let count = rust.len() as u64;
     let ids: Vec<u32> = (0..CALLS).map(|_| random.below(count) as u32).collect();
     let lengths: Vec<[u32; 2]> = ids.iter().map(|_| [0; 2].map(|_: u32| random.below(8) as u32)).collect();
-    let (rusts, ports) = (cursors(rust, &ids), cursors(port, &ids));
-    table.kind(
+    let (rusts, calleds, ports) = (cursors(rust, &ids), cursors(called, &ids), cursors(port, &ids));
+    table.call(
         "set_lengths",
         || each(rusts.iter().zip(&lengths), |(&at, &lengths)| rust.set_lengths(at, lengths)),
+        || each(calleds.iter().zip(&lengths), |(&at, &lengths)| called.set_lengths(at, lengths)),
         || each(ports.iter().zip(&lengths), |(&at, &lengths)| port.set_lengths(at, lengths)),
     );
-    table.kind(
+    table.call(
         "update",
         || each(rusts.iter().zip(&lengths), |(&at, &lengths)| rust.update(at, lengths)),
+        || each(calleds.iter().zip(&lengths), |(&at, &lengths)| called.update(at, lengths)),
         || each(ports.iter().zip(&lengths), |(&at, &lengths)| port.update(at, lengths)),
     );
 }
@@ -32,21 +37,33 @@ pub fn resizes<A: Calls, B: Calls>(table: &mut Table, rust: &mut A, port: &mut B
 pub fn growth<const N: usize>(table: &mut Table, entries: u32) {
     let first = [3, 3];
     let rust = || PrepareEffectTree::<N>::new(Lengths { prepare: 3, effect: 3 });
+    let called = || Called::<N>::new(first);
     let port = || Port(smelvock::PrepareEffectTree::<N>::with_limit(entries, port::pair(first)).expect("a good limit"));
     let mut filling = |name: &str, way: Way| {
-        table.kind(name, || fill(&mut rust(), entries, way), || fill(&mut port(), entries, way));
+        table.call(
+            name,
+            || fill(&mut rust(), entries, way),
+            || fill(&mut called(), entries, way),
+            || fill(&mut port(), entries, way),
+        );
     };
     filling("insert at the end", Way::InsertAtEnd);
     filling("insert, random + cursor", Way::Insert);
     filling("split_entry, random + cursor", Way::Split);
     filling("locate, split, update, insert", Way::Edit);
-    let mut trees = (rust(), port());
-    table.kind(
+    let mut trees = (rust(), called(), port());
+    table.call(
         "reset",
         || each(0..CALLS / 10, |_| Calls::reset(&mut trees.0, first)),
-        || each(0..CALLS / 10, |_| Calls::reset(&mut trees.1, first)),
+        || each(0..CALLS / 10, |_| trees.1.reset(first)),
+        || each(0..CALLS / 10, |_| trees.2.reset(first)),
     );
-    table.kind("new (port: its own areas)", || each(0..100, |_| rust()), || each(0..100, |_| port()));
+    table.call(
+        "new (port: its own areas)",
+        || each(0..100, |_| rust()),
+        || each(0..100, |_| called()),
+        || each(0..100, |_| port()),
+    );
 }
 
 #[derive(Clone, Copy)]

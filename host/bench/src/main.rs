@@ -1,51 +1,53 @@
-//! `cargo run --release -p bench [ROUNDS [ENTRIES]]`: nanoseconds per call of lib.rs and of the port, and their ratio, for every kind of
-//! call. One process, the same inputs, the two in turn in every round; the median of the rounds is printed, and
-//! the least.
+//! `cargo run --release -p bench [ROUNDS [ENTRIES ..]]`: nanoseconds per call of lib.rs and of the port, and their ratio, for every kind of
+//! call; for lib.rs's calls also lib.rs behind a call that isn't inlined. One process, the same inputs, the two or three in turn in every
+//! round; the median of the rounds is printed, and the least.
+//! `bench --table`, `--growth`, `--door` or `--svg FILE`: what runs printed, on the standard input, as a table or a picture of the least.
 
+mod called;
 mod changes;
+mod door;
 mod edits;
 mod paper;
+mod picture;
 mod reads;
+mod report;
+mod runs;
 mod timing;
+mod trees;
 
-use beside::port::Port;
-use beside::words::tree_of;
-use oracle::random::Random;
-use oracle::rust::pair;
-use oracle::tree::PrepareEffectTree;
+use runs::Runs;
 use timing::Table;
+use trees::trees;
 
 fn main() {
-    let rounds = std::env::args().nth(1).map_or(25, |rounds| rounds.parse().expect("a number of rounds"));
-    let sizes = std::env::args().nth(2).map_or(vec![512, 65_536], |entries| vec![entries.parse().expect("a number")]);
-    for entries in sizes {
+    let given: Vec<String> = std::env::args().skip(1).collect();
+    match given.first().map(String::as_str) {
+        Some("--table") => print!("{}", report::calls(&Runs::read())),
+        Some("--growth") => print!("{}", report::growth(&Runs::read())),
+        Some("--door") => print!("{}", report::door(&Runs::read())),
+        Some("--svg") => std::fs::write(&given[1], picture::svg(&Runs::read())).expect("the file can be written"),
+        _ => measure(given.iter().map(|number| number.parse().expect("a number")).collect()),
+    }
+}
+
+/// Measures over so many rounds, in trees of so many entries.
+fn measure(given: Vec<u32>) {
+    let (rounds, sizes) = given.split_first().map_or((25, &[][..]), |(&rounds, sizes)| (rounds as usize, sizes));
+    for &entries in if sizes.is_empty() { &[512, 65_536] } else { sizes } {
         run::<4>(entries, rounds);
         run::<8>(entries, rounds);
         run::<32>(entries, rounds);
     }
+    door::run(rounds);
     edits::run(rounds);
 }
 
 fn run<const N: usize>(entries: u32, rounds: usize) {
-    let mut rust = grown::<N>(entries);
-    let mut port = Port(tree_of::<N>(rust.state(entries)));
+    let mut trees = trees::<N>(entries);
     let mut table = Table::new(format!("N {N}, {entries} entries"), rounds);
-    reads::run(&mut table, &mut rust, &mut port);
-    paper::run(&mut table, &rust, &port);
-    changes::resizes(&mut table, &mut rust, &mut port);
+    reads::run(&mut table, &mut trees);
+    paper::run(&mut table, &trees.rust, &trees.port);
+    changes::resizes(&mut table, &mut trees);
     changes::growth::<N>(&mut table, entries);
     table.print();
-}
-
-/// A tree of so many entries, inserted at random places with lengths of 0 to 7.
-fn grown<const N: usize>(entries: u32) -> PrepareEffectTree<N> {
-    let mut random = Random::new(N as u64);
-    let length = |random: &mut Random| [random.below(8) as u32, random.below(8) as u32];
-    let mut tree = PrepareEffectTree::new(pair(length(&mut random)));
-    while tree.len() < entries as usize {
-        let before = tree.cursor(random.below(tree.len() as u64) as u32);
-        let lengths = length(&mut random);
-        tree.insert(Some(before), pair(lengths));
-    }
-    tree
 }

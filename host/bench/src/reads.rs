@@ -1,6 +1,7 @@
 //! The calls that leave the words as they are, but for the finger.
 
 use crate::timing::Table;
+use crate::trees::Trees;
 use oracle::calls::Calls;
 use oracle::random::Random;
 use oracle::rust::Place;
@@ -19,26 +20,26 @@ struct Inputs {
     slots: [Vec<u32>; 3],
 }
 
-pub fn run<A: Calls, B: Calls>(table: &mut Table, rust: &mut A, port: &mut B) {
+pub fn run<A: Calls, B: Calls, C: Calls>(table: &mut Table, trees: &mut Trees<A, B, C>) {
+    let Trees { rust, called, port } = trees;
     let inputs = inputs(rust);
     let ids = &inputs.ids;
-    let rusts = cursors(rust, ids);
-    let ports = cursors(port, ids);
+    let (rusts, calleds, ports) = (cursors(rust, ids), cursors(called, ids), cursors(port, ids));
     macro_rules! kind {
         ($name:expr, |$tree:ident, $cursors:ident| $calls:expr) => {
-            table.kind(
+            table.call(
                 $name,
-                || {
-                    let ($tree, $cursors) = (&mut *rust, &rusts);
-                    let _ = $cursors;
-                    $calls
-                },
-                || {
-                    let ($tree, $cursors) = (&mut *port, &ports);
-                    let _ = $cursors;
-                    $calls
-                },
+                kind!(rust, rusts, |$tree, $cursors| $calls),
+                kind!(called, calleds, |$tree, $cursors| $calls),
+                kind!(port, ports, |$tree, $cursors| $calls),
             )
+        };
+        ($one:ident, $its:ident, |$tree:ident, $cursors:ident| $calls:expr) => {
+            || {
+                let ($tree, $cursors) = (&mut *$one, &$its);
+                let _ = $cursors;
+                $calls
+            }
         };
     }
     kind!("len", |tree, _cursors| each(0..CALLS, |_| tree.len()));
