@@ -1,5 +1,6 @@
 // The call that puts an entry into a tree: insert, before a cursor or at the end.
-// It is equated with its definition in model's specs/Calls.antt, refusals first; it has no requires.
+// It is equated with its definition in model's specs/Calls.antt, refusals first: in `any` for a tree with one to three lengths an
+// entry, in `insert` for the full tree, with no requires.
 // Stands on model, laws, node, node_write, area, walk, links, place and open.
 pub mod any;
 pub mod insert;
