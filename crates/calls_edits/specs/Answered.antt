@@ -15,7 +15,7 @@ use Rattle.model.specs.declared.answer.Number.{Number}
 use Rattle.model.specs.declared.answer.Number.the-variants as number
 use Rattle.laws.specs.Words.{length-put}
 use Rattle.calls_edits.specs.Edits.{edits, restsOn, beyond, recordCauses, recordsCauses, absent, checkCauses, differenceCauses, check, difference}
-use Rattle.calls_edits.specs.Promised.{In, Accepted, FirstBad, Checks, Listed, Differs}
+use Rattle.calls_edits.specs.Promised.{In, Accepted, GoodBefore, Checks, Listed, Differs}
 use Rattle.calls_edits.specs.Causes.{refuse, grant, is-done, is-refused, check-number, check-numbers, every-good, no-cause, first-bad, rest-number, late-number, cut-first, narrow-next, from-check, difference-numbers}
 use Rattle.calls_edits.specs.Exactly.{length-picked, exactly}
 
@@ -57,7 +57,7 @@ module _ (file : List ℕ) where
     unfolding check
     by-none z = grant outcome.Refused outcome.Done (checkCauses file) (of-records whole few ∙ (sym e ∙ z))
 
-  bad : (n e : ℕ) → FirstBad file e → refusal (recordCauses file e) ≡ n → n ≢ 0 → check file ≡ outcome.Refused n
+  bad : (n e : ℕ) → GoodBefore file e → refusal (recordCauses file e) ≡ n → n ≢ 0 → check file ≡ outcome.Refused n
   bad n e f q h = by-records (f .whole) (f .few) n (sym (first-bad file (edits file) e (f .inside) (f .before) (λ z. h (sym q ∙ z)) ∙ q)) h
 
   numbers : (n : ℕ) → check file ≡ outcome.Refused n → In n (11 ∷ 16 ∷ 10 ∷ 15 ∷ [])

@@ -10,7 +10,7 @@ use Rattle.model.specs.Record.{bytesOf}
 use Rattle.model.specs.declared.answer.Outcome.the-variants as outcome
 use Rattle.model.specs.declared.answer.Number.the-variants as number
 use Rattle.calls_edits.specs.Edits.{none, edits, third, within, picked, beyond, causesOf, recordCauses, recordsCauses, check, difference}
-use Rattle.calls_edits.specs.Promised.{Good, FirstBad, Listed}
+use Rattle.calls_edits.specs.Promised.{Good, GoodBefore, Listed}
 use Rattle.calls_edits.specs.Causes.{none-good}
 use Rattle.calls_edits.specs.Answered.{checks, differs}
 
@@ -50,7 +50,7 @@ nothing-new = refl
 abbrev pub bad : List ℕ
 bad = edit none none ++ (bytesOf 1 ++ replicate 12 1)
 
-pub bad-at : FirstBad bad 1
+pub bad-at : GoodBefore bad 1
 unfolding refusal recordCauses causesOf
 bad-at = record {
   whole = refl;

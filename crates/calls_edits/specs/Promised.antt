@@ -36,8 +36,9 @@ pub record Accepted (file : List ℕ) : Type 0 where
   pub few : edits file ≤ 512
   pub records : (e : ℕ) → e < edits file → Good file e
 
--- record e is the first that isn't good, where no earlier cause applies
-pub record FirstBad (file : List ℕ) (e : ℕ) : Type 0 where
+-- no cause applies before record e: the length is whole, the edits are few, and every record before e is good. Whether e is good is said by the
+-- promises that use it
+pub record GoodBefore (file : List ℕ) (e : ℕ) : Type 0 where
   pub whole : length file % 16 ≡ 0
   pub few : edits file ≤ 512
   pub inside : e < edits file
@@ -49,8 +50,8 @@ pub record Checks (file : List ℕ) : Type 0 where
   pub accepts : Accepted file → check file ≡ outcome.Done
   pub cut : length file % 16 ≢ 0 → check file ≡ outcome.Refused 11
   pub crowded : length file % 16 ≡ 0 → 512 < edits file → check file ≡ outcome.Refused 16
-  pub rest : (e : ℕ) → FirstBad file e → (third file e ≡ 0 → fourth file e ≢ 0) → check file ≡ outcome.Refused 10
-  pub late : (e p : ℕ) → FirstBad file e → third file e ≡ 0 → fourth file e ≡ 0 → Parent file e p → e ≤ p → check file ≡ outcome.Refused 15
+  pub rest : (e : ℕ) → GoodBefore file e → (third file e ≡ 0 → fourth file e ≢ 0) → check file ≡ outcome.Refused 10
+  pub late : (e p : ℕ) → GoodBefore file e → third file e ≡ 0 → fourth file e ≡ 0 → Parent file e p → e ≤ p → check file ≡ outcome.Refused 15
   pub numbers : (n : ℕ) → check file ≡ outcome.Refused n → In n (11 ∷ 16 ∷ 10 ∷ 15 ∷ [])
 
 -- the difference --------------------------------------------------------------------------------------------------------------------------
