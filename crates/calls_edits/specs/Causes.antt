@@ -89,7 +89,7 @@ none-good file e h =
     smaller p l r (by-left q n) = not-late e p (subst (λ (x : ℕ). late e x ≡ false) q l) n
     smaller p l r (by-right q n) = not-late e p (subst (λ (x : ℕ). late e x ≡ false) q r) n
 
-pub good-none : (file : List ℕ) (e : ℕ) → Good file e → refusal (recordCauses file e) ≡ 0
+good-none : (file : List ℕ) (e : ℕ) → Good file e → refusal (recordCauses file e) ≡ 0
 unfolding recordCauses causesOf refusal
 good-none file e g =
     rw (eq-eqb (third file e) 0 (g .rest .0), eq-eqb (fourth file e) 0 (g .rest .1), in-time e (left file e) (λ n. g .parents (left file e) (by-left refl n)), in-time e (right file e) (λ n. g .parents (right file e) (by-right refl n)))

@@ -31,7 +31,7 @@ step-of p b = go (eqb p none) refl
     go true q e = let z : _≡_ {A = ℕ} 0 1 = cc in absurd (omega arith)
     go false q e = (eqb-false p none q, e)
 
-pub within-rests : (file : List ℕ) (n e f : ℕ) → within file n e f ≡ true → Rests file e f
+within-rests : (file : List ℕ) (n e f : ℕ) → within file n e f ≡ true → Rests file e f
 unfolding within
 within-rests file zero e f h = subst (λ (x : ℕ). Rests file e x) (eqb-true e f h) itself
 within-rests file (suc n) e f h =
@@ -208,8 +208,8 @@ same-first m n j k js ks r s p q = ⊎-elim (λ e. e) (λ t. ⊎-elim (λ e. sym
         absurd (omega arith)
 
 -- a number of the rest of a rising list isn't its first
-rest-in : (n j k : ℕ) (js ks : List ℕ) → Rising n (j ∷ js) → j ≡ k → In k js → ⊥
-rest-in n j k js ks r e t =
+rest-in : (n j k : ℕ) (js : List ℕ) → Rising n (j ∷ js) → j ≡ k → In k js → ⊥
+rest-in n j k js r e t =
     let x : suc j ≤ k = above (first-least r .1) t in
     omega arith
 
@@ -220,8 +220,8 @@ same-list m n (j ∷ js) [] r s f g = absurd (no-nil (f j here) refl)
 same-list m n (j ∷ js) (k ∷ ks) r s f g =
     ap₂ (λ (x : ℕ) (xs : List ℕ). x ∷ xs) first
     (same-list (suc j) (suc k) js ks (first-least r .1) (first-least s .1)
-    (λ i t. ⊎-elim (λ e. absurd (rest-in m j i js ks r (first ∙ sym e) t)) (λ u. u) (in-cons (f i (later t))))
-    (λ i t. ⊎-elim (λ e. absurd (rest-in n k i ks js s (sym first ∙ sym e) t)) (λ u. u) (in-cons (g i (later t)))))
+    (λ i t. ⊎-elim (λ e. absurd (rest-in m j i js r (first ∙ sym e) t)) (λ u. u) (in-cons (f i (later t))))
+    (λ i t. ⊎-elim (λ e. absurd (rest-in n k i ks s (sym first ∙ sym e) t)) (λ u. u) (in-cons (g i (later t)))))
   where
     first : j ≡ k
     first = same-first m n j k js ks r s (f j here) (g k here)

@@ -86,10 +86,10 @@ same-bytes (r ∷ rs) (a ∷ more) = one-record _ _ a (written (map asTwo rs) mo
 
 -- played from any state, on a tree or on the row: the same answers, the same answer records but for the kind, and the same left behind
 module _ {S : Type 0} (move : S → Call → Moved S) (s : S) where
-  pub same-answers : (rs : List (List ℕ)) → answers move s (callsOf (map asTwo rs)) ≡ answers move s (callsOf rs)
+  same-answers : (rs : List (List ℕ)) → answers move s (callsOf (map asTwo rs)) ≡ answers move s (callsOf rs)
   same-answers rs = ap (answers move s) (same-calls rs)
 
-  pub same-left : (rs : List (List ℕ)) → left move s (map asTwo rs) ≡ left move s rs
+  same-left : (rs : List (List ℕ)) → left move s (map asTwo rs) ≡ left move s rs
   same-left rs = ap (finally move s) (same-calls rs)
 
   pub kind-three : (rs : List (List ℕ)) → ButForKind (played move s (map asTwo rs)) (played move s rs)
@@ -155,14 +155,14 @@ module _ (bs : List ℕ) where
   same-long = twos-long (length bs / 16) bs (omega arith)
 
   -- the records of such bytes, and whether an output fits them
-  pub two-records : recordsOf (asTwos bs) ≡ map asTwo (recordsOf bs)
+  two-records : recordsOf (asTwos bs) ≡ map asTwo (recordsOf bs)
   two-records = ap (λ (n : ℕ). records (n / 16) (asTwos bs)) same-long ∙ twos-records (length bs / 16) bs (omega arith)
 
   pub same-fit : (out : List ℕ) → fit (asTwos bs) out ≡ fit bs out
   same-fit out = ap (λ (n : ℕ). eqb n (length out) && eqb (n % 16) 0) same-long
 
   -- what they leave, and their answer records
-  pub left-three : {S : Type 0} (move : S → Call → Moved S) (s : S) → left move s (recordsOf (asTwos bs)) ≡ left move s (recordsOf bs)
+  left-three : {S : Type 0} (move : S → Call → Moved S) (s : S) → left move s (recordsOf (asTwos bs)) ≡ left move s (recordsOf bs)
   left-three move s = ap (left move s) two-records ∙ same-left move s (recordsOf bs)
 
   pub played-three : {S : Type 0} (move : S → Call → Moved S) (s : S) → ButForKind (played move s (recordsOf (asTwos bs))) (played move s (recordsOf bs))
