@@ -1,5 +1,5 @@
 -- Files of edits: what is believed of them (Edits), what is promised of the two calls (Promised) and its proof (Answered, with Causes and Exactly),
--- a file that meets its premises (Example), and the walk that the code takes (Walk).
+-- files that meet its premises (Example), and the walk that the code takes (Walk).
 -- Stands on model and laws.
 pub mod Edits
 pub mod Promised
