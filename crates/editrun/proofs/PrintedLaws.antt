@@ -71,12 +71,12 @@ module _ (block : List ℕ) (have : ℕ) (area : List ℕ) (a b : ℕ) (r : Numb
     on-input : (r, new) ≡ difference input area a b
     on-input = e ∙ as-whole input block have held area a b
 
-    pub is-printed : (n end : ℕ) (out o : List ℕ) → r ≡ number.Is n → (end, o) ≡ put out 0 (lines (take n new)) → end ≤ length o → Printed input a b out end o
+    pub is-printed : (n end : ℕ) (out o : List ℕ) → r ≡ number.Is n → (end, o) ≡ put out 0 (lines (take n new)) → end ≤ length o → Printed input a b area out end o
     is-printed n end out o d p l =
         let s : difference input area a b .0 ≡ number.Is n = sym (ap (λ (x : Number × List ℕ). x .0) on-input) ∙ d in
         let t = differs input area a b .listed n s in
         let f : take n new ≡ t .list = ap (λ (x : Number × List ℕ). take n (x .1)) on-input ∙ t .front in
-        record { list = t .list; exactly = t .exactly; text = p ∙ ap (λ (ks : List ℕ). put out 0 (lines ks)) f; inside = l }
+        record { list = t .list; reply = s ∙ ap number.Is (t .count); exactly = t .exactly; text = p ∙ ap (λ (ks : List ℕ). put out 0 (lines ks)) f; inside = l }
 
     pub is-refused : (n : ℕ) → r ≡ number.Refused n → difference input area a b ≡ (number.Refused n, area)
     is-refused n d =

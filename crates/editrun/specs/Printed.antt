@@ -16,13 +16,14 @@ unfoldable pub lines : List ℕ → List ℕ
 lines [] = []
 lines (k ∷ ks) = (decimal k ++ (10 ∷ [])) ++ lines ks
 
--- the text up to `end` is the lines of the list that is exactly the difference
-pub record Printed (input : List ℕ) (a b : ℕ) (out : List ℕ) (end : ℕ) (o : List ℕ) : Type 0 where
+-- the call isn't refused, and the text up to `end` is the lines of the list that is exactly the difference
+pub record Printed (input : List ℕ) (a b : ℕ) (area out : List ℕ) (end : ℕ) (o : List ℕ) : Type 0 where
   pub list : List ℕ
+  pub reply : difference input area a b .0 ≡ number.Is (length list)
   pub exactly : Difference input a b list
   pub text : (end, o) ≡ put out 0 (lines list)
   pub inside : end ≤ length o
 
 abbrev pub Answered : Shown → List ℕ → ℕ → ℕ → List ℕ → List ℕ → List ℕ → Type 0
-Answered (shown.Text end) input a b area out o = Printed input a b out end o
+Answered (shown.Text end) input a b area out o = Printed input a b area out end o
 Answered (shown.Refused n) input a b area out o = difference input area a b ≡ (number.Refused n, area)
