@@ -60,14 +60,19 @@ fn random_lists() {
     assert_eq!(calls, (STYLES.len() * FANS.len()) as u64 * 2 * LISTS * CALLS);
 }
 
-/// Twice the fan and one entry more, in four leaves, with room for four.
-fn four_leaves<const N: usize>() -> Beside<N, Tree> {
-    let limit = 2 * N as u32 + 5;
+/// A tree of that limit, with so many entries inserted at the end.
+fn extended<const N: usize>(limit: u32, inserts: usize) -> Beside<N, Tree> {
     let mut beside = Beside::new(Tree::of(&made::<N>(limit)), limit, [2, 1]);
     let given = Given { end: 1, lengths: pair([1, 2]).into(), ..Given::default() };
-    for _ in 0..2 * N {
+    for _ in 0..inserts {
         beside.play(Export::Insert, &given).unwrap();
     }
+    beside
+}
+
+/// Twice the fan and one entry more, in four leaves, with room for four.
+fn four_leaves<const N: usize>() -> Beside<N, Tree> {
+    let beside = extended(2 * N as u32 + 5, 2 * N);
     assert_eq!(beside.state().head.leaf_count, 4);
     beside
 }
@@ -118,6 +123,18 @@ fn every_cursor_around_a_small_tree() {
         }
         for (first, second) in FAULTS.into_iter().flat_map(|first| FAULTS.map(|second| (first, second))) {
             assert!(met.of(Thing::Pair(first, second)) > 0, "fan {fan}, {first}, {second}");
+        }
+    }
+}
+
+/// In a tree that holds its limit a cursor that fails is told before 8.
+#[test]
+fn a_full_tree_tells_the_cursor_first() {
+    let mut beside = extended::<4>(5, 4);
+    for (leaf, slot, stamp, number) in [(0, 0, 4, 3), (2, 0, 5, 13), (0, 2, 5, 14), (0, 0, 5, 8)] {
+        let given = Given { at: raw::Cursor { leaf, slot, stamp }, ..Given::default() };
+        for export in [Export::Insert, Export::SplitEntry] {
+            assert_eq!(beside.play(export, &given).unwrap().number, number, "{export:?}");
         }
     }
 }
