@@ -98,7 +98,7 @@ fn every_graph_of_up_to_5_edits() {
     println!("{files} files of up to 5 edits, {played} pairs");
 }
 
-/// Parents of any number up to the last edit's: most files are refused by 15.
+/// Parents of any number up to the count of edits, and the largest but none: all but 42 files are refused, by 15.
 #[test]
 fn every_graph_of_up_to_3_edits_with_late_parents() {
     let (mut files, mut refused) = (0, 0);
@@ -107,11 +107,12 @@ fn every_graph_of_up_to_3_edits_with_late_parents() {
         every_graph(edits, any, &mut |graph| {
             let file = file(graph);
             files += 1;
-            refused += check(&file).is_err() as u64;
+            refused += (check(&file) == Err(15)) as u64;
             same(&file, MOST, [[0, 0], [edits, 0], [edits.wrapping_sub(1), 0]]);
         });
     }
     println!("{files} files of up to 3 edits with any parents, {refused} of them refused");
+    assert_eq!((files, refused), (47_298, 47_256));
 }
 
 /// How far back parents stand.
