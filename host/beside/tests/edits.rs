@@ -167,7 +167,7 @@ fn random_graphs_of_up_to_512_edits() {
     println!("{files} random files of up to 512 edits, {played} pairs, lists of {} lengths", lengths.len());
 }
 
-/// The longest list, and areas that are just long enough: nothing is left of 512 words, one of 513; 511 are refused.
+/// The longest list has 511 numbers, for the second edit is never listed: one word is left of 512, two of 513; 511 are refused.
 #[test]
 fn areas_of_511_512_and_513_words() {
     let mut random = Random::new(5);
