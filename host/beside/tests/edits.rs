@@ -289,7 +289,7 @@ fn calls_of_the_host() {
     assert_eq!(refused(16).to_string(), "refused by 16: the file has more than 512 edits");
 }
 
-/// Another count, another number, a number more or less, and any one changed word of the list or of an edit are found out.
+/// Another count, another number, a number more or less, and any one changed word of the list are found out.
 #[test]
 fn a_changed_word_is_found_out() {
     let mut random = Random::new(3);
