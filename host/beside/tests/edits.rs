@@ -184,16 +184,17 @@ fn areas_of_511_512_and_513_words() {
     compared(&file(&beside), 512, [511, 0], Ok(&list)).unwrap();
 }
 
+/// The record with a byte set.
+fn filled(mut record: [u8; 16], place: usize) -> [u8; 16] {
+    record[place] = 1;
+    record
+}
+
 /// The causes in their order: each pair of neighbours in one file, of which the first decides.
 #[test]
 fn every_refusal() {
-    let none = record([NONE, NONE]);
+    let (none, late) = (record([NONE, NONE]), record([NONE, 1]));
     let records = |records: &[[u8; 16]]| records.concat();
-    let filled = |mut record: [u8; 16], place: usize| {
-        record[place] = 1;
-        record
-    };
-    let late = record([NONE, 1]);
     let long = vec![1u8; 16 * (MOST + 1)];
     let cases: Vec<(Vec<u8>, usize, u32)> = vec![
         (long[1..].to_vec(), 0, 11),
@@ -214,12 +215,17 @@ fn every_refusal() {
         }
         same(file, *words, []);
     }
-    // 512 edits are not too many; every byte of the rest counts; a parent may be the edit before and not the edit itself
+}
+
+/// 512 edits are not too many; every byte of the rest counts; a parent may be the edit before and not the edit itself.
+#[test]
+fn what_is_just_good_and_just_refused() {
+    let none = record([NONE, NONE]);
     let full = none.repeat(MOST);
     same(&full, MOST, [[511, 510]]);
     assert_eq!(raw::edits_check(&full), 0);
     for place in 8..16 {
-        assert_eq!(raw::edits_check(&records(&[none, filled(none, place)])), 10, "byte {place}");
+        assert_eq!(raw::edits_check(&[none, filled(none, place)].concat()), 10, "byte {place}");
     }
     for edit in [0, 1, 2, 255, 256, 511] {
         let mut full = full.clone();
