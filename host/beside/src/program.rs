@@ -6,7 +6,7 @@ use std::os::unix::net::UnixDatagram;
 use std::path::Path;
 use std::process::{Command, Output, Stdio};
 
-/// The most that a program reads at once.
+/// The most that `rowrun` and `sheetrun` read at once; `editrun` reads up to 16,384 bytes.
 pub const BLOCK: usize = 4_096;
 
 pub fn program(name: &str) -> Command {

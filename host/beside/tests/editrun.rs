@@ -31,10 +31,17 @@ fn piped(mut program: Command, input: &[u8], size: usize) -> Output {
     child.wait_with_output().expect("it ends")
 }
 
+/// What the oracle wants on standard output and on standard error.
+fn wanted(input: &[u8], first: u32, second: u32) -> (String, String) {
+    match editrun(input, first, second) {
+        Ok(text) => (text, String::new()),
+        Err(errors) => (String::new(), errors),
+    }
+}
+
 /// The oracle's lines or refusal, in pieces of several sizes through a pipe, and read by read.
 fn same(input: &[u8], [first, second]: [u32; 2], sizes: &[usize]) {
-    let wanted = editrun(input, first, second);
-    let (text, errors) = (wanted.clone().unwrap_or_default(), wanted.err().unwrap_or_default());
+    let (text, errors) = wanted(input, first, second);
     for &size in sizes {
         for output in
             [piped(asked(first, second), input, size), cut_for(asked(first, second), input, size.min(BLOCK - 15))]
@@ -85,6 +92,20 @@ fn lengths_around_513_records() {
     same(&bad, [511, 3], &[4_096]);
     bad.extend([0; 16]);
     same(&bad, [511, 3], &[4_096]);
+}
+
+/// A regular file gives as much as a read has room for.
+#[test]
+fn a_read_that_fills_the_block() {
+    let good = random_file(MOST as u32, &mut Random::new(3));
+    let long = [&good[..], &good[..], &good[..]].concat();
+    let path = Path::new(env!("CARGO_TARGET_TMPDIR")).join("long-edits");
+    for length in [8_192, 16_383, 16_384, 16_385, 24_576] {
+        fs::write(&path, &long[..length]).expect("a file");
+        let output = asked(511, 3).stdin(File::open(&path).expect("it is there")).output().expect("it ends");
+        let (text, errors) = wanted(&long[..length], 511, 3);
+        assert_eq!(said(output, &errors), text, "{length} bytes");
+    }
 }
 
 #[test]
