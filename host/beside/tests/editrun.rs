@@ -117,7 +117,7 @@ fn refused_files() {
     same(&file(&[[NONE, NONE]]), [0, 1], &[16]);
 }
 
-/// Two numbers from 0 to 4,294,967,295, in at most ten digits: anything else is said on standard error, and no input is read.
+/// Two numbers from 0 to 4,294,967,295, in at most ten digits: anything else is said on standard error, and nothing is listed.
 #[test]
 fn arguments() {
     let edits = file(&[[NONE, NONE], [0, NONE]]);
