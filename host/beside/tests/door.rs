@@ -1,6 +1,7 @@
 //! The door beside the plain row and lib.rs: its answer records are the row's for every list of records, good and damaged, and lib.rs
 //! answers the same to every call that isn't refused.
 
+use beside::program::bytes;
 use oracle::driver::Driver;
 use oracle::lists::{Lister, Sizes, Style, EVEN, GROWING, LOOKING};
 use oracle::random::Random;
@@ -12,10 +13,6 @@ use smelvock::{door, door_into, Refusal};
 const LIMIT: u32 = 512;
 /// A debug build plays fewer.
 const SCALE: u64 = if cfg!(debug_assertions) { 1 } else { 10 };
-
-fn bytes(records: &[Record]) -> Vec<u8> {
-    records.iter().flat_map(Record::encode).collect()
-}
 
 /// The row's answer records.
 fn wanted(records: &[Record]) -> Vec<u8> {
