@@ -15,8 +15,8 @@
  *    6  a split moves more than the entry    13  the cursor's leaf is not in use
  *       has                                  14  the cursor's slot is at or past its leaf's len
  * A cursor is tested for 3, 13 and 14 in this order, before 4 to 8; smelvock_cmp tests the first cursor whole, then the second.
- * Of a file of edits: 10 its rest isn't zero, 11 its length isn't a multiple of 16, 12 the list area is below 512 words, 15 a parent
- * isn't smaller than its edit, 16 more than 512 edits.
+ * Of a file of edits: 10 the rest of a record isn't zero, 11 the file's length isn't a multiple of 16, 12 the list area is below
+ * 512 words, 15 a parent isn't smaller than its edit, 16 more than 512 edits.
  * Refused: the other values are 0 and, but for 9, head, areas and buffer are as they were. */
 #ifndef SMELVOCK_H
 #define SMELVOCK_H

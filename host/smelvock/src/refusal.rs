@@ -35,7 +35,7 @@ refusals! {
     FULL = 8: "the tree holds its limit";
     LINK = 9: "a link of the tree leads outside";
     FIELD = 10: "the head is not seventeen words, a view or a flag is neither 0 nor 1, or the rest of an edit is not zero";
-    RECORDS = 11: "records and output are unequally long, or not a multiple of 16";
+    RECORDS = 11: "records and output are unequally long, or a length is not a multiple of 16";
     BUFFER = 12: "the buffer is below 2,750 bytes a page, or the list area below 512 words";
     LEAF = 13: "the cursor's leaf is not in use";
     SLOT = 14: "the cursor's slot is at or past its leaf's len";
