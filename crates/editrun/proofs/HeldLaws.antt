@@ -1,4 +1,4 @@
--- A block holds the input behind what it held, and no call tells the bytes that it holds from the input. Assumes nothing.
+-- A block holds the input behind what it held, and `difference` doesn't tell the bytes that it holds from the input. Assumes nothing.
 use mathlib.Core.Path.{_≡_, refl, sym, ap, _∙_, subst}
 use mathlib.Core.Logic.{_≢_}
 use mathlib.Core.Bool.{Bool, true, false}

@@ -1,5 +1,5 @@
--- The bytes of the input that a block holds: all of them, or, from 513 records on, the first 513 and as many bytes as are left over. No call on a file of
--- edits tells the two apart (`as-whole` in the laws), for such a file is refused by its length. Assumes nothing.
+-- The bytes of the input that a block holds: all of them, or, from 513 records on, the first 513 and as many bytes as are left over. `difference` doesn't
+-- tell the two apart (`as-whole` in the laws), for such a file is refused by its length. Assumes nothing.
 use mathlib.Core.Path.{_≡_}
 use mathlib.Core.Bool.{cond}
 use mathlib.Core.List.{List, _++_}
