@@ -1,5 +1,5 @@
--- The marks of the walk are the edits that an edit rests on: what is marked rests on, and along every chain the parents of a marked edit are marked.
--- Assumes nothing.
+-- The marks of the walk are the edits that an edit rests on: it rests on whatever is marked, and along every chain the parents of a marked edit are
+-- marked. Assumes nothing.
 use mathlib.Core.Path.{_≡_, refl, sym, ap, subst, _∙_}
 use mathlib.Core.Logic.{_≢_, _⊎_, inl, inr, ⊎-elim}
 use mathlib.Core.Bool.{Bool, true, false, cond}
