@@ -1,5 +1,6 @@
 // Reads a file of edits from standard input and prints, a number a line, the edits that the first argument rests on and the second doesn't.
-// What it can't do it says on standard error, and prints nothing: an argument that is no edit's number, a refusal's number, a read or write that fails.
+// What it can't do it says on standard error, and prints nothing: an argument that is no edit's number, a refusal's number, a read that fails. A write that
+// fails it says too, and may have printed a part.
 use calls_edits::difference::difference;
 use libc::STDERR_FILENO;
 use libc::STDIN_FILENO;
