@@ -12,10 +12,10 @@ use lib.Dec.{eqb}
 use lib.Seq.{length-take-le, take-at, drop-at, getD-append-add}
 use borrow.Author.Tests.{eqb-false}
 use Rattle.model.specs.Kind.{base}
-use Rattle.model.specs.Lists.{Cause, refusal}
-use Rattle.model.specs.Row.{Entry, Row, Call, insert, Answer, refused, Moved, moved, row, before, total, unless, rowStep}
-use Rattle.model.specs.Record.{bytesOf, fieldsOf, decode, encode}
-use Rattle.model.specs.Spelling.{asTwo}
+use Rattle.model.specs.Lists.{sumBy, some, range, Cause, refusal}
+use Rattle.model.specs.Row.{Entry, Row, Call, insert, Answer, refused, Moved, moved, row, before, from, total, unless, rowStep}
+use Rattle.model.specs.Record.{bytesOf, fieldsOf, kinds, decode, encode}
+use Rattle.model.specs.Spelling.{asTwo, bytes, low, top}
 use Rattle.model.specs.Spelled.{same-call}
 use Rattle.model.specs.State.{State}
 use Rattle.model.specs.Calls.{make}
@@ -24,7 +24,7 @@ use Rattle.model.specs.Promise.{answers, finally}
 use Rattle.model.specs.declared.answer.Outcome.{Outcome}
 use Rattle.model.specs.declared.answer.Outcome.the-variants as outcome
 use Rattle.row.specs.Run.{records, recordsOf, callsOf, written, played, left, fit, Ran, ran, runOn}
-use Rattle.row.specs.Made.{runMade, makeAndRun}
+use Rattle.row.specs.Made.{runMade, makeAndRun, doorRow}
 
 -- what is said ------------------------------------------------------------------------------------------------------------------------------
 
@@ -119,6 +119,12 @@ pub placed : (r : Row) (i : ℕ) (l : List ℕ) → rowStep base r (insert i l) 
     ≡ 0 ∷ 3 ∷ 0 ∷ 0 ∷ (bytesOf (length (r .entries)) ++ (bytesOf (total (base .effect) (before i (r .entries))) ++ bytesOf 0))
 unfolding rowStep encode
 placed r i l z = ap (encode 3) (unless-done r _ _ _ z)
+
+-- two such records on the door's row, at its end: ids 1 and 2, the second behind 5 in effect
+pub sample : played (rowStep base) doorRow (bytes 3 0 0 0 top (low 0) (low 5) ∷ bytes 3 0 0 0 top (low 1) (low 0) ∷ [])
+    ≡ bytes 0 3 0 0 (low 1) (low 0) (low 0) ++ bytes 0 3 0 0 (low 2) (low 5) (low 0)
+unfolding answers written fieldsOf kinds decode encode sumBy some range refusal before from unless rowStep
+sample = refl
 
 -- bytes -------------------------------------------------------------------------------------------------------------------------------------
 
