@@ -1,7 +1,9 @@
 -- What the program prints of a file of edits: a line for each edit of the difference, or the number of the refusal. Assumes nothing.
-use mathlib.Core.Path.{_≡_}
+use mathlib.Core.Path.{_≡_, sym, _∙_}
+use mathlib.Core.Logic.{_≢_}
 use mathlib.Core.List.{List, [], _∷_, _++_}
 use Prim.Native.Nat.{ℕ, _≤_}
+use native.Mathlib.Omega.{arith}
 use lib.ListN.{length}
 use Rattle.model.specs.Numeral.{decimal}
 use Rattle.model.specs.declared.answer.Number.the-variants as number
@@ -23,6 +25,13 @@ pub record Printed (input : List ℕ) (a b : ℕ) (area out : List ℕ) (end : �
   pub exactly : Difference input a b list
   pub text : (end, o) ≡ put out 0 (lines list)
   pub inside : end ≤ length o
+
+-- so there is no text of a refused call, even where the edits of the file have a difference
+pub not-refused : (input : List ℕ) (a b : ℕ) (area out : List ℕ) (end : ℕ) (o : List ℕ) (n : ℕ) → Printed input a b area out end o → difference input area a b .0 ≢ number.Refused n
+not-refused input a b area out end o n p e = never (length (p .list)) (sym (p .reply) ∙ e)
+  where
+    never : (m : ℕ) → number.Is m ≡ number.Refused n → ⊥
+    never m z = let z′ : _≡_ {A = ℕ} 0 1 = cc in omega arith
 
 abbrev pub Answered : Shown → List ℕ → ℕ → ℕ → List ℕ → List ℕ → List ℕ → Type 0
 Answered (shown.Text end) input a b area out o = Printed input a b area out end o
