@@ -27,7 +27,7 @@ pub fn svg(runs: &Runs) -> String {
         let y = TOP + LINE * (row as f64 + 0.5);
         let name = name.trim_end_matches(" (port: its own areas)");
         write(&mut text, [NAMES - 10.0, y + 4.0], "end", "", name);
-        let shade = if row % 2 == 0 { "#f4f4f4" } else { "white" };
+        let shade = if row.is_multiple_of(2) { "#f4f4f4" } else { "white" };
         for panel in 0..2 {
             let (x, y) = (left(panel), y - LINE / 2.0);
             _ = writeln!(text, "<rect x=\"{x}\" y=\"{y}\" width=\"{PANEL}\" height=\"{LINE}\" fill=\"{shade}\"/>");

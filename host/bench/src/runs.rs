@@ -17,6 +17,10 @@ impl Runs {
     pub fn read() -> Runs {
         let mut text = String::new();
         stdin().read_to_string(&mut text).expect("what bench printed, on the standard input");
+        Runs::of(&text)
+    }
+
+    fn of(text: &str) -> Runs {
         let mut runs = Runs(Vec::new());
         let mut title = "";
         for line in text.lines().filter(|line| !line.trim().is_empty()) {
@@ -86,4 +90,20 @@ fn row(line: &str) -> Option<(String, Least)> {
         _ => return None,
     };
     Some((words[..name].join(" "), Least { rust, port, called }))
+}
+
+#[test]
+fn the_least_of_two_runs() {
+    let runs = Runs::of(
+        "N 8, 512 entries\n\
+         ns per call   lib.rs  port  ratio   least  least  ratio   called  least  ratio\n\
+         print, per line                 290.31     18.13    0.06       288.12     17.17    0.06   \n\
+         locate, split, update, insert     70.59     94.21    1.33        61.07     92.37    1.51        80.18     52.60    1.76\n\n\
+         N 8, 512 entries\n\
+         locate, split, update, insert     70.59     94.21    1.33        62.07     90.37    1.51        80.18     51.60    1.76\n",
+    );
+    let name = "locate, split, update, insert";
+    let Some(Least { rust, port, called }) = runs.least(8, 512, name) else { panic!("the row is there") };
+    assert_eq!((rust, port, called), (61.07, 90.37, Some(51.6)));
+    assert_eq!((runs.calls(), runs.sizes(), runs.rows("N 8").len()), (vec![name], vec![512], 2));
 }
