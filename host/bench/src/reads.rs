@@ -10,6 +10,8 @@ use std::hint::black_box;
 
 pub const CALLS: usize = 20_000;
 
+const SLOTS: [&str; 3] = ["cursor, first slot", "cursor, middle slot", "cursor, last slot"];
+
 /// What every kind is fed.
 struct Inputs {
     ids: Vec<u32>,
@@ -49,8 +51,7 @@ pub fn run<A: Calls, B: Calls, C: Calls>(table: &mut Table, trees: &mut Trees<A,
     kind!("id", |tree, cursors| each(cursors, |&at| tree.id(at)));
     kind!("lengths", |tree, cursors| each(cursors, |&at| tree.lengths(at)));
     kind!("cursor", |tree, _cursors| each(ids, |&id| tree.cursor(id)));
-    for (name, ids) in ["cursor, first slot", "cursor, middle slot", "cursor, last slot"].into_iter().zip(&inputs.slots)
-    {
+    for (name, ids) in SLOTS.into_iter().zip(&inputs.slots) {
         kind!(name, |tree, _cursors| each(ids, |&id| tree.cursor(id)));
     }
     kind!("cmp", |tree, cursors| each(cursors.windows(2), |pair| tree.cmp(pair[0], pair[1])));
