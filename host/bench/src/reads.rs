@@ -39,7 +39,6 @@ pub fn run<A: Calls, B: Calls, C: Calls>(table: &mut Table, trees: &mut Trees<A,
         ($one:ident, $its:ident, |$tree:ident, $cursors:ident| $calls:expr) => {
             || {
                 let ($tree, $cursors) = (&mut *$one, &$its);
-                let _ = $cursors;
                 $calls
             }
         };
