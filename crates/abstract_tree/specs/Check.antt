@@ -9,12 +9,12 @@ use native.Mathlib.Omega.{arith}
 use borrow.Author.Tests.{eq-eqb, ne-eqb}
 use lib.ListN.{length, getD}
 use Rattle.model.specs.Lists.{sumBy, All, range}
-use Rattle.abstract_tree.specs.Lists.{length-cat, cat, sumBy-cat, All-map, All-map₂, All-cat, Pairs-append, NoDup}
+use Rattle.abstract_tree.specs.Lists.{length-cat, cat, sumBy-cat, All-map, All-map₂, All-cat, Pairs-append, NoDup, uncat}
 use Rattle.abstract_tree.specs.Levels.{noSlot, len, Slot, Area, Links, total, none}
 use Rattle.abstract_tree.specs.Apart.{dep, dep-step, links-nodup}
 use Rattle.abstract_tree.specs.Fit.{Fit, size}
 use Rattle.abstract_tree.specs.Sound.{lvl, stack, kidsOf, map-cat}
-use Rattle.abstract_tree.specs.Reach.{Kids, Checked, Reached, depths, checked-links, reach, held-in, uncat}
+use Rattle.abstract_tree.specs.Reach.{Kids, Checked, Reached, depths, checked-links, reach, held-in}
 use Rattle.abstract_tree.specs.Pigeon.{sum-each, Absent}
 use Rattle.abstract_tree.specs.Tree.{Tree, half, leafSlots, order, above, row, idOf, Body}
 use Rattle.abstract_tree.specs.Edit.{All-mapped}

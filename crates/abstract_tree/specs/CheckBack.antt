@@ -9,11 +9,11 @@ use native.Mathlib.Omega.{arith}
 use lib.ListN.{length, length-append, length-map, take, drop, getD}
 use lib.Seq.{split-at, length-take-le, getD-append-seam}
 use Rattle.model.specs.Lists.{All}
-use Rattle.abstract_tree.specs.Lists.{length-cat, cat, cat-append, All-right, Pairs, Pairs-before}
+use Rattle.abstract_tree.specs.Lists.{length-cat, cat, cat-append, All-right, Pairs, Pairs-before, uncat}
 use Rattle.abstract_tree.specs.Levels.{noSlot, Slot, Area, told, said, length-marks, Links, total, none, Parent, find-parent}
 use Rattle.abstract_tree.specs.Apart.{ranks}
 use Rattle.abstract_tree.specs.Sound.{lvl, stack, kidsOf, map-cat, Local}
-use Rattle.abstract_tree.specs.Reach.{Kids, uncat, cat-inj}
+use Rattle.abstract_tree.specs.Reach.{Kids, cat-inj}
 use Rattle.abstract_tree.specs.Pigeon.{sum-each, In, in-or, is-in}
 use Rattle.abstract_tree.specs.Tree.{above, Tree, leafSlots, order, row, Body}
 use Rattle.abstract_tree.specs.Follows.{reals, levels-most}

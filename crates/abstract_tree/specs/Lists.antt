@@ -199,6 +199,11 @@ module _ {A B : Type 0} where
   All-cat Q f [] h = tt
   All-cat Q f (x ∷ l) h = All-append Q (f x) (cat f l) (h .0) (All-cat Q f l (h .1))
 
+  pub uncat : (Q : B → Type 0) (f : A → List B) (l : List A) → All Q (cat f l) → All (λ x. All Q (f x)) l
+  unfolding All
+  uncat Q f [] h = tt
+  uncat Q f (x ∷ l) h = (All-left Q (f x) (cat f l) h, uncat Q f l (All-right Q (f x) (cat f l) h))
+
   pub Pairs-of-map : (R : B → B → Type 0) (R′ : A → A → Type 0) (f : A → B) → ((x y : A) → R (f x) (f y) → R′ x y) → (l : List A) → Pairs R (map f l) → Pairs R′ l
   Pairs-of-map R R′ f k [] h = tt
   Pairs-of-map R R′ f k (x ∷ l) h = (All-map (λ y. R (f x) (f y)) (R′ x) (k x) l (All-of-map (R (f x)) f l (h .0)), Pairs-of-map R R′ f k l (h .1))

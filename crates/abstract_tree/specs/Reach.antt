@@ -8,7 +8,7 @@ use native.Mathlib.Decide.{ℕ-discrete}
 use native.Mathlib.Omega.{arith}
 use lib.ListN.{length, getD}
 use Rattle.model.specs.Lists.{All}
-use Rattle.abstract_tree.specs.Lists.{cat, All-map, All-map₂, All-left, All-right, All-cat}
+use Rattle.abstract_tree.specs.Lists.{cat, All-map, All-map₂, All-cat, uncat}
 use Rattle.abstract_tree.specs.Levels.{Slot, Area, Mark, marks, said, Links, total, none}
 use Rattle.abstract_tree.specs.Apart.{dep, dep-none, dep-step}
 use Rattle.abstract_tree.specs.Sound.{kidsOf, lvl, stack, Local, Locals, links-of}
@@ -81,11 +81,6 @@ unfolding All
 held-in k i [] h e a = not-suc-le-zero h
 held-in k zero (s ∷ ss) h e a = a .0 (e s)
 held-in k (suc i) (s ∷ ss) h e a = held-in k i ss (omega arith) e (a .1)
-
-pub uncat : (Q : ℕ → Type 0) (f : ℕ → List ℕ) (P : List ℕ) → All Q (cat f P) → All (λ p. All Q (f p)) P
-unfolding All
-uncat Q f [] h = tt
-uncat Q f (p ∷ P) h = (All-left Q (f p) (cat f P) h, uncat Q f P (All-right Q (f p) (cat f P) h))
 
 pub reach : (leaf up : Area) (root nodes leaves levels K : ℕ) → Checked leaf up root nodes leaves levels K → Reached leaf up root nodes leaves levels K
     → (d k : ℕ) → k < nodes → dep up (suc K) k ≡ suc d → All (λ m. m ≢ k) (lvl up root d) → ⊥

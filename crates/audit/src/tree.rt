@@ -10,5 +10,5 @@ ghost use Rattle.model.specs.Audit.{audit};
 pub fn audit(head: Head, leaves: &[u32], inners: &[u32], homes: &[u32]) -> Verdict
     ensures { λ r. ⌜ r ≡ audit base (state head (now (leaves .entry)) (now (inners .entry)) (now (homes .entry))) ⌝ }
 {
-    crate::any::audit(2, 1, head, leaves, inners, homes)
+    crate::any::audit(3, 1, head, leaves, inners, homes)
 }

@@ -2,12 +2,14 @@
 use mathlib.Core.Path.{_≡_, refl, sym, ap, _∙_}
 use mathlib.Core.Bool.{Bool, true, false, not, _&&_}
 use mathlib.Core.List.{List, []}
-use Prim.Native.Nat.{ℕ, _<_, _≤_}
+use Prim.Native.Nat.{ℕ, suc, _-_, _<_, _≤_}
+use native.Mathlib.Omega.{arith}
 use lib.ListN.{getD}
-use lib.Dec.{eqb}
-use borrow.Author.Tests.{lt-ltb, le-ltb, eq-eqb, ne-eqb, not-true, not-false}
-use Rattle.model.specs.Kind.{stride}
-use Rattle.model.specs.Node.{Node, child}
+use lib.Seq.{getD-drop}
+use lib.Dec.{ltb, eqb}
+use borrow.Author.Tests.{lt-ltb, le-ltb, ltb-true, eq-eqb, ne-eqb, not-true, not-false}
+use Rattle.model.specs.Kind.{kind, stride, tooManyLines}
+use Rattle.model.specs.Node.{Node, child, lengths, lengthIn}
 use Rattle.model.specs.State.{state, nodeAt}
 use Rattle.model.specs.Refuse.{shapeOf}
 use Rattle.model.specs.Sound.{leastLeaf}
@@ -15,6 +17,7 @@ use Rattle.model.specs.Audit.{every, isOther, depth, isFilled, isHeld, isEntry,
 use Rattle.model.specs.declared.shape.Kind.{Kind}
 use Rattle.model.specs.declared.shape.Shape.{Shape}
 use Rattle.model.specs.declared.head.Head.{Head}
+use Rattle.audit_node.proofs.Every.{every-same}
 use Rattle.audit_link.specs.Links.{depthBy, heldBy, entryBy}
 use Rattle.audit_link.proofs.InnerLaws.{depth-same}
 
@@ -24,6 +27,17 @@ other-met n c j x e q = rw (← e, eq-eqb x c q)
 
 pub other-passed : (n : Node) (c j x : ℕ) → x ≡ child (getD (n .slots) j []) → (x ≡ c → ⊥) → isOther n c j ≡ true
 other-passed n c j x e q = rw (← e, ne-eqb x c q)
+
+-- too many line ends in a slot of so many words, or not
+lines-many : (s : ℕ) (x : List ℕ) → 3 < s → 65535 < lengthIn 2 x → tooManyLines (kind (s - 1) 0) (lengths x) ≡ true
+lines-many s x h n = rw (lt-ltb 2 (s - 1) (omega arith), getD-drop, lt-ltb 65535 (lengthIn 2 x) n)
+
+lines-few : (s : ℕ) (x : List ℕ) → (3 < s → lengthIn 2 x ≤ 65535) → tooManyLines (kind (s - 1) 0) (lengths x) ≡ false
+lines-few s x f = go (ltb 2 (s - 1)) refl
+  where
+    go : (b : Bool) → ltb 2 (s - 1) ≡ b → (b && ltb 65535 (getD (lengths x) 2 0)) ≡ false
+    go true e = rw (getD-drop) (le-ltb 65535 (lengthIn 2 x) (f (omega (arith, ltb-true 2 (s - 1) e))))
+    go false e = refl
 
 -- an entry
 module _ (g : Shape) (count : ℕ) (ls hs : List ℕ) (k i id : ℕ) (e : id ≡ child (getD (nodeAt g k ls .slots) i [])) where
@@ -36,9 +50,15 @@ module _ (g : Shape) (count : ℕ) (ls hs : List ℕ) (k i id : ℕ) (e : id ≡
     unfolding entryBy
     entry-away n = rw (← e, lt-ltb id count h, ne-eqb (getD hs id 0) k n)
 
-    pub entry-last : getD hs id 0 ≡ k → (b : Bool) → b ≡ every (isOther (nodeAt g k ls) id) 0 i → b ≡ entryBy g count ls hs k i
-    unfolding entryBy
-    entry-last q b eb = rw (← e, lt-ltb id count h, eq-eqb (getD hs id 0) k q) eb
+    module _ (q : getD hs id 0 ≡ k) where
+      pub entry-long : 3 < g .stride → (n : ℕ) → n ≡ lengthIn 2 (getD (nodeAt g k ls .slots) i []) → 65535 < n → false ≡ entryBy g count ls hs k i
+      unfolding entryBy
+      entry-long w n en m =
+          rw (← e, lt-ltb id count h, eq-eqb (getD hs id 0) k q, lines-many (g .stride) (getD (nodeAt g k ls .slots) i []) w (omega (arith, en, m)))
+
+      pub entry-last : (3 < g .stride → lengthIn 2 (getD (nodeAt g k ls .slots) i []) ≤ 65535) → (b : Bool) → b ≡ every (isOther (nodeAt g k ls) id) 0 i → b ≡ entryBy g count ls hs k i
+      unfolding entryBy
+      entry-last f b eb = rw (← e, lt-ltb id count h, eq-eqb (getD hs id 0) k q, lines-few (g .stride) (getD (nodeAt g k ls .slots) i []) f) eb
 
 -- a leaf
 module _ (K : Kind) (h : Head) (ls xs hs : List ℕ) where
@@ -51,9 +71,17 @@ module _ (K : Kind) (h : Head) (ls xs hs : List ℕ) where
   abbrev leafBy : Shape → ℕ → ℕ → Bool
   leafBy g d k = filledPart g k && heldPart g k && eqb d (h .levels) && every (entryBy g (h .entries) ls hs k) 0 (nodeAt g k ls .len)
 
+  -- an entry, by the words of the areas
+  entry-same : (k i : ℕ) → entryBy (shapeOf K h) (h .entries) ls hs k i ≡ isEntry K (state h ls xs hs) k (nodeAt (shapeOf K h) k ls) i
+  unfolding entryBy isEntry
+  entry-same k i = let views : suc (K .views) - 1 ≡ K .views = omega arith in rw views
+
+  entries-same : (k n : ℕ) → every (entryBy (shapeOf K h) (h .entries) ls hs k) 0 n ≡ every (isEntry K (state h ls xs hs) k (nodeAt (shapeOf K h) k ls)) 0 n
+  entries-same k n = every-same (entryBy (shapeOf K h) (h .entries) ls hs k) _ (entry-same k) 0 n
+
   whole : (k d : ℕ) → d ≡ depth K (state h ls xs hs) (h .levels) (nodeAt (shapeOf K h) k ls .parent) → leafBy (shapeOf K h) d k ≡ isLeaf K (state h ls xs hs) k
-  unfolding isLeaf isFilled heldBy isHeld entryBy isEntry
-  whole k d e = rw (← e)
+  unfolding isLeaf isFilled heldBy isHeld
+  whole k d e = rw (← e, ← entries-same k (nodeAt (shapeOf K h) k ls .len))
 
   module _ (g : Shape) (e : g ≡ shapeOf K h) (k : ℕ) (least : ℕ) (el : least ≡ leastLeaf (stride K) (state h [] [] [])) (f : Bool)
       (ef : f ≡ isFilled K (state h [] [] []) least (nodeAt g k ls)) where

@@ -1,10 +1,11 @@
 -- The tests of links over the words of the areas, with the sizes g and the counts as numbers. Assumes nothing.
-use mathlib.Core.Bool.{Bool, cond, _&&_}
+use mathlib.Core.Bool.{Bool, cond, not, _&&_}
 use mathlib.Core.List.{List, []}
 use Prim.Native.Nat.{ℕ, zero, suc, _-_}
 use lib.ListN.{getD}
 use lib.Dec.{ltb, leb, eqb}
-use Rattle.model.specs.Node.{none, child, lengthIn, total, used}
+use Rattle.model.specs.Kind.{kind, tooManyLines}
+use Rattle.model.specs.Node.{none, child, lengths, lengthIn, total, used}
 use Rattle.model.specs.State.{nodeAt}
 use Rattle.model.specs.Audit.{every, isOther}
 use Rattle.model.specs.declared.shape.Shape.{Shape}
@@ -38,9 +39,9 @@ rootBy g h xs k =
     let n = nodeAt g k xs in
     cond (eqb k (h .root .0)) (eqb (n .parent) none && eqb (n .at) 0) (heldBy g (h .inners) xs k (n .parent) (n .at))
 
--- the id in slot i of leaf k is below the count, lives here, and stands in no earlier slot
+-- the id in slot i of leaf k is below the count, lives here, and stands in no earlier slot; its line ends aren't too many
 unfoldable pub entryBy : Shape → ℕ → List ℕ → List ℕ → ℕ → ℕ → Bool
 entryBy g count ls hs k i =
     let n = nodeAt g k ls in
-    let id = child (getD (n .slots) i []) in
-    ltb id count && eqb (getD hs id 0) k && every (isOther n id) 0 i
+    let x = getD (n .slots) i [] in
+    ltb (child x) count && eqb (getD hs (child x) 0) k && not (tooManyLines (kind (g .stride - 1) 0) (lengths x)) && every (isOther n (child x)) 0 i

@@ -4,6 +4,7 @@ use crate::link::is_held;
 use area::word::at_of;
 use area::word::child_of;
 use area::word::len_of;
+use area::word::length_of;
 use area::word::parent_of;
 use audit_node::nodes::is_filled;
 use model::head::Head;
@@ -39,17 +40,23 @@ fn is_new(leaves: &[u32], g: Shape, k: LeafNo, i: u32, id: EntryId) -> bool
     true
 }
 
-// Whether the id in slot i of leaf k is below the count, lives in leaf k, and stands in no earlier slot.
+// Whether the id in slot i of leaf k is below the count, lives in leaf k, and stands in no earlier slot, and its line ends aren't too many.
 fn is_entry(leaves: &[u32], homes: &[u32], g: Shape, entries: u32, k: LeafNo, i: u32) -> bool
     requires { ⌜ Area g (length (now leaves)) × (entries ≤ length (now homes)) × (k .0 < g .nodes) × (i < g .fan) ⌝ }
     ensures { λ r. ⌜ r ≡ entryBy g entries (now (leaves .entry)) (now (homes .entry)) (k .0) i ⌝ }
 {
+    let stride = g.stride;
     let id = child_of(leaves, g, k.0, i as usize);
     if id >= entries {
         return false;
     }
     if homes[id as usize] != k.0 {
         return false;
+    }
+    if 3 < stride {
+        if 65535 < length_of(leaves, g, 2, k.0, i as usize) {
+            return false;
+        }
     }
     is_new(leaves, g, k, i, EntryId(id))
 }

@@ -29,6 +29,12 @@ pub fn reset(
 ) -> OutcomeReply
     ensures { λ r. ⌜ moved (state (r .head) (now (leaves .exit)) (now (inners .exit)) (now (homes .exit))) (outcomeAnswer (r .answer)) ≡ treeStep base (state head (now (leaves .entry)) (now (inners .entry)) (now (homes .entry))) (row.reset (listOf lengths)) ⌝ }
 {
+    if lengths.overlong() {
+        return OutcomeReply {
+            head: head,
+            answer: Outcome::Refused(10),
+        };
+    }
     calls_make::begin::reset(head, lengths, leaves, inners, homes)
 }
 
@@ -44,6 +50,12 @@ pub fn split_entry(
 ) -> DividedReply
     ensures { λ r. ⌜ moved (state (r .head) (now (leaves .exit)) (now (inners .exit)) (now (homes .exit))) (dividedAnswer (r .answer)) ≡ treeStep base (state head (now (leaves .entry)) (now (inners .entry)) (now (homes .entry))) (row.split before (id .0) (listOf lengths)) ⌝ }
 {
+    if lengths.overlong() {
+        return DividedReply {
+            head: head,
+            answer: Divided::Refused(10),
+        };
+    }
     match cursor(head, leaves, inners, homes, id) {
         Standing::Refused(n) => DividedReply {
             head: head,
@@ -72,6 +84,12 @@ pub fn set_lengths(
 ) -> OutcomeReply
     ensures { λ r. ⌜ moved (state (r .head) (now (leaves .exit)) (now (inners .exit)) (now (homes .exit))) (outcomeAnswer (r .answer)) ≡ treeStep base (state head (now (leaves .entry)) (now (inners .entry)) (now (homes .entry))) (row.setLengths (id .0) (listOf lengths)) ⌝ }
 {
+    if lengths.overlong() {
+        return OutcomeReply {
+            head: head,
+            answer: Outcome::Refused(10),
+        };
+    }
     match cursor(head, leaves, inners, homes, id) {
         Standing::Refused(n) => OutcomeReply {
             head: head,
@@ -92,6 +110,12 @@ pub fn update(
 ) -> NumberReply
     ensures { λ r. ⌜ moved (state (r .head) (now (leaves .exit)) (now (inners .exit)) (now (homes .exit))) (numberAnswer (r .answer)) ≡ treeStep base (state head (now (leaves .entry)) (now (inners .entry)) (now (homes .entry))) (row.update (id .0) (listOf lengths)) ⌝ }
 {
+    if lengths.overlong() {
+        return NumberReply {
+            head: head,
+            answer: Number::Refused(10),
+        };
+    }
     match cursor(head, leaves, inners, homes, id) {
         Standing::Refused(n) => NumberReply {
             head: head,

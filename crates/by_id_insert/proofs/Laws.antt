@@ -5,14 +5,14 @@ use Prim.Native.Nat.{ℕ}
 use lib.Dec.{eqb}
 use borrow.Author.Tests.{eq-eqb, ne-eqb}
 use Rattle.model.specs.Length.{listOf}
-use Rattle.model.specs.Kind.{base}
+use Rattle.model.specs.Kind.{base, tooManyLines}
 use Rattle.model.specs.Row as row
 use Rattle.model.specs.Row.{Moved, moved, refused, noEntry}
 use Rattle.model.specs.Answer.{insertedAnswer}
 use Rattle.model.specs.State.{State}
 use Rattle.model.specs.Calls as calls
 use Rattle.model.specs.Calls.{reply}
-use Rattle.model.specs.ById.{withCursor, withTarget, told, treeStep}
+use Rattle.model.specs.ById.{withCursor, withTarget, told, treeMove, treeStep}
 use Rattle.model.specs.declared.length.Lengths.{Lengths}
 use Rattle.model.specs.declared.answer.Inserted.{Inserted}
 use Rattle.model.specs.declared.answer.Target.{Target}
@@ -22,7 +22,7 @@ use Rattle.model.specs.declared.answer.Standing.the-variants as standing
 use Rattle.by_id_insert.specs.Lead.{before, leadOf}
 use Rattle.by_id_insert.specs.declared.insert.Aim.{Aim}
 use Rattle.by_id_insert.specs.declared.insert.Aim.the-variants as aim
-use Rattle.by_id_read.proofs.Laws.{told-by}
+use Rattle.by_id_read.proofs.Laws.{not-long, told-by}
 
 -- where the id of an insertion leads
 module _ (s : State) (i : ℕ) where
@@ -53,14 +53,14 @@ module _ (s : State) (i : ℕ) where
     lead-goes : (x : Target) → t ≡ aim.At x → (m : Moved State) → m ≡ f x → m ≡ withTarget base s i f
     lead-goes x d m q = q ∙ ap (λ (y : Aim). onward y f) (sym d ∙ e) ∙ lead-same (eqb i noEntry) f
 
-  module _ (l : Lengths) (t : Aim) (e : t ≡ leadOf s i) where
+  module _ (l : Lengths) (h : tooManyLines base (listOf l) ≡ false) (t : Aim) (e : t ≡ leadOf s i) where
     abbrev inserting : Target → Moved State
     inserting x = told (calls.insert base s x (listOf l)) insertedAnswer
 
     pub insert-stops : (n : ℕ) → t ≡ aim.Refused n → moved s (refused n) ≡ treeStep base s (row.insert i (listOf l))
-    unfolding treeStep
-    insert-stops n d = lead-stops t e inserting n d
+    unfolding treeMove
+    insert-stops n d = not-long s (row.insert i (listOf l)) h _ (lead-stops t e inserting n d)
 
     pub insert-goes : (x : Target) → t ≡ aim.At x → (u : State) (a : Inserted) → reply u a ≡ calls.insert base s x (listOf l) → moved u (insertedAnswer a) ≡ treeStep base s (row.insert i (listOf l))
-    unfolding treeStep
-    insert-goes x d u a q = lead-goes t e inserting x d _ (told-by insertedAnswer u a (calls.insert base s x (listOf l)) q)
+    unfolding treeMove
+    insert-goes x d u a q = not-long s (row.insert i (listOf l)) h _ (lead-goes t e inserting x d _ (told-by insertedAnswer u a (calls.insert base s x (listOf l)) q))

@@ -49,6 +49,12 @@ pub fn insert(
 ) -> InsertedReply
     ensures { λ r. ⌜ moved (state (r .head) (now (leaves .exit)) (now (inners .exit)) (now (homes .exit))) (insertedAnswer (r .answer)) ≡ treeStep base (state head (now (leaves .entry)) (now (inners .entry)) (now (homes .entry))) (row.insert (before .0) (listOf lengths)) ⌝ }
 {
+    if lengths.overlong() {
+        return InsertedReply {
+            head: head,
+            answer: Inserted::Refused(10),
+        };
+    }
     match lead(head, leaves, inners, homes, before) {
         Aim::Refused(n) => InsertedReply {
             head: head,

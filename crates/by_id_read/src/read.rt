@@ -23,7 +23,7 @@ pub fn len(head: Head, leaves: &[u32], inners: &[u32], homes: &[u32]) -> Number
 {
     let fan = head.fan;
     let limit = head.limit;
-    match open_areas(2, fan, limit, leaves, inners, homes) {
+    match open_areas(3, fan, limit, leaves, inners, homes) {
         Opened::Refused(n) => Number::Refused(n),
         Opened::Good(_) => calls_read::read::len(head),
     }

@@ -8,6 +8,7 @@ use lib.ListN.{getD}
 use lib.Dec.{ltb, leb}
 use borrow.Author.Tests.{ltb-true, leb-false, ltb-false, lt-ltb, le-ltb, le-leb, lt-leb}
 use Rattle.model.specs.Lists.{Cause, cause, some, All, range}
+use Rattle.model.specs.Kind.{tooManyLines}
 use Rattle.model.specs.Length.{lengthsIn}
 use Rattle.model.specs.Node.{child}
 use Rattle.model.specs.State.{State, shapeFor, nodeAt}
@@ -53,8 +54,8 @@ front-numbered K s target.End = (omega arith, (omega arith, (omega arith, tt)))
 
 insert-numbered : (K : Kind) (s : State) (t : Target) (l : List ℕ) → Numbered (insertCauses K s t l)
 unfolding opening All
-insert-numbered K s (target.Before c) l = (omega arith, (omega arith, (omega arith, (omega arith, (omega arith, (omega arith, (omega arith, (omega arith, (omega arith, tt)))))))))
-insert-numbered K s target.End l = (omega arith, (omega arith, (omega arith, (omega arith, (omega arith, tt)))))
+insert-numbered K s (target.Before c) l = (omega arith, (omega arith, (omega arith, (omega arith, (omega arith, (omega arith, (omega arith, (omega arith, (omega arith, (omega arith, tt))))))))))
+insert-numbered K s target.End l = (omega arith, (omega arith, (omega arith, (omega arith, (omega arith, (omega arith, tt))))))
 
 -- what 7 says with no lengths for old ones
 zeros : (K : Kind) (s : State) (l : List ℕ) (n : ℕ) → 1 ≤ n → n ≤ 3
@@ -82,10 +83,17 @@ module _ (K : Kind) (w : (1 ≤ K .views) × (K .views ≤ 3)) (s : State) where
       rw (← good-shape (frontOf K s t) (shapeOf K (s .head)) g q)
       (none-ready (targetCauses K s t) (none-applies (frontOf K s t) (front-numbered K s t) (good-number (frontOf K s t) (shapeOf K (s .head)) g q)))
 
-  -- what `open_insert` answers, from what `open_for` answered
-  module _ (t : Target) (l : List ℕ) (o : Opened) (e : o ≡ openedBy (frontOf K s t) (shapeOf K (s .head))) where
+  -- what `open_insert` answers: 10 where there are too many line ends
+  pub insert-many : (t : Target) (l : List ℕ) (m : Bool) → m ≡ tooManyLines K l → m ≡ true → Refused 10 ≡ openedBy (insertCauses K s t l) (shapeOf K (s .head))
+  insert-many t l m em h = sym (opened-first 9 _ _ _ (sym em ∙ h))
+
+  -- else, from what `open_for` answered
+  module _ (t : Target) (l : List ℕ) (m : Bool) (em : m ≡ tooManyLines K l) (few : m ≡ false) (o : Opened) (e : o ≡ openedBy (frontOf K s t) (shapeOf K (s .head))) where
+    behind : openedBy (insertCauses K s t l) (shapeOf K (s .head)) ≡ openedBy (opening K s ++ targetCauses K s t ++ past K s [] l ∷ full s ∷ []) (shapeOf K (s .head))
+    behind = opened-next 10 _ _ _ (sym em ∙ few)
+
     pub insert-stop : (n : ℕ) → o ≡ Refused n → Refused n ≡ openedBy (insertCauses K s t l) (shapeOf K (s .head))
-    insert-stop n d = sym (opened-stop (frontOf K s t) (past K s [] l ∷ full s ∷ []) _ n (sym e ∙ d))
+    insert-stop n d = sym (behind ∙ opened-stop (frontOf K s t) (past K s [] l ∷ full s ∷ []) _ n (sym e ∙ d))
 
     module _ (g : Shape) (d : o ≡ Good g) (b : Bool)
         (eb : b ≡ pastIn (shapeFor (K .views) (g .fan) (g .nodes)) (s .head .root .0) (s .inners) (lengthsIn (K .views) (0 ∷ 0 ∷ 0 ∷ 0 ∷ [])) l) where
@@ -96,7 +104,7 @@ module _ (K : Kind) (w : (1 ≤ K .views) × (K .views ≤ 3)) (s : State) where
       here = eb ∙ past-same K s g (sym same) (lengthsIn (K .views) (0 ∷ 0 ∷ 0 ∷ 0 ∷ [])) l ∙ past-none K w s l
 
       rest : openedBy (insertCauses K s t l) (shapeOf K (s .head)) ≡ openedBy (past K s [] l ∷ full s ∷ []) (shapeOf K (s .head))
-      rest = opened-more (frontOf K s t) (past K s [] l ∷ full s ∷ []) _ g (front-numbered K s t) (sym e ∙ d)
+      rest = behind ∙ opened-more (frontOf K s t) (past K s [] l ∷ full s ∷ []) _ g (front-numbered K s t) (sym e ∙ d)
 
       pub insert-past : b ≡ true → Refused 7 ≡ openedBy (insertCauses K s t l) (shapeOf K (s .head))
       insert-past h = sym (rest ∙ opened-first 6 _ (full s ∷ []) _ (sym here ∙ h))
@@ -115,11 +123,11 @@ module _ (K : Kind) (w : (1 ≤ K .views) × (K .views ≤ 3)) (s : State) where
   none-room : (t : Target) (l : List ℕ) → All (λ c. c .applies ≡ false) (insertCauses K s t l) → Ready K s (shapeOf K (s .head)) × Aimed K s t × (s .head .entries < s .head .limit)
   unfolding opening All Aimed
   none-room (target.Before c) l n = (
-    (ready-here K w s (n .0) (n .1 .0) (n .1 .1 .0)),
-    (leb-false _ _ (n .1 .1 .1 .1 .0), leb-false _ _ (n .1 .1 .1 .1 .1 .0), ltb-false _ _ (n .1 .1 .1 .1 .1 .1 .0)),
-    (leb-false _ _ (n .1 .1 .1 .1 .1 .1 .1 .1 .0)),
+    (ready-here K w s (n .1 .0) (n .1 .1 .0) (n .1 .1 .1 .0)),
+    (leb-false _ _ (n .1 .1 .1 .1 .1 .0), leb-false _ _ (n .1 .1 .1 .1 .1 .1 .0), ltb-false _ _ (n .1 .1 .1 .1 .1 .1 .1 .0)),
+    (leb-false _ _ (n .1 .1 .1 .1 .1 .1 .1 .1 .1 .0)),
   )
-  none-room target.End l n = (ready-here K w s (n .0) (n .1 .0) (n .1 .1 .0), omega arith, leb-false _ _ (n .1 .1 .1 .1 .0))
+  none-room target.End l n = (ready-here K w s (n .1 .0) (n .1 .1 .0) (n .1 .1 .1 .0), omega arith, leb-false _ _ (n .1 .1 .1 .1 .1 .0))
 
   pub insert-room : (t : Target) (l : List ℕ) (g : Shape) (o : Opened) → o ≡ openedBy (insertCauses K s t l) (shapeOf K (s .head)) → o ≡ Good g
       → Ready K s g × Aimed K s t × (s .head .entries < s .head .limit)

@@ -10,6 +10,7 @@ use model::shape::Shape;
 use model::way::Leaf;
 use model::way::Sum;
 use open::lengths::past;
+use open::lengths::too_many_lines;
 use open::open::Opened;
 use open::open::full;
 use open::open::open;
@@ -60,7 +61,8 @@ fn open_for(
     }
 }
 
-// All that insert tests: then whether a total would pass u32, and whether the tree holds its limit.
+// All that insert tests: too many line ends before all else; behind the tree and a cursor, whether a total would pass u32, and whether
+// the tree holds its limit.
 fn open_insert(
     views: usize,
     head: Head,
@@ -73,6 +75,9 @@ fn open_insert(
     requires { ⌜ (1 ≤ views) × (views ≤ 3) × (length (now x) ≡ 4) ⌝ }
     ensures { λ r. ⌜ ((effect : ℕ) → r ≡ openedBy (insertCauses (kind views effect) (state head (now (leaves .entry)) (now (inners .entry)) (now (homes .entry))) before (lengthsIn views (now (x .entry)))) (shapeOf (kind views effect) head)) ⌝ }
 {
+    if too_many_lines(views, x) {
+        return Opened::Refused(10);
+    }
     match open_for(views, head, leaves, inners, homes, before) {
         Opened::Refused(n) => Opened::Refused(n),
         Opened::Good(g) => {

@@ -23,6 +23,11 @@ pub fn insert(
     ensures { λ r. ⌜ reply (state (r .head) (now (leaves .exit)) (now (inners .exit)) (now (homes .exit))) (r .answer) ≡ calls.insert base (state head (now (leaves .entry)) (now (inners .entry)) (now (homes .entry))) before (listOf lengths) ⌝ }
 {
     let slot = Slot::new(head.entries, lengths);
-    let x: [u32; 4] = [slot.child, slot.prepare_len, slot.effect_len, 0];
-    crate::any::insert(2, 1, head, leaves, inners, homes, before, &x)
+    let x: [u32; 4] = [
+        slot.child,
+        slot.prepare_len,
+        slot.effect_len,
+        slot.line_ends,
+    ];
+    crate::any::insert(3, 1, head, leaves, inners, homes, before, &x)
 }

@@ -23,7 +23,7 @@ pub fn locate(
 ) -> LocatedReply
     ensures { λ r. ⌜ reply (state (r .head) (now (leaves .exit)) (now (inners .exit)) (now (homes .exit))) (r .answer) ≡ calls.locate base (state head (now (leaves .entry)) (now (inners .entry)) (now (homes .entry))) (viewNumber view) index ⌝ }
 {
-    crate::any::locate(2, 1, head, leaves, inners, homes, view.number(), index)
+    crate::any::locate(3, 1, head, leaves, inners, homes, view.number(), index)
 }
 
 // The same without the two positions.

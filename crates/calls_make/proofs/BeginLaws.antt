@@ -8,13 +8,13 @@ use lib.ListN.{length, getD, set, take, drop}
 use lib.Dec.{ltb}
 use borrow.Author.Tests.{ltb-false}
 use borrow.Rule.Slice.PartMut.{putMid}
-use Rattle.model.specs.Kind.{kind, stride}
+use Rattle.model.specs.Kind.{kind, stride, tooManyLines}
 use Rattle.model.specs.Lists.{All, putAt}
 use Rattle.model.specs.Node.{none, newNode}
 use Rattle.model.specs.Length.{lengthsIn}
 use Rattle.model.specs.State.{State, state, headOf, shape, putNode}
 use Rattle.model.specs.Refuse.{shapeOf}
-use Rattle.model.specs.Calls.{reply, begun, makeCauses, make, reset}
+use Rattle.model.specs.Calls.{reply, begun, areaCauses, makeCauses, make, reset}
 use Rattle.model.specs.declared.shape.Kind.{Kind}
 use Rattle.model.specs.declared.shape.Shape.{Shape}
 use Rattle.model.specs.declared.answer.Outcome.the-variants as outcome
@@ -23,8 +23,8 @@ use Rattle.laws.specs.Words.{lent-back}
 use Rattle.laws.specs.Lists.{rows-le}
 use Rattle.node.specs.Shaped.{Shaped}
 use Rattle.open.proofs.Bools.{or-false}
-use Rattle.open.proofs.Causes.{none-applies, good-number, good-shape, call-refused, call-good}
-use Rattle.open.proofs.OpenLaws.{areasOf, sized}
+use Rattle.open.proofs.Causes.{none-applies, good-number, good-shape, good-tail, call-refused, call-good}
+use Rattle.open.proofs.OpenLaws.{sized}
 use Rattle.open.proofs.ReadyLaws.{shaped}
 use Rattle.open.specs.Open.{openedBy}
 use Rattle.open.specs.declared.open.Opened.{Opened}
@@ -69,18 +69,18 @@ one-node : (b : Bool) (n s m : ℕ) → cond b 1 n * s ≤ m → (b ≡ false �
 one-node true n s m h f = omega arith
 one-node false n s m h f = omega (arith, rows-le 1 n s (f refl))
 
-module _ (K : Kind) (w : (1 ≤ K .views) × (K .views ≤ 3)) (fan limit : ℕ) (ls xs hs : List ℕ) (o : Opened) (e : o ≡ openedBy (makeCauses K fan limit ls xs hs) (shape (stride K) fan limit)) where
+module _ (K : Kind) (w : (1 ≤ K .views) × (K .views ≤ 3)) (fan limit : ℕ) (ls xs hs : List ℕ) (o : Opened) (e : o ≡ openedBy (areaCauses K fan limit ls xs hs) (shape (stride K) fan limit)) where
   pub room : (g : Shape) → o ≡ Good g → Room K fan limit g ls xs hs
   unfolding All
   room g d =
-      let n = none-applies (makeCauses K fan limit ls xs hs) (omega arith, (omega arith, tt)) (good-number (makeCauses K fan limit ls xs hs) (shape (stride K) fan limit) g (sym e ∙ d)) in
+      let n = none-applies (areaCauses K fan limit ls xs hs) (omega arith, (omega arith, tt)) (good-number (areaCauses K fan limit ls xs hs) (shape (stride K) fan limit) g (sym e ∙ d)) in
       let z = sized fan limit (n .0) in
       let short = or-false _ _ (n .1 .0) in
       let areas = or-false _ _ (short .0) in
       let some : ltb (limit / (fan / 2)) 1 ≡ false → 1 ≤ limit / (fan / 2) = ltb-false (limit / (fan / 2)) 1 in
       let at : (ws : List ℕ) → shape (stride K) fan limit .nodes * shape (stride K) fan limit .size ≤ length ws → shape (stride K) fan limit .size ≤ length ws =
       λ ws h. one-node (ltb (limit / (fan / 2)) 1) (limit / (fan / 2)) (3 + fan * stride K) (length ws) h some in
-      rw (← good-shape (makeCauses K fan limit ls xs hs) (shape (stride K) fan limit) g (sym e ∙ d))
+      rw (← good-shape (areaCauses K fan limit ls xs hs) (shape (stride K) fan limit) g (sym e ∙ d))
       (record {
         same = refl;
         shaped = shaped (K .views) fan limit w z;
@@ -92,28 +92,34 @@ module _ (K : Kind) (w : (1 ≤ K .views) × (K .views ≤ 3)) (fan limit : ℕ)
         homes = omega (arith, z .limit-least, ltb-false (length hs) limit (short .1));
       })
 
+-- the same where `open_make` gives no number
+pub make-room : (K : Kind) → (1 ≤ K .views) × (K .views ≤ 3) → (fan limit : ℕ) (l ls xs hs : List ℕ) (o : Opened) → o ≡ openedBy (makeCauses K fan limit l ls xs hs) (shape (stride K) fan limit)
+    → (g : Shape) → o ≡ Good g → Room K fan limit g ls xs hs
+make-room K w fan limit l ls xs hs o e g d =
+    room K w fan limit ls xs hs _ refl g (good-tail 9 (tooManyLines K l) (areaCauses K fan limit ls xs hs) (shape (stride K) fan limit) g (sym e ∙ d))
+
 -- make
-module _ (K : Kind) (fan limit : ℕ) (ls xs hs : List ℕ) (o : Opened) (e : o ≡ openedBy (makeCauses K fan limit ls xs hs) (shape (stride K) fan limit)) where
-  pub make-refused : (l : List ℕ) (n : ℕ) → o ≡ Refused n → reply (state (headOf 0 0 0 0 0 0 0 held.Absent) ls xs hs) (outcome.Refused n) ≡ make K fan limit l ls xs hs
+module _ (K : Kind) (fan limit : ℕ) (l ls xs hs : List ℕ) (o : Opened) (e : o ≡ openedBy (makeCauses K fan limit l ls xs hs) (shape (stride K) fan limit)) where
+  pub make-refused : (n : ℕ) → o ≡ Refused n → reply (state (headOf 0 0 0 0 0 0 0 held.Absent) ls xs hs) (outcome.Refused n) ≡ make K fan limit l ls xs hs
   unfolding make
-  make-refused l n d =
+  make-refused n d =
       call-refused (λ (m : ℕ). reply (state (headOf 0 0 0 0 0 0 0 held.Absent) ls xs hs) (outcome.Refused m)) (λ (g : Shape). reply (begun K fan limit l ls xs hs) outcome.Done) _ _ o e n d
 
-  pub make-good : (l : List ℕ) (g : Shape) → o ≡ Good g → (s : State) → s ≡ begun K fan limit l ls xs hs → reply s outcome.Done ≡ make K fan limit l ls xs hs
+  pub make-good : (g : Shape) → o ≡ Good g → (s : State) → s ≡ begun K fan limit l ls xs hs → reply s outcome.Done ≡ make K fan limit l ls xs hs
   unfolding make
-  make-good l g d s q =
+  make-good g d s q =
       call-good (λ (m : ℕ). reply (state (headOf 0 0 0 0 0 0 0 held.Absent) ls xs hs) (outcome.Refused m))
       (λ (y : Shape). reply (begun K fan limit l ls xs hs) outcome.Done) _ _ o e g d _ (ap (λ (t : State). reply t outcome.Done) q)
 
 -- reset
-module _ (K : Kind) (s : State) (o : Opened) (e : o ≡ openedBy (areasOf K s) (shapeOf K (s .head))) where
-  abbrev new : List ℕ → State
-  new l = begun K (s .head .fan) (s .head .limit) l (s .leaves) (s .inners) (s .homes)
+module _ (K : Kind) (s : State) (l : List ℕ) (o : Opened) (e : o ≡ openedBy (makeCauses K (s .head .fan) (s .head .limit) l (s .leaves) (s .inners) (s .homes)) (shapeOf K (s .head))) where
+  abbrev new : State
+  new = begun K (s .head .fan) (s .head .limit) l (s .leaves) (s .inners) (s .homes)
 
-  pub reset-refused : (l : List ℕ) (n : ℕ) → o ≡ Refused n → reply s (outcome.Refused n) ≡ reset K s l
+  pub reset-refused : (n : ℕ) → o ≡ Refused n → reply s (outcome.Refused n) ≡ reset K s l
   unfolding reset
-  reset-refused l n d = call-refused (λ (m : ℕ). reply s (outcome.Refused m)) (λ (g : Shape). reply (new l) outcome.Done) _ _ o e n d
+  reset-refused n d = call-refused (λ (m : ℕ). reply s (outcome.Refused m)) (λ (g : Shape). reply new outcome.Done) _ _ o e n d
 
-  pub reset-good : (l : List ℕ) (g : Shape) → o ≡ Good g → (t : State) → t ≡ new l → reply t outcome.Done ≡ reset K s l
+  pub reset-good : (g : Shape) → o ≡ Good g → (t : State) → t ≡ new → reply t outcome.Done ≡ reset K s l
   unfolding reset
-  reset-good l g d t q = call-good (λ (m : ℕ). reply s (outcome.Refused m)) (λ (y : Shape). reply (new l) outcome.Done) _ _ o e g d _ (ap (λ (u : State). reply u outcome.Done) q)
+  reset-good g d t q = call-good (λ (m : ℕ). reply s (outcome.Refused m)) (λ (y : Shape). reply new outcome.Done) _ _ o e g d _ (ap (λ (u : State). reply u outcome.Done) q)

@@ -7,6 +7,7 @@ use model::length::Slot;
 use model::number::NodeNo;
 use model::shape::Shape;
 use node_write::split::new_one;
+use open::lengths::too_many_lines;
 use open::open::Opened;
 use open::open::open_areas;
 ghost use mathlib.Core.Path.{_≡_};
@@ -18,8 +19,9 @@ ghost use Rattle.model.specs.Kind.{kind};
 ghost use Rattle.model.specs.Node.{newNode};
 ghost use Rattle.model.specs.State.{state, shape, putNode};
 ghost use Rattle.model.specs.Calls as calls;
-ghost use Rattle.model.specs.Calls.{begun, reply};
+ghost use Rattle.model.specs.Calls.{begun, makeCauses, reply};
 ghost use Rattle.node.specs.Shaped.{Shaped};
+ghost use Rattle.open.specs.Open.{openedBy};
 
 // Node 0 of an area written anew with the slot x.
 fn write_first(area: &mut [u32], g: Shape, parent: u32, x: &[u32; 4])
@@ -60,6 +62,25 @@ fn begin(
     }
 }
 
+// What make and reset test: the line ends, and then the areas.
+fn open_make(
+    views: usize,
+    fan: u32,
+    limit: u32,
+    x: &[u32; 4],
+    leaves: &[u32],
+    inners: &[u32],
+    homes: &[u32],
+) -> Opened
+    requires { ⌜ (1 ≤ views) × (views ≤ 3) × (length (now x) ≡ 4) ⌝ }
+    ensures { λ r. ⌜ ((effect : ℕ) → r ≡ openedBy (makeCauses (kind views effect) fan limit (lengthsIn views (now (x .entry))) (now (leaves .entry)) (now (inners .entry)) (now (homes .entry))) (shape (suc views) fan limit)) ⌝ }
+{
+    if too_many_lines(views, x) {
+        return Opened::Refused(10);
+    }
+    open_areas(views, fan, limit, leaves, inners, homes)
+}
+
 // A new tree with the entry x, 0; a refused one is a head of zeros without finger.
 pub fn new(
     views: usize,
@@ -73,7 +94,7 @@ pub fn new(
     requires { ⌜ (1 ≤ views) × (views ≤ 3) × (getD (now x) 0 0 ≡ 0) × (length (now x) ≡ 4) ⌝ }
     ensures { λ r. ⌜ ((effect : ℕ) → reply (state (r .head) (now (leaves .exit)) (now (inners .exit)) (now (homes .exit))) (r .answer) ≡ calls.make (kind views effect) fan limit (lengthsIn views (now (x .entry))) (now (leaves .entry)) (now (inners .entry)) (now (homes .entry))) ⌝ }
 {
-    match open_areas(views, fan, limit, leaves, inners, homes) {
+    match open_make(views, fan, limit, x, leaves, inners, homes) {
         Opened::Refused(n) => {
             let zeros = Head {
                 fan: 0,
@@ -111,7 +132,7 @@ pub fn reset(
 {
     let fan = head.fan;
     let limit = head.limit;
-    match open_areas(views, fan, limit, leaves, inners, homes) {
+    match open_make(views, fan, limit, x, leaves, inners, homes) {
         Opened::Refused(n) => OutcomeReply {
             head: head,
             answer: Outcome::Refused(n),

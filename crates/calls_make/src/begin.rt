@@ -22,8 +22,13 @@ pub fn new(
     ensures { λ r. ⌜ reply (state (r .head) (now (leaves .exit)) (now (inners .exit)) (now (homes .exit))) (r .answer) ≡ calls.make base fan limit (listOf lengths) (now (leaves .entry)) (now (inners .entry)) (now (homes .entry)) ⌝ }
 {
     let slot = Slot::new(0, lengths);
-    let x: [u32; 4] = [slot.child, slot.prepare_len, slot.effect_len, 0];
-    crate::any::new(2, fan, limit, &x, leaves, inners, homes)
+    let x: [u32; 4] = [
+        slot.child,
+        slot.prepare_len,
+        slot.effect_len,
+        slot.line_ends,
+    ];
+    crate::any::new(3, fan, limit, &x, leaves, inners, homes)
 }
 
 // The tree begun anew, with its own fan and limit.
@@ -37,6 +42,11 @@ pub fn reset(
     ensures { λ r. ⌜ reply (state (r .head) (now (leaves .exit)) (now (inners .exit)) (now (homes .exit))) (r .answer) ≡ calls.reset base (state head (now (leaves .entry)) (now (inners .entry)) (now (homes .entry))) (listOf lengths) ⌝ }
 {
     let slot = Slot::new(0, lengths);
-    let x: [u32; 4] = [slot.child, slot.prepare_len, slot.effect_len, 0];
-    crate::any::reset(2, head, &x, leaves, inners, homes)
+    let x: [u32; 4] = [
+        slot.child,
+        slot.prepare_len,
+        slot.effect_len,
+        slot.line_ends,
+    ];
+    crate::any::reset(3, head, &x, leaves, inners, homes)
 }

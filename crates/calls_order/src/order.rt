@@ -23,21 +23,21 @@ pub fn entry_to_char_index(
 ) -> Number
     ensures { λ r. ⌜ r ≡ calls.entryToCharIndex base (state head (now (leaves .entry)) (now (inners .entry)) (now (homes .entry))) (viewNumber view) at ⌝ }
 {
-    crate::any::entry_to_char_index(2, head, leaves, inners, homes, view.number(), at)
+    crate::any::entry_to_char_index(3, head, leaves, inners, homes, view.number(), at)
 }
 
 // The cursor of the first entry.
 pub fn first(head: Head, leaves: &[u32], inners: &[u32], homes: &[u32]) -> Standing
     ensures { λ r. ⌜ r ≡ calls.first base (state head (now (leaves .entry)) (now (inners .entry)) (now (homes .entry))) ⌝ }
 {
-    crate::any::first(2, head, leaves, inners, homes)
+    crate::any::first(3, head, leaves, inners, homes)
 }
 
 // The cursor of the entry after the one at a cursor, or nothing after the last.
 pub fn next(head: Head, leaves: &[u32], inners: &[u32], homes: &[u32], at: Cursor) -> Next
     ensures { λ r. ⌜ r ≡ calls.nextAfter base (state head (now (leaves .entry)) (now (inners .entry)) (now (homes .entry))) at ⌝ }
 {
-    crate::any::next(2, head, leaves, inners, homes, at)
+    crate::any::next(3, head, leaves, inners, homes, at)
 }
 
 // How the entry at a stands to the entry at b.
@@ -51,5 +51,5 @@ pub fn cmp(
 ) -> Compared
     ensures { λ r. ⌜ r ≡ calls.cmp base (state head (now (leaves .entry)) (now (inners .entry)) (now (homes .entry))) a b ⌝ }
 {
-    crate::any::cmp(2, head, leaves, inners, homes, a, b)
+    crate::any::cmp(3, head, leaves, inners, homes, a, b)
 }

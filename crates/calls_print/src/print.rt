@@ -10,5 +10,5 @@ ghost use Rattle.model.specs.Print.{print};
 pub fn print(head: Head, leaves: &[u32], inners: &[u32], homes: &[u32], page: &mut [u8]) -> Number
     ensures { λ r. ⌜ (r, now (page .exit)) ≡ print base (state head (now (leaves .entry)) (now (inners .entry)) (now (homes .entry))) (now (page .entry)) ⌝ }
 {
-    crate::any::print(2, 1, head, leaves, inners, homes, page)
+    crate::any::print(3, 1, head, leaves, inners, homes, page)
 }

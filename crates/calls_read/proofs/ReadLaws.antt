@@ -64,19 +64,20 @@ module _ (K : Kind) (s : State) (c : Cursor) (o : Opened) (e : o ≡ openedBy (o
     lengths-good views x w p =
         call-good refused (lengthsAt s c) _ (shapeOf K (s .head)) o e g d _ (ap (λ (n : ℕ). done (lengthsIn n x)) (sym w) ∙ ap done p)
 
--- the answer of two lengths, from the four words into which they were read
-module _ (a : Answer) (n : ℕ) (x : List ℕ) (e : lengthsBy n (lengthsIn 2 x) ≡ a) where
+-- the answer of three lengths, from the four words into which they were read
+module _ (a : Answer) (n : ℕ) (x : List ℕ) (e : lengthsBy n (lengthsIn 3 x) ≡ a) where
   pub told-refused : (n ≡ 0 → ⊥) → refused n ≡ a
   told-refused h = rw (ne-eqb n 0 h) at e
 
-  pub told-good : n ≡ 0 → length x ≡ 4 → done (getD x 1 0 ∷ getD x 2 0 ∷ []) ≡ a
-  told-good h four = ap done (sym (two x four)) ∙ (rw h at e)
+  pub told-good : n ≡ 0 → length x ≡ 4 → done (getD x 1 0 ∷ getD x 2 0 ∷ getD x 3 0 ∷ []) ≡ a
+  told-good h four = ap done (sym (three x four)) ∙ (rw h at e)
     where
-      two : (y : List ℕ) → length y ≡ 4 → lengthsIn 2 y ≡ getD y 1 0 ∷ getD y 2 0 ∷ []
-      two [] f = absurd (omega arith)
-      two (p ∷ []) f = absurd (omega arith)
-      two (p ∷ q ∷ []) f = absurd (omega arith)
-      two (p ∷ q ∷ r ∷ y) f = refl
+      three : (y : List ℕ) → length y ≡ 4 → lengthsIn 3 y ≡ getD y 1 0 ∷ getD y 2 0 ∷ getD y 3 0 ∷ []
+      three [] f = absurd (omega arith)
+      three (p ∷ []) f = absurd (omega arith)
+      three (p ∷ q ∷ []) f = absurd (omega arith)
+      three (p ∷ q ∷ r ∷ []) f = absurd (omega arith)
+      three (p ∷ q ∷ r ∷ s ∷ y) f = refl
 
 -- the slot that holds a child is one of those that were searched
 index-step : (b : Bool) (k n j : ℕ) (p : Place) → (p ≡ slot.Slot j → j < k + 1 + n) → cond b (slot.Slot k) p ≡ slot.Slot j → j < k + suc n

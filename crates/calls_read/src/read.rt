@@ -43,7 +43,7 @@ pub fn is_empty(head: Head) -> Verdict
 pub fn id(head: Head, leaves: &[u32], inners: &[u32], homes: &[u32], at: Cursor) -> Named
     ensures { λ r. ⌜ r ≡ calls.id base (state head (now (leaves .entry)) (now (inners .entry)) (now (homes .entry))) at ⌝ }
 {
-    crate::any::id(2, head, leaves, inners, homes, at)
+    crate::any::id(3, head, leaves, inners, homes, at)
 }
 
 // The lengths of the entry at a cursor.
@@ -51,13 +51,14 @@ pub fn lengths(head: Head, leaves: &[u32], inners: &[u32], homes: &[u32], at: Cu
     ensures { λ r. ⌜ measuredAnswer r ≡ calls.lengthsOf base (state head (now (leaves .entry)) (now (inners .entry)) (now (homes .entry))) at ⌝ }
 {
     let mut x: [u32; 4] = [0; 4];
-    let n = crate::any::lengths(2, head, leaves, inners, homes, at, &mut x);
+    let n = crate::any::lengths(3, head, leaves, inners, homes, at, &mut x);
     if n != 0 {
         return Measured::Refused(n);
     }
     Measured::Are(Lengths {
         prepare: x[1],
         effect: x[2],
+        lines: x[3],
     })
 }
 
@@ -65,5 +66,5 @@ pub fn lengths(head: Head, leaves: &[u32], inners: &[u32], homes: &[u32], at: Cu
 pub fn cursor(head: Head, leaves: &[u32], inners: &[u32], homes: &[u32], id: EntryId) -> Standing
     ensures { λ r. ⌜ r ≡ calls.cursor base (state head (now (leaves .entry)) (now (inners .entry)) (now (homes .entry))) (id .0) ⌝ }
 {
-    crate::any::cursor(2, head, leaves, inners, homes, id)
+    crate::any::cursor(3, head, leaves, inners, homes, id)
 }

@@ -6,7 +6,7 @@ use Prim.Native.Nat.{ℕ, zero, suc, _+_, _-_, _^_, _<_, _≤_}
 use native.Mathlib.Omega.{arith}
 use lib.ListN.{length, getD, take, set}
 use Rattle.model.specs.Length.{listOf, lengthsIn}
-use Rattle.model.specs.Kind.{base}
+use Rattle.model.specs.Kind.{base, tooManyLines}
 use Rattle.model.specs.Node.{wrap, lengths, minus}
 use Rattle.model.specs.State.{State, state, shapeFor, nodeAt}
 use Rattle.model.specs.Place.{Change, change, replace, summed, climb}
@@ -27,7 +27,7 @@ use Rattle.walk.specs.Low.{lowWay}
 use Rattle.place.specs.Asked.{asked, askedWay, wayUp}
 use Rattle.place.proofs.SizeLaws.{asked-whole, asked-lost, asked-wrap}
 use Rattle.place.proofs.CallLaws.{low-whole, low-lost}
-use Rattle.open.proofs.Causes.{opened-first, opened-next, opened-none, opened-stop, opened-more, good-shape, good-front, call-refused, call-good, answering, answering-call}
+use Rattle.open.proofs.Causes.{opened-first, opened-next, opened-none, opened-stop, opened-more, good-shape, good-front, good-tail, call-refused, call-good, answering, answering-call}
 use Rattle.open.proofs.CursorLaws.{at-numbered, stands, slot-in, own-lengths}
 use Rattle.open.proofs.ReadyLaws.{inner-area}
 use Rattle.open.proofs.WidthLaws.{own-shape, own-views, past-same}
@@ -68,11 +68,21 @@ differences s a new old ds two three en eo ed h g e t2 f2 t3 f3 =
 none-old : (n : ℕ) (own ls : List ℕ) → oldBy (Refused n) own ls
 none-old n own ls g e = let z : _≡_ {A = ℕ} 0 1 = cc in absurd (omega arith)
 
--- what `open_resize` answers, from what `open_at` answered
-module _ (K : Kind) (s : State) (c : Cursor) (l : List ℕ) (o : Opened) (e : o ≡ openedBy (opening K s ++ atCursor K s c) (shapeOf K (s .head))) where
+-- what `open_resize` answers: 10 where there are too many line ends
+pub resize-many : (K : Kind) (s : State) (c : Cursor) (l : List ℕ) (m : Bool) → m ≡ tooManyLines K l → m ≡ true → (own : List ℕ)
+    → (Refused 10 ≡ openedBy (resizeCauses K s c l) (shapeOf K (s .head))) × oldBy (Refused 10) own (lengths (slotAt K s c))
+resize-many K s c l m em h own = (sym (opened-first 9 _ _ _ (sym em ∙ h)), none-old 10 own _)
+
+-- else, from what `open_at` answered
+module _ (K : Kind) (s : State) (c : Cursor) (l : List ℕ) (m : Bool) (em : m ≡ tooManyLines K l) (few : m ≡ false) (o : Opened)
+    (e : o ≡ openedBy (opening K s ++ atCursor K s c) (shapeOf K (s .head))) where
+  behind : openedBy (resizeCauses K s c l) (shapeOf K (s .head))
+      ≡ openedBy (opening K s ++ atCursor K s c ++ past K s (lengths (slotAt K s c)) l ∷ []) (shapeOf K (s .head))
+  behind = opened-next 10 _ _ _ (sym em ∙ few)
+
   pub resize-refused : (n : ℕ) → o ≡ Refused n → (own : List ℕ)
       → (Refused n ≡ openedBy (resizeCauses K s c l) (shapeOf K (s .head))) × oldBy (Refused n) own (lengths (slotAt K s c))
-  resize-refused n d own = (sym (opened-stop (opening K s ++ atCursor K s c) _ _ n (sym e ∙ d)), none-old n own _)
+  resize-refused n d own = (sym (behind ∙ opened-stop (opening K s ++ atCursor K s c) _ _ n (sym e ∙ d)), none-old n own _)
 
   -- x holds the entry's lengths as they were read
   module _ (g : Shape) (d : o ≡ Good g) (x : List ℕ) (ex : lengthsIn (g .stride - 1) x ≡ lengths (getD (nodeAt g (c .leaf .0) (s .leaves) .slots) (c .slot) []))
@@ -87,7 +97,7 @@ module _ (K : Kind) (s : State) (c : Cursor) (l : List ℕ) (o : Opened) (e : o 
     here = et ∙ past-same K s g (sym same) (lengthsIn (K .views) x) l ∙ ap (λ (ls : List ℕ). past K s ls l .applies) own
 
     last : openedBy (resizeCauses K s c l) (shapeOf K (s .head)) ≡ openedBy (past K s (lengths (slotAt K s c)) l ∷ []) (shapeOf K (s .head))
-    last = opened-more (opening K s ++ atCursor K s c) _ _ g (at-numbered K s c) (sym e ∙ d)
+    last = behind ∙ opened-more (opening K s ++ atCursor K s c) _ _ g (at-numbered K s c) (sym e ∙ d)
 
     pub resize-past : t ≡ true → (Refused 7 ≡ openedBy (resizeCauses K s c l) (shapeOf K (s .head))) × oldBy (Refused 7) (lengthsIn (K .views) x) (lengths (slotAt K s c))
     resize-past h = (sym (last ∙ opened-first 6 _ [] _ (sym here ∙ h)), none-old 7 _ _)
@@ -98,7 +108,9 @@ module _ (K : Kind) (s : State) (c : Cursor) (l : List ℕ) (o : Opened) (e : o 
 -- what is known where `open_resize` gives no number
 pub resize-stands : (K : Kind) → (1 ≤ K .views) × (K .views ≤ 3) → (s : State) (c : Cursor) (l : List ℕ) (g : Shape) (o : Opened)
     → o ≡ openedBy (resizeCauses K s c l) (shapeOf K (s .head)) → o ≡ Good g → Stands K s c g
-resize-stands K w s c l g o e d = stands K w s c g _ refl (good-front (opening K s ++ atCursor K s c) _ (shapeOf K (s .head)) g (sym e ∙ d))
+resize-stands K w s c l g o e d =
+    stands K w s c g _ refl
+    (good-front (opening K s ++ atCursor K s c) (past K s (lengths (slotAt K s c)) l ∷ []) (shapeOf K (s .head)) g (good-tail 9 (tooManyLines K l) _ (shapeOf K (s .head)) g (sym e ∙ d)))
 
 -- the way up from a leaf of n words is in the areas
 pub climb-in : {K : Kind} (s : State) (c : Cursor) (g : Shape) → Stands K s c g → (n : ℕ) → n ≡ length (s .leaves)
@@ -185,6 +197,10 @@ module _ (K : Kind) (s : State) (c : Cursor) (x : List ℕ) (b : Bool) where
 
         pub size-broken : r ≡ sum.Broken → reply (state (s .head) ls1 xs1 (s .homes)) (number.Refused 9) ≡ resize K b s c new
         size-broken q = way-reply (sum.Broken, xs1) (low-lost xs1 (way g) (asked-lost b xs1 (lowWay (way g)) (ap (λ (t : Sum). (t, xs1)) (sym q) ∙ low)))
+
+-- three words that a call is given are its lengths
+pub listed : (l : Lengths) (a b c : ℕ) → a ≡ l .prepare → b ≡ l .effect → c ≡ l .lines → a ∷ b ∷ c ∷ [] ≡ listOf l
+listed l a b c ea eb ec = rw (ea, eb, ec)
 
 pub update-is : (s : State) (c : Cursor) (l : Lengths) → resize base true s c (listOf l) ≡ update base s c (listOf l)
 unfolding update

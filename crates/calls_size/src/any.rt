@@ -7,6 +7,7 @@ use model::shape::Shape;
 use model::way::Sum;
 use open::lengths::lengths_at;
 use open::lengths::past;
+use open::lengths::too_many_lines;
 use open::open::Opened;
 use open::open::open_at;
 use place::size::asked_way;
@@ -24,7 +25,7 @@ ghost use Rattle.node.specs.Shaped.{Shaped};
 ghost use Rattle.open.specs.Open.{openedBy};
 ghost use Rattle.calls_size.specs.Size.{resize, oldBy};
 
-// What both calls test; the entry's own lengths into old where nothing is refused, or 7 is.
+// What both calls test, too many line ends before all else; the entry's own lengths into old where nothing is refused, or 7 is.
 fn open_resize(
     views: usize,
     head: Head,
@@ -38,6 +39,9 @@ fn open_resize(
     requires { ⌜ (1 ≤ views) × (views ≤ 3) × (length (now old) ≡ 4) × (length (now new) ≡ 4) ⌝ }
     ensures { λ r. ⌜ ((effect : ℕ) → (r ≡ openedBy (resizeCauses (kind views effect) (state head (now (leaves .entry)) (now (inners .entry)) (now (homes .entry))) at (lengthsIn views (now (new .entry)))) (shapeOf (kind views effect) head)) × oldBy r (lengthsIn views (now (old .exit))) (lengths (slotAt (kind views effect) (state head (now (leaves .entry)) (now (inners .entry)) (now (homes .entry))) at)) × (length (now (old .exit)) ≡ 4)) ⌝ }
 {
+    if too_many_lines(views, new) {
+        return Opened::Refused(10);
+    }
     match open_at(views, head, leaves, inners, homes, at) {
         Opened::Refused(n) => Opened::Refused(n),
         Opened::Good(g) => {

@@ -27,8 +27,13 @@ pub fn resize(
 ) -> NumberReply
     ensures { λ r. ⌜ reply (state (r .head) (now (leaves .exit)) (now (inners .exit)) (now (homes .exit))) (r .answer) ≡ resize base summed (state head (now (leaves .entry)) (now (inners .entry)) (now (homes .entry))) at (listOf lengths) ⌝ }
 {
-    let x: [u32; 4] = [0, lengths.of(View::Prepare), lengths.of(View::Effect), 0];
-    crate::any::resize(2, 1, head, leaves, inners, homes, at, &x, summed)
+    let x: [u32; 4] = [
+        0,
+        lengths.of(View::Prepare),
+        lengths.of(View::Effect),
+        lengths.of(View::Lines),
+    ];
+    crate::any::resize(3, 1, head, leaves, inners, homes, at, &x, summed)
 }
 
 // Other lengths for the entry at a cursor, and its effect position.

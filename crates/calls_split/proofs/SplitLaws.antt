@@ -7,12 +7,13 @@ use native.Mathlib.Omega.{arith}
 use lib.ListN.{getD}
 use borrow.Author.Tests.{eq-eqb, ne-eqb, leb-false}
 use Rattle.model.specs.Lists.{All}
+use Rattle.model.specs.Kind.{tooManyLines}
 use Rattle.model.specs.Length.{lengthsIn}
 use Rattle.model.specs.Node.{lengths, childSplit}
 use Rattle.model.specs.State.{State, state, nodeAt}
 use Rattle.model.specs.Place.{Change, change, divide}
 use Rattle.model.specs.Refuse.{shapeOf, opening, atCursor, tooMuch, full}
-use Rattle.model.specs.Calls.{Reply, reply, settled, slotAt, dividedAt, splitEntry}
+use Rattle.model.specs.Calls.{Reply, reply, settled, slotAt, dividedAt, splitCauses, splitEntry}
 use Rattle.model.specs.declared.shape.Kind.{Kind}
 use Rattle.model.specs.declared.shape.Shape.{Shape}
 use Rattle.model.specs.declared.head.Cursor.{Cursor}
@@ -22,7 +23,7 @@ use Rattle.model.specs.declared.answer.Divided.the-variants as divided
 use Rattle.place.specs.Room.{settledIn, Entering}
 use Rattle.place.proofs.LevelLaws.{entered-in}
 use Rattle.place.proofs.CallLaws.{settled-head, settled-again}
-use Rattle.open.proofs.Causes.{opened-first, opened-next, opened-none, opened-stop, opened-more, good-shape, good-front, good-rest, call-refused, call-good}
+use Rattle.open.proofs.Causes.{opened-first, opened-next, opened-none, opened-stop, opened-more, good-shape, good-front, good-tail, good-rest, call-refused, call-good}
 use Rattle.open.proofs.CursorLaws.{at-numbered, stands, own-lengths}
 use Rattle.open.proofs.WidthLaws.{own-shape, own-views, more-same}
 use Rattle.open.specs.Lengths.{moreIn}
@@ -30,15 +31,23 @@ use Rattle.open.specs.Open.{openedBy}
 use Rattle.open.specs.Ready.{Stands}
 use Rattle.open.specs.declared.open.Opened.{Opened}
 use Rattle.open.specs.declared.open.Opened.the-variants.{Good, Refused}
-use Rattle.calls_split.specs.Split.{splitCauses}
 
--- what `open_split` answers, from what `open_at` answered; x holds the lengths that leave
-module _ (K : Kind) (s : State) (c : Cursor) (x : List ℕ) (o : Opened) (e : o ≡ openedBy (opening K s ++ atCursor K s c) (shapeOf K (s .head))) where
+-- what `open_split` answers: 10 where there are too many line ends
+pub split-many : (K : Kind) (s : State) (c : Cursor) (l : List ℕ) (m : Bool) → m ≡ tooManyLines K l → m ≡ true → Refused 10 ≡ openedBy (splitCauses K s c l) (shapeOf K (s .head))
+split-many K s c l m em h = sym (opened-first 9 _ _ _ (sym em ∙ h))
+
+-- else, from what `open_at` answered; x holds the lengths that leave
+module _ (K : Kind) (s : State) (c : Cursor) (x : List ℕ) (m : Bool) (em : m ≡ tooManyLines K (lengthsIn (K .views) x)) (few : m ≡ false) (o : Opened)
+    (e : o ≡ openedBy (opening K s ++ atCursor K s c) (shapeOf K (s .head))) where
   abbrev given : List ℕ
   given = lengthsIn (K .views) x
 
+  behind : openedBy (splitCauses K s c given) (shapeOf K (s .head))
+      ≡ openedBy (opening K s ++ atCursor K s c ++ tooMuch K given (lengths (slotAt K s c)) ∷ full s ∷ []) (shapeOf K (s .head))
+  behind = opened-next 10 _ _ _ (sym em ∙ few)
+
   pub split-refused : (n : ℕ) → o ≡ Refused n → Refused n ≡ openedBy (splitCauses K s c given) (shapeOf K (s .head))
-  split-refused n d = sym (opened-stop (opening K s ++ atCursor K s c) _ _ n (sym e ∙ d))
+  split-refused n d = sym (behind ∙ opened-stop (opening K s ++ atCursor K s c) _ _ n (sym e ∙ d))
 
   -- y holds the entry's lengths as they were read
   module _ (g : Shape) (d : o ≡ Good g) (y : List ℕ) (ey : lengthsIn (g .stride - 1) y ≡ lengths (getD (nodeAt g (c .leaf .0) (s .leaves) .slots) (c .slot) []))
@@ -54,7 +63,7 @@ module _ (K : Kind) (s : State) (c : Cursor) (x : List ℕ) (o : Opened) (e : o 
         (own-lengths K s c g (lengthsIn (g .stride - 1) y) same ey)
 
     rest : openedBy (splitCauses K s c given) (shapeOf K (s .head)) ≡ openedBy (tooMuch K given (lengths (slotAt K s c)) ∷ full s ∷ []) (shapeOf K (s .head))
-    rest = opened-more (opening K s ++ atCursor K s c) _ _ g (at-numbered K s c) (sym e ∙ d)
+    rest = behind ∙ opened-more (opening K s ++ atCursor K s c) _ _ g (at-numbered K s c) (sym e ∙ d)
 
     pub split-much : t ≡ true → Refused 6 ≡ openedBy (splitCauses K s c given) (shapeOf K (s .head))
     split-much h = sym (rest ∙ opened-first 5 _ _ _ (sym here ∙ h))
@@ -72,14 +81,17 @@ module _ (K : Kind) (s : State) (c : Cursor) (x : List ℕ) (o : Opened) (e : o 
 -- what is known where `open_split` gives no number
 module _ (K : Kind) (w : (1 ≤ K .views) × (K .views ≤ 3)) (s : State) (c : Cursor) (l : List ℕ) (g : Shape) (o : Opened)
     (e : o ≡ openedBy (splitCauses K s c l) (shapeOf K (s .head))) (d : o ≡ Good g) where
+  behind-lines : openedBy (opening K s ++ atCursor K s c ++ tooMuch K l (lengths (slotAt K s c)) ∷ full s ∷ []) (shapeOf K (s .head)) ≡ Good g
+  behind-lines = good-tail 9 (tooManyLines K l) _ (shapeOf K (s .head)) g (sym e ∙ d)
+
   split-stands : Stands K s c g
-  split-stands = stands K w s c g _ refl (good-front (opening K s ++ atCursor K s c) _ (shapeOf K (s .head)) g (sym e ∙ d))
+  split-stands = stands K w s c g _ refl (good-front (opening K s ++ atCursor K s c) _ (shapeOf K (s .head)) g behind-lines)
 
   below-limit : s .head .entries < s .head .limit
   unfolding All
   below-limit =
       leb-false _ _
-      (good-rest (opening K s ++ atCursor K s c) (tooMuch K l (lengths (slotAt K s c)) ∷ full s ∷ []) (shapeOf K (s .head)) g (sym e ∙ d) (at-numbered K s c)
+      (good-rest (opening K s ++ atCursor K s c) (tooMuch K l (lengths (slotAt K s c)) ∷ full s ∷ []) (shapeOf K (s .head)) g behind-lines (at-numbered K s c)
       (omega arith, (omega arith, tt)) .1 .0)
 
   pub few-entries : s .head .entries < 65536

@@ -6,6 +6,7 @@ use model::head::Head;
 use model::number::EntryId;
 use model::number::LeafNo;
 use open::lengths::lengths_at;
+use open::lengths::too_many_lines;
 use open::lengths::too_much;
 use open::open::Opened;
 use open::open::full;
@@ -19,11 +20,10 @@ ghost use Rattle.model.specs.Kind.{kind};
 ghost use Rattle.model.specs.State.{state};
 ghost use Rattle.model.specs.Refuse.{shapeOf};
 ghost use Rattle.model.specs.Calls as calls;
-ghost use Rattle.model.specs.Calls.{reply, dividedAt};
+ghost use Rattle.model.specs.Calls.{reply, dividedAt, splitCauses};
 ghost use Rattle.open.specs.Open.{openedBy};
-ghost use Rattle.calls_split.specs.Split.{splitCauses};
 
-// What split_entry tests.
+// What split_entry tests, too many line ends before all else.
 fn open_split(
     views: usize,
     head: Head,
@@ -36,6 +36,9 @@ fn open_split(
     requires { ⌜ (1 ≤ views) × (views ≤ 3) × (length (now x) ≡ 4) ⌝ }
     ensures { λ r. ⌜ ((effect : ℕ) → r ≡ openedBy (splitCauses (kind views effect) (state head (now (leaves .entry)) (now (inners .entry)) (now (homes .entry))) at (lengthsIn views (now (x .entry)))) (shapeOf (kind views effect) head)) ⌝ }
 {
+    if too_many_lines(views, x) {
+        return Opened::Refused(10);
+    }
     match open_at(views, head, leaves, inners, homes, at) {
         Opened::Refused(n) => Opened::Refused(n),
         Opened::Good(g) => {

@@ -24,6 +24,11 @@ pub fn split_entry(
     ensures { λ r. ⌜ reply (state (r .head) (now (leaves .exit)) (now (inners .exit)) (now (homes .exit))) (r .answer) ≡ calls.splitEntry base (state head (now (leaves .entry)) (now (inners .entry)) (now (homes .entry))) at (listOf lengths) before ⌝ }
 {
     let slot = Slot::new(head.entries, lengths);
-    let x: [u32; 4] = [slot.child, slot.prepare_len, slot.effect_len, 0];
-    crate::any::split_entry(2, head, leaves, inners, homes, at, &x, before)
+    let x: [u32; 4] = [
+        slot.child,
+        slot.prepare_len,
+        slot.effect_len,
+        slot.line_ends,
+    ];
+    crate::any::split_entry(3, head, leaves, inners, homes, at, &x, before)
 }

@@ -12,7 +12,7 @@ use Rattle.row.specs.Made.{runMade, makeAndRun, firstLengths, doorTree, doorRow
 use Rattle.row.proofs.MadeLaws.{door-made}
 use Rattle.door.specs.Door.{opened, doorOn}
 
-module _ (ls xs hs : List ℕ) (el : length ls ≡ 3456) (ex : length xs ≡ 3456) (eh : length hs ≡ 512) (bs out : List ℕ) (m : Ran)
+module _ (ls xs hs : List ℕ) (el : length ls ≡ 4480) (ex : length xs ≡ 4480) (eh : length hs ≡ 512) (bs out : List ℕ) (m : Ran)
     (e : m ≡ makeAndRun 8 512 (listOf firstLengths) ls xs hs bs out) (as-row : doorTree ls xs hs .answer ≡ outcome.Done → fit bs out ≡ true → AsRow bs m 8 doorRow) where
   abbrev Good : Outcome → Type 0
   Good outcome.Done = opened 0 (m .out) ≡ doorOn bs out

@@ -1,4 +1,4 @@
--- What the door answers (document 01, "Door and program"): the plain row's answer records, from one entry of lengths 0, 0. Assumes nothing.
+-- What the door answers (document 01, "Door and program"): the plain row's answer records, from one entry of lengths 0, 0, 0. Assumes nothing.
 use mathlib.Core.Bool.{cond}
 use mathlib.Core.List.{List}
 use Prim.Native.Nat.{ℕ}

@@ -14,8 +14,8 @@ ghost use Rattle.door.specs.Door.{opened, doorOn};
 pub extern "C" fn door(records: &[u8], out: &mut [u8]) -> u32
     ensures { λ r. ⌜ opened r (now (out .exit)) ≡ doorOn (now (records .entry)) (now (out .entry)) ⌝ }
 {
-    let mut leaves = [0u32; 3456];
-    let mut inners = [0u32; 3456];
+    let mut leaves = [0u32; 4480];
+    let mut inners = [0u32; 4480];
     let mut homes = [0u32; 512];
     let ran = make_and_run(
         FAN,

@@ -42,12 +42,12 @@ headFrom w = headOf (getD w 0 0) (getD w 1 0) (getD w 2 0) (getD w 3 0) (getD w 
 abbrev pub cursorFrom : ℕ → ℕ → ℕ → Cursor
 cursorFrom leaf slot stamp = record { leaf = record { 0 = leaf }; slot = slot; stamp = stamp }
 
-abbrev pub lengthsFrom : ℕ → ℕ → Lengths
-lengthsFrom prepare effect = record { prepare = prepare; effect = effect }
+abbrev pub lengthsFrom : ℕ → ℕ → ℕ → Lengths
+lengthsFrom prepare effect lines = record { prepare = prepare; effect = effect; lines = lines }
 
--- a view is prepare (0) or effect (1); the calls refuse any other number
+-- a view is prepare (0), effect (1) or lines (2); the calls refuse any other number
 unfoldable pub viewFrom : ℕ → View
-viewFrom n = cond (eqb n 0) view.Prepare view.Effect
+viewFrom n = cond (eqb n 0) view.Prepare (cond (eqb n 1) view.Effect view.Lines)
 
 -- before a cursor (0) or at the end (1); the calls refuse any other number
 unfoldable pub targetFrom : ℕ → Cursor → Target
@@ -92,7 +92,7 @@ abbrev pub numberOf : Answer → FlatNumber
 numberOf a = record { number = a .number; value = value 0 a }
 
 abbrev pub measuredOf : Answer → FlatMeasured
-measuredOf a = record { number = a .number; prepare = value 0 a; effect = value 1 a }
+measuredOf a = record { number = a .number; prepare = value 0 a; effect = value 1 a; lines = value 2 a }
 
 abbrev pub standingOf : Answer → FlatStanding
 standingOf a = record { number = a .number; leaf = value 0 a; slot = value 1 a; stamp = value 2 a }

@@ -37,7 +37,7 @@ pub record Reads (c d : Cursor) (i : EntryId) (l : Lengths) (n offset position p
   pub before : numberOf (comparedAnswer compared.Before) ≡ record { number = 0; value = 0 }
   pub same : numberOf (comparedAnswer compared.Same) ≡ record { number = 0; value = 1 }
   pub after : numberOf (comparedAnswer compared.After) ≡ record { number = 0; value = 2 }
-  pub lengths : measuredOf (measuredAnswer (measured.Are l)) ≡ record { number = 0; prepare = l .prepare; effect = l .effect }
+  pub lengths : measuredOf (measuredAnswer (measured.Are l)) ≡ record { number = 0; prepare = l .prepare; effect = l .effect; lines = l .lines }
   pub cursor : standingOf (standingAnswer (standing.At c)) ≡ record { number = 0; leaf = c .leaf .0; slot = c .slot; stamp = c .stamp }
   pub next : standingOf (nextAnswer (following.At c)) ≡ record { number = 0; leaf = c .leaf .0; slot = c .slot; stamp = c .stamp }
   pub last : standingOf (nextAnswer following.Nothing) ≡ record { number = 0; leaf = 4294967295; slot = 0; stamp = 0 }
@@ -71,7 +71,7 @@ pub record Refused (n : ℕ) : Type 0 where
   pub id : numberOf (namedAnswer (named.Refused n)) ≡ record { number = n; value = 0 }
   pub audit : numberOf (verdictAnswer (verdict.Refused n)) ≡ record { number = n; value = 0 }
   pub cmp : numberOf (comparedAnswer (compared.Refused n)) ≡ record { number = n; value = 0 }
-  pub lengths : measuredOf (measuredAnswer (measured.Refused n)) ≡ record { number = n; prepare = 0; effect = 0 }
+  pub lengths : measuredOf (measuredAnswer (measured.Refused n)) ≡ record { number = n; prepare = 0; effect = 0; lines = 0 }
   pub cursor : standingOf (standingAnswer (standing.Refused n)) ≡ record { number = n; leaf = 0; slot = 0; stamp = 0 }
   pub next : standingOf (nextAnswer (following.Refused n)) ≡ record { number = n; leaf = 0; slot = 0; stamp = 0 }
   pub locate : locatedOf (locatedAnswer (located.Refused n)) ≡ record { number = n; leaf = 0; slot = 0; stamp = 0; offset = 0; position = 0; prepare = 0 }
@@ -117,10 +117,10 @@ pub head-good : (h : Head) → badHead (headWords h) ≡ false
 unfolding headWords
 head-good h = good-words h (h .finger)
 
--- 0 is prepare, 1 is effect, 1 is at the end
-pub views : (viewFrom 0 ≡ view.Prepare) × (viewFrom 1 ≡ view.Effect)
+-- 0 is prepare, 1 is effect, 2 is lines; 1 is at the end
+pub views : (viewFrom 0 ≡ view.Prepare) × (viewFrom 1 ≡ view.Effect) × (viewFrom 2 ≡ view.Lines)
 unfolding viewFrom
-views = (refl, refl)
+views = (refl, refl, refl)
 
 pub targets : (c : Cursor) → (targetFrom 0 c ≡ target.Before c) × (targetFrom 1 c ≡ target.End)
 unfolding targetFrom

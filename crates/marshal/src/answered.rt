@@ -108,6 +108,7 @@ pub fn refused_measured(n: u32) -> FlatMeasured
         number: n,
         prepare: 0,
         effect: 0,
+        lines: 0,
     }
 }
 
@@ -119,6 +120,7 @@ pub fn measured_of(a: Measured) -> FlatMeasured
             number: 0,
             prepare: l.prepare,
             effect: l.effect,
+            lines: l.lines,
         },
         Measured::Refused(n) => refused_measured(n),
     }

@@ -16,6 +16,7 @@ pub struct FlatMeasured {
     pub number: u32,
     pub prepare: u32,
     pub effect: u32,
+    pub lines: u32,
 }
 
 // first, next, cursor; after the last entry the leaf is 4,294,967,295.

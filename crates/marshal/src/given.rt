@@ -17,12 +17,13 @@ pub fn cursor_from(leaf: u32, slot: u32, stamp: u32) -> Cursor
     }
 }
 
-pub fn lengths_from(prepare: u32, effect: u32) -> Lengths
-    ensures { λ r. ⌜ r ≡ lengthsFrom prepare effect ⌝ }
+pub fn lengths_from(prepare: u32, effect: u32, lines: u32) -> Lengths
+    ensures { λ r. ⌜ r ≡ lengthsFrom prepare effect lines ⌝ }
 {
     Lengths {
         prepare: prepare,
         effect: effect,
+        lines: lines,
     }
 }
 
@@ -32,7 +33,10 @@ pub fn view_from(view: u32) -> View
     if view == 0 {
         return View::Prepare;
     }
-    View::Effect
+    if view == 1 {
+        return View::Effect;
+    }
+    View::Lines
 }
 
 // Before a cursor, or at the end where end is 1.

@@ -21,7 +21,7 @@ pub fn bad_head(head: &[u32]) -> bool
     1 < head[7]
 }
 
-// The same, or whether a view or flag is neither 0 nor 1.
+// The same, or whether a flag is neither 0 nor 1.
 pub fn bad_flag(head: &[u32], flag: u32) -> bool
     ensures { λ r. ⌜ r ≡ (badHead (now (head .entry)) || ltb 1 flag) ⌝ }
 {
@@ -29,6 +29,16 @@ pub fn bad_flag(head: &[u32], flag: u32) -> bool
         return true;
     }
     1 < flag
+}
+
+// The same of a view, which is 0, 1 or 2.
+pub fn bad_view(head: &[u32], view: u32) -> bool
+    ensures { λ r. ⌜ r ≡ (badHead (now (head .entry)) || ltb 2 view) ⌝ }
+{
+    if bad_head(head) {
+        return true;
+    }
+    2 < view
 }
 
 fn held_from(head: &[u32]) -> Held

@@ -6,14 +6,14 @@ use Prim.Native.Nat.{ℕ, zero, suc, _-_}
 use lib.ListN.{getD}
 use lib.Dec.{ltb, leb, eqb}
 use Rattle.model.specs.Lists.{sumBy, range}
-use Rattle.model.specs.Node.{Node, none, child, lengthIn, total, used, start}
-use Rattle.model.specs.Kind.{stride, prepare}
+use Rattle.model.specs.Node.{Node, none, child, lengths, lengthIn, total, used, start}
+use Rattle.model.specs.Kind.{stride, prepare, tooManyLines}
 use Rattle.model.specs.declared.shape.Kind.{Kind}
 use Rattle.model.specs.State.{State}
 use Rattle.model.specs.Climb.{rankUp}
 use Rattle.model.specs.Sound.{leafIn, innerIn, leastLeaf, leastInner}
 use Rattle.model.specs.Refuse.{shapeOf, totalOf}
-use Rattle.model.specs.Calls.{unless, makeCauses}
+use Rattle.model.specs.Calls.{unless, areaCauses}
 use Rattle.model.specs.declared.head.Finger.{Finger}
 use Rattle.model.specs.declared.head.Held.{Held}
 use Rattle.model.specs.declared.head.Held.the-variants as held
@@ -78,11 +78,11 @@ module _ (K : Kind) (t : State) where
       && cond (eqb k (t .head .root .0)) (eqb (n .parent) none && eqb (n .at) 0) (isHeld k n)
       && every (λ i. isChild (cond lowest (leafIn (stride K) t) (innerIn (stride K) t)) (cond lowest (t .head .leaves) (t .head .inners)) k i (getD (n .slots) i [])) 0 (n .len)
 
-  -- slot i of leaf k: its id is below the count, lives here, and stands in no earlier slot
+  -- slot i of leaf k: its id is below the count, lives here, and stands in no earlier slot; its line ends aren't too many
   unfoldable pub isEntry : ℕ → Node → ℕ → Bool
   isEntry k n i =
-      let id = child (getD (n .slots) i []) in
-      ltb id (t .head .entries) && eqb (getD (t .homes) id 0) k && every (isOther n id) 0 i
+      let x = getD (n .slots) i [] in
+      ltb (child x) (t .head .entries) && eqb (getD (t .homes) (child x) 0) k && not (tooManyLines K (lengths x)) && every (isOther n (child x)) 0 i
 
   unfoldable pub isLeaf : ℕ → Bool
   isLeaf k =
@@ -118,4 +118,4 @@ module _ (K : Kind) (t : State) where
 -- never 9: no link is followed before it is tested
 unfoldable pub audit : Kind → State → Verdict
 audit K t =
-    unless (makeCauses K (t .head .fan) (t .head .limit) (t .leaves) (t .inners) (t .homes)) verdict.Refused (cond (isSound K t) verdict.Yes verdict.No)
+    unless (areaCauses K (t .head .fan) (t .head .limit) (t .leaves) (t .inners) (t .homes)) verdict.Refused (cond (isSound K t) verdict.Yes verdict.No)

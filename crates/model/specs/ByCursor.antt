@@ -6,6 +6,7 @@ use Prim.Native.Nat.{ℕ}
 use lib.Dec.{eqb}
 use lib.ListN.{take}
 use Rattle.model.specs.Lists.{refusal}
+use Rattle.model.specs.Kind.{tooManyLines}
 use Rattle.model.specs.declared.shape.Kind.{Kind}
 use Rattle.model.specs.Node.{child}
 use Rattle.model.specs.State.{State}
@@ -118,13 +119,17 @@ entryAt K s c = child (calls.slotAt K s c)
 unfoldable pub standing : Kind → State → Cursor → (ℕ → EntryCall) → EntryCall
 standing K s c f = let n = refusal (stale K s c) in cond (eqb n 0) (f (entryAt K s c)) (failed n)
 
+-- the cursor of a call that gives lengths: one with too many line ends is refused whatever its cursor
+unfoldable pub standingFor : Kind → State → List ℕ → Cursor → (ℕ → EntryCall) → EntryCall
+standingFor K s l c f = cond (tooManyLines K l) (f (entryAt K s c)) (standing K s c f)
+
 unfoldable pub meant : Kind → State → CursorCall → EntryCall
 meant K s (reset l) = plain (row.reset l)
-meant K s (insert (target.Before c) l) = standing K s c (λ i. plain (row.insert i l))
+meant K s (insert (target.Before c) l) = standingFor K s l c (λ i. plain (row.insert i l))
 meant K s (insert target.End l) = plain (row.insert noEntry l)
-meant K s (split flag c l) = standing K s c (λ i. parts flag i l)
-meant K s (setLengths c l) = standing K s c (λ i. plain (row.setLengths i l))
-meant K s (update c l) = standing K s c (λ i. plain (row.update i l))
+meant K s (split flag c l) = standingFor K s l c (λ i. parts flag i l)
+meant K s (setLengths c l) = standingFor K s l c (λ i. plain (row.setLengths i l))
+meant K s (update c l) = standingFor K s l c (λ i. plain (row.update i l))
 meant K s (locate v x) = plain (row.lookup v x)
 meant K s (select v x) = select v x
 meant K s (rank v c) = standing K s c (λ i. plain (row.rank v i))

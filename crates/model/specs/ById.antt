@@ -3,7 +3,7 @@ use mathlib.Core.Bool.{cond}
 use mathlib.Core.List.{List, [], _∷_}
 use Prim.Native.Nat.{ℕ}
 use lib.Dec.{eqb}
-use Rattle.model.specs.Row.{Call, reset, insert, split, setLengths, update, lookup, rank, next, compare, lengths, count, first, malformed, Answer, done, refused, Moved, moved, noEntry}
+use Rattle.model.specs.Row.{Call, reset, insert, split, setLengths, update, lookup, rank, next, compare, lengths, count, first, malformed, Answer, done, refused, Moved, moved, noEntry, overlong}
 use Rattle.model.specs.declared.shape.Kind.{Kind}
 use Rattle.model.specs.State.{State}
 use Rattle.model.specs.Answer.{outcomeAnswer, numberAnswer, comparedAnswer, insertedAnswer}
@@ -58,17 +58,21 @@ dividedAnswer (divided.Refused n) = refused n
 abbrev pub told : {A : Type 0} → calls.Reply A → (A → Answer) → Moved State
 told r f = moved (r .after) (f (r .answer))
 
+-- what a call does that doesn't give too many line ends; and every call, 10 before all else, even the causes of `cursor(id)`
+unfoldable pub treeMove : Kind → State → Call → Moved State
+treeMove K s (reset l) = told (calls.reset K s l) outcomeAnswer
+treeMove K s (insert i l) = withTarget K s i (λ t. told (calls.insert K s t l) insertedAnswer)
+treeMove K s (split flag i l) = withCursor s (calls.cursor K s i) (λ c. told (calls.splitEntry K s c l flag) dividedAnswer)
+treeMove K s (setLengths i l) = withCursor s (calls.cursor K s i) (λ c. told (calls.setLengths K s c l) outcomeAnswer)
+treeMove K s (update i l) = withCursor s (calls.cursor K s i) (λ c. told (calls.update K s c l) numberAnswer)
+treeMove K s (lookup v index) = let r = calls.locate K s v index in moved (r .after) (locatedAnswer K (r .after) (r .answer))
+treeMove K s (rank v i) = withCursor s (calls.cursor K s i) (λ c. moved s (numberAnswer (calls.entryToCharIndex K s v c)))
+treeMove K s (next i) = withCursor s (calls.cursor K s i) (λ c. moved s (nextAnswer K s (calls.nextAfter K s c)))
+treeMove K s (compare i j) = withCursor s (calls.cursor K s i) (λ a. withCursor s (calls.cursor K s j) (λ b. moved s (comparedAnswer (calls.cmp K s a b))))
+treeMove K s (lengths i) = withCursor s (calls.cursor K s i) (λ c. moved s (calls.lengthsOf K s c))
+treeMove K s count = let h = s .head in moved s (numberAnswer (calls.unless (calls.areaCauses K (h .fan) (h .limit) (s .leaves) (s .inners) (s .homes)) number.Refused (calls.len h)))
+treeMove K s first = moved s (standingAnswer K s (calls.first K s))
+treeMove K s malformed = moved s (refused 10)
+
 unfoldable pub treeStep : Kind → State → Call → Moved State
-treeStep K s (reset l) = told (calls.reset K s l) outcomeAnswer
-treeStep K s (insert i l) = withTarget K s i (λ t. told (calls.insert K s t l) insertedAnswer)
-treeStep K s (split flag i l) = withCursor s (calls.cursor K s i) (λ c. told (calls.splitEntry K s c l flag) dividedAnswer)
-treeStep K s (setLengths i l) = withCursor s (calls.cursor K s i) (λ c. told (calls.setLengths K s c l) outcomeAnswer)
-treeStep K s (update i l) = withCursor s (calls.cursor K s i) (λ c. told (calls.update K s c l) numberAnswer)
-treeStep K s (lookup v index) = let r = calls.locate K s v index in moved (r .after) (locatedAnswer K (r .after) (r .answer))
-treeStep K s (rank v i) = withCursor s (calls.cursor K s i) (λ c. moved s (numberAnswer (calls.entryToCharIndex K s v c)))
-treeStep K s (next i) = withCursor s (calls.cursor K s i) (λ c. moved s (nextAnswer K s (calls.nextAfter K s c)))
-treeStep K s (compare i j) = withCursor s (calls.cursor K s i) (λ a. withCursor s (calls.cursor K s j) (λ b. moved s (comparedAnswer (calls.cmp K s a b))))
-treeStep K s (lengths i) = withCursor s (calls.cursor K s i) (λ c. moved s (calls.lengthsOf K s c))
-treeStep K s count = let h = s .head in moved s (numberAnswer (calls.unless (calls.makeCauses K (h .fan) (h .limit) (s .leaves) (s .inners) (s .homes)) number.Refused (calls.len h)))
-treeStep K s first = moved s (standingAnswer K s (calls.first K s))
-treeStep K s malformed = moved s (refused 10)
+treeStep K s c = cond (overlong K c) (moved s (refused 10)) (treeMove K s c)

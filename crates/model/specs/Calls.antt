@@ -14,7 +14,7 @@ use Rattle.model.specs.State.{State, state, headOf, shape, nodeAt, putNo
 use Rattle.model.specs.Climb.{leafNo, rankUp, stepsUp, firstDown, lastDown, nextUp}
 use Rattle.model.specs.Locate.{servedBy, fromRoot, effectAt, prepareAt}
 use Rattle.model.specs.Place.{Change, change, withFinger, place, divide, replace, climb}
-use Rattle.model.specs.Refuse.{shapeOf, badSize, tooShort, opening, stale, atCursor, noSuchId, tooMuch, past, full}
+use Rattle.model.specs.Refuse.{shapeOf, manyLines, badSize, tooShort, opening, stale, atCursor, noSuchId, tooMuch, past, full}
 use Rattle.model.specs.declared.shape.Place.{Place}
 use Rattle.model.specs.declared.shape.Place.the-variants as slot
 use Rattle.model.specs.declared.number.EntryId.{EntryId}
@@ -92,18 +92,22 @@ begun K fan limit l ls xs hs =
     let x : List ℕ = 0 ∷ l in
     state (headOf fan limit 0 1 1 1 1 held.Absent) (putNode g 0 (newNode (stride K) fan 0 (x ∷ [])) ls) (putNode g 0 (newNode (stride K) fan none (x ∷ [])) xs) (set hs 0 0)
 
-abbrev pub makeCauses : Kind → ℕ → ℕ → List ℕ → List ℕ → List ℕ → List Cause
-makeCauses K fan limit ls xs hs = badSize fan limit ∷ tooShort (shape (stride K) fan limit) limit ls xs hs ∷ []
+-- the sizes, which audit and count test too
+abbrev pub areaCauses : Kind → ℕ → ℕ → List ℕ → List ℕ → List ℕ → List Cause
+areaCauses K fan limit ls xs hs = badSize fan limit ∷ tooShort (shape (stride K) fan limit) limit ls xs hs ∷ []
+
+abbrev pub makeCauses : Kind → ℕ → ℕ → List ℕ → List ℕ → List ℕ → List ℕ → List Cause
+makeCauses K fan limit l ls xs hs = manyLines K l ∷ areaCauses K fan limit ls xs hs
 
 -- a refused make returns a head of zeros without finger
 unfoldable pub make : Kind → ℕ → ℕ → List ℕ → List ℕ → List ℕ → List ℕ → Reply Outcome
 make K fan limit l ls xs hs =
-    unless (makeCauses K fan limit ls xs hs) (λ n. reply (state (headOf 0 0 0 0 0 0 0 held.Absent) ls xs hs) (outcome.Refused n)) (reply (begun K fan limit l ls xs hs) outcome.Done)
+    unless (makeCauses K fan limit l ls xs hs) (λ n. reply (state (headOf 0 0 0 0 0 0 0 held.Absent) ls xs hs) (outcome.Refused n)) (reply (begun K fan limit l ls xs hs) outcome.Done)
 
 unfoldable pub reset : Kind → State → List ℕ → Reply Outcome
 reset K s l =
     let h = s .head in
-    unless (makeCauses K (h .fan) (h .limit) (s .leaves) (s .inners) (s .homes)) (λ n. reply s (outcome.Refused n))
+    unless (makeCauses K (h .fan) (h .limit) l (s .leaves) (s .inners) (s .homes)) (λ n. reply s (outcome.Refused n))
     (reply (begun K (h .fan) (h .limit) l (s .leaves) (s .inners) (s .homes)) outcome.Done)
 
 -- calls that read -------------------------------------------------------------------------------------------------------------------------
@@ -234,7 +238,7 @@ resized K s c l =
     climb g (K .effect) (minus l (lengths (slotAt K s c))) (replace g s (c .leaf .0) (c .slot) l)
 
 abbrev pub resizeCauses : Kind → State → Cursor → List ℕ → List Cause
-resizeCauses K s c l = opening K s ++ atCursor K s c ++ past K s (lengths (slotAt K s c)) l ∷ []
+resizeCauses K s c l = manyLines K l ∷ (opening K s ++ atCursor K s c ++ past K s (lengths (slotAt K s c)) l ∷ [])
 
 unfoldable pub setLengths : Kind → State → Cursor → List ℕ → Reply Outcome
 setLengths K s c l = unless (resizeCauses K s c l) (λ n. reply s (outcome.Refused n)) (settled s (resized K s c l .0) outcome.Refused outcome.Done)
@@ -265,7 +269,7 @@ targetCauses K s (target.Before c) = atCursor K s c
 targetCauses K s target.End = []
 
 abbrev pub insertCauses : Kind → State → Target → List ℕ → List Cause
-insertCauses K s t l = opening K s ++ targetCauses K s t ++ past K s [] l ∷ full s ∷ []
+insertCauses K s t l = manyLines K l ∷ (opening K s ++ targetCauses K s t ++ past K s [] l ∷ full s ∷ [])
 
 unfoldable pub insert : Kind → State → Target → List ℕ → Reply Inserted
 insert K s t l =
@@ -276,8 +280,11 @@ insert K s t l =
 abbrev pub dividedAt : ℕ → ℕ → ℕ → Divided
 dividedAt n k i = divided.At (entryId n) (cursorAt (n + 1) k i) (cursorAt (n + 1) k (i + 1))
 
+abbrev pub splitCauses : Kind → State → Cursor → List ℕ → List Cause
+splitCauses K s c l = manyLines K l ∷ (opening K s ++ atCursor K s c ++ tooMuch K l (lengths (slotAt K s c)) ∷ full s ∷ [])
+
 unfoldable pub splitEntry : Kind → State → Cursor → List ℕ → Bool → Reply Divided
 splitEntry K s c l flag =
     let r = divide (shapeOf K (s .head)) flag s (c .leaf .0) (c .slot) l in
-    unless (opening K s ++ atCursor K s c ++ tooMuch K l (lengths (slotAt K s c)) ∷ full s ∷ []) (λ m. reply s (divided.Refused m))
+    unless (splitCauses K s c l) (λ m. reply s (divided.Refused m))
     (settled s r divided.Refused (dividedAt (s .head .entries) (r .leaf) (r .slot)))

@@ -1,6 +1,9 @@
 -- The kind of a tree: a slot is a child and as many lengths as the kind has views. Assumes nothing.
 use Prim.Native.Nat.{ℕ, suc}
+use mathlib.Core.Bool.{Bool, _&&_}
 use mathlib.Core.List.{List}
+use lib.Dec.{ltb}
+use lib.ListN.{getD}
 use Rattle.model.specs.Lists.{range}
 use Rattle.model.specs.declared.shape.Kind.{Kind}
 
@@ -19,6 +22,10 @@ prepare = 0
 abbrev pub kind : ℕ → ℕ → Kind
 kind views effect = record { views = views; effect = effect }
 
--- the full tree: prepare is view 0 and effect view 1
+-- the full tree: prepare is view 0, effect view 1, and view 2 counts line ends
 abbrev pub base : Kind
-base = kind 2 1
+base = kind 3 1
+
+-- more line ends than the 65,535 that an entry may have; a kind without a third view has none
+abbrev pub tooManyLines : Kind → List ℕ → Bool
+tooManyLines K l = ltb 2 (K .views) && ltb 65535 (getD l 2 0)

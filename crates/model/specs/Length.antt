@@ -3,24 +3,26 @@ use mathlib.Core.Path.{_≡_, refl}
 use mathlib.Core.List.{List, [], _∷_}
 use lib.ListN.{getD, take, drop}
 use Rattle.model.specs.declared.length.View.{View}
-use Rattle.model.specs.declared.length.View.the-variants.{Prepare, Effect}
+use Rattle.model.specs.declared.length.View.the-variants.{Prepare, Effect, Lines}
 use Rattle.model.specs.declared.length.Lengths.{Lengths}
 use Rattle.model.specs.declared.length.Slot.{Slot}
 
 abbrev pub viewNumber : View → ℕ
 viewNumber Prepare = 0
 viewNumber Effect = 1
+viewNumber Lines = 2
 
 abbrev pub lengthsOf : Lengths → View → ℕ
 lengthsOf l Prepare = l .prepare
 lengthsOf l Effect = l .effect
+lengthsOf l Lines = l .lines
 
 abbrev pub slotOf : ℕ → Lengths → Slot
-slotOf c l = record { child = c; «prepare_len» = l .prepare; «effect_len» = l .effect }
+slotOf c l = record { child = c; «prepare_len» = l .prepare; «effect_len» = l .effect; «line_ends» = l .lines }
 
 -- one length a view
 abbrev pub listOf : Lengths → List ℕ
-listOf l = l .prepare ∷ l .effect ∷ []
+listOf l = l .prepare ∷ l .effect ∷ l .lines ∷ []
 
 -- the lengths of a slot, which is lent as four words: those behind the first, as many as there are views
 abbrev pub lengthsIn : ℕ → List ℕ → List ℕ
@@ -30,3 +32,4 @@ lengthsIn views x = take views (drop 1 x)
 pub by-view : (l : Lengths) (v : View) → getD (listOf l) (viewNumber v) 0 ≡ lengthsOf l v
 by-view l Prepare = refl
 by-view l Effect = refl
+by-view l Lines = refl

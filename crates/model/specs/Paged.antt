@@ -1,4 +1,4 @@
--- The sheet of document 01's row after its first six records (ids 2, 0, 1), byte by byte, and numbers of one and of ten digits in their columns.
+-- The sheet of document 01's row after its first six records (ids 2, 0, 1), byte by byte, whatever their line ends, and numbers of one and of ten digits in their columns.
 -- Assumes nothing.
 use mathlib.Core.Path.{_≡_, refl}
 use mathlib.Core.List.{List, [], _∷_, _++_}
@@ -10,7 +10,7 @@ use Rattle.model.specs.Row.{Entry, entry}
 use Rattle.model.specs.Sheet.{column, line, lines, blankLines, pagesFor, sheet}
 
 abbrev pub entries : List Entry
-entries = entry 2 (0 ∷ 5 ∷ []) ∷ entry 0 (3 ∷ 3 ∷ []) ∷ entry 1 (2 ∷ 0 ∷ []) ∷ []
+entries = entry 2 (0 ∷ 5 ∷ 0 ∷ []) ∷ entry 0 (3 ∷ 3 ∷ 9 ∷ []) ∷ entry 1 (2 ∷ 0 ∷ 1 ∷ []) ∷ []
 
 -- a digit in ten columns
 abbrev pub ten : ℕ → List ℕ

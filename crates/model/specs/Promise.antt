@@ -6,7 +6,8 @@ use mathlib.Core.Bool.{Bool, true, false, cond}
 use mathlib.Core.List.{List, [], _∷_}
 use Prim.Native.Nat.{ℕ, _*_, _^_, _≤_, _<_}
 use lib.ListN.{length}
-use Rattle.model.specs.Lists.{All, refusal}
+use Rattle.model.specs.Kind.{tooManyLines}
+use Rattle.model.specs.Lists.{All, cause, refusal}
 use Rattle.model.specs.declared.shape.Kind.{Kind}
 use Rattle.model.specs.Node.{half}
 use Rattle.model.specs.State.{State, state, headOf}
@@ -203,8 +204,8 @@ Adds row.malformed = ⊥
 
 -- the row's refusal before the limit is asked: 0 where the earlier checks are passed
 abbrev pub earlier : Kind → Row → Call → ℕ
-earlier K r (row.insert i l) = refusal (row.noSuchPlace r i ∷ row.past K (row.inserted i (row.newEntry r l) (r .entries)) ∷ [])
-earlier K r (row.split flag i l) = refusal (row.noSuchId r i ∷ row.tooMuch K l (row.lengthsOf i (r .entries)) ∷ [])
+earlier K r (row.insert i l) = refusal (cause 10 (tooManyLines K l) ∷ row.noSuchPlace r i ∷ row.past K (row.inserted i (row.newEntry r l) (r .entries)) ∷ [])
+earlier K r (row.split flag i l) = refusal (cause 10 (tooManyLines K l) ∷ row.noSuchId r i ∷ row.tooMuch K l (row.lengthsOf i (r .entries)) ∷ [])
 earlier K r (row.reset l) = 0
 earlier K r (row.setLengths i l) = 0
 earlier K r (row.update i l) = 0

@@ -7,7 +7,7 @@ use lib.Dec.{ltb, eqb}
 use Rattle.model.specs.Row.{Call, reset, insert, split, setLengths, update, lookup, rank, next, compare, lengths, count, first, malformed, Answer}
 use Rattle.model.specs.Length.{viewNumber, listOf}
 use Rattle.model.specs.declared.length.View.{View}
-use Rattle.model.specs.declared.length.View.the-variants.{Prepare, Effect}
+use Rattle.model.specs.declared.length.View.the-variants.{Prepare, Effect, Lines}
 use Rattle.model.specs.declared.length.Lengths.{Lengths}
 
 -- a little-endian u32 at byte p, and its bytes
@@ -17,25 +17,25 @@ wordAt p bs = getD bs p 0 + 256 * getD bs (p + 1) 0 + 65536 * getD bs (p + 2) 0 
 abbrev pub bytesOf : ℕ → List ℕ
 bytesOf w = w % 256 ∷ w / 256 % 256 ∷ w / 65536 % 256 ∷ w / 16777216 % 256 ∷ []
 
--- a record's fields: kind, view or flag, the two bytes behind it, and a, b, c
+-- a record's fields: kind, view or flag, line ends in the two bytes behind it (document 02, CR 7), and a, b, c
 pub record Fields : Type 0 where
   pub kind : ℕ
   pub flag : ℕ
-  pub rest : ℕ
+  pub lines : ℕ
   pub a : ℕ
   pub b : ℕ
   pub c : ℕ
 
 unfoldable pub fieldsOf : List ℕ → Fields
-fieldsOf bs = record { kind = getD bs 0 0; flag = getD bs 1 0; rest = getD bs 2 0 + getD bs 3 0; a = wordAt 4 bs; b = wordAt 8 bs; c = wordAt 12 bs }
+fieldsOf bs = record { kind = getD bs 0 0; flag = getD bs 1 0; lines = getD bs 2 0 + 256 * getD bs 3 0; a = wordAt 4 bs; b = wordAt 8 bs; c = wordAt 12 bs }
 
 abbrev pub viewOf : ℕ → View
-viewOf n = cond (eqb n 0) Prepare Effect
+viewOf n = cond (eqb n 0) Prepare (cond (eqb n 1) Effect Lines)
 
 abbrev pub lengthsOf : Fields → Lengths
-lengthsOf f = record { prepare = f .b; effect = f .c }
+lengthsOf f = record { prepare = f .b; effect = f .c; lines = f .lines }
 
--- the call where the unused fields are zero and a view or flag is 0 or 1
+-- the call where the unused fields are zero, a flag is 0 or 1 and a view 0, 1 or 2
 abbrev pub only : Bool → Call → Call
 only ok call = cond ok call malformed
 
@@ -45,8 +45,11 @@ plain f = eqb (f .flag) 0
 abbrev pub binary : Fields → Bool
 binary f = ltb (f .flag) 2
 
+abbrev pub viewed : Fields → Bool
+viewed f = ltb (f .flag) 3
+
 abbrev pub noLengths : Fields → Bool
-noLengths f = eqb (f .b) 0 && eqb (f .c) 0
+noLengths f = eqb (f .b) 0 && eqb (f .c) 0 && eqb (f .lines) 0
 
 -- what a record of each kind says, from kind 0, which is none, to kind 13; 3, once add, is an insert like 2 (document 02, CR 6)
 unfoldable pub kinds : Fields → List Call
@@ -58,10 +61,10 @@ kinds f =
     ∷ only (binary f) (split (eqb (f .flag) 1) (f .a) (listOf (lengthsOf f)))
     ∷ only (plain f) (setLengths (f .a) (listOf (lengthsOf f)))
     ∷ only (plain f) (update (f .a) (listOf (lengthsOf f)))
-    ∷ only (binary f && noLengths f) (lookup (viewNumber (viewOf (f .flag))) (f .a))
-    ∷ only (binary f && noLengths f) (rank (viewNumber (viewOf (f .flag))) (f .a))
+    ∷ only (viewed f && noLengths f) (lookup (viewNumber (viewOf (f .flag))) (f .a))
+    ∷ only (viewed f && noLengths f) (rank (viewNumber (viewOf (f .flag))) (f .a))
     ∷ only (plain f && noLengths f) (next (f .a))
-    ∷ only (plain f && eqb (f .c) 0) (compare (f .a) (f .b))
+    ∷ only (plain f && eqb (f .c) 0 && eqb (f .lines) 0) (compare (f .a) (f .b))
     ∷ only (plain f && noLengths f) (lengths (f .a))
     ∷ only (plain f && eqb (f .a) 0 && noLengths f) count
     ∷ only (plain f && eqb (f .a) 0 && noLengths f) first
@@ -69,7 +72,7 @@ kinds f =
 
 -- the call of a record of 16 bytes
 unfoldable pub decode : List ℕ → Call
-decode bs = let f = fieldsOf bs in only (eqb (f .rest) 0) (getD (kinds f) (f .kind) malformed)
+decode bs = let f = fieldsOf bs in getD (kinds f) (f .kind) malformed
 
 -- an answer record: number, kind as given, two zero bytes, three values
 unfoldable pub encode : ℕ → Answer → List ℕ

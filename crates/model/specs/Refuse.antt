@@ -5,7 +5,7 @@ use Prim.Native.Nat.{ℕ, _+_, _*_}
 use lib.ListN.{length, getD}
 use lib.Dec.{ltb, leb, eqb}
 use Rattle.model.specs.Lists.{Cause, cause, some}
-use Rattle.model.specs.Kind.{stride, viewsOf}
+use Rattle.model.specs.Kind.{stride, viewsOf, tooManyLines}
 use Rattle.model.specs.declared.shape.Kind.{Kind}
 use Rattle.model.specs.Node.{total, used}
 use Rattle.model.specs.State.{State, shape, nodeAt}
@@ -15,6 +15,10 @@ use Rattle.model.specs.declared.head.Cursor.{Cursor}
 
 abbrev pub shapeOf : Kind → Head → Shape
 shapeOf K h = shape (stride K) (h .fan) (h .limit)
+
+-- 10, before all else: a line count above 65,535
+abbrev pub manyLines : Kind → List ℕ → Cause
+manyLines K l = cause 10 (tooManyLines K l)
 
 -- 1: fan not 4 to 32, or limit not 1 to 65,536
 abbrev pub badSize : ℕ → ℕ → Cause
@@ -57,7 +61,7 @@ atCursor K s c = stale K s c ++ overfull K s c ∷ []
 abbrev pub noSuchId : State → ℕ → Cause
 noSuchId s i = cause 4 (leb (s .head .entries) i)
 
--- 6: split moves more than the entry has, in either view
+-- 6: split moves more than the entry has, in any view
 abbrev pub tooMuch : Kind → List ℕ → List ℕ → Cause
 tooMuch K given ls = cause 6 (some (λ v. ltb (getD ls v 0) (getD given v 0)) (viewsOf K))
 

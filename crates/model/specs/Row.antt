@@ -1,11 +1,11 @@
 -- The plain row (document 01, "The plain row"): what every list of calls must answer. Assumes nothing.
-use mathlib.Core.Bool.{Bool, cond, _&&_, not}
+use mathlib.Core.Bool.{Bool, false, cond, _&&_, not}
 use mathlib.Core.List.{List, [], _∷_, _++_, zipWith}
 use Prim.Native.Nat.{ℕ, _+_, _-_}
 use lib.ListN.{length, getD, drop}
 use lib.Dec.{ltb, leb, eqb}
 use Rattle.model.specs.Lists.{sumBy, some, Cause, cause, refusal}
-use Rattle.model.specs.Kind.{viewsOf, prepare}
+use Rattle.model.specs.Kind.{viewsOf, prepare, tooManyLines}
 use Rattle.model.specs.declared.shape.Kind.{Kind}
 
 -- an entry: its id and a length in each view
@@ -147,24 +147,44 @@ newEntry r l = entry (length (r .entries)) l
 abbrev pub madeRow : ℕ → List ℕ → Row
 madeRow limit l = row limit (entry 0 l ∷ [])
 
-unfoldable pub rowStep : Kind → Row → Call → Moved Row
-rowStep K r (reset l) = moved (madeRow (r .limit) l) (done [])
-rowStep K r (insert i l) =
+-- a call that gives an entry too many line ends
+abbrev pub overlong : Kind → Call → Bool
+overlong K (reset l) = tooManyLines K l
+overlong K (insert i l) = tooManyLines K l
+overlong K (split flag i l) = tooManyLines K l
+overlong K (setLengths i l) = tooManyLines K l
+overlong K (update i l) = tooManyLines K l
+overlong K (lookup v index) = false
+overlong K (rank v i) = false
+overlong K (next i) = false
+overlong K (compare i j) = false
+overlong K (lengths i) = false
+overlong K count = false
+overlong K first = false
+overlong K malformed = false
+
+-- what any other call does; and every call, 10 before all else
+unfoldable pub rowMove : Kind → Row → Call → Moved Row
+rowMove K r (reset l) = moved (madeRow (r .limit) l) (done [])
+rowMove K r (insert i l) =
     let es = inserted i (newEntry r l) (r .entries) in
     unless r (noSuchPlace r i ∷ past K es ∷ full r ∷ []) es (done (length (r .entries) ∷ total (K .effect) (before i (r .entries)) ∷ []))
-rowStep K r (split flag i l) =
+rowMove K r (split flag i l) =
     unless r (noSuchId r i ∷ tooMuch K l (lengthsOf i (r .entries)) ∷ full r ∷ []) (divided flag i (newEntry r l) (r .entries)) (done (length (r .entries) ∷ []))
-rowStep K r (setLengths i l) =
+rowMove K r (setLengths i l) =
     let es = changed i l (r .entries) in
     unless r (noSuchId r i ∷ past K es ∷ []) es (done [])
-rowStep K r (update i l) =
+rowMove K r (update i l) =
     let es = changed i l (r .entries) in
     unless r (noSuchId r i ∷ past K es ∷ []) es (done (total (K .effect) (before i (r .entries)) ∷ []))
-rowStep K r (lookup v index) = unless r (noSuchPosition r v index ∷ []) (r .entries) (done (found K v index 0 0 0 (r .entries)))
-rowStep K r (rank v i) = unless r (noSuchId r i ∷ []) (r .entries) (done (total v (before i (r .entries)) ∷ []))
-rowStep K r (next i) = unless r (noSuchId r i ∷ []) (r .entries) (done (firstId (after i (r .entries)) ∷ []))
-rowStep K r (compare i j) = unless r (noSuchId r i ∷ noSuchId r j ∷ []) (r .entries) (done (ordered i j (r .entries) ∷ []))
-rowStep K r (lengths i) = unless r (noSuchId r i ∷ []) (r .entries) (done (lengthsOf i (r .entries)))
-rowStep K r count = moved r (done (length (r .entries) ∷ []))
-rowStep K r first = moved r (done (firstId (r .entries) ∷ []))
-rowStep K r malformed = moved r (refused 10)
+rowMove K r (lookup v index) = unless r (noSuchPosition r v index ∷ []) (r .entries) (done (found K v index 0 0 0 (r .entries)))
+rowMove K r (rank v i) = unless r (noSuchId r i ∷ []) (r .entries) (done (total v (before i (r .entries)) ∷ []))
+rowMove K r (next i) = unless r (noSuchId r i ∷ []) (r .entries) (done (firstId (after i (r .entries)) ∷ []))
+rowMove K r (compare i j) = unless r (noSuchId r i ∷ noSuchId r j ∷ []) (r .entries) (done (ordered i j (r .entries) ∷ []))
+rowMove K r (lengths i) = unless r (noSuchId r i ∷ []) (r .entries) (done (lengthsOf i (r .entries)))
+rowMove K r count = moved r (done (length (r .entries) ∷ []))
+rowMove K r first = moved r (done (firstId (r .entries) ∷ []))
+rowMove K r malformed = moved r (refused 10)
+
+unfoldable pub rowStep : Kind → Row → Call → Moved Row
+rowStep K r c = cond (overlong K c) (moved r (refused 10)) (rowMove K r c)

@@ -16,7 +16,7 @@ use Rattle.model.specs.Place as place
 use Rattle.model.specs.Answer.{outcomeAnswer}
 use Rattle.model.specs.Refuse as refuse
 use Rattle.model.specs.Calls as calls
-use Rattle.model.specs.ById.{told, treeStep}
+use Rattle.model.specs.ById.{told, treeMove, treeStep}
 use Rattle.model.specs.Sound.{entriesOf, level}
 use Rattle.model.specs.Audit as check
 use Rattle.model.specs.Audit.{audit}
@@ -38,9 +38,9 @@ pub record Seen : Type 0 where
 abbrev pub seen : Answer → List ℕ → List ℕ → Verdict → Seen
 seen a o n v = record { answer = a; order = o; newest = n; audit = v }
 
--- fan 4, limit 5: two nodes of 15 words in each area, five homes; what they held before make is of no account
+-- fan 4, limit 5: two nodes of 19 words in each area, five homes; what they held before make is of no account
 abbrev pub before : State
-before = state (headOf 0 0 0 0 0 0 0 Absent) (replicate 30 7) (replicate 30 7) (replicate 5 7)
+before = state (headOf 0 0 0 0 0 0 0 Absent) (replicate 38 7) (replicate 38 7) (replicate 5 7)
 
 unfoldable pub treePlay : State → Play → Moved State
 treePlay s (made l) = told (calls.make base 4 5 l (s .leaves) (s .inners) (s .homes)) outcomeAnswer
@@ -77,28 +77,29 @@ pub settled : (treeRun before table ≡ map said table) × (rowRun (row.row 0 []
 unfolding treePlay newestIn treeSeen treeRun rowPlay rowSeen rowRun
     part putAt sumBy some range refusal flatMap zipWith
     node.slotsFrom node.nodeOf node.wordsOf node.emptySlot node.plus node.minus node.totalsFrom node.slotFor node.findFrom node.indexFrom node.inserted node.childSplit node.lowerHalf node.upperHalf
-    row.before row.from row.divided row.found row.ordered row.unless row.rowStep
+    row.before row.from row.divided row.found row.ordered row.unless row.rowMove row.rowStep
     climb.rankUp climb.climbUp climb.stepsUp climb.firstDown climb.lastDown climb.nextUp
     locate.back locate.walked locate.served locate.descend locate.fromRoot
     grow.adopt grow.adoptAll grow.link grow.divide grow.growRoot grow.splitNode grow.linkHalf grow.addTo grow.aboveOf
     place.rehome place.linkLeaf place.splitLeaf place.makeRoom place.enter place.place place.divide place.replace place.climb
     refuse.opening
     calls.begun calls.make calls.first calls.nextAfter calls.id calls.cursor calls.locate calls.insert calls.splitEntry
-    treeStep entriesOf level
+    treeMove treeStep entriesOf level
     check.every check.depth check.isFilled check.isHeld check.isChild check.isInner check.isEntry check.isLeaf check.isFinger check.isSound audit
 settled = (refl, refl)
 
--- the number of a make with areas of these lengths
-unfoldable pub makeNumber : ℕ → ℕ → ℕ → ℕ → ℕ → ℕ
-makeNumber fan limit leaves inners homes = outcomeAnswer (calls.make base fan limit (3 ∷ 3 ∷ []) (replicate leaves 7) (replicate inners 7) (replicate homes 7) .answer) .number
+-- the number of a make with so many line ends and areas of these lengths
+unfoldable pub makeNumber : ℕ → ℕ → ℕ → ℕ → ℕ → ℕ → ℕ
+makeNumber fan limit lines leaves inners homes = outcomeAnswer (calls.make base fan limit (3 ∷ 3 ∷ lines ∷ []) (replicate leaves 7) (replicate inners 7) (replicate homes 7) .answer) .number
 
--- document 01's fans and limits that are refused, next to those that aren't, and areas one word too short
-pub sizes : (map (λ fan. makeNumber fan 1 99 99 1) (3 ∷ 4 ∷ 32 ∷ 33 ∷ []) ≡ 1 ∷ 0 ∷ 0 ∷ 1 ∷ []) × (map (λ limit. makeNumber 4 limit 30 30 5) (0 ∷ 1 ∷ 5 ∷ 65536 ∷ 65537 ∷ []) ≡ 1 ∷ 0 ∷ 0 ∷ 2 ∷ 1 ∷ [])
-    × (makeNumber 4 5 29 30 5 ≡ 2) × (makeNumber 4 5 30 29 5 ≡ 2) × (makeNumber 4 5 30 30 4 ≡ 2)
+-- document 01's fans and limits that are refused, next to those that aren't, areas one word too short, and one line end too many, which comes first
+pub sizes : (map (λ fan. makeNumber fan 1 0 131 131 1) (3 ∷ 4 ∷ 32 ∷ 33 ∷ []) ≡ 1 ∷ 0 ∷ 0 ∷ 1 ∷ []) × (map (λ limit. makeNumber 4 limit 0 38 38 5) (0 ∷ 1 ∷ 5 ∷ 65536 ∷ 65537 ∷ []) ≡ 1 ∷ 0 ∷ 0 ∷ 2 ∷ 1 ∷ [])
+    × (makeNumber 4 5 0 37 38 5 ≡ 2) × (makeNumber 4 5 0 38 37 5 ≡ 2) × (makeNumber 4 5 0 38 38 4 ≡ 2)
+    × (makeNumber 4 5 65535 38 38 5 ≡ 0) × (makeNumber 4 5 65536 38 38 5 ≡ 10) × (makeNumber 3 5 65536 37 38 5 ≡ 10)
 unfolding makeNumber calls.make refusal
-sizes = (refl, refl, refl, refl, refl)
+sizes = (refl, refl, refl, refl, refl, refl, refl, refl)
 
 -- document 01's run, on a row like the door's
-pub run : answers (rowStep base) (madeRow 512 (0 ∷ 0 ∷ [])) (take 6 spelling.calls) ≡ map (λ g. g .answer) (take 6 spelling.given)
-unfolding answers sumBy some range refusal row.before row.from row.found row.unless row.rowStep
+pub run : answers (rowStep base) (madeRow 512 (0 ∷ 0 ∷ 0 ∷ [])) (take 6 spelling.calls) ≡ map (λ g. g .answer) (take 6 spelling.given)
+unfolding answers sumBy some range refusal row.before row.from row.found row.unless row.rowMove row.rowStep
 run = refl

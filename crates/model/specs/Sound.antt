@@ -1,14 +1,14 @@
 -- A sound tree, field by field as document 01's paragraph on audit has it, and its entries in order ("The plain row", last paragraph).
--- s is the words of a slot, e the effect view; Sound takes both from a kind. Assumes nothing.
+-- s is the words of a slot, e the effect view; Coherent takes both from a kind, and Sound asks of the line ends too. Assumes nothing.
 use mathlib.Core.Path.{_≡_}
-use mathlib.Core.Bool.{cond}
+use mathlib.Core.Bool.{false, cond}
 use mathlib.Core.List.{List, [], _∷_, map, flatMap}
 use Prim.Native.Nat.{ℕ, zero, suc, _*_, _≤_, _<_}
 use lib.ListN.{length, getD, take}
 use lib.Dec.{eqb}
 use Rattle.model.specs.Lists.{All, times, range}
 use Rattle.model.specs.Node.{Node, none, child, lengths, lengthIn, total, used, emptySlot, half}
-use Rattle.model.specs.Kind.{stride, prepare}
+use Rattle.model.specs.Kind.{stride, prepare, tooManyLines}
 use Rattle.model.specs.declared.shape.Kind.{Kind}
 use Rattle.model.specs.Row.{Entry, entry}
 use Rattle.model.specs.State.{State, shape, nodeAt}
@@ -90,7 +90,7 @@ module _ (s : ℕ) (t : State) where
   FingerRight e held.Absent = Unit {0}
   FingerRight e (held.At f) = FingerAt e f
 
-  pub record SoundAt (e : ℕ) : Type 0 where
+  pub record CoherentAt (e : ℕ) : Type 0 where
     -- good fan, limit and areas
     pub fan-least : 4 ≤ t .head .fan
     pub fan-most : t .head .fan ≤ 32
@@ -121,8 +121,13 @@ module _ (s : ℕ) (t : State) where
     pub totals : (v : ℕ) → suc v < s → total v (slotsIn leavesReached) ≤ 4294967295
     pub finger : FingerRight e (t .head .finger)
 
-abbrev pub Sound : Kind → State → Type 0
-Sound K t = SoundAt (stride K) t (K .effect)
+abbrev pub Coherent : Kind → State → Type 0
+Coherent K t = CoherentAt (stride K) t (K .effect)
+
+-- and no leaf slot in use has more than 65,535 line ends
+pub record Sound (K : Kind) (t : State) : Type 0 where
+  pub coherent : Coherent K t
+  pub lines : (k i : ℕ) → k < t .head .leaves → i < leafIn (stride K) t k .len → tooManyLines K (lengths (getD (leafIn (stride K) t k .slots) i [])) ≡ false
 
 -- the entries in order: the slots in use of the leaves, reached from the root with earlier slots first
 unfoldable pub entriesOf : Kind → State → List Entry

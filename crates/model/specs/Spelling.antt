@@ -11,35 +11,35 @@ use Rattle.model.specs.Table.{pair}
 
 -- the fields of each call ------------------------------------------------------------------------------------------------------------------
 
--- kind, view or flag, a, b, c; the two bytes behind the flag are zero
-abbrev pub fields : ℕ → ℕ → ℕ → ℕ → ℕ → Fields
-fields kind flag a b c = record { kind = kind; flag = flag; rest = 0; a = a; b = b; c = c }
+-- kind, view or flag, line ends, a, b, c
+abbrev pub fields : ℕ → ℕ → ℕ → ℕ → ℕ → ℕ → Fields
+fields kind flag lines a b c = record { kind = kind; flag = flag; lines = lines; a = a; b = b; c = c }
 
 abbrev pub fieldsFor : Call → Fields
-fieldsFor (reset l) = fields 1 0 0 (getD l 0 0) (getD l 1 0)
-fieldsFor (insert i l) = fields 2 0 i (getD l 0 0) (getD l 1 0)
-fieldsFor (split before i l) = fields 4 (cond before 1 0) i (getD l 0 0) (getD l 1 0)
-fieldsFor (setLengths i l) = fields 5 0 i (getD l 0 0) (getD l 1 0)
-fieldsFor (update i l) = fields 6 0 i (getD l 0 0) (getD l 1 0)
-fieldsFor (lookup v x) = fields 7 v x 0 0
-fieldsFor (rank v i) = fields 8 v i 0 0
-fieldsFor (next i) = fields 9 0 i 0 0
-fieldsFor (compare i j) = fields 10 0 i j 0
-fieldsFor (lengths i) = fields 11 0 i 0 0
-fieldsFor count = fields 12 0 0 0 0
-fieldsFor first = fields 13 0 0 0 0
+fieldsFor (reset l) = fields 1 0 (getD l 2 0) 0 (getD l 0 0) (getD l 1 0)
+fieldsFor (insert i l) = fields 2 0 (getD l 2 0) i (getD l 0 0) (getD l 1 0)
+fieldsFor (split before i l) = fields 4 (cond before 1 0) (getD l 2 0) i (getD l 0 0) (getD l 1 0)
+fieldsFor (setLengths i l) = fields 5 0 (getD l 2 0) i (getD l 0 0) (getD l 1 0)
+fieldsFor (update i l) = fields 6 0 (getD l 2 0) i (getD l 0 0) (getD l 1 0)
+fieldsFor (lookup v x) = fields 7 v 0 x 0 0
+fieldsFor (rank v i) = fields 8 v 0 i 0 0
+fieldsFor (next i) = fields 9 0 0 i 0 0
+fieldsFor (compare i j) = fields 10 0 0 i j 0
+fieldsFor (lengths i) = fields 11 0 0 i 0 0
+fieldsFor count = fields 12 0 0 0 0 0
+fieldsFor first = fields 13 0 0 0 0 0
 -- no record says it
-fieldsFor malformed = fields 0 0 0 0 0
+fieldsFor malformed = fields 0 0 0 0 0 0
 
--- the calls that a record can say: with two lengths, in view 0 or 1
+-- the calls that a record can say: with three lengths, in view 0, 1 or 2
 abbrev pub Sayable : Call → Type 0
-Sayable (reset l) = length l ≡ 2
-Sayable (insert i l) = length l ≡ 2
-Sayable (split before i l) = length l ≡ 2
-Sayable (setLengths i l) = length l ≡ 2
-Sayable (update i l) = length l ≡ 2
-Sayable (lookup v x) = v < 2
-Sayable (rank v i) = v < 2
+Sayable (reset l) = length l ≡ 3
+Sayable (insert i l) = length l ≡ 3
+Sayable (split before i l) = length l ≡ 3
+Sayable (setLengths i l) = length l ≡ 3
+Sayable (update i l) = length l ≡ 3
+Sayable (lookup v x) = v < 3
+Sayable (rank v i) = v < 3
 Sayable (next i) = Unit {0}
 Sayable (compare i j) = Unit {0}
 Sayable (lengths i) = Unit {0}
@@ -67,8 +67,8 @@ low n = four n 0 0 0
 abbrev pub top : List ℕ
 top = four 255 255 255 255
 
--- the six records of document 01's run; one in whose words all bytes differ; two with a byte behind the flag that isn't zero; one of kind 3, and one
--- of kind 3 with a flag
+-- the six records of document 01's run; one in whose fields all bytes differ; two of one line end and of 256; two that give none, with a byte behind the
+-- flag that isn't zero; a lookup and a rank in view 2, both in a view 3, and a split with the flag 2; one of kind 3, and one of kind 3 with a flag
 abbrev pub records : List (List ℕ)
 records =
     bytes 1 0 0 0 (low 0) (low 3) (low 3)
@@ -77,14 +77,21 @@ records =
     ∷ bytes 7 0 0 0 (low 0) (low 0) (low 0)
     ∷ bytes 7 0 0 0 (low 5) (low 0) (low 0)
     ∷ bytes 9 0 0 0 (low 1) (low 0) (low 0)
-    ∷ bytes 4 1 0 0 (four 1 2 3 4) (four 5 6 7 8) (four 9 10 11 12)
+    ∷ bytes 4 1 13 14 (four 1 2 3 4) (four 5 6 7 8) (four 9 10 11 12)
     ∷ bytes 2 0 1 0 (low 0) (low 0) (low 5)
     ∷ bytes 2 0 0 1 (low 0) (low 0) (low 5)
+    ∷ bytes 9 0 1 0 (low 1) (low 0) (low 0)
+    ∷ bytes 10 0 0 1 (low 1) (low 0) (low 0)
+    ∷ bytes 7 2 0 0 (low 5) (low 0) (low 0)
+    ∷ bytes 8 2 0 0 (low 1) (low 0) (low 0)
+    ∷ bytes 7 3 0 0 (low 5) (low 0) (low 0)
+    ∷ bytes 8 3 0 0 (low 1) (low 0) (low 0)
+    ∷ bytes 4 2 0 0 (low 1) (low 0) (low 0)
     ∷ bytes 3 0 0 0 top (low 2) (low 0)
     ∷ bytes 3 1 0 0 top (low 2) (low 0)
     ∷ []
 
--- 67,305,985 is 1 + 2 * 256 + 3 * 65,536 + 4 * 16,777,216, and so the others
+-- 67,305,985 is 1 + 2 * 256 + 3 * 65,536 + 4 * 16,777,216, and so the others; 3,597 is 13 + 14 * 256
 abbrev pub calls : List Call
 calls =
     reset (pair 3 3)
@@ -93,7 +100,14 @@ calls =
     ∷ lookup 0 0
     ∷ lookup 0 5
     ∷ next 1
-    ∷ split true 67305985 (pair 134678021 202050057)
+    ∷ split true 67305985 (134678021 ∷ 202050057 ∷ 3597 ∷ [])
+    ∷ insert 0 (0 ∷ 5 ∷ 1 ∷ [])
+    ∷ insert 0 (0 ∷ 5 ∷ 256 ∷ [])
+    ∷ malformed
+    ∷ malformed
+    ∷ lookup 2 5
+    ∷ rank 2 1
+    ∷ malformed
     ∷ malformed
     ∷ malformed
     ∷ insert noEntry (pair 2 0)
@@ -108,7 +122,8 @@ pub record Given : Type 0 where
 abbrev pub to : ℕ → Answer → Given
 to kind answer = record { kind = kind; answer = answer }
 
--- the six answers, a refusal among them; one of four values: a record has room for three; and one to kind 3, with its position
+-- the six answers, a refusal among them; one of four values: a record has room for three; the three lengths of an entry; and one to kind 3, with its
+-- position
 abbrev pub given : List Given
 given =
     to 1 (done [])
@@ -118,6 +133,7 @@ given =
     ∷ to 7 (refused 5)
     ∷ to 9 (done (noEntry ∷ []))
     ∷ to 7 (done (67305985 ∷ 134678021 ∷ 202050057 ∷ 1 ∷ []))
+    ∷ to 11 (done (3 ∷ 2 ∷ 1 ∷ []))
     ∷ to 3 (done (1 ∷ 3 ∷ []))
     ∷ []
 
@@ -130,5 +146,6 @@ written =
     ∷ bytes 5 7 0 0 (low 0) (low 0) (low 0)
     ∷ bytes 0 9 0 0 top (low 0) (low 0)
     ∷ bytes 0 7 0 0 (four 1 2 3 4) (four 5 6 7 8) (four 9 10 11 12)
+    ∷ bytes 0 11 0 0 (low 3) (low 2) (low 1)
     ∷ bytes 0 3 0 0 (low 1) (low 3) (low 0)
     ∷ []

@@ -19,8 +19,9 @@ pub record Case : Type 0 where
 abbrev pub case : Play → Answer → List ℕ → List ℕ → Case
 case p a o n = record { play = p; answer = a; order = o; newest = n }
 
+-- lengths without line ends
 abbrev pub pair : ℕ → ℕ → List ℕ
-pair p e = p ∷ e ∷ []
+pair p e = p ∷ e ∷ 0 ∷ []
 
 abbrev pub p1 : Case
 p1 = case (made (pair 3 3)) (done []) (0 ∷ []) (0 ∷ 0 ∷ [])

@@ -1,12 +1,14 @@
 // Views, lengths and slots.
 use crate::number::NONE;
 ghost use mathlib.Core.Path.{_≡_};
-ghost use Rattle.model.specs.Length.{viewNumber, lengthsOf, slotOf};
+ghost use Rattle.model.specs.Length.{viewNumber, lengthsOf, slotOf, listOf};
+ghost use Rattle.model.specs.Kind.{base, tooManyLines};
 
-// The version in which a length or a position is measured.
+// What a length or a position is measured in: the characters of either version, or visible line ends.
 pub enum View {
     Prepare,
     Effect,
+    Lines,
 }
 
 impl View {
@@ -17,6 +19,7 @@ impl View {
         match self {
             View::Prepare => 0,
             View::Effect => 1,
+            View::Lines => 2,
         }
     }
 }
@@ -25,6 +28,7 @@ impl View {
 pub struct Lengths {
     pub prepare: u32,
     pub effect: u32,
+    pub lines: u32,
 }
 
 impl Lengths {
@@ -34,7 +38,15 @@ impl Lengths {
         match view {
             View::Prepare => self.prepare,
             View::Effect => self.effect,
+            View::Lines => self.lines,
         }
+    }
+
+    // More line ends than an entry may have.
+    pub fn overlong(self) -> bool
+        ensures { λ r. ⌜ r ≡ tooManyLines base (listOf self) ⌝ }
+    {
+        65535 < self.lines
     }
 }
 
@@ -43,6 +55,7 @@ pub struct Slot {
     pub child: u32,
     pub prepare_len: u32,
     pub effect_len: u32,
+    pub line_ends: u32,
 }
 
 impl Slot {
@@ -51,6 +64,7 @@ impl Slot {
         child: NONE,
         prepare_len: 0,
         effect_len: 0,
+        line_ends: 0,
     };
 
     pub fn new(child: u32, lengths: Lengths) -> Slot
@@ -60,6 +74,7 @@ impl Slot {
             child: child,
             prepare_len: lengths.prepare,
             effect_len: lengths.effect,
+            line_ends: lengths.lines,
         }
     }
 }

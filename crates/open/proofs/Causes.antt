@@ -45,6 +45,11 @@ good-number cs g g′ e = answered (refusal cs) g g′ e .0
 pub good-shape : (cs : List Cause) (g g′ : Shape) → openedBy cs g ≡ Good g′ → g ≡ g′
 good-shape cs g g′ e = answered (refusal cs) g g′ e .1
 
+-- where none of more causes applies, none of those behind the first does
+pub good-tail : (n : ℕ) (b : Bool) (cs : List Cause) (g g′ : Shape) → openedBy (cause (suc n) b ∷ cs) g ≡ Good g′ → openedBy cs g ≡ Good g′
+good-tail n true cs g g′ e = let z : _≡_ {A = ℕ} 0 1 = cc (opened-first n true cs g refl) in absurd (omega arith)
+good-tail n false cs g g′ e = sym (opened-next (suc n) false cs g refl) ∙ e
+
 numbered : (n m : ℕ) (g : Shape) → cond (eqb n 0) (Good g) (Refused n) ≡ Refused m → (n ≡ m) × (0 < m)
 numbered zero m g e = let z : _≡_ {A = ℕ} 0 1 = cc in absurd (omega arith)
 numbered (suc n) m g e = let z : suc n ≡ m = cc (eqb·suc-zero n) in (z, omega arith)

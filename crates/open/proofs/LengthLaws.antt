@@ -9,6 +9,7 @@ use lib.Seq.{take-all}
 use lib.Dec.{ltb}
 use borrow.Author.Tests.{ltb-true, ltb-false, lt-ltb, le-ltb}
 use Rattle.model.specs.Lists.{some, part, range}
+use Rattle.model.specs.Kind.{kind, tooManyLines}
 use Rattle.model.specs.Length.{lengthsIn}
 use Rattle.model.specs.Node.{slotsFrom, nodeOf, lengths, lengthIn, used}
 use Rattle.model.specs.State.{nodeAt}
@@ -77,6 +78,15 @@ module _ (g : Shape) (xs : List ℕ) (k i : ℕ) (a : Area g (length xs)) (hk : 
       → (3 < g .stride → z ≡ set y 3 (lengthIn 2 (getD (nodeAt g k xs .slots) i []))) → (g .stride ≤ 3 → z ≡ y)
       → lengthsIn (g .stride - 1) z ≡ lengths (getD (nodeAt g k xs .slots) i [])
   lengths-read x y z p four e = put-lengths (getD (nodeAt g k xs .slots) i []) p e (g .stride) x y z four width (a .shaped .columns) (a .shaped .narrow)
+
+-- the line ends of lengths that are lent as four words, of which so many views count
+module _ (views effect : ℕ) (x : List ℕ) where
+  pub lines-many : 2 < views → (b : Bool) → b ≡ ltb 65535 (getD x 3 0) → b ≡ tooManyLines (kind views effect) (lengthsIn views x)
+  unfolding part
+  lines-many h b e = e ∙ sym (rw (lt-ltb 2 views h, getD-part 1 views 2 x h))
+
+  pub lines-none : views ≤ 2 → false ≡ tooManyLines (kind views effect) (lengthsIn views x)
+  lines-none h = sym (rw (le-ltb 2 views h))
 
 -- a test of two slots' lengths in each view: t of the view, of a's length and of b's
 module _ (t : ℕ → ℕ → ℕ → Bool) (a b : List ℕ) where

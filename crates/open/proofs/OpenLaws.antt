@@ -10,7 +10,7 @@ use Rattle.model.specs.Kind.{stride}
 use Rattle.model.specs.Lists.{Cause, All}
 use Rattle.model.specs.State.{State, shape, shapeFor, nodesFor}
 use Rattle.model.specs.Refuse.{badSize, tooShort, astray, shapeOf, opening}
-use Rattle.model.specs.Calls.{makeCauses}
+use Rattle.model.specs.Calls.{areaCauses}
 use Rattle.model.specs.declared.shape.Kind.{Kind}
 use Rattle.model.specs.declared.shape.Shape.{Shape}
 use Rattle.node.specs.Shaped.{Shaped}
@@ -52,18 +52,18 @@ made views fan limit nodes r e n p = (
 -- what `open_areas` answers
 module _ (K : Kind) (fan limit : ℕ) (ls xs hs : List ℕ) (g : Shape) (b t : Bool) (eb : b ≡ badSize fan limit .applies) (nb : b ≡ false)
     (eg : g ≡ shape (stride K) fan limit) (et : t ≡ tooShort g limit ls xs hs .applies) where
-  pub short-areas : t ≡ true → Refused 2 ≡ openedBy (makeCauses K fan limit ls xs hs) (shape (stride K) fan limit)
+  pub short-areas : t ≡ true → Refused 2 ≡ openedBy (areaCauses K fan limit ls xs hs) (shape (stride K) fan limit)
   short-areas e =
       sym (opened-next 1 _ _ _ (sym eb ∙ nb) ∙ opened-first 1 _ [] _ (ap (λ (x : Shape). tooShort x limit ls xs hs .applies) (sym eg) ∙ sym et ∙ e))
 
-  pub long-areas : t ≡ false → Good g ≡ openedBy (makeCauses K fan limit ls xs hs) (shape (stride K) fan limit)
+  pub long-areas : t ≡ false → Good g ≡ openedBy (areaCauses K fan limit ls xs hs) (shape (stride K) fan limit)
   long-areas e =
       ap Good eg
       ∙ sym (opened-next 1 _ _ _ (sym eb ∙ nb) ∙ opened-next 2 _ [] _ (ap (λ (x : Shape). tooShort x limit ls xs hs .applies) (sym eg) ∙ sym et ∙ e) ∙ opened-none _)
 
--- the causes of make and of every other call
+-- the causes that the areas give, in every call that reads them
 abbrev pub areasOf : Kind → State → List Cause
-areasOf K s = makeCauses K (s .head .fan) (s .head .limit) (s .leaves) (s .inners) (s .homes)
+areasOf K s = areaCauses K (s .head .fan) (s .head .limit) (s .leaves) (s .inners) (s .homes)
 
 pub areas-numbered : (K : Kind) (s : State) → Numbered (areasOf K s)
 unfolding All

@@ -14,7 +14,7 @@ use Rattle.model.specs.Refuse.{badSize, tooShort, astray, shapeOf, opening}
 use Rattle.model.specs.declared.shape.Kind.{Kind}
 use Rattle.model.specs.declared.shape.Shape.{Shape}
 use Rattle.model.specs.declared.length.View.{View}
-use Rattle.model.specs.declared.length.View.the-variants.{Prepare, Effect}
+use Rattle.model.specs.declared.length.View.the-variants.{Prepare, Effect, Lines}
 use Rattle.node.specs.Shaped.{Shaped}
 use Rattle.area.specs.Area.{Area}
 use Rattle.open.proofs.Bools.{or-false}
@@ -91,6 +91,7 @@ view-in s g v h hv = rw (ap (λ (x : Shape). x .stride) (h .same)) (omega arith)
 pub views-are : {K : Kind} (s : State) (g : Shape) → Ready K s g → g .stride - 1 ≡ K .views
 views-are s g h = ap (λ (x : Shape). x .stride - 1) (h .same) ∙ omega arith
 
-pub view-few : (v : View) → viewNumber v < 2
+pub view-few : (v : View) → viewNumber v < 3
 view-few Prepare = omega arith
 view-few Effect = omega arith
+view-few Lines = omega arith

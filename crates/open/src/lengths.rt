@@ -11,6 +11,7 @@ ghost use mathlib.Core.List.{[]};
 ghost use Prim.Native.Nat.{ℕ, _+_, _-_, _*_, _<_, _≤_};
 ghost use lib.Dec.{ltb};
 ghost use lib.ListN.{length, getD, take, drop};
+ghost use Rattle.model.specs.Kind.{kind, tooManyLines};
 ghost use Rattle.model.specs.Length.{lengthsIn};
 ghost use Rattle.model.specs.Node.{nodeOf, lengths, total, used};
 ghost use Rattle.model.specs.State.{shapeFor, nodeAt};
@@ -32,6 +33,17 @@ pub fn lengths_at(leaves: &[u32], g: Shape, k: LeafNo, i: u32, x: &mut [u32; 4])
     if 3 < stride {
         x[3] = length_of(leaves, g, 2, k.0, at);
     }
+}
+
+// Whether lengths have more line ends than an entry may have: above 65,535 in the third view, where a slot has it.
+pub fn too_many_lines(views: usize, x: &[u32; 4]) -> bool
+    requires { ⌜ (1 ≤ views) × (views ≤ 3) × (length (now x) ≡ 4) ⌝ }
+    ensures { λ r. ⌜ ((effect : ℕ) → r ≡ tooManyLines (kind views effect) (lengthsIn views (now (x .entry)))) ⌝ }
+{
+    if 2 < views {
+        return 65535 < x[3];
+    }
+    false
 }
 
 // Whether lengths are more than an entry has, in some view.

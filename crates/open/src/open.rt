@@ -12,7 +12,7 @@ ghost use Rattle.model.specs.Kind.{kind};
 ghost use Rattle.model.specs.Lists.{refusal};
 ghost use Rattle.model.specs.State.{state, shape, nodesFor, nodeAt};
 ghost use Rattle.model.specs.Refuse.{badSize, tooShort, astray, shapeOf, opening, stale, atCursor, full};
-ghost use Rattle.model.specs.Calls.{makeCauses};
+ghost use Rattle.model.specs.Calls.{areaCauses};
 ghost use Rattle.model.specs.declared.shape.Kind.{Kind};
 ghost use Rattle.node.specs.Shaped.{Shaped};
 ghost use Rattle.area.specs.Area.{Area};
@@ -123,7 +123,7 @@ pub fn astray(g: Shape, head: Head) -> bool
     head.limit < head.entries
 }
 
-// What make and reset test.
+// What make and reset test of the areas, and audit too.
 pub fn open_areas(
     views: usize,
     fan: u32,
@@ -133,7 +133,7 @@ pub fn open_areas(
     homes: &[u32],
 ) -> Opened
     requires { ⌜ (1 ≤ views) × (views ≤ 3) ⌝ }
-    ensures { λ r. ⌜ ((effect : ℕ) → r ≡ openedBy (makeCauses (kind views effect) fan limit (now (leaves .entry)) (now (inners .entry)) (now (homes .entry))) (shape (suc views) fan limit)) ⌝ }
+    ensures { λ r. ⌜ ((effect : ℕ) → r ≡ openedBy (areaCauses (kind views effect) fan limit (now (leaves .entry)) (now (inners .entry)) (now (homes .entry))) (shape (suc views) fan limit)) ⌝ }
 {
     if bad_size(fan, limit) {
         return Opened::Refused(1);

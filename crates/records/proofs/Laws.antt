@@ -2,7 +2,7 @@
 use mathlib.Core.Path.{_≡_, refl, sym, ap, subst, _∙_}
 use mathlib.Core.Bool.{Bool, _&&_}
 use mathlib.Core.List.{List, _++_, append-nil}
-use Prim.Native.Nat.{ℕ, zero, suc, _+_, _%_, _<_, _≤_}
+use Prim.Native.Nat.{ℕ, zero, suc, _+_, _*_, _%_, _<_, _≤_}
 use mir.Syntax.{w8, w32}
 use mir.Val.{Fits}
 use native.Mathlib.Omega.{arith}
@@ -11,7 +11,7 @@ use lib.Dec.{T, eqb, leb, ltb, lit≤, lit<}
 use lib.Seq.{sets, sets-eq, lt-length-sets}
 use Rattle.model.specs.Length.{listOf, viewNumber}
 use Rattle.model.specs.Row as row
-use Rattle.model.specs.Record.{Fields, kinds, only, plain, binary, noLengths, viewOf, lengthsOf}
+use Rattle.model.specs.Record.{Fields, kinds, only, plain, viewed, viewOf, lengthsOf}
 use Rattle.model.specs.declared.length.View.{View}
 
 -- the call of one kind
@@ -44,35 +44,35 @@ pub reset-kind : (f : Fields) (x : row.Call) (b : Bool) → f .kind ≡ 1 → x 
 unfolding kinds
 reset-kind f x b e q eb = at-kind f 1 e x (q ∙ rw eb)
 
-pub compare-kind : (f : Fields) (x : row.Call) (b : Bool) → f .kind ≡ 10 → x ≡ only b (row.compare (f .a) (f .b)) → b ≡ (plain f && eqb (f .c) 0)
+pub compare-kind : (f : Fields) (x : row.Call) (b m : Bool) → m ≡ (plain f && eqb (f .c) 0) → f .kind ≡ 10 → x ≡ only b (row.compare (f .a) (f .b)) → b ≡ (m && eqb (f .lines) 0)
     → x ≡ getD (kinds f) (f .kind) row.malformed
 unfolding kinds
-compare-kind f x b e q eb = at-kind f 10 e x (q ∙ rw eb)
+compare-kind f x b m em e q eb = at-kind f 10 e x (q ∙ rw (eb, em))
 
-module _ (f : Fields) (x : row.Call) (b n : Bool) (en : n ≡ noLengths f) where
-  pub lookup-kind : (v : View) → v ≡ viewOf (f .flag) → f .kind ≡ 7 → x ≡ only b (row.lookup (viewNumber v) (f .a)) → b ≡ (binary f && n) → x ≡ getD (kinds f) (f .kind) row.malformed
+module _ (f : Fields) (x : row.Call) (b l : Bool) (el : l ≡ (eqb (f .b) 0 && eqb (f .c) 0)) (n : Bool) (en : n ≡ (l && eqb (f .lines) 0)) where
+  pub lookup-kind : (v : View) → v ≡ viewOf (f .flag) → f .kind ≡ 7 → x ≡ only b (row.lookup (viewNumber v) (f .a)) → b ≡ (viewed f && n) → x ≡ getD (kinds f) (f .kind) row.malformed
   unfolding kinds
-  lookup-kind v ev e q eb = at-kind f 7 e x (q ∙ rw (eb, en, ev))
+  lookup-kind v ev e q eb = at-kind f 7 e x (q ∙ rw (eb, en, el, ev))
 
-  pub rank-kind : (v : View) → v ≡ viewOf (f .flag) → f .kind ≡ 8 → x ≡ only b (row.rank (viewNumber v) (f .a)) → b ≡ (binary f && n) → x ≡ getD (kinds f) (f .kind) row.malformed
+  pub rank-kind : (v : View) → v ≡ viewOf (f .flag) → f .kind ≡ 8 → x ≡ only b (row.rank (viewNumber v) (f .a)) → b ≡ (viewed f && n) → x ≡ getD (kinds f) (f .kind) row.malformed
   unfolding kinds
-  rank-kind v ev e q eb = at-kind f 8 e x (q ∙ rw (eb, en, ev))
+  rank-kind v ev e q eb = at-kind f 8 e x (q ∙ rw (eb, en, el, ev))
 
   pub next-kind : f .kind ≡ 9 → x ≡ only b (row.next (f .a)) → b ≡ (plain f && n) → x ≡ getD (kinds f) (f .kind) row.malformed
   unfolding kinds
-  next-kind e q eb = at-kind f 9 e x (q ∙ rw (eb, en))
+  next-kind e q eb = at-kind f 9 e x (q ∙ rw (eb, en, el))
 
   pub lengths-kind : f .kind ≡ 11 → x ≡ only b (row.lengths (f .a)) → b ≡ (plain f && n) → x ≡ getD (kinds f) (f .kind) row.malformed
   unfolding kinds
-  lengths-kind e q eb = at-kind f 11 e x (q ∙ rw (eb, en))
+  lengths-kind e q eb = at-kind f 11 e x (q ∙ rw (eb, en, el))
 
   pub count-kind : (m : Bool) → m ≡ (plain f && eqb (f .a) 0) → f .kind ≡ 12 → x ≡ only b row.count → b ≡ (m && n) → x ≡ getD (kinds f) (f .kind) row.malformed
   unfolding kinds
-  count-kind m em e q eb = at-kind f 12 e x (q ∙ rw (eb, em, en))
+  count-kind m em e q eb = at-kind f 12 e x (q ∙ rw (eb, em, en, el))
 
   pub first-kind : (m : Bool) → m ≡ (plain f && eqb (f .a) 0) → f .kind ≡ 13 → x ≡ only b row.first → b ≡ (m && n) → x ≡ getD (kinds f) (f .kind) row.malformed
   unfolding kinds
-  first-kind m em e q eb = at-kind f 13 e x (q ∙ rw (eb, em, en))
+  first-kind m em e q eb = at-kind f 13 e x (q ∙ rw (eb, em, en, el))
 
 -- a list written whole
 pub filled : (l vs : List ℕ) → length l ≡ length vs → sets l 0 vs ≡ vs
@@ -85,8 +85,11 @@ filled l vs e =
 pub reach : (n k : ℕ) → n ≡ 16 → T (leb k 16) → k ≤ n
 reach n k e h = subst (λ (m : ℕ). k ≤ m) (sym e) (lit≤ h)
 
--- the sum of two bytes fits
-pub sum-fits : (x y : ℕ) → x < 256 → y < 256 → Fits w32 (x + y)
+-- two bytes fit
+pub high-fits : (y : ℕ) → y < 256 → Fits w32 (256 * y)
+high-fits y q = record { fits = omega arith }
+
+pub sum-fits : (x y : ℕ) → x < 256 → y < 256 → Fits w32 (x + 256 * y)
 sum-fits x y p q = record { fits = omega arith }
 
 -- a byte fits

@@ -1,18 +1,17 @@
 -- The code's fields, calls and answers in the row's own form. Assumes nothing.
 use mathlib.Core.List.{[], _∷_}
 use lib.ListN.{getD}
-use lib.Dec.{eqb}
 use Rattle.model.specs.Length.{listOf, viewNumber}
 use Rattle.model.specs.Row as row
 use Rattle.model.specs.Record as record′
-use Rattle.model.specs.Record.{kinds, only}
+use Rattle.model.specs.Record.{kinds}
 use Rattle.records.specs.declared.fields.Fields.{Fields}
 use Rattle.records.specs.declared.call.Call.{Call}
 use Rattle.records.specs.declared.call.Call.the-variants as call
 use Rattle.records.specs.declared.answer.Answer.{Answer}
 
 abbrev pub plainFields : Fields → record′.Fields
-plainFields f = record { kind = f .kind; flag = f .flag; rest = f .rest; a = f .a; b = f .b; c = f .c }
+plainFields f = record { kind = f .kind; flag = f .flag; lines = f .lines; a = f .a; b = f .b; c = f .c }
 
 abbrev pub callOf : Call → row.Call
 callOf (call.Reset l) = row.reset (listOf l)
@@ -31,7 +30,7 @@ callOf call.Malformed = row.malformed
 
 -- what fields say: `decode` reads them from a record's bytes
 unfoldable pub said : record′.Fields → row.Call
-said f = only (eqb (f .rest) 0) (getD (kinds f) (f .kind) row.malformed)
+said f = getD (kinds f) (f .kind) row.malformed
 
 -- an answer's three values, those it lacks as 0; and back
 abbrev pub answerOf : row.Answer → Answer

@@ -5,9 +5,7 @@ use model::length::View;
 use model::number::EntryId;
 ghost use mathlib.Core.Path.{_≡_};
 ghost use mathlib.Core.Bool.{_&&_};
-ghost use lib.ListN.{getD};
-ghost use Rattle.model.specs.Row as row;
-ghost use Rattle.model.specs.Record.{kinds, viewOf, only};
+ghost use Rattle.model.specs.Record.{viewOf, only};
 ghost use Rattle.records.specs.Said.{plainFields, callOf, said};
 
 // The calls of a list; Malformed stands for a record with a field outside its values.
@@ -33,8 +31,10 @@ fn view_of(flag: u32) -> View
 {
     if flag == 0 {
         View::Prepare
-    } else {
+    } else if flag == 1 {
         View::Effect
+    } else {
+        View::Lines
     }
 }
 
@@ -44,7 +44,7 @@ fn both(a: bool, b: bool) -> bool
     if a { b } else { false }
 }
 
-// The call where its unused fields are zero and a view or flag is 0 or 1.
+// The call where its unused fields are zero, a flag is 0 or 1 and a view 0, 1 or 2.
 fn only(ok: bool, call: Call) -> Call
     ensures { λ r. ⌜ callOf r ≡ only ok (callOf call) ⌝ }
 {
@@ -52,8 +52,8 @@ fn only(ok: bool, call: Call) -> Call
 }
 
 // What a record of each kind says; 3 is read as 2.
-fn by_kind(f: Fields) -> Call
-    ensures { λ r. ⌜ callOf r ≡ getD (kinds (plainFields f)) (f .kind) row.malformed ⌝ }
+pub fn decode(f: Fields) -> Call
+    ensures { λ r. ⌜ callOf r ≡ said (plainFields f) ⌝ }
 {
     let kind = f.kind;
     let flag = f.flag;
@@ -62,11 +62,14 @@ fn by_kind(f: Fields) -> Call
     let lengths = Lengths {
         prepare: f.b,
         effect: f.c,
+        lines: f.lines,
     };
     let plain = flag == 0;
     let binary = flag < 2;
+    let viewed = flag < 3;
     let no_id = f.a == 0;
-    let no_lengths = both(f.b == 0, f.c == 0);
+    let no_lines = f.lines == 0;
+    let no_lengths = both(both(f.b == 0, f.c == 0), no_lines);
     match kind {
         1 => only(both(plain, no_id), Call::Reset(lengths)),
         2 => only(plain, Call::Insert(id, lengths)),
@@ -74,22 +77,16 @@ fn by_kind(f: Fields) -> Call
         4 => only(binary, Call::Split(flag == 1, id, lengths)),
         5 => only(plain, Call::SetLengths(id, lengths)),
         6 => only(plain, Call::Update(id, lengths)),
-        7 => only(both(binary, no_lengths), Call::Lookup(view, f.a)),
-        8 => only(both(binary, no_lengths), Call::Rank(view, id)),
+        7 => only(both(viewed, no_lengths), Call::Lookup(view, f.a)),
+        8 => only(both(viewed, no_lengths), Call::Rank(view, id)),
         9 => only(both(plain, no_lengths), Call::Next(id)),
-        10 => only(both(plain, f.c == 0), Call::Compare(id, EntryId(f.b))),
+        10 => only(
+            both(both(plain, f.c == 0), no_lines),
+            Call::Compare(id, EntryId(f.b)),
+        ),
         11 => only(both(plain, no_lengths), Call::LengthsOf(id)),
         12 => only(both(both(plain, no_id), no_lengths), Call::Count),
         13 => only(both(both(plain, no_id), no_lengths), Call::First),
         _ => Call::Malformed,
     }
-}
-
-pub fn decode(f: Fields) -> Call
-    ensures { λ r. ⌜ callOf r ≡ said (plainFields f) ⌝ }
-{
-    if f.rest != 0 {
-        return Call::Malformed;
-    }
-    by_kind(f)
 }

@@ -5,11 +5,11 @@ ghost use lib.ListN.{length};
 ghost use Rattle.model.specs.Record.{wordAt, fieldsOf};
 ghost use Rattle.records.specs.Said.{plainFields};
 
-// Kind, view or flag, the sum of the two bytes behind it, and a, b, c.
+// Kind, view or flag, line ends in the two bytes behind it, and a, b, c.
 pub struct Fields {
     pub kind: u32,
     pub flag: u32,
-    pub rest: u32,
+    pub lines: u32,
     pub a: u32,
     pub b: u32,
     pub c: u32,
@@ -41,7 +41,7 @@ pub fn read(bytes: &[u8]) -> Fields
     Fields {
         kind: wide(bytes[0]),
         flag: wide(bytes[1]),
-        rest: wide(bytes[2]) + wide(bytes[3]),
+        lines: wide(bytes[2]) + 256 * wide(bytes[3]),
         a: word_at(bytes, 4),
         b: word_at(bytes, 8),
         c: word_at(bytes, 12),

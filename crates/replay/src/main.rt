@@ -1,5 +1,5 @@
 // Replays lists of records from standard input, one after another, and prints a line for each answer.
-// Each list begins with two records of kind 0, whose words are fan, limit and prepare, then effect, the number of records and 0.
+// Each list begins with two records of kind 0, whose words are fan, limit and prepare, then effect, the number of records and line ends.
 use calls_make::begin::new;
 use libc::STDIN_FILENO;
 use libc::STDOUT_FILENO;
@@ -55,7 +55,7 @@ fn play(
 
 // A list: its tree, then its records; whether the input goes on behind them.
 fn list(leaves: &mut [u32], inners: &mut [u32], homes: &mut [u32]) -> bool {
-    // The five numbers as two records: fan, limit and prepare are the words of one, effect and the number of records of the other.
+    // The six numbers as two records: fan, limit and prepare are the words of one, effect, the number of records and line ends of the other.
     let mut first = [0u8; 16];
     let mut second = [0u8; 16];
     let n = io::read_full(STDIN_FILENO, &mut first);
@@ -71,6 +71,7 @@ fn list(leaves: &mut [u32], inners: &mut [u32], homes: &mut [u32]) -> bool {
     let lengths = Lengths {
         prepare: made_by.c,
         effect: more.a,
+        lines: more.c,
     };
     let made = new(made_by.a, made_by.b, lengths, leaves, inners, homes);
     let head = made.head;
@@ -90,8 +91,8 @@ fn run(leaves: &mut [u32], inners: &mut [u32], homes: &mut [u32]) {
 }
 
 fn main() {
-    let mut leaves = [0u32; 3564];
-    let mut inners = [0u32; 3564];
+    let mut leaves = [0u32; 4716];
+    let mut inners = [0u32; 4716];
     let mut homes = [0u32; 580];
     run(&mut leaves, &mut inners, &mut homes);
 }

@@ -20,10 +20,10 @@ use Rattle.row.specs.Made.{runMade, makeAndRun, firstLengths, doorTree, 
 use Rattle.row.proofs.AsRow.{as-row}
 use Rattle.row.proofs.Words.{Bytes}
 
--- two words are lengths
-pub two-words : (p e : ℕ) → p < 4294967296 → e < 4294967296 → Words base (listOf (record { prepare = p; effect = e }))
+-- three words are lengths
+pub three-words : (p e n : ℕ) → p < 4294967296 → e < 4294967296 → n < 4294967296 → Words base (listOf (record { prepare = p; effect = e; lines = n }))
 unfolding All
-two-words p e hp he = record { long = refl; small = (hp, (he, tt)) }
+three-words p e n hp he hn = record { long = refl; small = (hp, (he, (hn, tt))) }
 
 module _ (fan limit : ℕ) (l ls xs hs : List ℕ) (small : Words base l) where
   -- the tree that a make leaves
@@ -61,11 +61,11 @@ module _ (fan limit : ℕ) (l ls xs hs : List ℕ) (small : Words base l) where
       make-done q m r = promised m (r ∙ left outcome.Done q)
 
 -- the door's tree on areas of its own lengths
-module _ (ls xs hs : List ℕ) (el : length ls ≡ 3456) (ex : length xs ≡ 3456) (eh : length hs ≡ 512) where
+module _ (ls xs hs : List ℕ) (el : length ls ≡ 4480) (ex : length xs ≡ 4480) (eh : length hs ≡ 512) where
   pub door-made : doorTree ls xs hs .answer ≡ outcome.Done
   unfolding make refusal
   door-made = rw (el, ex, eh)
 
   pub door-stands : (s : State) (a : Outcome) → reply s a ≡ doorTree ls xs hs → Stands base s doorRow
   door-stands s a e =
-      subst (λ (r : Reply Outcome). Stands base (r .after) doorRow) (sym e) (made-stands 8 512 (listOf firstLengths) ls xs hs (two-words 0 0 (omega arith) (omega arith)) door-made)
+      subst (λ (r : Reply Outcome). Stands base (r .after) doorRow) (sym e) (made-stands 8 512 (listOf firstLengths) ls xs hs (three-words 0 0 0 (omega arith) (omega arith) (omega arith)) door-made)

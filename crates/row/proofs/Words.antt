@@ -14,7 +14,7 @@ use Rattle.model.specs.Kind.{base}
 use Rattle.model.specs.Lists.{All}
 use Rattle.model.specs.Row as row
 use Rattle.model.specs.Row.{Call}
-use Rattle.model.specs.Record.{Fields, fieldsOf, wordAt, kinds, only, plain, binary, noLengths, viewOf, decode, lengthsOf}
+use Rattle.model.specs.Record.{Fields, fieldsOf, wordAt, kinds, only, plain, binary, viewed, noLengths, viewOf, decode, lengthsOf}
 use Rattle.model.specs.Promise.{Words, IsWord, InWords}
 use Rattle.row.specs.Run.{records, callsOf}
 
@@ -24,6 +24,9 @@ Bytes bs = (i : ℕ) → getD bs i 0 < 256
 
 word-of : (p : ℕ) (bs : List ℕ) → Bytes bs → wordAt p bs < 4294967296
 word-of p bs h = omega (arith, h p, h (p + 1), h (p + 2), h (p + 3))
+
+lines-of : (bs : List ℕ) → Bytes bs → getD bs 2 0 + 256 * getD bs 3 0 < 4294967296
+lines-of bs h = omega (arith, h 2, h 3)
 
 only-words : (b : Bool) (c : Call) → InWords base c → InWords base (only b c)
 only-words true c h = h
@@ -35,14 +38,15 @@ pick [] k h = tt
 pick (c ∷ cs) zero h = h .0
 pick (c ∷ cs) (suc k) h = pick cs k (h .1)
 
-module _ (f : Fields) (a : f .a < 4294967296) (b : f .b < 4294967296) (c : f .c < 4294967296) where
+module _ (f : Fields) (a : f .a < 4294967296) (b : f .b < 4294967296) (c : f .c < 4294967296) (n : f .lines < 4294967296) where
   lengths-words : Words base (listOf (lengthsOf f))
   unfolding All
-  lengths-words = record { long = refl; small = (b, (c, tt)) }
+  lengths-words = record { long = refl; small = (b, (c, (n, tt))) }
 
-  view-in : (v : View) → viewNumber v < 2
+  view-in : (v : View) → viewNumber v < 3
   view-in view.Prepare = omega arith
   view-in view.Effect = omega arith
+  view-in view.Lines = omega arith
 
   kinds-words : All (InWords base) (kinds f)
   unfolding All kinds
@@ -63,13 +67,13 @@ module _ (f : Fields) (a : f .a < 4294967296) (b : f .b < 4294967296) (c : f .c 
                   (
                     only-words (plain f) (row.update (f .a) (listOf (lengthsOf f))) changing,
                     (
-                      only-words (binary f && noLengths f) (row.lookup (viewNumber (viewOf (f .flag))) (f .a)) (view-in (viewOf (f .flag)), a),
+                      only-words (viewed f && noLengths f) (row.lookup (viewNumber (viewOf (f .flag))) (f .a)) (view-in (viewOf (f .flag)), a),
                       (
-                        only-words (binary f && noLengths f) (row.rank (viewNumber (viewOf (f .flag))) (f .a)) (view-in (viewOf (f .flag)), a),
+                        only-words (viewed f && noLengths f) (row.rank (viewNumber (viewOf (f .flag))) (f .a)) (view-in (viewOf (f .flag)), a),
                         (
                           only-words (plain f && noLengths f) (row.next (f .a)) a,
                           (
-                            only-words (plain f && eqb (f .c) 0) (row.compare (f .a) (f .b)) two,
+                            only-words (plain f && eqb (f .c) 0 && eqb (f .lines) 0) (row.compare (f .a) (f .b)) two,
                             (
                               only-words (plain f && noLengths f) (row.lengths (f .a)) a,
                               (
@@ -96,7 +100,7 @@ pub decoded-words : (bs : List ℕ) → Bytes bs → InWords base (decode bs)
 unfolding decode fieldsOf
 decoded-words bs h =
     let f = fieldsOf bs in
-    only-words (eqb (f .rest) 0) (getD (kinds f) (f .kind) row.malformed) (pick (kinds f) (f .kind) (kinds-words (fieldsOf bs) (word-of 4 bs h) (word-of 8 bs h) (word-of 12 bs h)))
+    pick (kinds f) (f .kind) (kinds-words f (word-of 4 bs h) (word-of 8 bs h) (word-of 12 bs h) (lines-of bs h))
 
 -- the parts of bytes are bytes
 take-byte : (n i : ℕ) (bs : List ℕ) → Bytes bs → getD (take n bs) i 0 < 256

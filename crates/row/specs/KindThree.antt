@@ -11,9 +11,9 @@ use lib.ListN.{length, getD, take, drop, set, length-append, length-drop, length
 use lib.Dec.{eqb}
 use lib.Seq.{length-take-le, take-at, drop-at, getD-append-add}
 use borrow.Author.Tests.{eqb-false}
-use Rattle.model.specs.Kind.{base}
+use Rattle.model.specs.Kind.{base, tooManyLines}
 use Rattle.model.specs.Lists.{sumBy, some, range, Cause, refusal}
-use Rattle.model.specs.Row.{Entry, Row, Call, insert, Answer, refused, Moved, moved, row, before, from, total, unless, rowStep}
+use Rattle.model.specs.Row.{Entry, Row, Call, insert, Answer, done, refused, Moved, moved, row, before, from, total, unless, rowMove, rowStep}
 use Rattle.model.specs.Record.{bytesOf, fieldsOf, kinds, decode, encode}
 use Rattle.model.specs.Spelling.{asTwo, bytes, low, top}
 use Rattle.model.specs.Spelled.{same-call}
@@ -113,17 +113,25 @@ unless-done r cs es a = go (eqb (refusal cs) 0) refl
     go true e z = refl
     go false e z = absurd (eqb-false (refusal cs) 0 e z)
 
+-- what isn't refused wasn't refused by 10
+not-ten : (long : Bool) (r : Row) (m : Moved Row) (a : Answer) → (m .answer .number ≡ 0 → m .answer ≡ a) → cond long (moved r (refused 10)) m .answer .number ≡ 0
+    → cond long (moved r (refused 10)) m .answer ≡ a
+not-ten true r m a h z = absurd (omega (arith, z))
+not-ten false r m a h z = h z
+
 -- and that is, on the row and where it isn't refused: number 0, kind 3, the new id and the sum of effect lengths before the entry
 pub placed : (r : Row) (i : ℕ) (l : List ℕ) → rowStep base r (insert i l) .answer .number ≡ 0
     → encode 3 (rowStep base r (insert i l) .answer)
     ≡ 0 ∷ 3 ∷ 0 ∷ 0 ∷ (bytesOf (length (r .entries)) ++ (bytesOf (total (base .effect) (before i (r .entries))) ++ bytesOf 0))
-unfolding rowStep encode
-placed r i l z = ap (encode 3) (unless-done r _ _ _ z)
+unfolding rowStep rowMove encode
+placed r i l z =
+    ap (encode 3)
+    (not-ten (tooManyLines base l) r (rowMove base r (insert i l)) (done (length (r .entries) ∷ total (base .effect) (before i (r .entries)) ∷ [])) (unless-done r _ _ _) z)
 
 -- two such records on the door's row, at its end: ids 1 and 2, the second behind 5 in effect
 pub sample : played (rowStep base) doorRow (bytes 3 0 0 0 top (low 0) (low 5) ∷ bytes 3 0 0 0 top (low 1) (low 0) ∷ [])
     ≡ bytes 0 3 0 0 (low 1) (low 0) (low 0) ++ bytes 0 3 0 0 (low 2) (low 5) (low 0)
-unfolding answers written fieldsOf kinds decode encode sumBy some range refusal before from unless rowStep
+unfolding answers written fieldsOf kinds decode encode sumBy some range refusal before from unless rowMove rowStep
 sample = refl
 
 -- bytes -------------------------------------------------------------------------------------------------------------------------------------

@@ -22,7 +22,7 @@ makeAndRun fan limit l ls xs hs bs out = let m = make base fan limit l ls xs hs 
 
 -- the door's tree, and the row that it stands for
 abbrev pub firstLengths : Lengths
-firstLengths = record { prepare = 0; effect = 0 }
+firstLengths = record { prepare = 0; effect = 0; lines = 0 }
 
 abbrev pub doorTree : List ℕ → List ℕ → List ℕ → Reply Outcome
 doorTree ls xs hs = make base 8 512 (listOf firstLengths) ls xs hs

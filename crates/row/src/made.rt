@@ -17,7 +17,7 @@ ghost use Rattle.model.specs.declared.answer.Outcome.the-variants as outcome;
 ghost use Rattle.row.specs.Run.{fit, ran, AsRow};
 ghost use Rattle.row.specs.Made.{makeAndRun, doorTree, doorRow};
 
-// Make, then run: refused by make's 1 or 2, else by 11, with the tree made.
+// Make, then run: refused by make's 10, 1 or 2, else by 11, with the tree made.
 pub fn make_and_run(
     fan: u32,
     limit: u32,
@@ -51,12 +51,13 @@ pub const LIMIT: u32 = 512;
 pub const FIRST: Lengths = Lengths {
     prepare: 0,
     effect: 0,
+    lines: 0,
 };
 
 // The door's tree.
 pub fn door_tree(leaves: &mut [u32], inners: &mut [u32], homes: &mut [u32]) -> OutcomeReply
     ensures { λ r. ⌜ reply (state (r .head) (now (leaves .exit)) (now (inners .exit)) (now (homes .exit))) (r .answer) ≡ doorTree (now (leaves .entry)) (now (inners .entry)) (now (homes .entry)) ⌝ }
-    ensures { λ r. ⌜ (length (now (leaves .entry)) ≡ 3456 → length (now (inners .entry)) ≡ 3456 → length (now (homes .entry)) ≡ 512 → Stands base (state (r .head) (now (leaves .exit)) (now (inners .exit)) (now (homes .exit))) doorRow) ⌝ }
+    ensures { λ r. ⌜ (length (now (leaves .entry)) ≡ 4480 → length (now (inners .entry)) ≡ 4480 → length (now (homes .entry)) ≡ 512 → Stands base (state (r .head) (now (leaves .exit)) (now (inners .exit)) (now (homes .exit))) doorRow) ⌝ }
 {
     new(FAN, LIMIT, FIRST, leaves, inners, homes)
 }

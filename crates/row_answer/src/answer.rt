@@ -91,7 +91,7 @@ pub fn measured(head: Head, answer: Measured) -> Step
     ensures { λ r. ⌜ r ≡ stepOf head (measuredAnswer answer) ⌝ }
 {
     match answer {
-        Measured::Are(l) => done(head, l.prepare, l.effect, 0),
+        Measured::Are(l) => done(head, l.prepare, l.effect, l.lines),
         Measured::Refused(n) => refuse(head, n),
     }
 }

@@ -6,7 +6,7 @@ use Rattle.model.specs.Kind.{base}
 use Rattle.model.specs.Row as row
 use Rattle.model.specs.Row.{moved, refused}
 use Rattle.model.specs.State.{State, state}
-use Rattle.model.specs.ById.{treeStep}
+use Rattle.model.specs.ById.{treeMove, treeStep}
 use Rattle.model.specs.declared.head.Head.{Head}
 use Rattle.records.specs.Said.{callOf}
 use Rattle.records.specs.declared.call.Call.{Call}
@@ -23,5 +23,5 @@ by-call s k x e h ls xs hs a m r q =
 
 pub by-none : (s : State) (k : Call) → k ≡ call.Malformed → (r : Step) → r ≡ stepOf (s .head) (refused 10)
     → stepped (state (r .head) (s .leaves) (s .inners) (s .homes)) (r .answer) ≡ stepBy (treeStep base s (callOf k))
-unfolding treeStep
+unfolding treeStep treeMove
 by-none s k e r q = by-call s k call.Malformed e (s .head) (s .leaves) (s .inners) (s .homes) (refused 10) refl r q

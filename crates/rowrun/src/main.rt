@@ -114,8 +114,8 @@ fn run(
 }
 
 fn main() {
-    let mut leaves = [0u32; 3456];
-    let mut inners = [0u32; 3456];
+    let mut leaves = [0u32; 4480];
+    let mut inners = [0u32; 4480];
     let mut homes = [0u32; 512];
     let mut block = [0u8; 4096];
     let mut out = [0u8; 11264];

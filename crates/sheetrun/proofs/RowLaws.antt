@@ -9,7 +9,7 @@ use lib.ListN.{length}
 use Rattle.model.specs.Kind.{base}
 use Rattle.model.specs.Lists.{Cause, refusal}
 use Rattle.model.specs.Row as row
-use Rattle.model.specs.Row.{Row, Call, Entry, Answer, Moved, moved, unless, rowStep}
+use Rattle.model.specs.Row.{Row, Call, Entry, Answer, Moved, moved, unless, overlong, rowMove, rowStep}
 use Rattle.model.specs.State.{State}
 use Rattle.model.specs.Sheet.{pagesFor}
 use Rattle.model.specs.Promise.{finally, Stands}
@@ -32,21 +32,29 @@ unless-limit r cs es a = go (eqb (refusal cs) 0)
     go true = refl
     go false = refl
 
+move-limit : (r : Row) (c : Call) → rowMove base r c .after .limit ≡ r .limit
+unfolding rowMove
+move-limit r (row.reset l) = refl
+move-limit r (row.insert i l) = unless-limit r _ _ _
+move-limit r (row.split flag i l) = unless-limit r _ _ _
+move-limit r (row.setLengths i l) = unless-limit r _ _ _
+move-limit r (row.update i l) = unless-limit r _ _ _
+move-limit r (row.lookup v x) = unless-limit r _ _ _
+move-limit r (row.rank v i) = unless-limit r _ _ _
+move-limit r (row.next i) = unless-limit r _ _ _
+move-limit r (row.compare i j) = unless-limit r _ _ _
+move-limit r (row.lengths i) = unless-limit r _ _ _
+move-limit r row.count = refl
+move-limit r row.first = refl
+move-limit r row.malformed = refl
+
+ten-limit : (long : Bool) (r : Row) (m : Moved Row) → m .after .limit ≡ r .limit → cond long (moved r (row.refused 10)) m .after .limit ≡ r .limit
+ten-limit true r m h = refl
+ten-limit false r m h = h
+
 step-limit : (r : Row) (c : Call) → rowStep base r c .after .limit ≡ r .limit
 unfolding rowStep
-step-limit r (row.reset l) = refl
-step-limit r (row.insert i l) = unless-limit r _ _ _
-step-limit r (row.split flag i l) = unless-limit r _ _ _
-step-limit r (row.setLengths i l) = unless-limit r _ _ _
-step-limit r (row.update i l) = unless-limit r _ _ _
-step-limit r (row.lookup v x) = unless-limit r _ _ _
-step-limit r (row.rank v i) = unless-limit r _ _ _
-step-limit r (row.next i) = unless-limit r _ _ _
-step-limit r (row.compare i j) = unless-limit r _ _ _
-step-limit r (row.lengths i) = unless-limit r _ _ _
-step-limit r row.count = refl
-step-limit r row.first = refl
-step-limit r row.malformed = refl
+step-limit r c = ten-limit (overlong base c) r (rowMove base r c) (move-limit r c)
 
 limit-kept : (r : Row) (cs : List Call) → finally (rowStep base) r cs .limit ≡ r .limit
 unfolding finally
@@ -56,6 +64,6 @@ limit-kept r (c ∷ cs) = limit-kept (rowStep base r c .after) cs ∙ step-limit
 -- at most 512 entries
 pub fits : (s : State) (cs : List Call) → Stands base s (leftRow cs) → (n : ℕ) → n ≡ 30250 → 2750 * pagesFor (length (leftRow cs .entries)) ≤ n
 fits s cs st n e =
-    let count : length (leftRow cs .entries) ≡ s .head .entries = sym (ap length (st .entries)) ∙ count-is base s (st .sound) in
-    let few : length (leftRow cs .entries) ≤ 512 = omega (arith, st .sound .entry-count, st .limit, limit-kept doorRow cs) in
+    let count : length (leftRow cs .entries) ≡ s .head .entries = sym (ap length (st .entries)) ∙ count-is base s (st .sound .coherent) in
+    let few : length (leftRow cs .entries) ≤ 512 = omega (arith, st .sound .coherent .entry-count, st .limit, limit-kept doorRow cs) in
     omega arith

@@ -1,6 +1,6 @@
 -- The exported calls that write the lent head, on the words that a host lends: model's call between the conversions.
--- A head that isn't seventeen words, and a flag or view that is neither 0 nor 1, are refused by 10 before anything else, with head and
--- areas as given. Assumes nothing.
+-- A head that isn't seventeen words, a flag that is neither 0 nor 1 and a view above 2 are refused by 10 before anything else, with head
+-- and areas as given. Assumes nothing.
 use mathlib.Core.Bool.{Bool, cond, not, _||_}
 use mathlib.Core.List.{List}
 use Prim.Native.Nat.{ℕ}
@@ -51,7 +51,7 @@ unfoldable pub reset : Given → Lengths → Left ℕ
 reset g l = leftBy numberAlone outcomeAnswer headAfter (badHead (g .head)) g (calls.reset base (stateOf g) (listOf l))
 
 unfoldable pub locate : Given → ℕ → ℕ → Left FlatLocated
-locate g v index = leftBy locatedOf locatedAnswer headAfter (badHead (g .head) || ltb 1 v) g (calls.locate base (stateOf g) (viewNumber (viewFrom v)) index)
+locate g v index = leftBy locatedOf locatedAnswer headAfter (badHead (g .head) || ltb 2 v) g (calls.locate base (stateOf g) (viewNumber (viewFrom v)) index)
 
 -- `update` where summed is 1; where it is 0, `set_lengths`, whose value is 0
 unfoldable pub resize : Given → Cursor → Lengths → ℕ → Left FlatNumber

@@ -23,7 +23,7 @@ use Rattle.smelvock.specs.Changes.{Left, leftBy, numberAlone, make}
 
 module _ (fan limit : ℕ) (l : Lengths) (g : Given) where
   abbrev causes : ℕ
-  causes = refusal (calls.makeCauses base fan limit (g .leaves) (g .inners) (g .homes))
+  causes = refusal (calls.makeCauses base fan limit (listOf l) (g .leaves) (g .inners) (g .homes))
 
   -- what a make leaves, done or refused
   abbrev made : Bool → Left ℕ

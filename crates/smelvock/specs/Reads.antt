@@ -1,5 +1,5 @@
 -- The exported calls that read, on the words that a host hands over: model's call between the conversions.
--- A head that isn't seventeen words, and a flag or view that is neither 0 nor 1, are refused by 10 before anything else. Assumes nothing.
+-- A head that isn't seventeen words and a view above 2 are refused by 10 before anything else. Assumes nothing.
 use mathlib.Core.Bool.{Bool, cond, _||_}
 use mathlib.Core.List.{List}
 use Prim.Native.Nat.{ℕ}
@@ -50,7 +50,7 @@ cursor g i = standingOf (unlessBad (badHead (g .head)) (standingAnswer (calls.cu
 
 unfoldable pub entryToCharIndex : Given → ℕ → Cursor → FlatNumber
 entryToCharIndex g v c =
-    numberOf (unlessBad (badHead (g .head) || ltb 1 v) (numberAnswer (calls.entryToCharIndex base (stateOf g) (viewNumber (viewFrom v)) c)))
+    numberOf (unlessBad (badHead (g .head) || ltb 2 v) (numberAnswer (calls.entryToCharIndex base (stateOf g) (viewNumber (viewFrom v)) c)))
 
 unfoldable pub first : Given → FlatStanding
 first g = standingOf (unlessBad (badHead (g .head)) (standingAnswer (calls.first base (stateOf g))))

@@ -36,15 +36,16 @@ pub extern "C" fn smelvock_resize(
     stamp: u32,
     prepare: u32,
     effect: u32,
+    lines: u32,
     summed: u32,
 ) -> FlatNumber
-    ensures { λ r. ⌜ left r (now (head .exit)) (now (leaves .exit)) (now (inners .exit)) (now (homes .exit)) ≡ flat.resize (given (now (head .entry)) (now (leaves .entry)) (now (inners .entry)) (now (homes .entry))) (cursorFrom leaf slot stamp) (lengthsFrom prepare effect) summed ⌝ }
+    ensures { λ r. ⌜ left r (now (head .exit)) (now (leaves .exit)) (now (inners .exit)) (now (homes .exit)) ≡ flat.resize (given (now (head .entry)) (now (leaves .entry)) (now (inners .entry)) (now (homes .entry))) (cursorFrom leaf slot stamp) (lengthsFrom prepare effect lines) summed ⌝ }
 {
     if bad_flag(head, summed) {
         return refused_number(10);
     }
     let at = cursor_from(leaf, slot, stamp);
-    let lengths = lengths_from(prepare, effect);
+    let lengths = lengths_from(prepare, effect, lines);
     let r = resize(
         head_from(head),
         leaves,
@@ -73,14 +74,15 @@ pub extern "C" fn smelvock_insert_words(
     stamp: u32,
     prepare: u32,
     effect: u32,
+    lines: u32,
 ) -> FlatInserted
-    ensures { λ r. ⌜ left r (now (head .exit)) (now (leaves .exit)) (now (inners .exit)) (now (homes .exit)) ≡ flat.insert (given (now (head .entry)) (now (leaves .entry)) (now (inners .entry)) (now (homes .entry))) end (cursorFrom leaf slot stamp) (lengthsFrom prepare effect) ⌝ }
+    ensures { λ r. ⌜ left r (now (head .exit)) (now (leaves .exit)) (now (inners .exit)) (now (homes .exit)) ≡ flat.insert (given (now (head .entry)) (now (leaves .entry)) (now (inners .entry)) (now (homes .entry))) end (cursorFrom leaf slot stamp) (lengthsFrom prepare effect lines) ⌝ }
 {
     if bad_flag(head, end) {
         return refused_inserted(10);
     }
     let before = target_from(end, cursor_from(leaf, slot, stamp));
-    let lengths = lengths_from(prepare, effect);
+    let lengths = lengths_from(prepare, effect, lines);
     let r = insert(head_from(head), leaves, inners, homes, before, lengths);
     let after = r.head;
     let answer = r.answer;
@@ -100,15 +102,16 @@ pub extern "C" fn smelvock_split_entry_words(
     stamp: u32,
     prepare: u32,
     effect: u32,
+    lines: u32,
     before: u32,
 ) -> FlatDivided
-    ensures { λ r. ⌜ left r (now (head .exit)) (now (leaves .exit)) (now (inners .exit)) (now (homes .exit)) ≡ flat.splitEntry (given (now (head .entry)) (now (leaves .entry)) (now (inners .entry)) (now (homes .entry))) (cursorFrom leaf slot stamp) (lengthsFrom prepare effect) before ⌝ }
+    ensures { λ r. ⌜ left r (now (head .exit)) (now (leaves .exit)) (now (inners .exit)) (now (homes .exit)) ≡ flat.splitEntry (given (now (head .entry)) (now (leaves .entry)) (now (inners .entry)) (now (homes .entry))) (cursorFrom leaf slot stamp) (lengthsFrom prepare effect lines) before ⌝ }
 {
     if bad_flag(head, before) {
         return refused_divided(10);
     }
     let at = cursor_from(leaf, slot, stamp);
-    let lengths = lengths_from(prepare, effect);
+    let lengths = lengths_from(prepare, effect, lines);
     let r = split_entry(
         head_from(head),
         leaves,

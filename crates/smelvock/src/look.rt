@@ -4,7 +4,7 @@ use marshal::answered::located_of;
 use marshal::answered::refused_located;
 use marshal::flat::FlatLocated;
 use marshal::given::view_from;
-use marshal::head::bad_flag;
+use marshal::head::bad_view;
 use marshal::head::head_from;
 use marshal::head::settle_finger;
 ghost use mathlib.Core.Path.{_≡_};
@@ -23,7 +23,7 @@ pub extern "C" fn smelvock_locate(
 ) -> FlatLocated
     ensures { λ r. ⌜ left r (now (head .exit)) (now (leaves .exit)) (now (inners .exit)) (now (homes .exit)) ≡ flat.locate (given (now (head .entry)) (now (leaves .entry)) (now (inners .entry)) (now (homes .entry))) view index ⌝ }
 {
-    if bad_flag(head, view) {
+    if bad_view(head, view) {
         return refused_located(10);
     }
     let r = locate(

@@ -20,12 +20,13 @@ pub extern "C" fn smelvock_new_words(
     limit: u32,
     prepare: u32,
     effect: u32,
+    lines: u32,
     head: &mut [u32],
     leaves: &mut [u32],
     inners: &mut [u32],
     homes: &mut [u32],
 ) -> u32
-    ensures { λ r. ⌜ left r (now (head .exit)) (now (leaves .exit)) (now (inners .exit)) (now (homes .exit)) ≡ flat.make fan limit (lengthsFrom prepare effect) (given (now (head .entry)) (now (leaves .entry)) (now (inners .entry)) (now (homes .entry))) ⌝ }
+    ensures { λ r. ⌜ left r (now (head .exit)) (now (leaves .exit)) (now (inners .exit)) (now (homes .exit)) ≡ flat.make fan limit (lengthsFrom prepare effect lines) (given (now (head .entry)) (now (leaves .entry)) (now (inners .entry)) (now (homes .entry))) ⌝ }
 {
     if head.len() != 17 {
         return 10;
@@ -33,7 +34,7 @@ pub extern "C" fn smelvock_new_words(
     let r = new(
         fan,
         limit,
-        lengths_from(prepare, effect),
+        lengths_from(prepare, effect, lines),
         leaves,
         inners,
         homes,
@@ -52,15 +53,16 @@ pub extern "C" fn smelvock_reset_words(
     homes: &mut [u32],
     prepare: u32,
     effect: u32,
+    lines: u32,
 ) -> u32
-    ensures { λ r. ⌜ left r (now (head .exit)) (now (leaves .exit)) (now (inners .exit)) (now (homes .exit)) ≡ flat.reset (given (now (head .entry)) (now (leaves .entry)) (now (inners .entry)) (now (homes .entry))) (lengthsFrom prepare effect) ⌝ }
+    ensures { λ r. ⌜ left r (now (head .exit)) (now (leaves .exit)) (now (inners .exit)) (now (homes .exit)) ≡ flat.reset (given (now (head .entry)) (now (leaves .entry)) (now (inners .entry)) (now (homes .entry))) (lengthsFrom prepare effect lines) ⌝ }
 {
     if bad_head(head) {
         return 10;
     }
     let r = reset(
         head_from(head),
-        lengths_from(prepare, effect),
+        lengths_from(prepare, effect, lines),
         leaves,
         inners,
         homes,

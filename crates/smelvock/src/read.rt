@@ -18,8 +18,8 @@ use marshal::flat::FlatNumber;
 use marshal::flat::FlatStanding;
 use marshal::given::cursor_from;
 use marshal::given::view_from;
-use marshal::head::bad_flag;
 use marshal::head::bad_head;
+use marshal::head::bad_view;
 use marshal::head::head_from;
 use model::number::EntryId;
 ghost use mathlib.Core.Path.{_≡_};
@@ -129,7 +129,7 @@ pub extern "C" fn smelvock_entry_to_char_index_words(
 ) -> FlatNumber
     ensures { λ r. ⌜ r ≡ flat.entryToCharIndex (given (now (head .entry)) (now (leaves .entry)) (now (inners .entry)) (now (homes .entry))) view (cursorFrom leaf slot stamp) ⌝ }
 {
-    if bad_flag(head, view) {
+    if bad_view(head, view) {
         return refused_number(10);
     }
     let a = entry_to_char_index(

@@ -13,10 +13,9 @@ use Rattle.model.specs.Node.{Node, used}
 use Rattle.model.specs.State.{State}
 use Rattle.model.specs.Row as row
 use Rattle.model.specs.Row.{Row, Entry, Answer, refused, Moved, moved, noSuchId, unless, before, from}
-use Rattle.model.specs.Sound.{leafIn, Sound, entriesOf}
+use Rattle.model.specs.Sound.{leafIn, Coherent, entriesOf}
 use Rattle.model.specs.Calls as calls
 use Rattle.model.specs.ById.{withCursor}
-use Rattle.model.specs.Promise.{Stands}
 use Rattle.model.specs.declared.head.Cursor.{Cursor}
 use Rattle.laws.specs.Lists.{All-at}
 use Rattle.abstract_tree.specs.Lists.{cat}
@@ -32,9 +31,15 @@ use Rattle.theory.specs.Down.{body-of}
 use Rattle.theory.specs.Entries.{entryFrom, entries-row, total-entries, without-entries, split-entries}
 use Rattle.theory.specs.Open.{Seat, seat, no-seat}
 
-pub record Agrees (K : Kind) (m : Moved State) (n : Moved Row) : Type 0 where
+-- a coherent state and the row whose entries and limit it has: what Stands says without the bound on line ends
+pub record Mirrors (K : Kind) (t : State) (r : Row) : Type 0 where
+  pub coherent : Coherent K t
+  pub entries : entriesOf K t ≡ r .entries
+  pub limit : t .head .limit ≡ r .limit
+
+pub record Agrees (Q : State → Row → Type 0) (m : Moved State) (n : Moved Row) : Type 0 where
   pub same : m .answer ≡ n .answer
-  pub kept : Stands K (m .after) (n .after)
+  pub kept : Q (m .after) (n .after)
 
 abbrev pub rowOf : Kind → State → Row
 rowOf K t = row.row (t .head .limit) (entriesOf K t)
@@ -48,9 +53,9 @@ pub row-stopped : (r : Row) (cs : List Cause) (es : List Entry) (a : Answer) (n 
 unfolding unless
 row-stopped r cs es a n e = rw (e, ne-eqb (suc n) 0 (λ z. omega arith))
 
-module _ (K : Kind) (t : State) (w : Sound K t) where
-  pub own : Stands K t (rowOf K t)
-  own = record { sound = w; entries = refl; limit = refl }
+module _ (K : Kind) (t : State) (w : Coherent K t) where
+  pub own : Mirrors K t (rowOf K t)
+  own = record { coherent = w; entries = refl; limit = refl }
 
   pub entries-are : entriesOf K t ≡ map (entryFrom (K .views)) (tree.row (treeOf (stride K) t))
   entries-are = entries-row K t (neat-of (stride K) t (K .effect) w) (w .leaves-once .below)
@@ -68,12 +73,12 @@ module _ (K : Kind) (t : State) (w : Sound K t) where
   row-unknown i cs le = rw (le-leb (length (entriesOf K t)) i (omega (arith, count-is)))
 
   pub by-id : (i : ℕ) (f : Cursor → Moved State) (cs : List Cause) (es : List Entry) (a : Answer)
-      → ((c : Seat K t w i) → Agrees K (f (calls.cursorAt (t .head .entries) (c .leaf) (c .slot))) (unless (rowOf K t) cs es a))
-      → Agrees K (withCursor t (calls.cursor K t i) f) (unless (rowOf K t) (noSuchId (rowOf K t) i ∷ cs) es a)
+      → ((c : Seat K t w i) → Agrees (Mirrors K) (f (calls.cursorAt (t .head .entries) (c .leaf) (c .slot))) (unless (rowOf K t) cs es a))
+      → Agrees (Mirrors K) (withCursor t (calls.cursor K t i) f) (unless (rowOf K t) (noSuchId (rowOf K t) i ∷ cs) es a)
   unfolding unless
   by-id i f cs es a h = go (decLt i (t .head .entries))
     where
-      go : Dec (i < t .head .entries) → Agrees K (withCursor t (calls.cursor K t i) f) (unless (rowOf K t) (noSuchId (rowOf K t) i ∷ cs) es a)
+      go : Dec (i < t .head .entries) → Agrees (Mirrors K) (withCursor t (calls.cursor K t i) f) (unless (rowOf K t) (noSuchId (rowOf K t) i ∷ cs) es a)
       go (yes lt) = let c = seat K t w i lt in rw (c .is, row-known i cs lt) (h c)
       go (no ge) = rw (no-seat K t w i (omega arith), row-stopped (rowOf K t) (noSuchId (rowOf K t) i ∷ cs) es a 3 (row-unknown i cs (omega arith))) (record { same = refl; kept = own })
 

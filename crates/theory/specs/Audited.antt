@@ -15,8 +15,8 @@ use Rattle.model.specs.Lists.{range, refusal}
 use Rattle.model.specs.Node.{Node, child, used}
 use Rattle.model.specs.State.{State}
 use Rattle.model.specs.Climb.{rankUp}
-use Rattle.model.specs.Sound.{shapeIn, leafIn, innerIn, Sound, FingerRight}
-use Rattle.model.specs.Calls.{makeCauses}
+use Rattle.model.specs.Sound.{shapeIn, leafIn, innerIn, Coherent, Sound, FingerRight}
+use Rattle.model.specs.Calls.{areaCauses}
 use Rattle.model.specs.Audit.{depth, depthOf, isSound, audit}
 use Rattle.model.specs.declared.head.Held.{Held}
 use Rattle.model.specs.declared.head.Held.the-variants as held
@@ -47,7 +47,10 @@ use Rattle.theory.specs.Facts.{HeldBy, ChildBy, areaBy, countBy, InnerBy
 use Rattle.theory.specs.Depth.{dep-depth, index-before, range-below}
 use Rattle.theory.specs.Verdict.{start-at, climb-of, facts-sound}
 
-module _ (K : Kind) (t : State) (w : Sound K t) where
+module _ (K : Kind) (t : State) (s : Sound K t) where
+  w : Coherent K t
+  w = s .coherent
+
   abbrev T : Tree
   T = treeOf (stride K) t
 
@@ -120,6 +123,7 @@ module _ (K : Kind) (t : State) (w : Sound K t) where
             let ix : indexOf (child (getD (used n) i [])) (slotsOf n) ≡ i = ap (λ (y : Slot). indexOf (y .child) (slotsOf n)) (sym (getD-slot (used n) i lu)) ∙ ck .firsts k lk i ls in
             record {
               below = subst (λ (x : List ℕ). child x < t .head .entries) (sym e) (slots-all (λ x. x .child < t .head .entries) (used n) (b .below k lk) i lu);
+              few = s .lines k i lk li;
               home = subst (λ (x : List ℕ). getD (t .homes) (child x) 0 ≡ k) (sym e) (slots-all (λ x. getD (t .homes) (x .child) 0 ≡ k) (used n) (b .homed k lk) i lu);
               alone = λ j lj q. index-before (child (getD (used n) i [])) j (used n) (omega (arith, ix)) (ap child (sym (slot-used (stride K) (t .head .fan) n td j [] (omega arith))) ∙ q ∙ ap child e);
             });
@@ -167,24 +171,25 @@ audit-sound : (K : Kind) (t : State) → Sound K t → audit K t ≡ verdict.Yes
 unfolding audit refusal
 audit-sound K t w =
     let h = t .head in
-    passed (makeCauses K (h .fan) (h .limit) (t .leaves) (t .inners) (t .homes)) verdict.Refused (cond (isSound K t) verdict.Yes verdict.No)
-    (good-areas K t w []) ∙ rw (sound-test K t (sound-facts K t w))
+    passed (areaCauses K (h .fan) (h .limit) (t .leaves) (t .inners) (t .homes)) verdict.Refused (cond (isSound K t) verdict.Yes verdict.No)
+    (good-areas K t (w .coherent) []) ∙ rw (sound-test K t (sound-facts K t w))
 
 -- and on no other
 audit-yes : (K : Kind) (t : State) → audit K t ≡ verdict.Yes → Sound K t
 unfolding audit
-audit-yes K t e = go (refusal (makeCauses K (t .head .fan) (t .head .limit) (t .leaves) (t .inners) (t .homes))) refl
+audit-yes K t e = go (refusal (areaCauses K (t .head .fan) (t .head .limit) (t .leaves) (t .inners) (t .homes))) refl
   where
     true-of : (b : Bool) → cond b verdict.Yes verdict.No ≡ verdict.Yes → b ≡ true
     true-of true q = refl
     true-of false q = absurd (let z : _≡_ {A = ℕ} 0 1 = cc in omega arith)
 
-    go : (n : ℕ) → refusal (makeCauses K (t .head .fan) (t .head .limit) (t .leaves) (t .inners) (t .homes)) ≡ n → Sound K t
+    go : (n : ℕ) → refusal (areaCauses K (t .head .fan) (t .head .limit) (t .leaves) (t .inners) (t .homes)) ≡ n → Sound K t
     go zero q =
         let z : Sizes K (t .head .fan) (t .head .limit) (t .leaves) (t .inners) (t .homes) = sizes-of K (t .head .fan) (t .head .limit) (t .leaves) (t .inners) (t .homes) q in
-        let s : isSound K t ≡ true = true-of (isSound K t) (sym (passed (makeCauses K (t .head .fan) (t .head .limit) (t .leaves) (t .inners) (t .homes)) verdict.Refused (cond (isSound K t) verdict.Yes verdict.No) q) ∙ e) in
-        facts-sound K t z (sound-by K t (λ k lt. formed-at (shapeIn (stride K) t) k (t .inners) refl (fits (shapeIn (stride K) t) k (t .inners) lt (z .inner-area))) (λ k lt. formed-at (shapeIn (stride K) t) k (t .leaves) refl (fits (shapeIn (stride K) t) k (t .leaves) lt (z .leaf-area))) s)
-    go (suc n) q = absurd (let r : verdict.Refused (suc n) ≡ verdict.Yes = sym (stopped (makeCauses K (t .head .fan) (t .head .limit) (t .leaves) (t .inners) (t .homes)) verdict.Refused (cond (isSound K t) verdict.Yes verdict.No) n q) ∙ e in
+        let s : isSound K t ≡ true = true-of (isSound K t) (sym (passed (areaCauses K (t .head .fan) (t .head .limit) (t .leaves) (t .inners) (t .homes)) verdict.Refused (cond (isSound K t) verdict.Yes verdict.No) q) ∙ e) in
+        let f : SoundBy K t = sound-by K t (λ k lt. formed-at (shapeIn (stride K) t) k (t .inners) refl (fits (shapeIn (stride K) t) k (t .inners) lt (z .inner-area))) (λ k lt. formed-at (shapeIn (stride K) t) k (t .leaves) refl (fits (shapeIn (stride K) t) k (t .leaves) lt (z .leaf-area))) s in
+        record { coherent = facts-sound K t z f; lines = λ k i lk li. f .leaf k lk .entries i li .few }
+    go (suc n) q = absurd (let r : verdict.Refused (suc n) ≡ verdict.Yes = sym (stopped (areaCauses K (t .head .fan) (t .head .limit) (t .leaves) (t .inners) (t .homes)) verdict.Refused (cond (isSound K t) verdict.Yes verdict.No) n q) ∙ e in
         let z : _≡_ {A = ℕ} 0 1 = cc in omega arith)
 
 pub audit-exactly : (K : Kind) (t : State) → (audit K t ≡ verdict.Yes → Sound K t) × (Sound K t → audit K t ≡ verdict.Yes)

@@ -10,12 +10,12 @@ use Rattle.model.specs.Node.{lengths}
 use Rattle.model.specs.State.{State}
 use Rattle.model.specs.Refuse.{opening, atCursor}
 use Rattle.model.specs.Row as row
-use Rattle.model.specs.Row.{Call, Answer, Moved, noEntry}
+use Rattle.model.specs.Row.{Call, Answer, Moved, noEntry, overlong}
 use Rattle.model.specs.Answer as answer
 use Rattle.model.specs.Answer.{outcomeAnswer, numberAnswer, namedAnswer, comparedAnswer, insertedAnswer}
 use Rattle.model.specs.Calls as calls
 use Rattle.model.specs.ById as byId
-use Rattle.model.specs.ById.{withCursor, withTarget, told, treeStep}
+use Rattle.model.specs.ById.{withCursor, withTarget, told, treeMove, treeStep}
 use Rattle.model.specs.Promise.{Bare, Bares}
 use Rattle.model.specs.declared.head.Cursor.{Cursor}
 use Rattle.model.specs.declared.answer.Target.{Target}
@@ -147,22 +147,30 @@ module _ (K : Kind) (s : State) where
       go true = h target.End
       go false = at-bare (calls.cursor K s i) (λ c. f (target.Before c)) (λ c. h (target.Before c))
 
+  move-bare : (c : Call) → Bare (treeMove K s c .answer)
+  unfolding treeMove
+  move-bare (row.reset l) = outcome-bare (calls.reset K s l .answer)
+  move-bare (row.insert i l) = target-bare i (λ t. told (calls.insert K s t l) insertedAnswer) (λ t. inserted-bare (calls.insert K s t l .answer))
+  move-bare (row.split flag i l) = at-bare (calls.cursor K s i) (λ c. told (calls.splitEntry K s c l flag) byId.dividedAnswer) (λ c. parted-bare (calls.splitEntry K s c l flag .answer))
+  move-bare (row.setLengths i l) = at-bare (calls.cursor K s i) (λ c. told (calls.setLengths K s c l) outcomeAnswer) (λ c. outcome-bare (calls.setLengths K s c l .answer))
+  move-bare (row.update i l) = at-bare (calls.cursor K s i) (λ c. told (calls.update K s c l) numberAnswer) (λ c. number-bare (calls.update K s c l .answer))
+  move-bare (row.lookup v x) = looked-bare (calls.locate K s v x .after) (calls.locate K s v x .answer)
+  move-bare (row.rank v i) = at-bare (calls.cursor K s i) (λ c. row.moved s (numberAnswer (calls.entryToCharIndex K s v c))) (λ c. number-bare (calls.entryToCharIndex K s v c))
+  move-bare (row.next i) = at-bare (calls.cursor K s i) (λ c. row.moved s (byId.nextAnswer K s (calls.nextAfter K s c))) (λ c. following-bare (calls.nextAfter K s c))
+  move-bare (row.compare i j) = at-bare (calls.cursor K s i) (λ a. withCursor s (calls.cursor K s j) (λ b. row.moved s (comparedAnswer (calls.cmp K s a b))))
+      (λ a. at-bare (calls.cursor K s j) (λ b. row.moved s (comparedAnswer (calls.cmp K s a b))) (λ b. compared-bare (calls.cmp K s a b)))
+  move-bare (row.lengths i) = at-bare (calls.cursor K s i) (λ c. row.moved s (calls.lengthsOf K s c)) (λ c. measure-bare c)
+  move-bare row.count = let h = s .head in number-bare (calls.unless (calls.areaCauses K (h .fan) (h .limit) (s .leaves) (s .inners) (s .homes)) number.Refused (calls.len h))
+  move-bare row.first = first-bare (calls.first K s)
+  move-bare row.malformed = refused-bare 10
+
   step-bare : (c : Call) → Bare (treeStep K s c .answer)
   unfolding treeStep
-  step-bare (row.reset l) = outcome-bare (calls.reset K s l .answer)
-  step-bare (row.insert i l) = target-bare i (λ t. told (calls.insert K s t l) insertedAnswer) (λ t. inserted-bare (calls.insert K s t l .answer))
-  step-bare (row.split flag i l) = at-bare (calls.cursor K s i) (λ c. told (calls.splitEntry K s c l flag) byId.dividedAnswer) (λ c. parted-bare (calls.splitEntry K s c l flag .answer))
-  step-bare (row.setLengths i l) = at-bare (calls.cursor K s i) (λ c. told (calls.setLengths K s c l) outcomeAnswer) (λ c. outcome-bare (calls.setLengths K s c l .answer))
-  step-bare (row.update i l) = at-bare (calls.cursor K s i) (λ c. told (calls.update K s c l) numberAnswer) (λ c. number-bare (calls.update K s c l .answer))
-  step-bare (row.lookup v x) = looked-bare (calls.locate K s v x .after) (calls.locate K s v x .answer)
-  step-bare (row.rank v i) = at-bare (calls.cursor K s i) (λ c. row.moved s (numberAnswer (calls.entryToCharIndex K s v c))) (λ c. number-bare (calls.entryToCharIndex K s v c))
-  step-bare (row.next i) = at-bare (calls.cursor K s i) (λ c. row.moved s (byId.nextAnswer K s (calls.nextAfter K s c))) (λ c. following-bare (calls.nextAfter K s c))
-  step-bare (row.compare i j) = at-bare (calls.cursor K s i) (λ a. withCursor s (calls.cursor K s j) (λ b. row.moved s (comparedAnswer (calls.cmp K s a b))))
-      (λ a. at-bare (calls.cursor K s j) (λ b. row.moved s (comparedAnswer (calls.cmp K s a b))) (λ b. compared-bare (calls.cmp K s a b)))
-  step-bare (row.lengths i) = at-bare (calls.cursor K s i) (λ c. row.moved s (calls.lengthsOf K s c)) (λ c. measure-bare c)
-  step-bare row.count = let h = s .head in number-bare (calls.unless (calls.makeCauses K (h .fan) (h .limit) (s .leaves) (s .inners) (s .homes)) number.Refused (calls.len h))
-  step-bare row.first = first-bare (calls.first K s)
-  step-bare row.malformed = refused-bare 10
+  step-bare c = go (overlong K c)
+    where
+      go : (b : Bool) → Bare (cond b (row.moved s (row.refused 10)) (treeMove K s c) .answer)
+      go true = refused-bare 10
+      go false = move-bare c
 
 pub bares : Bares
 bares =

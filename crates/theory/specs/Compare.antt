@@ -14,12 +14,12 @@ use Rattle.model.specs.declared.shape.Kind.{Kind}
 use Rattle.model.specs.Lists.{refusal}
 use Rattle.model.specs.State.{State}
 use Rattle.model.specs.Row as row
-use Rattle.model.specs.Row.{done, moved, noSuchId, before, ordered, rowStep}
-use Rattle.model.specs.Sound.{Sound, entriesOf}
+use Rattle.model.specs.Row.{done, moved, noSuchId, before, ordered, rowMove}
+use Rattle.model.specs.Sound.{Coherent, entriesOf}
 use Rattle.model.specs.Refuse.{opening, stale}
 use Rattle.model.specs.Calls as calls
 use Rattle.model.specs.Calls.{cursorAt, inOrder, byPath}
-use Rattle.model.specs.ById.{withCursor, treeStep}
+use Rattle.model.specs.ById.{withCursor, treeMove}
 use Rattle.model.specs.Answer.{comparedAnswer}
 use Rattle.model.specs.declared.head.Cursor.{Cursor}
 use Rattle.model.specs.declared.way.Leaf.the-variants as leaf
@@ -35,7 +35,7 @@ use Rattle.theory.specs.Down.{sound-of}
 use Rattle.theory.specs.Entries.{entryFrom}
 use Rattle.theory.specs.Open.{passed, opens, fresh, Seat}
 use Rattle.theory.specs.Way.{Way, way, steps-up}
-use Rattle.theory.specs.Agree.{Agrees, rowOf, row-passed, own, by-id, before-is}
+use Rattle.theory.specs.Agree.{Agrees, Mirrors, rowOf, row-passed, own, by-id, before-is}
 
 -- paths that differ
 lex-before : (xs ys : List ℕ) → Lex xs ys → byPath xs ys ≡ compared.Before
@@ -62,7 +62,7 @@ lex-after (x ∷ xs) (y ∷ ys) h = more (x ∷ xs) (y ∷ ys) h
     more (x ∷ xs) (y ∷ ys) (inl h) = rw (le-ltb x y (omega arith), lt-ltb y x h)
     more (x ∷ xs) (y ∷ ys) (inr h) = let z : y ≡ x = h .0 in rw (le-ltb x y (omega arith), le-ltb y x (omega arith)) (more xs ys (h .1))
 
-module _ (K : Kind) (t : State) (w : Sound K t) where
+module _ (K : Kind) (t : State) (w : Coherent K t) where
   -- the path to a seat
   path-is : (i : ℕ) (c : Seat K t w i) → calls.path K t (cursorAt (t .head .entries) (c .leaf) (c .slot)) ≡ pathTo (treeOf (stride K) t) (c .leaf)
   unfolding calls.path
@@ -110,8 +110,8 @@ module _ (K : Kind) (t : State) (w : Sound K t) where
           (slots (a .slot) (c .slot) (length (front (a .cur))) (length (front (c .cur))) (by-slot (K .effect) (treeOf (stride K) t) (sound-of (stride K) t (K .effect) w) i j (a .leaf) (a .slot) (c .leaf) (c .slot) (a .cur) (c .cur) q))
       go (no ne) = rw (ne-eqb (a .leaf) (c .leaf) ne) (by-paths (by-path (K .effect) (treeOf (stride K) t) (sound-of (stride K) t (K .effect) w) i j (a .leaf) (a .slot) (c .leaf) (c .slot) (a .cur) (c .cur) ne))
 
-  pub step-compare : (i j : ℕ) → Agrees K (treeStep K t (row.compare i j)) (rowStep K (rowOf K t) (row.compare i j))
-  unfolding treeStep rowStep refusal calls.cmp
+  pub step-compare : (i j : ℕ) → Agrees (Mirrors K) (treeMove K t (row.compare i j)) (rowMove K (rowOf K t) (row.compare i j))
+  unfolding treeMove rowMove refusal calls.cmp
   step-compare i j =
       by-id K t w i (λ a. withCursor t (calls.cursor K t j) (λ b. moved t (comparedAnswer (calls.cmp K t a b)))) (noSuchId (rowOf K t) j ∷ []) (entriesOf K t) (done (ordered i j (entriesOf K t) ∷ []))
       (λ a. by-id K t w j (λ b. moved t (comparedAnswer (calls.cmp K t (cursorAt (t .head .entries) (a .leaf) (a .slot)) b))) [] (entriesOf K t) (done (ordered i j (entriesOf K t) ∷ []))

@@ -14,7 +14,7 @@ use Rattle.model.specs.declared.shape.Kind.{Kind}
 use Rattle.model.specs.Lists.{Cause, refusal}
 use Rattle.model.specs.Node.{Node, child, used}
 use Rattle.model.specs.State.{State}
-use Rattle.model.specs.Sound.{leafIn, Sound}
+use Rattle.model.specs.Sound.{leafIn, Coherent}
 use Rattle.model.specs.Refuse.{opening, stale, current}
 use Rattle.model.specs.Calls as calls
 use Rattle.model.specs.Calls.{cursorAt, slotAt}
@@ -49,7 +49,7 @@ Fails K t c n =
     ⊎ (((n ≡ 13) × (c .stamp ≡ t .head .entries) × (t .head .leaves ≤ c .leaf .0))
     ⊎ ((n ≡ 14) × (c .stamp ≡ t .head .entries) × (c .leaf .0 < t .head .leaves) × (leafIn (stride K) t (c .leaf .0) .len ≤ c .slot)))
 
-module _ (K : Kind) (t : State) (w : Sound K t) (c : Cursor) where
+module _ (K : Kind) (t : State) (w : Coherent K t) (c : Cursor) where
   -- a cursor passes and is current, or fails by the number of the first of stamp, leaf and slot that is wrong
   pub which : ((current K t c ≡ true) × (refusal (stale K t c) ≡ 0)) ⊎ Fails K t c (refusal (stale K t c))
   unfolding refusal

@@ -9,18 +9,18 @@ use native.Mathlib.Omega.{arith}
 use lib.Dec.{ltb, leb}
 use lib.ListN.{length, getD}
 use borrow.Author.Tests.{eq-eqb, lt-ltb}
-use Rattle.model.specs.Kind.{stride}
+use Rattle.model.specs.Kind.{stride, tooManyLines}
 use Rattle.model.specs.declared.shape.Kind.{Kind}
 use Rattle.model.specs.Lists.{cause, refusal}
 use Rattle.model.specs.Node.{child}
 use Rattle.model.specs.State.{State}
 use Rattle.model.specs.Row as row
-use Rattle.model.specs.Row.{Row, Entry, lengthIn, Answer, done, refused, Moved, moved, unless, after, firstId, rowStep}
-use Rattle.model.specs.Sound.{leafIn, Sound, entriesOf}
+use Rattle.model.specs.Row.{Row, Entry, lengthIn, Answer, done, refused, Moved, moved, unless, after, firstId, rowMove, rowStep}
+use Rattle.model.specs.Sound.{leafIn, Coherent, entriesOf}
 use Rattle.model.specs.Refuse.{opening, stale, overfull, atCursor, current}
 use Rattle.model.specs.Calls as calls
 use Rattle.model.specs.Calls.{cursorAt, slotAt}
-use Rattle.model.specs.ById.{withCursor, idAnswer, standingAnswer, nextAnswer, locatedAnswer, treeStep}
+use Rattle.model.specs.ById.{withCursor, idAnswer, standingAnswer, nextAnswer, locatedAnswer, treeMove}
 use Rattle.model.specs.Promise.{At, StandsAt, NextAt, LocatedAt, SelectedAt, DividedAt}
 use Rattle.model.specs.declared.head.Cursor.{Cursor}
 use Rattle.model.specs.declared.answer.Named.{Named}
@@ -31,10 +31,12 @@ use Rattle.model.specs.declared.answer.Next.{Next}
 use Rattle.model.specs.declared.answer.Next.the-variants as next
 use Rattle.model.specs.declared.answer.Located.{Located}
 use Rattle.model.specs.declared.answer.Located.the-variants as located
+use Rattle.model.specs.declared.answer.Divided.{Divided}
+use Rattle.model.specs.declared.answer.Divided.the-variants as divided
 use Rattle.abstract_tree.specs.Levels.{Slot}
 use Rattle.abstract_tree.specs.Calls as tree
 use Rattle.theory.specs.Tree.{treeOf}
-use Rattle.theory.specs.Open.{passed, stopped, opens, fresh-at, seat}
+use Rattle.theory.specs.Open.{passed, stopped, many-lines, opens, fresh-at, seat}
 use Rattle.theory.specs.Numbers.{number-is, one-cause}
 use Rattle.theory.specs.Agree.{rowOf, row-known, row-passed, count-is}
 use Rattle.theory.specs.Read.{id-at, step-first, step-next}
@@ -55,14 +57,19 @@ no-refusal n i ws e = (let z = ap (λ (a : Answer). length (a .values)) e in ome
 
 -- the row's lookup refuses by 5 alone
 looked-not-stale : (K : Kind) (r : Row) (v x : ℕ) → (let n = rowStep K r (row.lookup v x) .answer .number in (n < 13) × (n ≢ 3))
-unfolding rowStep refusal
+unfolding rowMove rowStep refusal
 looked-not-stale K r v x = subst (λ (n : ℕ). (n < 13) × (n ≢ 3)) (sym (number-is r (row.noSuchPosition r v x ∷ []) (r .entries) (row.found K v x 0 0 0 (r .entries)))) (go (row.noSuchPosition r v x .applies))
   where
     go : (b : Bool) → (refusal (cause 5 b ∷ []) < 13) × (refusal (cause 5 b ∷ []) ≢ 3)
     go true = (omega arith, λ e. omega arith)
     go false = (omega arith, λ e. omega arith)
 
-module _ (K : Kind) (s : State) (w : Sound K s) where
+-- a split with too many line ends
+pub split-lines : (K : Kind) (s : State) (c : Cursor) (l : List ℕ) (flag : Bool) → tooManyLines K l ≡ true → calls.splitEntry K s c l flag ≡ calls.reply s (divided.Refused 10)
+unfolding calls.splitEntry
+split-lines K s c l flag e = stopped (calls.splitCauses K s c l) (λ m. calls.reply s (divided.Refused m)) _ 9 (many-lines K l _ e)
+
+module _ (K : Kind) (s : State) (w : Coherent K s) where
   at-slot : (k j : ℕ) → k < s .head .leaves → j < leafIn (stride K) s k .len → At K s (cursorAt (s .head .entries) k j) (tree.slotAt (treeOf (stride K) s) k j .child)
   at-slot k j lk lj = record { current = rw (eq-eqb (s .head .entries) (s .head .entries) refl, lt-ltb k (s .head .leaves) lk, lt-ltb j (leafIn (stride K) s k .len) lj); id = id-at K s w k j lk lj }
 
@@ -95,14 +102,14 @@ module _ (K : Kind) (s : State) (w : Sound K s) where
       let e : child (slotAt K s c) ≡ i = ap (λ (n : Named). value (idAnswer n [])) (sym (current-at c (h .current) .id) ∙ h .id) in
       subst (λ (k : ℕ). (k < s .head .entries) × (calls.cursor K s k ≡ standing.At c)) e (is-current K s w c (h .current))
 
-module _ (K : Kind) (ok : K .effect < K .views) (s : State) (w : Sound K s) where
+module _ (K : Kind) (ok : K .effect < K .views) (s : State) (w : Coherent K s) where
   pub cursor-at : (i : ℕ) → i < s .head .entries → StandsAt K s (calls.cursor K s i) i
   cursor-at i lt =
       let c = seat K s w i lt in
       subst (λ (a : Standing). StandsAt K s a i) (sym (c .is)) (subst (At K s (cursorAt (s .head .entries) (c .leaf) (c .slot))) (ap (λ (y : Slot). y .child) (c .cur .at) ∙ c .cur .own) (at-slot K s w (c .leaf) (c .slot) (c .leaf-in) (c .slot-in)))
 
   pub first-at : StandsAt K s (calls.first K s) (firstId (entriesOf K s))
-  unfolding treeStep rowStep
+  unfolding treeMove rowMove
   first-at = go (calls.first K s) (step-first K s w .same)
     where
       go : (a : Standing) → standingAnswer K s a ≡ done (firstId (entriesOf K s) ∷ []) → StandsAt K s a (firstId (entriesOf K s))
@@ -110,7 +117,7 @@ module _ (K : Kind) (ok : K .effect < K .views) (s : State) (w : Sound K s) wher
       go (standing.Refused n) e = no-refusal n (firstId (entriesOf K s)) [] e
 
   pub next-at : (c : Cursor) (i : ℕ) → At K s c i → NextAt K s (calls.nextAfter K s c) (firstId (after i (entriesOf K s)))
-  unfolding treeStep rowStep refusal
+  unfolding treeMove rowMove refusal
   next-at c i h =
       let o = own-cursor K s w c i h in
       go (calls.nextAfter K s c) (sym (ap (λ (z : Standing). withCursor s z (λ d. moved s (nextAnswer K s (calls.nextAfter K s d))) .answer) (o .1)) ∙ step-next K s w i .same
@@ -125,11 +132,11 @@ module _ (K : Kind) (ok : K .effect < K .views) (s : State) (w : Sound K s) wher
       go (next.Refused m) e = no-refusal m n [] e
 
   pub locate-at : (v : ℕ) (lv : v < K .views) (x : ℕ) → (let r = calls.locate K s v x in LocatedAt K (r .after) (r .answer) (rowStep K (rowOf K s) (row.lookup v x) .answer))
-  unfolding treeStep
+  unfolding treeMove rowStep
   locate-at v lv x = go (calls.locate K s v x .answer) (step-lookup K ok s w v lv x .same)
     where
       go : (a : Located) → locatedAnswer K (calls.locate K s v x .after) a ≡ rowStep K (rowOf K s) (row.lookup v x) .answer → LocatedAt K (calls.locate K s v x .after) a (rowStep K (rowOf K s) (row.lookup v x) .answer)
-      go (located.At c offset effect prepare) e = answered-at K (calls.locate K s v x .after) (step-lookup K ok s w v lv x .kept .sound) c (offset ∷ effect ∷ prepare ∷ []) (rowStep K (rowOf K s) (row.lookup v x) .answer) (looked-not-stale K (rowOf K s) v x) e
+      go (located.At c offset effect prepare) e = answered-at K (calls.locate K s v x .after) (step-lookup K ok s w v lv x .kept .coherent) c (offset ∷ effect ∷ prepare ∷ []) (rowStep K (rowOf K s) (row.lookup v x) .answer) (looked-not-stale K (rowOf K s) v x) e
       go (located.Refused n) e = sym e
 
   pub select-at : (v : ℕ) (lv : v < K .views) (x : ℕ) → (let r = calls.charIndexToEntry K s v x in SelectedAt K (r .after) (r .answer) (rowStep K (rowOf K s) (row.lookup v x) .answer))
@@ -140,19 +147,31 @@ module _ (K : Kind) (ok : K .effect < K .views) (s : State) (w : Sound K s) wher
       go (located.At c offset effect prepare) h = (h .0, effect, prepare, h .1, h .2)
       go (located.Refused n) h = h
 
-  pub split-at : (c : Cursor) (i : ℕ) → At K s c i → (l : List ℕ) (wl : length l ≡ K .views) (flag : Bool)
-      → (let r = calls.splitEntry K s c l flag in DividedAt K flag i (s .head .entries) (r .after) (r .answer) (rowStep K (rowOf K s) (row.split flag i l) .answer))
-  unfolding rowStep unless
-  split-at c i h l wl flag =
+  few-split-at : (c : Cursor) (i : ℕ) → At K s c i → (l : List ℕ) (wl : length l ≡ K .views) → tooManyLines K l ≡ false → (flag : Bool)
+      → (let r = calls.splitEntry K s c l flag in DividedAt K flag i (s .head .entries) (r .after) (r .answer) (rowMove K (rowOf K s) (row.split flag i l) .answer))
+  unfolding rowMove unless
+  few-split-at c i h l wl lines flag =
       let o = own-cursor K s w c i h in
       let e = seat K s w i (o .0) in
       let here : cursorAt (s .head .entries) (e .leaf) (e .slot) ≡ c = ap (cursorOf c) (sym (e .is) ∙ o .1) in
-      subst (λ (d : Cursor). let r = calls.splitEntry K s d l flag in DividedAt K flag i (s .head .entries) (r .after) (r .answer) (rowStep K (rowOf K s) (row.split flag i l) .answer)) here
+      subst (λ (d : Cursor). let r = calls.splitEntry K s d l flag in DividedAt K flag i (s .head .entries) (r .after) (r .answer) (rowMove K (rowOf K s) (row.split flag i l) .answer)) here
       (rw (row-known K s w i (row.tooMuch K l (row.lengthsOf i (entriesOf K s)) ∷ row.full (rowOf K s) ∷ []) (o .0))
-      (split-by K s w i e l wl flag (λ m n. DividedAt K flag i (s .head .entries) (m .after) (m .answer) (n .answer)) (λ n. refl) (λ t k j p g. (ap (λ (n : ℕ). done (n ∷ [])) (count-is K s w), refl, first-part t k j p, second-part t k j p))))
+      (split-by K s w i e l wl lines flag (λ m n. DividedAt K flag i (s .head .entries) (m .after) (m .answer) (n .answer)) (λ n. refl) (λ t k j p g. (ap (λ (n : ℕ). done (n ∷ [])) (count-is K s w), refl, first-part t k j p, second-part t k j p))))
     where
       first-part : (t : State) (k j : ℕ) → TwoParts K flag i (s .head .entries) t k j → At K t (cursorAt (s .head .entries + 1) k j) (cond flag (s .head .entries) i)
       first-part t k j p = subst (λ (m : ℕ). At K t (cursorAt m k j) (cond flag (s .head .entries) i)) (p .count) (subst (At K t (cursorAt (t .head .entries) k j)) (p .first) (at-slot K t (p .sound) k j (p .leaf-in) (let z = p .slot-in in omega arith)))
 
       second-part : (t : State) (k j : ℕ) → TwoParts K flag i (s .head .entries) t k j → At K t (cursorAt (s .head .entries + 1) k (j + 1)) (cond flag i (s .head .entries))
       second-part t k j p = subst (λ (m : ℕ). At K t (cursorAt m k (j + 1)) (cond flag i (s .head .entries))) (p .count) (subst (At K t (cursorAt (t .head .entries) k (j + 1))) (p .second) (at-slot K t (p .sound) k (j + 1) (p .leaf-in) (p .slot-in)))
+
+  pub split-at : (c : Cursor) (i : ℕ) → At K s c i → (l : List ℕ) (wl : length l ≡ K .views) (flag : Bool)
+      → (let r = calls.splitEntry K s c l flag in DividedAt K flag i (s .head .entries) (r .after) (r .answer) (rowStep K (rowOf K s) (row.split flag i l) .answer))
+  unfolding rowStep
+  split-at c i h l wl flag = go (tooManyLines K l) refl
+    where
+      move : Moved Row
+      move = rowMove K (rowOf K s) (row.split flag i l)
+
+      go : (b : Bool) → tooManyLines K l ≡ b → (let r = calls.splitEntry K s c l flag in DividedAt K flag i (s .head .entries) (r .after) (r .answer) (cond b (moved (rowOf K s) (refused 10)) move .answer))
+      go true e = subst (λ (r : calls.Reply Divided). DividedAt K flag i (s .head .entries) (r .after) (r .answer) (refused 10)) (sym (split-lines K s c l flag e)) refl
+      go false e = few-split-at c i h l wl e flag

@@ -14,19 +14,18 @@ use Rattle.model.specs.Lists.{All, sumBy}
 use Rattle.model.specs.Node as node
 use Rattle.model.specs.Node.{Node, child, used, half}
 use Rattle.model.specs.State.{State}
-use Rattle.model.specs.Sound.{leafIn, innerIn, innersReached, leavesReached, slotsIn, below, Child, leastInner, SoundAt, FingerRight, until}
+use Rattle.model.specs.Sound.{leafIn, innerIn, innersReached, leavesReached, slotsIn, below, Child, leastInner, CoherentAt, FingerRight, until}
 use Rattle.model.specs.declared.head.Held.{Held}
 use Rattle.model.specs.declared.head.Held.the-variants as held
 use Rattle.laws.specs.Lists.{All-at}
 use Rattle.laws.specs.Slots.{Wide}
-use Rattle.abstract_tree.specs.Lists.{cat, sumBy-cat, take-map, NoDup, All-map, All-map₂, All-left, All-right}
+use Rattle.abstract_tree.specs.Lists.{cat, sumBy-cat, take-map, NoDup, All-map, All-map₂, uncat}
 use Rattle.abstract_tree.specs.Levels.{Slot, Area, Links, total, len, climb}
 use Rattle.abstract_tree.specs.Sound.{kidsOf, lvl, stack, Local, Locals, links-of}
 use Rattle.abstract_tree.specs.Fit.{Fit}
 use Rattle.abstract_tree.specs.Pigeon.{Absent, is-in}
 use Rattle.abstract_tree.specs.Tree as tree
 use Rattle.abstract_tree.specs.Tree.{order, above, row, idOf, Body}
-use Rattle.abstract_tree.specs.Reach.{uncat}
 use Rattle.abstract_tree.specs.Check.{level-at}
 use Rattle.abstract_tree.specs.CheckBack.{All-in}
 use Rattle.theory.specs.Count.{once-nodup, once-in, once-length}
@@ -48,11 +47,6 @@ kid-at Q [] h j lt = absurd (not-suc-le-zero lt)
 kid-at Q (x ∷ xs) h zero lt = h .0
 kid-at Q (x ∷ xs) h (suc j) lt = kid-at Q xs (h .1) j (omega arith)
 
-pub uncat-slots : (Q : Slot → Type 0) (f : ℕ → List Slot) (P : List ℕ) → All Q (cat f P) → All (λ p. All Q (f p)) P
-unfolding All
-uncat-slots Q f [] h = tt
-uncat-slots Q f (p ∷ P) h = (All-left Q (f p) (cat f P) h, uncat-slots Q f P (All-right Q (f p) (cat f P) h))
-
 pub all-ids : (Q : ℕ → Type 0) (xs : List (List ℕ)) → All Q (map child xs) → All (λ (x : Slot). Q (x .child)) (map slotOf xs)
 unfolding All
 all-ids Q [] h = tt
@@ -67,7 +61,7 @@ none-sum f (x ∷ l) h = omega (arith, h .0, none-sum f l (h .1))
 pub sum-take : (v i : ℕ) (xs : List (List ℕ)) → node.total v (take i xs) ≡ sumBy (len v) (take i (map slotOf xs))
 sum-take v i xs = sym (sum-slots v (take i xs)) ∙ ap (sumBy (len v)) (sym (take-map slotOf i xs))
 
-module _ (s : ℕ) (t : State) (e : ℕ) (w : SoundAt s t e) where
+module _ (s : ℕ) (t : State) (e : ℕ) (w : CoherentAt s t e) where
   leaf-in : All (λ k. k < t .head .leaves) (order (treeOf s t))
   leaf-in = subst (All (λ k. k < t .head .leaves)) (leaves-order s t) (w .leaves-once .below)
 
@@ -139,7 +133,7 @@ module _ (s : ℕ) (t : State) (e : ℕ) (w : SoundAt s t e) where
   each-leaf : (Q : Slot → Type 0) → All Q (row (treeOf s t)) → (k : ℕ) → k < t .head .leaves → All Q (slotsOf (leafIn s t k))
   each-leaf Q h k lt =
       All-in (λ p. All Q (slotsOf (leafIn s t p))) k (order (treeOf s t)) (is-in k (order (treeOf s t)) (leaf-all k lt))
-      (uncat-slots Q (treeOf s t .body .leaf .slots) (order (treeOf s t)) h)
+      (uncat Q (treeOf s t .body .leaf .slots) (order (treeOf s t)) h)
 
   ids : map idOf (row (treeOf s t)) ≡ map child (slotsIn s t (leavesReached s t))
   ids = ap (map idOf) (sym (slots-row s t)) ∙ map-child (slotsIn s t (leavesReached s t))

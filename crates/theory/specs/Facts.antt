@@ -1,7 +1,7 @@
 -- What each test of audit says, and that the tests say exactly that, on any state whose areas are long enough.
 use mathlib.Core.Path.{_≡_, refl, sym, ap}
 use mathlib.Core.Logic.{_≢_}
-use mathlib.Core.Bool.{Bool, true, false, cond, _&&_}
+use mathlib.Core.Bool.{Bool, true, false, cond, not, _&&_}
 use mathlib.Core.List.{List, []}
 use Prim.Native.Nat.{ℕ, _≤_, _<_}
 use native.Mathlib.Decide.{ℕ-discrete}
@@ -9,10 +9,10 @@ use native.Mathlib.Omega.{arith}
 use lib.Dec.{ltb, leb, eqb}
 use lib.ListN.{getD}
 use borrow.Author.Tests.{eqb-true, eq-eqb, ne-eqb, le-leb, leb-true, lt-ltb, ltb-true}
-use Rattle.model.specs.Kind.{stride}
+use Rattle.model.specs.Kind.{stride, tooManyLines}
 use Rattle.model.specs.declared.shape.Kind.{Kind}
 use Rattle.model.specs.Lists.{sumBy, range}
-use Rattle.model.specs.Node.{Node, none, child, lengthIn, total, used}
+use Rattle.model.specs.Node.{Node, none, child, lengths, lengthIn, total, used}
 use Rattle.model.specs.Node as node
 use Rattle.model.specs.State.{State}
 use Rattle.model.specs.Sound.{shapeIn, leafIn, innerIn, leastLeaf, leastInner}
@@ -42,6 +42,10 @@ new-at n i c e j lt q =
 
 new-of : (n : Node) (i c : ℕ) → ((j : ℕ) → j < i → child (getD (n .slots) j []) ≢ c) → every (isOther n c) 0 i ≡ true
 new-of n i c h = every-of (isOther n c) 0 i (λ j lo hi. rw (ne-eqb (child (getD (n .slots) j [])) c (h j (omega arith))))
+
+not-so : (b : Bool) → not b ≡ true → b ≡ false
+not-so true e = absurd (let z : _≡_ {A = ℕ} 0 1 = cc in omega arith)
+not-so false e = refl
 
 is-sum : (n : ℕ) (s : Sum) → isSum n s ≡ true → s ≡ sum.Is n
 is-sum n (sum.Is m) e = ap sum.Is (sym (eqb-true n m e))
@@ -77,6 +81,7 @@ module _ (K : Kind) (t : State) where
   pub record EntryBy (k : ℕ) (n : Node) (i : ℕ) : Type 0 where
     pub below : child (getD (n .slots) i []) < t .head .entries
     pub home : getD (t .homes) (child (getD (n .slots) i [])) 0 ≡ k
+    pub few : tooManyLines K (lengths (getD (n .slots) i [])) ≡ false
     pub alone : (j : ℕ) → j < i → child (getD (n .slots) j []) ≢ child (getD (n .slots) i [])
 
   pub record LeafBy (k : ℕ) : Type 0 where
@@ -188,16 +193,20 @@ module _ (K : Kind) (t : State) where
   entry-by : (k : ℕ) (n : Node) (i : ℕ) → isEntry K t k n i ≡ true → EntryBy k n i
   unfolding isEntry
   entry-by k n i e =
-      let id : ℕ = child (getD (n .slots) i []) in
-      let r = both (ltb id (t .head .entries) && eqb (getD (t .homes) id 0) k) (every (isOther n id) 0 i) e in
-      let s = both (ltb id (t .head .entries)) (eqb (getD (t .homes) id 0) k) (r .0) in
-      record { below = ltb-true id (t .head .entries) (s .0); home = eqb-true (getD (t .homes) id 0) k (s .1); alone = new-at n i id (r .1) }
+      let x : List ℕ = getD (n .slots) i [] in
+      let id : ℕ = child x in
+      let a : Bool = ltb id (t .head .entries) in
+      let b : Bool = eqb (getD (t .homes) id 0) k in
+      let r = both (a && b && not (tooManyLines K (lengths x))) (every (isOther n id) 0 i) e in
+      let s = both (a && b) (not (tooManyLines K (lengths x))) (r .0) in
+      let u = both a b (s .0) in
+      record { below = ltb-true id (t .head .entries) (u .0); home = eqb-true (getD (t .homes) id 0) k (u .1); few = not-so (tooManyLines K (lengths x)) (s .1); alone = new-at n i id (r .1) }
 
   entry-test : (k : ℕ) (n : Node) (i : ℕ) → EntryBy k n i → isEntry K t k n i ≡ true
   unfolding isEntry
   entry-test k n i h =
       let id : ℕ = child (getD (n .slots) i []) in
-      rw (lt-ltb id (t .head .entries) (h .below), eq-eqb (getD (t .homes) id 0) k (h .home)) (new-of n i id (h .alone))
+      rw (lt-ltb id (t .head .entries) (h .below), eq-eqb (getD (t .homes) id 0) k (h .home), h .few) (new-of n i id (h .alone))
 
   leaf-by : (k : ℕ) → Formed (stride K) (t .head .fan) (leafIn (stride K) t k) → isLeaf K t k ≡ true → LeafBy k
   unfolding isLeaf

@@ -1,7 +1,7 @@
 -- No call changes a tree's fan or its limit, on any state, sound or not. Assumes nothing.
 use mathlib.Core.Path.{_≡_, refl, _∙_}
 use mathlib.Core.Bool.{Bool, true, false, cond, _&&_}
-use mathlib.Core.List.{List, [], _∷_, _++_}
+use mathlib.Core.List.{List, _∷_}
 use Prim.Native.Nat.{ℕ, _+_, _-_}
 use lib.Dec.{ltb, leb, eqb}
 use Rattle.model.specs.declared.shape.Kind.{Kind}
@@ -13,10 +13,10 @@ use Rattle.model.specs.Locate.{servedBy, fromRoot}
 use Rattle.model.specs.Place as place
 use Rattle.model.specs.Place.{Change}
 use Rattle.model.specs.Answer.{outcomeAnswer, numberAnswer, insertedAnswer}
-use Rattle.model.specs.Refuse.{shapeOf, opening, atCursor, tooMuch, full}
+use Rattle.model.specs.Refuse.{shapeOf, opening}
 use Rattle.model.specs.Row as row
-use Rattle.model.specs.Row.{Call, Moved, noEntry}
-use Rattle.model.specs.ById.{withCursor, withTarget, dividedAnswer, told, treeStep}
+use Rattle.model.specs.Row.{Call, Moved, noEntry, overlong}
+use Rattle.model.specs.ById.{withCursor, withTarget, dividedAnswer, told, treeMove, treeStep}
 use Rattle.model.specs.Calls as calls
 use Rattle.model.specs.Calls.{Reply}
 use Rattle.model.specs.Promise.{Fixed, Fixes}
@@ -128,7 +128,7 @@ unless-fixed {A} s cs refuse r h = go (eqb (refusal cs) 0) refl
 module _ (K : Kind) (s : State) where
   reset-fixed : (l : List ℕ) → Fixed s (calls.reset K s l .after)
   unfolding calls.reset calls.begun
-  reset-fixed l = unless-fixed s (calls.makeCauses K (s .head .fan) (s .head .limit) (s .leaves) (s .inners) (s .homes)) outcome.Refused
+  reset-fixed l = unless-fixed s (calls.makeCauses K (s .head .fan) (s .head .limit) l (s .leaves) (s .inners) (s .homes)) outcome.Refused
       (calls.reply (calls.begun K (s .head .fan) (s .head .limit) l (s .leaves) (s .inners) (s .homes)) outcome.Done) (record { fan = refl; limit = refl })
 
   end-fixed : (k : Leaf) → Fixed s (calls.endOf K s k .state)
@@ -174,7 +174,7 @@ module _ (K : Kind) (s : State) where
   unfolding calls.splitEntry
   split-entry-fixed c l flag = let r = place.divide (shapeOf K (s .head)) flag s (c .leaf .0) (c .slot) l in
       let a = calls.dividedAt (s .head .entries) (r .leaf) (r .slot) in
-      unless-fixed s (opening K s ++ atCursor K s c ++ tooMuch K l (lengths (calls.slotAt K s c)) ∷ full s ∷ []) divided.Refused (calls.settled s r divided.Refused a)
+      unless-fixed s (calls.splitCauses K s c l) divided.Refused (calls.settled s r divided.Refused a)
       (settled-fixed s r divided.Refused a (divide-fixed (shapeOf K (s .head)) flag s (c .leaf .0) (c .slot) l))
 
   search-fixed : (b : Search) → Fixed s (calls.bySearch s b .after)
@@ -204,21 +204,29 @@ module _ (K : Kind) (s : State) where
       go true e = rw e (h target.End)
       go false e = rw e (at-fixed (calls.cursor K s i) (λ c. f (target.Before c)) (λ c. h (target.Before c)))
 
+  move-fixed : (c : Call) → Fixed s (treeMove K s c .after)
+  unfolding treeMove
+  move-fixed (row.reset l) = reset-fixed l
+  move-fixed (row.insert i l) = target-fixed i (λ t. told (calls.insert K s t l) insertedAnswer) (λ t. insert-fixed t l)
+  move-fixed (row.split flag i l) = at-fixed (calls.cursor K s i) (λ c. told (calls.splitEntry K s c l flag) dividedAnswer) (λ c. split-entry-fixed c l flag)
+  move-fixed (row.setLengths i l) = at-fixed (calls.cursor K s i) (λ c. told (calls.setLengths K s c l) outcomeAnswer) (λ c. set-fixed c l)
+  move-fixed (row.update i l) = at-fixed (calls.cursor K s i) (λ c. told (calls.update K s c l) numberAnswer) (λ c. update-fixed c l)
+  move-fixed (row.lookup v x) = locate-fixed v x
+  move-fixed (row.rank v i) = at-fixed (calls.cursor K s i) _ (λ c. same s)
+  move-fixed (row.next i) = at-fixed (calls.cursor K s i) _ (λ c. same s)
+  move-fixed (row.compare i j) = at-fixed (calls.cursor K s i) _ (λ a. at-fixed (calls.cursor K s j) _ (λ b. same s))
+  move-fixed (row.lengths i) = at-fixed (calls.cursor K s i) _ (λ c. same s)
+  move-fixed row.count = same s
+  move-fixed row.first = same s
+  move-fixed row.malformed = same s
+
   pub step-fixed : (c : Call) → Fixed s (treeStep K s c .after)
   unfolding treeStep
-  step-fixed (row.reset l) = reset-fixed l
-  step-fixed (row.insert i l) = target-fixed i (λ t. told (calls.insert K s t l) insertedAnswer) (λ t. insert-fixed t l)
-  step-fixed (row.split flag i l) = at-fixed (calls.cursor K s i) (λ c. told (calls.splitEntry K s c l flag) dividedAnswer) (λ c. split-entry-fixed c l flag)
-  step-fixed (row.setLengths i l) = at-fixed (calls.cursor K s i) (λ c. told (calls.setLengths K s c l) outcomeAnswer) (λ c. set-fixed c l)
-  step-fixed (row.update i l) = at-fixed (calls.cursor K s i) (λ c. told (calls.update K s c l) numberAnswer) (λ c. update-fixed c l)
-  step-fixed (row.lookup v x) = locate-fixed v x
-  step-fixed (row.rank v i) = at-fixed (calls.cursor K s i) _ (λ c. same s)
-  step-fixed (row.next i) = at-fixed (calls.cursor K s i) _ (λ c. same s)
-  step-fixed (row.compare i j) = at-fixed (calls.cursor K s i) _ (λ a. at-fixed (calls.cursor K s j) _ (λ b. same s))
-  step-fixed (row.lengths i) = at-fixed (calls.cursor K s i) _ (λ c. same s)
-  step-fixed row.count = same s
-  step-fixed row.first = same s
-  step-fixed row.malformed = same s
+  step-fixed c = go (overlong K c)
+    where
+      go : (b : Bool) → Fixed s (cond b (row.moved s (row.refused 10)) (treeMove K s c) .after)
+      go true = same s
+      go false = move-fixed c
 
 -- all calls
 pub fixes : (K : Kind) (s : State) → Fixes K s

@@ -8,7 +8,7 @@ use Rattle.model.specs.Kind.{stride}
 use Rattle.model.specs.declared.shape.Kind.{Kind}
 use Rattle.model.specs.Node.{Node, used}
 use Rattle.model.specs.State.{State}
-use Rattle.model.specs.Sound.{leafIn, Sound}
+use Rattle.model.specs.Sound.{leafIn, Coherent}
 use Rattle.abstract_tree.specs.Levels.{Slot}
 use Rattle.abstract_tree.specs.Tree.{above, BodyAt}
 use Rattle.abstract_tree.specs.Edit.{leaf-here}
@@ -35,7 +35,7 @@ module _ (K : Kind) (t : State) (k i : ℕ) where
     pub count : length (slotsOf (leafWith room)) ≡ length (used (leafWith room))
     pub free : length (used (leafWith room)) < t .head .fan
 
-  pub gap : Sound K t → (A B : List ℕ) → BodyAt (treeOf (stride K) t) (A ++ k ∷ B) (above (treeOf (stride K) t)) → i ≤ length (slotsOf (leafIn (stride K) t k))
+  pub gap : Coherent K t → (A B : List ℕ) → BodyAt (treeOf (stride K) t) (A ++ k ∷ B) (above (treeOf (stride K) t)) → i ≤ length (slotsOf (leafIn (stride K) t k))
       → (R₁ R₂ : List Slot) → Made (K .effect) (treeOf (stride K) t) k i (makeRoom (treeOf (stride K) t) k i) R₁ R₂ → Gap R₁ R₂
   unfolding leafWith
   gap w A B b le R₁ R₂ md = within (roomed (stride K) (omega arith) t (neat-of (stride K) t (K .effect) w) A k B (above (treeOf (stride K) t)) b i le)

@@ -9,7 +9,7 @@ use native.Mathlib.Omega.{arith}
 use lib.Dec.{ltb, leb, eqb}
 use lib.ListN.{length, getD, List·getD-eq-default}
 use borrow.Author.Tests.{eqb-true, ltb-false, leb-false}
-use Rattle.model.specs.Kind.{stride, viewsOf}
+use Rattle.model.specs.Kind.{stride, viewsOf, tooManyLines}
 use Rattle.model.specs.declared.shape.Kind.{Kind}
 use Rattle.model.specs.Lists.{All, sumBy, some, Cause, refusal}
 use Rattle.model.specs.Node.{used}
@@ -18,13 +18,13 @@ use Rattle.model.specs.Climb.{leafNo}
 use Rattle.model.specs.Place as place
 use Rattle.model.specs.Place.{Change, change, climb}
 use Rattle.model.specs.Row as row
-use Rattle.model.specs.Row.{Entry, entry, Answer, done, refused, Moved, noEntry, newEntry, noSuchPlace, unless, before, from, inserted, rowStep}
-use Rattle.model.specs.Sound.{leafIn, innerIn, shapeIn, Sound, entriesOf}
+use Rattle.model.specs.Row.{Entry, entry, Answer, done, refused, Moved, noEntry, newEntry, noSuchPlace, unless, before, from, inserted, rowMove}
+use Rattle.model.specs.Sound.{leafIn, innerIn, shapeIn, Coherent, entriesOf}
 use Rattle.model.specs.Refuse.{opening, atCursor, past, totalOf}
 use Rattle.model.specs.Refuse as refuse′
 use Rattle.model.specs.Calls as calls
 use Rattle.model.specs.Calls.{cursorAt, entryId, placed, insertCauses}
-use Rattle.model.specs.ById.{withTarget, told, treeStep}
+use Rattle.model.specs.ById.{withTarget, told, treeMove}
 use Rattle.model.specs.Answer.{insertedAnswer}
 use Rattle.model.specs.declared.answer.Target.{Target}
 use Rattle.model.specs.declared.answer.Target.the-variants as target
@@ -45,14 +45,14 @@ use Rattle.theory.specs.Tree.{slotOf, slotsOf, treeOf, sum-slots}
 use Rattle.theory.specs.Neat.{size-is, neat-of}
 use Rattle.theory.specs.Down.{body-of, sound-of}
 use Rattle.theory.specs.Entries.{entryFrom, total-entries, without-entries}
-use Rattle.theory.specs.Open.{passed, stopped, opens, fresh-at, Seat}
+use Rattle.theory.specs.Open.{passed, stopped, few-lines, opens, fresh-at, Seat}
 use Rattle.theory.specs.Edge.{last-top, last-down}
 use Rattle.theory.specs.Resize.{ltb-same}
 use Rattle.theory.specs.Placed.{Placed, placed-is}
-use Rattle.theory.specs.Agree.{Agrees, rowOf, row-passed, row-stopped, own, entries-are, count-is, by-id, before-is, from-is, total-before}
+use Rattle.theory.specs.Agree.{Agrees, Mirrors, rowOf, row-passed, row-stopped, own, entries-are, count-is, by-id, before-is, from-is, total-before}
 
 -- an insertion at a place between R₁ and R₂ of the row, by a call that answers X where the row answers a
-module _ (K : Kind) (t : State) (w : Sound K t) (i : ℕ) (l : List ℕ) (wl : length l ≡ K .views) (tg : Target) (k j : ℕ) (R₁ R₂ : List Slot)
+module _ (K : Kind) (t : State) (w : Coherent K t) (i : ℕ) (l : List ℕ) (wl : length l ≡ K .views) (tg : Target) (k j : ℕ) (R₁ R₂ : List Slot)
     (whole : tree.row (treeOf (stride K) t) ≡ R₁ ++ R₂)
     (ins : inserted i (newEntry (rowOf K t) l) (entriesOf K t) ≡ map (entryFrom (K .views)) R₁ ++ entry (t .head .entries) l ∷ map (entryFrom (K .views)) R₂)
     (aimed : placed K t tg l ≡ climb (shapeIn (stride K) t) (K .effect) l (place.place (shapeIn (stride K) t) t k j l))
@@ -103,13 +103,13 @@ module _ (K : Kind) (t : State) (w : Sound K t) (i : ℕ) (l : List ℕ) (wl : l
       go (no ge) = (let z : getD l v 0 ≡ 0 = List·getD-eq-default l 0 {n = v} (omega arith) in let y = sum-after v in omega (arith, body-of (stride K) t (K .effect) w .totals v))
 
   module _ {X : Type 0} (refuse : ℕ → X) (answer : ℕ → X) (say : X → Answer) (a : Answer) (says : (n : ℕ) → say (refuse n) ≡ refused n) (right : say (answer (sumBy (len (K .effect)) R₁)) ≡ a) where
-    pub insert-step : Agrees K
+    pub insert-step : Agrees (Mirrors K)
         (told (calls.unless (insertCauses K t tg l) (λ n. calls.reply t (refuse n)) (calls.settled t (placed K t tg l .0) refuse (answer (placed K t tg l .1)))) say)
         (unless (rowOf K t) (row.past K es′ ∷ row.full (rowOf K t) ∷ []) es′ a)
     unfolding refusal
     insert-step = go over refl (leb (t .head .limit) (length (entriesOf K t))) refl
       where
-        go : (p : Bool) → over ≡ p → (q : Bool) → leb (t .head .limit) (length (entriesOf K t)) ≡ q → Agrees K
+        go : (p : Bool) → over ≡ p → (q : Bool) → leb (t .head .limit) (length (entriesOf K t)) ≡ q → Agrees (Mirrors K)
             (told (calls.unless (insertCauses K t tg l) (λ n. calls.reply t (refuse n)) (calls.settled t (placed K t tg l .0) refuse (answer (placed K t tg l .1)))) say)
             (unless (rowOf K t) (row.past K es′ ∷ row.full (rowOf K t) ∷ []) es′ a)
         go true e q f =
@@ -124,7 +124,7 @@ module _ (K : Kind) (t : State) (w : Sound K t) (i : ℕ) (l : List ℕ) (wl : l
             let z : refusal (row.past K es′ ∷ row.full (rowOf K t) ∷ []) ≡ 0 = ap₂ (λ (a b : Bool). cond a 7 (cond b 8 0)) e f in
             let p = pl (let y = leb-false (t .head .limit) (length (entriesOf K t)) f in omega (arith, count-is K t w)) (small e) in
             rw (passed (insertCauses K t tg l) (λ n. calls.reply t (refuse n)) (calls.settled t (placed K t tg l .0) refuse (answer (placed K t tg l .1))) (both-causes ∙ z), row-passed (rowOf K t) (row.past K es′ ∷ row.full (rowOf K t) ∷ []) es′ a z, aimed, p .is)
-            (record { same = right; kept = record { sound = p .sound; entries = p .entries ∙ sym ins; limit = p .limit } })
+            (record { same = right; kept = record { coherent = p .sound; entries = p .entries ∙ sym ins; limit = p .limit } })
 
 and-true : (a : Bool) → (a && not false) ≡ a
 and-true true = refl
@@ -135,19 +135,19 @@ and-false true = refl
 and-false false = refl
 
 -- the calls, with the answer of a call that answers X
-module _ (K : Kind) (ok : K .effect < K .views) (t : State) (w : Sound K t) (i : ℕ) (l : List ℕ) (wl : length l ≡ K .views) {X : Type 0} (refuse : ℕ → X) (answer : ℕ → X) (say : X → Answer) (a : Answer) (says : (n : ℕ) → say (refuse n) ≡ refused n) where
+module _ (K : Kind) (ok : K .effect < K .views) (t : State) (w : Coherent K t) (i : ℕ) (l : List ℕ) (wl : length l ≡ K .views) (lines : tooManyLines K l ≡ false) {X : Type 0} (refuse : ℕ → X) (answer : ℕ → X) (say : X → Answer) (a : Answer) (says : (n : ℕ) → say (refuse n) ≡ refused n) where
   abbrev call : Target → Moved State
   call tg = told (calls.unless (insertCauses K t tg l) (λ n. calls.reply t (refuse n)) (calls.settled t (placed K t tg l .0) refuse (answer (placed K t tg l .1)))) say
 
   abbrev rowCauses : List Cause
   rowCauses = row.past K (inserted i (newEntry (rowOf K t) l) (entriesOf K t)) ∷ row.full (rowOf K t) ∷ []
 
-  before-step : (c : Seat K t w i) → say (answer (sumBy (len (K .effect)) (front (c .cur)))) ≡ a → Agrees K (call (target.Before (cursorAt (t .head .entries) (c .leaf) (c .slot)))) (unless (rowOf K t) rowCauses (inserted i (newEntry (rowOf K t) l) (entriesOf K t)) a)
+  before-step : (c : Seat K t w i) → say (answer (sumBy (len (K .effect)) (front (c .cur)))) ≡ a → Agrees (Mirrors K) (call (target.Before (cursorAt (t .head .entries) (c .leaf) (c .slot)))) (unless (rowOf K t) rowCauses (inserted i (newEntry (rowOf K t) l) (entriesOf K t)) a)
   before-step c right =
       insert-step K t w i l wl (target.Before (cursorAt (t .head .entries) (c .leaf) (c .slot))) (c .leaf) (c .slot) (front (c .cur)) (c .cur .e ∷ behind (c .cur)) (c .cur .row)
       (ap₂ (λ (b : List Entry) (n : ℕ). b ++ entry n l ∷ from i (entriesOf K t)) (before-is K t w i c) (count-is K t w) ∙ ap (λ (b : List Entry). map (entryFrom (K .views)) (front (c .cur)) ++ entry (t .head .entries) l ∷ b) (from-is K t w i c))
       refl
-      (ap refusal (append-assoc (opening K t) (atCursor K t (cursorAt (t .head .entries) (c .leaf) (c .slot))) (past K t [] l ∷ refuse′.full t ∷ []))
+      (few-lines K l _ lines ∙ ap refusal (append-assoc (opening K t) (atCursor K t (cursorAt (t .head .entries) (c .leaf) (c .slot))) (past K t [] l ∷ refuse′.full t ∷ []))
       ∙ opens K t w (atCursor K t (cursorAt (t .head .entries) (c .leaf) (c .slot)) ++ past K t [] l ∷ refuse′.full t ∷ []) ∙ fresh-at K t w (c .leaf) (c .slot) (past K t [] l ∷ refuse′.full t ∷ []) (c .leaf-in) (c .slot-in))
       (λ few tot. placed-is K t w (c .cur .A) (c .leaf) (c .cur .B) (c .cur .body) (c .slot) (let z = c .cur .inside in omega arith) (front (c .cur)) (c .cur .e ∷ behind (c .cur)) (c .cur .made) l wl few tot)
       refuse answer say a says right
@@ -179,23 +179,23 @@ module _ (K : Kind) (ok : K .effect < K .views) (t : State) (w : Sound K t) (i :
       below = All-cat (λ (x : Slot). x .child < t .head .entries) (treeOf (stride K) t .body .leaf .slots) (order (treeOf (stride K) t))
           (All-map (λ k. k < t .head .leaves) (λ k. All (λ (x : Slot). x .child < t .head .entries) (slotsOf (leafIn (stride K) t k))) (λ k lt. body-of (stride K) t (K .effect) w .below k lt) (order (treeOf (stride K) t)) (body-of (stride K) t (K .effect) w .leaf-in))
 
-  end-step : i ≡ noEntry → say (answer (sumBy (len (K .effect)) (tree.row (treeOf (stride K) t)))) ≡ a → Agrees K (call target.End) (unless (rowOf K t) rowCauses (inserted i (newEntry (rowOf K t) l) (entriesOf K t)) a)
+  end-step : i ≡ noEntry → say (answer (sumBy (len (K .effect)) (tree.row (treeOf (stride K) t)))) ≡ a → Agrees (Mirrors K) (call target.End) (unless (rowOf K t) rowCauses (inserted i (newEntry (rowOf K t) l) (entriesOf K t)) a)
   unfolding refusal
   end-step e right =
       insert-step K t w i l wl target.End last (length (slotsOf (leafIn (stride K) t last))) (tree.row (treeOf (stride K) t)) [] (sym (append-nil (tree.row (treeOf (stride K) t))))
       (ap₂ (λ (b f : List Entry). b ++ newEntry (rowOf K t) l ∷ f) (before-end i (entriesOf K t) (without e)) (from-end i (entriesOf K t) (without e)) ∙ ap₂ (λ (b : List Entry) (n : ℕ). b ++ entry n l ∷ []) (entries-are K t w) (count-is K t w))
       (ap (λ (r : Change). climb (shapeIn (stride K) t) (K .effect) l (cond (eqb (r .number) 0) (place.place (shapeIn (stride K) t) t (r .leaf) (r .slot) l) r)) aim-end)
-      (ap refusal (append-assoc (opening K t) [] (past K t [] l ∷ refuse′.full t ∷ [])) ∙ opens K t w (past K t [] l ∷ refuse′.full t ∷ []))
+      (few-lines K l (opening K t ++ [] ++ past K t [] l ∷ refuse′.full t ∷ []) lines ∙ ap refusal (append-assoc (opening K t) [] (past K t [] l ∷ refuse′.full t ∷ [])) ∙ opens K t w (past K t [] l ∷ refuse′.full t ∷ []))
       (λ few tot. placed-is K t w (last-at .0) last [] last-body (length (slotsOf (leafIn (stride K) t last))) (omega arith) (tree.row (treeOf (stride K) t)) [] (end-made (K .effect) (treeOf (stride K) t) (sound-of (stride K) t (K .effect) w)) l wl few tot)
       refuse answer say a says right
 
   -- either target
   pub target-step : ((n : ℕ) → row.total (K .effect) (before i (entriesOf K t)) ≡ n → say (answer n) ≡ a)
-      → Agrees K (withTarget K t i call) (unless (rowOf K t) (noSuchPlace (rowOf K t) i ∷ rowCauses) (inserted i (newEntry (rowOf K t) l) (entriesOf K t)) a)
+      → Agrees (Mirrors K) (withTarget K t i call) (unless (rowOf K t) (noSuchPlace (rowOf K t) i ∷ rowCauses) (inserted i (newEntry (rowOf K t) l) (entriesOf K t)) a)
   unfolding refusal unless
   target-step right = go (eqb i noEntry) refl
     where
-      go : (b : Bool) → eqb i noEntry ≡ b → Agrees K (withTarget K t i call) (unless (rowOf K t) (noSuchPlace (rowOf K t) i ∷ rowCauses) (inserted i (newEntry (rowOf K t) l) (entriesOf K t)) a)
+      go : (b : Bool) → eqb i noEntry ≡ b → Agrees (Mirrors K) (withTarget K t i call) (unless (rowOf K t) (noSuchPlace (rowOf K t) i ∷ rowCauses) (inserted i (newEntry (rowOf K t) l) (entriesOf K t)) a)
       go true e =
           let q : i ≡ noEntry = eqb-true i noEntry e in
           rw (e, and-false (leb (length (entriesOf K t)) i))
@@ -204,8 +204,8 @@ module _ (K : Kind) (ok : K .effect < K .views) (t : State) (w : Sound K t) (i :
           rw (e, and-true (leb (length (entriesOf K t)) i))
           (by-id K t w i (λ c. call (target.Before c)) rowCauses (inserted i (newEntry (rowOf K t) l) (entriesOf K t)) a (λ c. before-step c (right (sumBy (len (K .effect)) (front (c .cur))) (total-before K t w i c (K .effect) (ok)))))
 
-module _ (K : Kind) (ok : K .effect < K .views) (t : State) (w : Sound K t) where
-  pub step-insert : (i : ℕ) (l : List ℕ) (wl : length l ≡ K .views) → Agrees K (treeStep K t (row.insert i l)) (rowStep K (rowOf K t) (row.insert i l))
-  unfolding treeStep rowStep calls.insert
-  step-insert i l wl = target-step K ok t w i l wl insertion.Refused (λ p. insertion.At (entryId (t .head .entries)) p) insertedAnswer (done (length (entriesOf K t) ∷ row.total (K .effect) (before i (entriesOf K t)) ∷ [])) (λ n. refl)
+module _ (K : Kind) (ok : K .effect < K .views) (t : State) (w : Coherent K t) where
+  pub step-insert : (i : ℕ) (l : List ℕ) (wl : length l ≡ K .views) → tooManyLines K l ≡ false → Agrees (Mirrors K) (treeMove K t (row.insert i l)) (rowMove K (rowOf K t) (row.insert i l))
+  unfolding treeMove rowMove calls.insert
+  step-insert i l wl lines = target-step K ok t w i l wl lines insertion.Refused (λ p. insertion.At (entryId (t .head .entries)) p) insertedAnswer (done (length (entriesOf K t) ∷ row.total (K .effect) (before i (entriesOf K t)) ∷ [])) (λ n. refl)
       (λ n e. ap₂ (λ (c p : ℕ). done (c ∷ p ∷ [])) (sym (count-is K t w)) (sym e))

@@ -36,8 +36,10 @@ pub mod Placed
 pub mod Inserts
 pub mod Halved
 pub mod Splits
+pub mod Lines
 pub mod Step
 pub mod Numbers
+pub mod Seven
 pub mod Fixed
 pub mod Spans
 pub mod Bare

@@ -14,11 +14,11 @@ use Rattle.model.specs.State.{State, state}
 use Rattle.model.specs.Locate.{finger, effectAt, prepareAt, servedBy, fromRoot}
 use Rattle.model.specs.Place.{withFinger}
 use Rattle.model.specs.Row as row
-use Rattle.model.specs.Row.{Entry, done, refused, moved, found, rowStep}
-use Rattle.model.specs.Sound.{leafIn, shapeIn, Sound, entriesOf}
+use Rattle.model.specs.Row.{Entry, done, refused, moved, found, rowMove}
+use Rattle.model.specs.Sound.{leafIn, shapeIn, Coherent, entriesOf}
 use Rattle.model.specs.Refuse.{opening}
 use Rattle.model.specs.Calls as calls
-use Rattle.model.specs.ById.{idAnswer, locatedAnswer, treeStep}
+use Rattle.model.specs.ById.{idAnswer, locatedAnswer, treeMove}
 use Rattle.model.specs.declared.shape.Found.the-variants.{At, Nothing}
 use Rattle.model.specs.declared.head.Finger.{Finger}
 use Rattle.model.specs.declared.head.Held.the-variants as held
@@ -41,14 +41,14 @@ use Rattle.theory.specs.Up.{sound-up}
 use Rattle.theory.specs.Entries.{getD-firsts, entryFrom, total-entries, split-entries}
 use Rattle.theory.specs.Open.{passed, opens}
 use Rattle.theory.specs.Read.{id-at}
-use Rattle.theory.specs.Agree.{Agrees, rowOf, own, entries-are, row-passed, row-stopped}
+use Rattle.theory.specs.Agree.{Agrees, Mirrors, rowOf, own, entries-are, row-passed, row-stopped}
 use Rattle.theory.specs.Lookup.{Got, servedBy-is, searched, root-hit, root-miss}
 
 -- the state with another finger
 abbrev pub fingered : State → Finger → State
 fingered t f = state (withFinger (held.At f) (t .head)) (t .leaves) (t .inners) (t .homes)
 
-module _ (K : Kind) (ok : K .effect < K .views) (t : State) (w : Sound K t) where
+module _ (K : Kind) (ok : K .effect < K .views) (t : State) (w : Coherent K t) where
   body-fingered : (f : Finger) → Body (treeOf (stride K) (fingered t f))
   body-fingered f =
       let b : Body (treeOf (stride K) t) = body-of (stride K) t (K .effect) w in
@@ -78,7 +78,7 @@ module _ (K : Kind) (ok : K .effect < K .views) (t : State) (w : Sound K t) wher
         totals = b .totals;
       }
 
-  pub sound-fingered : (f : Finger) → suc (f .view) < stride K → tree.FingerRight (K .effect) (treeOf (stride K) t) f → Sound K (fingered t f)
+  pub sound-fingered : (f : Finger) → suc (f .view) < stride K → tree.FingerRight (K .effect) (treeOf (stride K) t) f → Coherent K (fingered t f)
   sound-fingered f lv r =
       let n : Neat (stride K) t = neat-of (stride K) t (K .effect) w in
       sound-up (stride K) (fingered t f) (K .effect)
@@ -109,12 +109,12 @@ module _ (K : Kind) (ok : K .effect < K .views) (t : State) (w : Sound K t) wher
 
   -- a lookup that found an entry
   found-step : (v : ℕ) (lv : v < K .views) (x : ℕ) (f : Finger) (offset : ℕ) → f .view ≡ v → Looked (K .effect) (treeOf (stride K) t) v x f offset
-      → Agrees K (let r = calls.hit t f offset in moved (r .after) (locatedAnswer K (r .after) (r .answer))) (rowStep K (rowOf K t) (row.lookup v x))
-  unfolding rowStep refusal
+      → Agrees (Mirrors K) (let r = calls.hit t f offset in moved (r .after) (locatedAnswer K (r .after) (r .answer))) (rowMove K (rowOf K t) (row.lookup v x))
+  unfolding rowMove refusal
   found-step v lv x f offset vw k =
       let T : Tree = treeOf (stride K) t in
       let t′ : State = fingered t f in
-      let w′ : Sound K t′ = sound-fingered f (let z = lv in omega arith) (k .right) in
+      let w′ : Coherent K t′ = sound-fingered f (let z = lv in omega arith) (k .right) in
       let lf : f .slot < leafIn (stride K) t (f .leaf) .len = (let y = size-is (stride K) (t .head .fan) (leafIn (stride K) t (f .leaf)) (neat-of (stride K) t (K .effect) w .leaf-tidy (f .leaf) (k .right .leaf-in)) in let z = k .right .slot-in in omega arith) in
       let e : Slot = slotAt T (f .leaf) (f .slot) in
       let es : entriesOf K t ≡ map (entryFrom (K .views)) (k .front) ++ entryFrom (K .views) e ∷ map (entryFrom (K .views)) (k .behind) = entries-are K t w ∙ ap (map (entryFrom (K .views))) (k .row) ∙ split-entries (K .views) (k .front) e (k .behind) in
@@ -131,31 +131,31 @@ module _ (K : Kind) (ok : K .effect < K .views) (t : State) (w : Sound K t) wher
             (pre ∙ (let z : sumBy (len 0) (k .front) ≡ 0 + row.total 0 (map (entryFrom (K .views)) (k .front)) = omega arith in z))
             ∙ sym (ap (λ (l : List Entry). done (found K v x 0 0 0 l)) es ∙ ap done (found-at K v x 0 0 0 (map (entryFrom (K .views)) (k .front)) (entryFrom (K .views) e) (map (entryFrom (K .views)) (k .behind)) offset (omega (arith, k .sums))
             (subst (λ (n : ℕ). offset < n) (sym (getD-firsts (K .views) (e .lens) v lv)) (k .inside))));
-        kept = record { sound = w′; entries = entries-are K t′ w′ ∙ sym (entries-are K t w); limit = refl };
+        kept = record { coherent = w′; entries = entries-are K t′ w′ ∙ sym (entries-are K t w); limit = refl };
       })
 
   -- a lookup past the total
-  lost-step : (v : ℕ) (lv : v < K .views) (x : ℕ) → sumBy (len v) (tree.row (treeOf (stride K) t)) ≤ x → Agrees K (moved t (refused 5)) (rowStep K (rowOf K t) (row.lookup v x))
-  unfolding rowStep refusal
+  lost-step : (v : ℕ) (lv : v < K .views) (x : ℕ) → sumBy (len v) (tree.row (treeOf (stride K) t)) ≤ x → Agrees (Mirrors K) (moved t (refused 5)) (rowMove K (rowOf K t) (row.lookup v x))
+  unfolding rowMove refusal
   lost-step v lv x le =
       rw (row-stopped (rowOf K t) (row.noSuchPosition (rowOf K t) v x ∷ []) (entriesOf K t) (done (found K v x 0 0 0 (entriesOf K t))) 4 (rw (le-leb (row.total v (entriesOf K t)) x (omega (arith, total-is v lv, le)))))
       (record { same = refl; kept = own K t w })
 
   by-search : (v : ℕ) (lv : v < K .views) (x : ℕ) (a b : Search) → (Got (stride K) (K .effect) t v x a) ⊎ (a ≡ search.Nothing)
       → (x < sumBy (len v) (tree.row (treeOf (stride K) t)) → Got (stride K) (K .effect) t v x b) → (sumBy (len v) (tree.row (treeOf (stride K) t)) ≤ x → b ≡ search.Nothing)
-      → Agrees K (let r = calls.byFinger t a b in moved (r .after) (locatedAnswer K (r .after) (r .answer))) (rowStep K (rowOf K t) (row.lookup v x))
+      → Agrees (Mirrors K) (let r = calls.byFinger t a b in moved (r .after) (locatedAnswer K (r .after) (r .answer))) (rowMove K (rowOf K t) (row.lookup v x))
   by-search v lv x a b (inl g) hit miss = rw (g .is) (found-step v lv x (g .finger) (g .offset) (g .view) (g .looked))
   by-search v lv x a b (inr q) hit miss = go (decLt x (sumBy (len v) (tree.row (treeOf (stride K) t))))
     where
-      go : Dec (x < sumBy (len v) (tree.row (treeOf (stride K) t))) → Agrees K (let r = calls.byFinger t a b in moved (r .after) (locatedAnswer K (r .after) (r .answer))) (rowStep K (rowOf K t) (row.lookup v x))
+      go : Dec (x < sumBy (len v) (tree.row (treeOf (stride K) t))) → Agrees (Mirrors K) (let r = calls.byFinger t a b in moved (r .after) (locatedAnswer K (r .after) (r .answer))) (rowMove K (rowOf K t) (row.lookup v x))
       go (yes lt) = let g = hit lt in rw (q, g .is) (found-step v lv x (g .finger) (g .offset) (g .view) (g .looked))
       go (no ge) = rw (q, miss (omega arith)) (lost-step v lv x (omega arith))
 
-  pub step-lookup : (v : ℕ) (lv : v < K .views) (x : ℕ) → Agrees K (treeStep K t (row.lookup v x)) (rowStep K (rowOf K t) (row.lookup v x))
-  unfolding treeStep calls.locate opening searched refusal
+  pub step-lookup : (v : ℕ) (lv : v < K .views) (x : ℕ) → Agrees (Mirrors K) (treeMove K t (row.lookup v x)) (rowMove K (rowOf K t) (row.lookup v x))
+  unfolding treeMove calls.locate opening searched refusal
   step-lookup v lv x =
       let a : Search = servedBy v (K .effect) (shapeIn (stride K) t) (t .head .finger) (t .head .leaves) x (t .leaves) in
       let b : Search = fromRoot v (K .effect) (shapeIn (stride K) t) (t .head .levels) (t .head .root .0) (t .head .leaves) x (t .leaves) (t .inners) in
-      subst (λ (r : calls.Reply Located). Agrees K (moved (r .after) (locatedAnswer K (r .after) (r .answer))) (rowStep K (rowOf K t) (row.lookup v x)))
+      subst (λ (r : calls.Reply Located). Agrees (Mirrors K) (moved (r .after) (locatedAnswer K (r .after) (r .answer))) (rowMove K (rowOf K t) (row.lookup v x)))
       (sym (passed (opening K t) (λ n. calls.reply t (located.Refused n)) (calls.byFinger t a b) (opens K t w [])))
       (by-search v lv x a b (servedBy-is (stride K) (K .effect) t w v (t .head .finger) (sound-of (stride K) t (K .effect) w .finger) x) (root-hit (stride K) (K .effect) t w v x) (root-miss (stride K) (K .effect) t w v x))

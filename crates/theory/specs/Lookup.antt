@@ -17,7 +17,7 @@ use Rattle.model.specs.Node.{lengthIn, used}
 use Rattle.model.specs.State.{State}
 use Rattle.model.specs.Locate.{finger, served, servedBy, descend, leafOf, fromRoot}
 use Rattle.model.specs.Row as row
-use Rattle.model.specs.Sound.{leafIn, innerIn, shapeIn, SoundAt}
+use Rattle.model.specs.Sound.{leafIn, innerIn, shapeIn, CoherentAt}
 use Rattle.model.specs.declared.shape.Found.the-variants.{At, Nothing}
 use Rattle.model.specs.declared.head.Finger.{Finger}
 use Rattle.model.specs.declared.head.Held.{Held}
@@ -49,7 +49,7 @@ pub record Got (s ε : ℕ) (t : State) (v x : ℕ) (r : Search) : Type 0 where
   pub view : finger .view ≡ v
   pub looked : Looked ε (treeOf s t) v x finger offset
 
-module _ (s ε : ℕ) (t : State) (w : SoundAt s t ε) (v : ℕ) where
+module _ (s ε : ℕ) (t : State) (w : CoherentAt s t ε) (v : ℕ) where
   -- a leaf's totals are within u32
   leaf-small : (u k : ℕ) → k < t .head .leaves → node.total u (used (leafIn s t k)) < 4294967296
   leaf-small u k lk = go (is-in k (order (treeOf s t)) (body-of s t ε w .leaf-all k lk))

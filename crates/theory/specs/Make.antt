@@ -10,19 +10,19 @@ use lib.Dec.{ltb}
 use lib.ListN.{length, length-set}
 use lib.Seq.{getD-set-same}
 use borrow.Author.Tests.{ltb-false}
-use Rattle.model.specs.Kind.{stride}
+use Rattle.model.specs.Kind.{stride, tooManyLines}
 use Rattle.model.specs.declared.shape.Kind.{Kind}
 use Rattle.model.specs.Lists.{All, refusal}
 use Rattle.model.specs.Node.{Node, none, half, newNode}
 use Rattle.model.specs.State.{State, nodesFor, shape, nodeAt, putNode}
 use Rattle.model.specs.Row as row
-use Rattle.model.specs.Row.{Entry, madeRow, rowStep}
-use Rattle.model.specs.Sound.{Sound}
+use Rattle.model.specs.Row.{Entry, madeRow, rowMove}
+use Rattle.model.specs.Sound.{Coherent}
 use Rattle.model.specs.Calls as calls
-use Rattle.model.specs.Calls.{begun, makeCauses}
-use Rattle.model.specs.ById.{told, treeStep}
+use Rattle.model.specs.Calls.{begun, areaCauses, makeCauses}
+use Rattle.model.specs.ById.{told, treeMove}
 use Rattle.model.specs.Answer.{outcomeAnswer}
-use Rattle.model.specs.Promise.{Words, Stands}
+use Rattle.model.specs.Promise.{Words}
 use Rattle.model.specs.declared.shape.Shape.{Shape}
 use Rattle.model.specs.declared.answer.Outcome.{Outcome}
 use Rattle.model.specs.declared.answer.Outcome.the-variants as outcome
@@ -36,8 +36,8 @@ use Rattle.theory.specs.Up.{sound-up}
 use Rattle.theory.specs.Put.{Keeps, put-next}
 use Rattle.theory.specs.Entries.{firsts, entryFrom, entry-is}
 use Rattle.theory.specs.Views.{each-small}
-use Rattle.theory.specs.Open.{passed, good-areas}
-use Rattle.theory.specs.Agree.{Agrees, rowOf, entries-are}
+use Rattle.theory.specs.Open.{passed, few-lines, good-areas}
+use Rattle.theory.specs.Agree.{Agrees, Mirrors, rowOf, entries-are}
 
 -- what the causes of a make leave
 pub record Sizes (K : Kind) (fan limit : ℕ) (ls xs hs : List ℕ) : Type 0 where
@@ -57,7 +57,7 @@ or-right : (a b : Bool) → (a || b) ≡ false → b ≡ false
 or-right true b e = absurd (let z : _≡_ {A = ℕ} 0 1 = cc in omega arith)
 or-right false b e = e
 
-pub sizes-of : (K : Kind) (fan limit : ℕ) (ls xs hs : List ℕ) → refusal (makeCauses K fan limit ls xs hs) ≡ 0 → Sizes K fan limit ls xs hs
+pub sizes-of : (K : Kind) (fan limit : ℕ) (ls xs hs : List ℕ) → refusal (areaCauses K fan limit ls xs hs) ≡ 0 → Sizes K fan limit ls xs hs
 unfolding refusal
 sizes-of K fan limit ls xs hs e =
     let a : Bool = ltb fan 4 || ltb 32 fan || ltb limit 1 || ltb 65536 limit in
@@ -147,17 +147,17 @@ module _ (K : Kind) (fan limit : ℕ) (l : List ℕ) (ls xs hs : List ℕ) (z : 
     view = tt;
   }
 
-  start-sound : Sound K start
+  start-sound : Coherent K start
   unfolding begun
   start-sound = sound-up (stride K) start (K .effect) neat (record { body = fresh-body (treeOf (stride K) start) (slotOf x) (slotOf x) fresh; finger = tt })
 
-  pub begun-stands : Stands K (begun K fan limit l ls xs hs) (madeRow limit l)
+  pub begun-stands : Mirrors K (begun K fan limit l ls xs hs) (madeRow limit l)
   unfolding begun firsts x
-  begun-stands = record { sound = start-sound; entries = entries-are K start start-sound ∙ ap (map (entryFrom (K .views))) (fresh-row (treeOf (stride K) start) (slotOf x) (slotOf x) fresh) ∙ ap (λ (y : Entry). y ∷ []) (entry-is (K .views) x (ap suc (small .long))); limit = refl }
+  begun-stands = record { coherent = start-sound; entries = entries-are K start start-sound ∙ ap (map (entryFrom (K .views))) (fresh-row (treeOf (stride K) start) (slotOf x) (slotOf x) fresh) ∙ ap (λ (y : Entry). y ∷ []) (entry-is (K .views) x (ap suc (small .long))); limit = refl }
 
-pub step-reset : (K : Kind) (t : State) (w : Sound K t) (l : List ℕ) → Words K l → Agrees K (treeStep K t (row.reset l)) (rowStep K (rowOf K t) (row.reset l))
-unfolding treeStep rowStep calls.reset refusal
-step-reset K t w l small =
+pub step-reset : (K : Kind) (t : State) (w : Coherent K t) (l : List ℕ) → Words K l → tooManyLines K l ≡ false → Agrees (Mirrors K) (treeMove K t (row.reset l)) (rowMove K (rowOf K t) (row.reset l))
+unfolding treeMove rowMove calls.reset refusal
+step-reset K t w l small few =
     let h = t .head in
     let z : Sizes K (h .fan) (h .limit) (t .leaves) (t .inners) (t .homes) = record {
       fan-low = w .fan-least;
@@ -168,6 +168,6 @@ step-reset K t w l small =
       inner-area = w .inner-area;
       home-area = w .home-area;
     } in
-    subst (λ (r : calls.Reply Outcome). Agrees K (told r outcomeAnswer) (rowStep K (rowOf K t) (row.reset l)))
-    (sym (passed (makeCauses K (h .fan) (h .limit) (t .leaves) (t .inners) (t .homes)) (λ n. calls.reply t (outcome.Refused n)) (calls.reply (begun K (h .fan) (h .limit) l (t .leaves) (t .inners) (t .homes)) outcome.Done) (good-areas K t w [])))
+    subst (λ (r : calls.Reply Outcome). Agrees (Mirrors K) (told r outcomeAnswer) (rowMove K (rowOf K t) (row.reset l)))
+    (sym (passed (makeCauses K (h .fan) (h .limit) l (t .leaves) (t .inners) (t .homes)) (λ n. calls.reply t (outcome.Refused n)) (calls.reply (begun K (h .fan) (h .limit) l (t .leaves) (t .inners) (t .homes)) outcome.Done) (few-lines K l (areaCauses K (h .fan) (h .limit) (t .leaves) (t .inners) (t .homes)) few ∙ good-areas K t w [])))
     (record { same = refl; kept = begun-stands K (h .fan) (h .limit) l (t .leaves) (t .inners) (t .homes) z small })

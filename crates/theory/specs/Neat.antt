@@ -8,7 +8,7 @@ use lib.Dec.{ltb}
 use lib.ListN.{length, length-map}
 use Rattle.model.specs.Node.{Node, used, half}
 use Rattle.model.specs.State.{State, nodesFor}
-use Rattle.model.specs.Sound.{shapeIn, leafIn, innerIn, SoundAt, FingerRight}
+use Rattle.model.specs.Sound.{shapeIn, leafIn, innerIn, CoherentAt, FingerRight}
 use Rattle.model.specs.declared.head.Held.{Held}
 use Rattle.model.specs.declared.head.Held.the-variants as held
 use Rattle.laws.specs.Areas.{formed-at}
@@ -42,7 +42,7 @@ nodes-most fan limit h = go (ltb (limit / half fan) 1)
 pub size-is : (s fan : ℕ) (n : Node) → Tidy s fan n → length (slotsOf n) ≡ n .len
 size-is s fan n t = length-map (used n) slotOf ∙ sym (len-used s fan n t)
 
-pub neat-of : (s : ℕ) (t : State) (e : ℕ) → SoundAt s t e → Neat s t
+pub neat-of : (s : ℕ) (t : State) (e : ℕ) → CoherentAt s t e → Neat s t
 neat-of s t e w = record {
   leaf-area = w .leaf-area;
   inner-area = w .inner-area;

@@ -9,13 +9,13 @@ use native.Mathlib.Decide.{ℕ-discrete}
 use native.Mathlib.Omega.{arith}
 use lib.ListN.{length, getD, length-map}
 use borrow.Author.Tests.{eq-eqb, ne-eqb, lt-ltb, le-ltb, le-leb, lt-leb}
-use Rattle.model.specs.Kind.{stride}
+use Rattle.model.specs.Kind.{stride, tooManyLines}
 use Rattle.model.specs.declared.shape.Kind.{Kind}
 use Rattle.model.specs.Lists.{Cause, cause, refusal}
 use Rattle.model.specs.Node.{Node, child, used, indexFrom}
 use Rattle.model.specs.State.{State}
-use Rattle.model.specs.Sound.{shapeIn, leafIn, Sound}
-use Rattle.model.specs.Refuse.{opening, badSize, tooShort, astray, stale, overfull, atCursor, noSuchId}
+use Rattle.model.specs.Sound.{shapeIn, leafIn, Coherent}
+use Rattle.model.specs.Refuse.{opening, manyLines, badSize, tooShort, astray, stale, overfull, atCursor, noSuchId}
 use Rattle.model.specs.Calls as calls
 use Rattle.model.specs.Calls.{unless, cursorAt}
 use Rattle.model.specs.declared.shape.Place.the-variants as slot
@@ -37,6 +37,15 @@ passed cs f a e = rw e
 pub stopped : {A : Type 0} (cs : List Cause) (f : ℕ → A) (a : A) (n : ℕ) → refusal cs ≡ suc n → unless cs f a ≡ f (suc n)
 stopped cs f a n e = rw (e, ne-eqb (suc n) 0 (λ z. omega arith))
 
+-- no more line ends than an entry may have
+pub few-lines : (K : Kind) (l : List ℕ) (cs : List Cause) → tooManyLines K l ≡ false → refusal (manyLines K l ∷ cs) ≡ refusal cs
+unfolding refusal
+few-lines K l cs e = rw e
+
+pub many-lines : (K : Kind) (l : List ℕ) (cs : List Cause) → tooManyLines K l ≡ true → refusal (manyLines K l ∷ cs) ≡ 10
+unfolding refusal
+many-lines K l cs e = rw e
+
 -- a cause that doesn't apply
 pub clear : (n : ℕ) (b : Bool) (cs : List Cause) → n ≢ 0 → refusal (cause n b ∷ cs) ≡ 0 → (b ≡ false) × (refusal cs ≡ 0)
 unfolding refusal
@@ -53,7 +62,7 @@ index-lift c k (x ∷ xs) h = elim (ℕ-discrete (child x) c) [
       rw (ne-eqb (child x) c ne, indexOf) (index-lift c (k + 1) xs (omega arith) ∙ ap slot.Slot (let z : k + 1 + indexOf c (map slotOf xs) ≡ k + suc (indexOf c (map slotOf xs)) = omega arith in z)))
 ]
 
-module _ (K : Kind) (t : State) (w : Sound K t) where
+module _ (K : Kind) (t : State) (w : Coherent K t) where
   -- good fan, limit and areas
   pub good-size : (cs : List Cause) → refusal (badSize (t .head .fan) (t .head .limit) ∷ cs) ≡ refusal cs
   unfolding refusal

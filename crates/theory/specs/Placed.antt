@@ -16,7 +16,7 @@ use Rattle.model.specs.Locate.{changing}
 use Rattle.model.specs.Place as place
 use Rattle.model.specs.Place.{Change, change, enter, climb, summed}
 use Rattle.model.specs.Row.{entry}
-use Rattle.model.specs.Sound.{shapeIn, leafIn, Sound, entriesOf}
+use Rattle.model.specs.Sound.{shapeIn, leafIn, Coherent, entriesOf}
 use Rattle.model.specs.declared.way.Sum.{Sum}
 use Rattle.model.specs.declared.way.Sum.the-variants as sum
 use Rattle.abstract_tree.specs.Lists.{sumBy-append}
@@ -44,11 +44,11 @@ pub record Placed (K : Kind) (t : State) (k i : ℕ) (R₁ R₂ : List Slot) (l 
   pub leaf : ℕ
   pub slot : ℕ
   pub is : climb (shapeIn (stride K) t) (K .effect) l (place.place (shapeIn (stride K) t) t k i l) ≡ (change 0 after leaf slot, sumBy (len (K .effect)) R₁)
-  pub sound : Sound K after
+  pub sound : Coherent K after
   pub entries : entriesOf K after ≡ map (entryFrom (K .views)) R₁ ++ entry (t .head .entries) l ∷ map (entryFrom (K .views)) R₂
   pub limit : after .head .limit ≡ t .head .limit
 
-module _ (K : Kind) (t : State) (w : Sound K t) (A : List ℕ) (k : ℕ) (B : List ℕ) (b : BodyAt (treeOf (stride K) t) (A ++ k ∷ B) (above (treeOf (stride K) t))) (i : ℕ) (le : i ≤ length (slotsOf (leafIn (stride K) t k))) (R₁ R₂ : List Slot)
+module _ (K : Kind) (t : State) (w : Coherent K t) (A : List ℕ) (k : ℕ) (B : List ℕ) (b : BodyAt (treeOf (stride K) t) (A ++ k ∷ B) (above (treeOf (stride K) t))) (i : ℕ) (le : i ≤ length (slotsOf (leafIn (stride K) t k))) (R₁ R₂ : List Slot)
     (md : Made (K .effect) (treeOf (stride K) t) k i (makeRoom (treeOf (stride K) t) k i) R₁ R₂) (l : List ℕ) (wl : length l ≡ K .views) (few : t .head .entries < t .head .limit)
     (tot : (v : ℕ) → sumBy (len v) (R₁ ++ insert.slotOf (t .head .entries) (λ u. getD l u 0) ∷ R₂) < 4294967296) where
   abbrev new : ℕ → ℕ
@@ -105,7 +105,7 @@ module _ (K : Kind) (t : State) (w : Sound K t) (A : List ℕ) (k : ℕ) (B : Li
   done-is : Done (K .effect) (spot (treeOf (stride K) t₁) (q .leaf) (q .slot)) R₁ (putIn (treeOf (stride K) t₁) (q .leaf) (q .slot) new) (R₁ ++ insert.slotOf (t .head .entries) new ∷ R₂)
   done-is = put-done (K .effect) (treeOf (stride K) t) (spot (treeOf (stride K) t₁) (q .leaf) (q .slot)) R₁ R₂ (gp .made .room) new (gp .made .space) few tot
 
-  sound₃ : Sound K t₃
+  sound₃ : Coherent K t₃
   unfolding t₃
   sound₃ = sound-up (stride K) t₃ (K .effect) (entered-neat (stride K) (omega arith) t₁ (q .neat) (q .leaf) (q .slot) (gp .leaf-in) m₂ td₂ pa at few (cr .words) (cr .keeps)) (subst (tree.Sound (K .effect)) (sym tree-is) (done-is .sound))
 

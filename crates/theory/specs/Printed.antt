@@ -19,7 +19,7 @@ use Rattle.model.specs.State.{State}
 use Rattle.model.specs.Climb.{leafNo, firstDown}
 use Rattle.model.specs.Row as row
 use Rattle.model.specs.Row.{Row, Entry, entry}
-use Rattle.model.specs.Sound.{shapeIn, leafIn, leavesReached, slotsIn, Sound, entriesOf}
+use Rattle.model.specs.Sound.{shapeIn, leafIn, leavesReached, slotsIn, Coherent, entriesOf}
 use Rattle.model.specs.Refuse.{shapeOf, badSize, tooShort, astray, opening}
 use Rattle.model.specs.Answer.{numberAnswer}
 use Rattle.model.specs.Promise.{Stands}
@@ -67,7 +67,7 @@ front n len c xs rest h e = go (ltb len n) refl
         let y : n - n ≡ 0 = omega arith in
         rw (z, y) (append-nil (take n xs) ∙ sym (take-append-le n (take len xs) rest (omega (arith, lu)) ∙ take-take n len xs l))
 
-module _ (K : Kind) (t : State) (w : Sound K t) where
+module _ (K : Kind) (t : State) (w : Coherent K t) where
   abbrev metIn : ℕ → Leaf → List (List ℕ)
   metIn n l = met (shapeIn (stride K) t) (t .head .levels) (t .leaves) (t .inners) n l
 
@@ -132,7 +132,7 @@ same-lines K p q (x ∷ xs) hp hq =
 
 -- print on a sound state --------------------------------------------------------------------------------------------------------------------
 
-module _ (K : Kind) (t : State) (w : Sound K t) (v : K .effect < K .views) where
+module _ (K : Kind) (t : State) (w : Coherent K t) (v : K .effect < K .views) where
   text-is : slotLines K 0 0 (slotsMet K t) ≡ lines K 0 0 (entriesOf K t)
   unfolding entriesOf
   text-is = ap (slotLines K 0 0) (slots-met K t w) ∙ same-lines K 0 0 (slots K t w) (omega (arith, w .totals 0 (omega arith))) (omega (arith, w .totals (K .effect) (omega arith)))
@@ -175,14 +175,14 @@ prints-row K v t r st page = record {
   rest = λ h. ap (λ (a : Number × List ℕ). drop (2750 * pagesFor (length (r .entries))) (a .1)) (is h) ∙ behind-it _ (sheet K (r .entries)) page (length-sheet K (r .entries));
 }
   where
-    w : Sound K t
-    w = st .sound
+    w : Coherent K t
+    w = st .sound .coherent
 
     count : t .head .entries ≡ length (r .entries)
-    count = sym (count-is K t (st .sound)) ∙ ap length (st .entries)
+    count = sym (count-is K t (st .sound .coherent)) ∙ ap length (st .entries)
 
     is : 2750 * pagesFor (length (r .entries)) ≤ length page → print K t page ≡ (number.Is (pagesFor (length (r .entries))), putAt 0 (sheet K (r .entries)) page)
-    is h = print-is K t (st .sound) v page (subst (λ (n : ℕ). 2750 * pagesFor n ≤ length page) (sym count) h) ∙ ap₂ (λ (n : ℕ) (es : List Entry). (number.Is (pagesFor n), putAt 0 (sheet K es) page)) count (st .entries)
+    is h = print-is K t (st .sound .coherent) v page (subst (λ (n : ℕ). 2750 * pagesFor n ≤ length page) (sym count) h) ∙ ap₂ (λ (n : ℕ) (es : List Entry). (number.Is (pagesFor n), putAt 0 (sheet K es) page)) count (st .entries)
 
 -- on any words ----------------------------------------------------------------------------------------------------------------------------
 

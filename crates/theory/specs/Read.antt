@@ -16,12 +16,12 @@ use Rattle.model.specs.Node.{Node, child, lengths, used, start}
 use Rattle.model.specs.State.{State}
 use Rattle.model.specs.Climb.{leafNo, rankUp, nextUp}
 use Rattle.model.specs.Row as row
-use Rattle.model.specs.Row.{Entry, entry, done, refused, moved, before, after, firstId, rowStep}
-use Rattle.model.specs.Sound.{leafIn, shapeIn, Sound, entriesOf}
+use Rattle.model.specs.Row.{Entry, entry, done, refused, moved, before, after, firstId, rowMove}
+use Rattle.model.specs.Sound.{leafIn, shapeIn, Coherent, entriesOf}
 use Rattle.model.specs.Refuse.{opening, atCursor, badSize}
 use Rattle.model.specs.Calls as calls
-use Rattle.model.specs.Calls.{makeCauses, cursorAt, entryId}
-use Rattle.model.specs.ById.{idAnswer, standingAnswer, nextAnswer, treeStep}
+use Rattle.model.specs.Calls.{areaCauses, cursorAt, entryId}
+use Rattle.model.specs.ById.{idAnswer, standingAnswer, nextAnswer, treeMove}
 use Rattle.model.specs.Answer.{numberAnswer, measuredAnswer}
 use Rattle.model.specs.declared.way.Sum.the-variants as sum
 use Rattle.model.specs.declared.way.Leaf.the-variants as leaf
@@ -49,7 +49,7 @@ use Rattle.theory.specs.Entries.{firsts, entryFrom, entry-is}
 use Rattle.theory.specs.Open.{good-size, good-areas, passed, opens, fresh-at, Seat}
 use Rattle.theory.specs.Way.{Way, way, start-leaf, rank-up}
 use Rattle.theory.specs.Edge.{first-top, first-down, leafHead, next-leaf}
-use Rattle.theory.specs.Agree.{Agrees, rowOf, row-passed, own, entries-are, count-is, by-id, from-is, slot-is, slot-long, total-before}
+use Rattle.theory.specs.Agree.{Agrees, Mirrors, rowOf, row-passed, own, entries-are, count-is, by-id, from-is, slot-is, slot-long, total-before}
 
 pub first-entry : (n : ℕ) (R : List Slot) → firstId (map (entryFrom n) R) ≡ firstChild R
 first-entry n [] = refl
@@ -66,7 +66,7 @@ behind-all : (Q : ℕ → Type 0) (A : List ℕ) (k : ℕ) (B : List ℕ) → Al
 unfolding All
 behind-all Q A k B h = All-right Q A (k ∷ B) h .1
 
-module _ (K : Kind) (t : State) (w : Sound K t) where
+module _ (K : Kind) (t : State) (w : Coherent K t) where
   -- the id at a slot in use
   pub id-at : (k j : ℕ) → k < t .head .leaves → j < leafIn (stride K) t k .len → calls.id K t (cursorAt (t .head .entries) k j) ≡ named.Entry (entryId (slotAt (treeOf (stride K) t) k j .child))
   unfolding calls.id refusal
@@ -77,10 +77,10 @@ module _ (K : Kind) (t : State) (w : Sound K t) where
       passed (opening K t ++ atCursor K t (cursorAt (t .head .entries) k j)) named.Refused _ (opens K t w (atCursor K t (cursorAt (t .head .entries) k j)) ∙ fresh-at K t w k j [] lk lj)
       ∙ ap (λ (x : ℕ). named.Entry (entryId x)) (ap child (slot-used (stride K) (t .head .fan) n td j [] lu) ∙ ap (λ (x : Slot). x .child) (sym (getD-slot (used n) j lu)))
 
-  pub step-count : Agrees K (treeStep K t row.count) (rowStep K (rowOf K t) row.count)
-  unfolding treeStep rowStep calls.len refusal
+  pub step-count : Agrees (Mirrors K) (treeMove K t row.count) (rowMove K (rowOf K t) row.count)
+  unfolding treeMove rowMove calls.len refusal
   step-count = record {
-    same = ap numberAnswer (passed (makeCauses K (t .head .fan) (t .head .limit) (t .leaves) (t .inners) (t .homes)) number.Refused _ (good-areas K t w [])
+    same = ap numberAnswer (passed (areaCauses K (t .head .fan) (t .head .limit) (t .leaves) (t .inners) (t .homes)) number.Refused _ (good-areas K t w [])
         ∙ passed (badSize (t .head .fan) (t .head .limit) ∷ []) number.Refused (number.Is (t .head .entries)) (good-size K t w []))
         ∙ ap (λ (n : ℕ). done (n ∷ [])) (sym (count-is K t w));
     kept = own K t w;
@@ -95,8 +95,8 @@ module _ (K : Kind) (t : State) (w : Sound K t) where
       passed (opening K t ++ cs) refused _ (opens K t w cs ∙ fresh-at K t w (c .leaf) (c .slot) [] (c .leaf-in) (c .slot-in))
       ∙ ap (λ (y : Entry). done (y .lengths)) e ∙ sym (ap (λ (l : List Entry). done (getD l 0 (entry i []) .lengths)) (from-is K t w i c))
 
-  pub step-lengths : (i : ℕ) → Agrees K (treeStep K t (row.lengths i)) (rowStep K (rowOf K t) (row.lengths i))
-  unfolding treeStep rowStep refusal
+  pub step-lengths : (i : ℕ) → Agrees (Mirrors K) (treeMove K t (row.lengths i)) (rowMove K (rowOf K t) (row.lengths i))
+  unfolding treeMove rowMove refusal
   step-lengths i = by-id K t w i (λ c. moved t (calls.lengthsOf K t c)) [] (entriesOf K t) (done (row.lengthsOf i (entriesOf K t)))
       (λ c. rw (row-passed (rowOf K t) [] (entriesOf K t) (done (row.lengthsOf i (entriesOf K t))) refl) (record { same = lengths-at i c; kept = own K t w }))
 
@@ -118,8 +118,8 @@ module _ (K : Kind) (t : State) (w : Sound K t) where
       rank-up (stride K) t (neat-of (stride K) t (K .effect) w) v (t .head .levels) (T .body .leaf) k (start v (c .slot) (leafIn (stride K) t k)) u
       ∙ ap sum.Is (ap (λ (n : ℕ). n + climb v (T .body .leaf) (T .body .inner) (t .head .levels) k) st ∙ c .cur .rank v)
 
-  pub step-rank : (v : ℕ) (lv : v < K .views) (i : ℕ) → Agrees K (treeStep K t (row.rank v i)) (rowStep K (rowOf K t) (row.rank v i))
-  unfolding treeStep rowStep refusal calls.entryToCharIndex
+  pub step-rank : (v : ℕ) (lv : v < K .views) (i : ℕ) → Agrees (Mirrors K) (treeMove K t (row.rank v i)) (rowMove K (rowOf K t) (row.rank v i))
+  unfolding treeMove rowMove refusal calls.entryToCharIndex
   step-rank v lv i = by-id K t w i (λ c. moved t (numberAnswer (calls.entryToCharIndex K t v c))) [] (entriesOf K t) (done (row.total v (before i (entriesOf K t)) ∷ []))
       (λ c. rw (row-passed (rowOf K t) [] (entriesOf K t) (done (row.total v (before i (entriesOf K t)) ∷ [])) refl) (record { same = at c; kept = own K t w }))
     where
@@ -131,8 +131,8 @@ module _ (K : Kind) (t : State) (w : Sound K t) where
           ap numberAnswer (passed (opening K t ++ cs) number.Refused _ (opens K t w cs ∙ fresh-at K t w (c .leaf) (c .slot) [] (c .leaf-in) (c .slot-in)) ∙ ap calls.rankOf (rank-is i c v))
           ∙ ap (λ (m : ℕ). done (m ∷ [])) (small ∙ sym (total-before K t w i c v lv))
 
-  pub step-first : Agrees K (treeStep K t row.first) (rowStep K (rowOf K t) row.first)
-  unfolding treeStep rowStep refusal calls.first opening
+  pub step-first : Agrees (Mirrors K) (treeMove K t row.first) (rowMove K (rowOf K t) row.first)
+  unfolding treeMove rowMove refusal calls.first opening
   step-first = record { same = whole; kept = own K t w }
     where
       lq : firstAt (treeOf (stride K) t .body .inner) (t .head .root .0) (t .head .levels) < t .head .leaves
@@ -184,8 +184,8 @@ module _ (K : Kind) (t : State) (w : Sound K t) where
           let ge : leafIn (stride K) t (c .leaf) .len ≤ c .slot + 1 = (let z = ltb-false (suc (c .slot)) (length (slotsOf (leafIn (stride K) t (c .leaf)))) q in omega (arith, sz)) in
           rw (q, nextIn, le-ltb (c .slot + 1) (leafIn (stride K) t (c .leaf) .len) ge, next-leaf (stride K) t (neat-of (stride K) t (K .effect) w) (body-of (stride K) t (K .effect) w) (c .cur .A) (c .leaf) (c .cur .B) (c .cur .leaves), nx) (heads (c .cur .B) leaves)
 
-  pub step-next : (i : ℕ) → Agrees K (treeStep K t (row.next i)) (rowStep K (rowOf K t) (row.next i))
-  unfolding treeStep rowStep refusal
+  pub step-next : (i : ℕ) → Agrees (Mirrors K) (treeMove K t (row.next i)) (rowMove K (rowOf K t) (row.next i))
+  unfolding treeMove rowMove refusal
   step-next i = by-id K t w i (λ c. moved t (nextAnswer K t (calls.nextAfter K t c))) [] (entriesOf K t) (done (firstId (after i (entriesOf K t)) ∷ []))
       (λ c. rw (row-passed (rowOf K t) [] (entriesOf K t) (done (firstId (after i (entriesOf K t)) ∷ [])) refl)
       (record {

@@ -8,7 +8,7 @@ use native.Mathlib.Omega.{arith}
 use lib.Dec.{ltb, leb, eqb}
 use lib.ListN.{length, drop, length-set}
 use borrow.Author.Tests.{ltb-true, ltb-false, leb-true, leb-false, eqb-true, eqb-false, eq-eqb, lt-leb, le-ltb}
-use Rattle.model.specs.Kind.{stride}
+use Rattle.model.specs.Kind.{stride, tooManyLines}
 use Rattle.model.specs.declared.shape.Kind.{Kind}
 use Rattle.model.specs.Lists.{Cause, refusal, All}
 use Rattle.model.specs.Node.{none, child, lengths, used, findFrom, newNode, minus, wrap}
@@ -19,11 +19,11 @@ use Rattle.model.specs.Place as place
 use Rattle.model.specs.Place.{Change}
 use Rattle.model.specs.Grow.{areas}
 use Rattle.model.specs.Answer.{outcomeAnswer, numberAnswer, selectedAnswer, locatedAnswer, insertedAnswer, dividedAnswer}
-use Rattle.model.specs.Refuse.{shapeOf, opening, atCursor, tooMuch, past, full}
+use Rattle.model.specs.Refuse.{shapeOf, manyLines, opening, atCursor, tooMuch, past, full}
 use Rattle.model.specs.Row as row
-use Rattle.model.specs.Row.{Call, Answer, Moved, noEntry}
+use Rattle.model.specs.Row.{Call, Answer, Moved, noEntry, overlong}
 use Rattle.model.specs.ById as byId
-use Rattle.model.specs.ById.{withCursor, withTarget, told, treeStep}
+use Rattle.model.specs.ById.{withCursor, withTarget, told, treeMove, treeStep}
 use Rattle.model.specs.Calls as calls
 use Rattle.model.specs.Calls.{Reply}
 use Rattle.model.specs.Promise.{Words, InWords, Leaves, Refusals, Made, Demand1}
@@ -82,6 +82,10 @@ none-more (a ∷ cs) ds e h = go (a .applies) e (none-more cs ds)
     go : (b : Bool) → cond b (a .number) (refusal cs) ≡ 0 → (refusal cs ≡ 0 → refusal ds ≡ 0 → refusal (cs ++ ds) ≡ 0) → cond b (a .number) (refusal (cs ++ ds)) ≡ 0
     go true q i = q
     go false q i = i q h
+
+-- the causes behind the first
+few : (K : Kind) (l : List ℕ) (cs : List Cause) → refusal (manyLines K l ∷ cs) ≡ 0 → refusal cs ≡ 0
+few K l cs e = clear 10 (tooManyLines K l) cs (λ z. omega arith) e .1
 
 neither : (a b : Bool) → (a || b) ≡ false → (a ≡ false) × (b ≡ false)
 neither true b e = absurd (let z : _≡_ {A = ℕ} 0 1 = cc in omega arith)
@@ -172,8 +176,8 @@ module _ (K : Kind) (s : State) where
   unfolding calls.reset
   reset-leaves l w =
       let h = s .head in
-      unless-leaves outcomeAnswer outcome.Refused (λ n. refl) s (calls.makeCauses K (h .fan) (h .limit) (s .leaves) (s .inners) (s .homes)) (calls.reply (calls.begun K (h .fan) (h .limit) l (s .leaves) (s .inners) (s .homes)) outcome.Done)
-      (λ e. let b = begun-spans (h .fan) (h .limit) l (s .leaves) (s .inners) (s .homes) (sizes-of K (h .fan) (h .limit) (s .leaves) (s .inners) (s .homes) e) w in
+      unless-leaves outcomeAnswer outcome.Refused (λ n. refl) s (calls.makeCauses K (h .fan) (h .limit) l (s .leaves) (s .inners) (s .homes)) (calls.reply (calls.begun K (h .fan) (h .limit) l (s .leaves) (s .inners) (s .homes)) outcome.Done)
+      (λ e. let b = begun-spans (h .fan) (h .limit) l (s .leaves) (s .inners) (s .homes) (sizes-of K (h .fan) (h .limit) (s .leaves) (s .inners) (s .homes) (few K l _ e)) w in
       finished 0 s (calls.begun K (h .fan) (h .limit) l (s .leaves) (s .inners) (s .homes)) refl (b .0) (b .1) (b .2))
 
   end-left : (k : Leaf) → Left s (calls.endOf K s k .number) (calls.endOf K s k .state)
@@ -208,26 +212,26 @@ module _ (K : Kind) (s : State) where
   unfolding calls.insert opening
   insert-leaves t l w = let r = calls.placed K s t l in let a = inserted.At (calls.entryId (s .head .entries)) (r .1) in
       unless-leaves insertedAnswer inserted.Refused (λ n. refl) s (calls.insertCauses K s t l) (calls.settled s (r .0) inserted.Refused a)
-      (λ e. settled-leaves insertedAnswer inserted.Refused (λ n. refl) s (r .0) a refl (placed-left t l w (opened K s (calls.targetCauses K s t ++ past K s [] l ∷ full s ∷ []) e .0)))
+      (λ e. settled-leaves insertedAnswer inserted.Refused (λ n. refl) s (r .0) a refl (placed-left t l w (opened K s (calls.targetCauses K s t ++ past K s [] l ∷ full s ∷ []) (few K l _ e) .0)))
 
   set-leaves : (c : Cursor) (l : List ℕ) → Words K l → Leaves (outcomeAnswer (calls.setLengths K s c l .answer) .number) s (calls.setLengths K s c l .after)
   unfolding calls.setLengths opening
   set-leaves c l w = let r = calls.resized K s c l in
       unless-leaves outcomeAnswer outcome.Refused (λ n. refl) s (calls.resizeCauses K s c l) (calls.settled s (r .0) outcome.Refused outcome.Done)
-      (λ e. let o = opened K s (atCursor K s c ++ past K s (lengths (calls.slotAt K s c)) l ∷ []) e in settled-leaves outcomeAnswer outcome.Refused (λ n. refl) s (r .0) outcome.Done refl (resized-left c l w (o .0) (current-of K s c (past K s (lengths (calls.slotAt K s c)) l ∷ []) (o .1))))
+      (λ e. let o = opened K s (atCursor K s c ++ past K s (lengths (calls.slotAt K s c)) l ∷ []) (few K l _ e) in settled-leaves outcomeAnswer outcome.Refused (λ n. refl) s (r .0) outcome.Done refl (resized-left c l w (o .0) (current-of K s c (past K s (lengths (calls.slotAt K s c)) l ∷ []) (o .1))))
 
   update-leaves : (c : Cursor) (l : List ℕ) → Words K l → Leaves (numberAnswer (calls.update K s c l .answer) .number) s (calls.update K s c l .after)
   unfolding calls.update opening
   update-leaves c l w = let r = calls.resized K s c l in
       unless-leaves numberAnswer number.Refused (λ n. refl) s (calls.resizeCauses K s c l) (calls.settled s (r .0) number.Refused (number.Is (r .1)))
-      (λ e. let o = opened K s (atCursor K s c ++ past K s (lengths (calls.slotAt K s c)) l ∷ []) e in settled-leaves numberAnswer number.Refused (λ n. refl) s (r .0) (number.Is (r .1)) refl (resized-left c l w (o .0) (current-of K s c (past K s (lengths (calls.slotAt K s c)) l ∷ []) (o .1))))
+      (λ e. let o = opened K s (atCursor K s c ++ past K s (lengths (calls.slotAt K s c)) l ∷ []) (few K l _ e) in settled-leaves numberAnswer number.Refused (λ n. refl) s (r .0) (number.Is (r .1)) refl (resized-left c l w (o .0) (current-of K s c (past K s (lengths (calls.slotAt K s c)) l ∷ []) (o .1))))
 
   split-leaves : (c : Cursor) (l : List ℕ) (flag : Bool) → Words K l → Leaves (dividedAnswer (calls.splitEntry K s c l flag .answer) .number) s (calls.splitEntry K s c l flag .after)
   unfolding calls.splitEntry opening
   split-leaves c l flag w = let r = place.divide (shapeOf K (s .head)) flag s (c .leaf .0) (c .slot) l in
       let a = calls.dividedAt (s .head .entries) (r .leaf) (r .slot) in
-      unless-leaves dividedAnswer divided.Refused (λ m. refl) s (opening K s ++ atCursor K s c ++ tooMuch K l (lengths (calls.slotAt K s c)) ∷ full s ∷ []) (calls.settled s r divided.Refused a)
-      (λ e. settled-leaves dividedAnswer divided.Refused (λ m. refl) s r a refl (divide-left (shapeOf K (s .head)) flag s (c .leaf .0) (c .slot) l (opened K s (atCursor K s c ++ tooMuch K l (lengths (calls.slotAt K s c)) ∷ full s ∷ []) e .0) (let z = w .long in omega arith)))
+      unless-leaves dividedAnswer divided.Refused (λ m. refl) s (calls.splitCauses K s c l) (calls.settled s r divided.Refused a)
+      (λ e. settled-leaves dividedAnswer divided.Refused (λ m. refl) s r a refl (divide-left (shapeOf K (s .head)) flag s (c .leaf .0) (c .slot) l (opened K s (atCursor K s c ++ tooMuch K l (lengths (calls.slotAt K s c)) ∷ full s ∷ []) (few K l _ e) .0) (let z = w .long in omega arith)))
 
   -- a lookup writes no area, and keeps a finger only where it finds an entry
   search-leaves : (b : Search) → Leaves (locatedAnswer (calls.bySearch s b .answer) .number) s (calls.bySearch s b .after)
@@ -360,8 +364,8 @@ module _ (K : Kind) (s : State) where
   found-leaves search.Nothing search.Broken e h k = unmoved 9 s
   found-leaves search.Broken b e h k = unmoved 9 s
 
-  look-leaves : (v x : ℕ) → Leaves (treeStep K s (row.lookup v x) .answer .number) s (treeStep K s (row.lookup v x) .after)
-  unfolding treeStep calls.locate
+  look-leaves : (v x : ℕ) → Leaves (treeMove K s (row.lookup v x) .answer .number) s (treeMove K s (row.lookup v x) .after)
+  unfolding treeMove calls.locate
   look-leaves v x =
       let h = s .head in
       by-test (λ (r : Reply Located). Leaves (byId.locatedAnswer K (r .after) (r .answer) .number) s (r .after)) (eqb (refusal (opening K s)) 0) _ _
@@ -369,21 +373,26 @@ module _ (K : Kind) (s : State) where
       (eqb-true _ _ e) (held-finds v (h .finger) x) (root-finds v x))
       (λ _. unmoved (refusal (opening K s)) s)
 
+  move-leaves : (c : Call) → InWords K c → Leaves (treeMove K s c .answer .number) s (treeMove K s c .after)
+  unfolding treeMove
+  move-leaves (row.reset l) k = reset-leaves l k
+  move-leaves (row.insert i l) k = target-leaves i (λ t. told (calls.insert K s t l) insertedAnswer) (λ t. insert-leaves t l (k .1))
+  move-leaves (row.split flag i l) k = at-leaves (calls.cursor K s i) (λ c. told (calls.splitEntry K s c l flag) byId.dividedAnswer) (λ c. rw (id-number (calls.splitEntry K s c l flag .answer)) (split-leaves c l flag (k .1)))
+  move-leaves (row.setLengths i l) k = at-leaves (calls.cursor K s i) (λ c. told (calls.setLengths K s c l) outcomeAnswer) (λ c. set-leaves c l (k .1))
+  move-leaves (row.update i l) k = at-leaves (calls.cursor K s i) (λ c. told (calls.update K s c l) numberAnswer) (λ c. update-leaves c l (k .1))
+  move-leaves (row.lookup v x) k = look-leaves v x
+  move-leaves (row.rank v i) k = at-leaves (calls.cursor K s i) _ (λ c. unmoved _ s)
+  move-leaves (row.next i) k = at-leaves (calls.cursor K s i) _ (λ c. unmoved _ s)
+  move-leaves (row.compare i j) k = at-leaves (calls.cursor K s i) _ (λ a. at-leaves (calls.cursor K s j) _ (λ b. unmoved _ s))
+  move-leaves (row.lengths i) k = at-leaves (calls.cursor K s i) _ (λ c. unmoved _ s)
+  move-leaves row.count k = unmoved _ s
+  move-leaves row.first k = unmoved _ s
+  move-leaves row.malformed k = unmoved _ s
+
+  -- 10 leaves the tree
   step-leaves : (c : Call) → InWords K c → Leaves (treeStep K s c .answer .number) s (treeStep K s c .after)
   unfolding treeStep
-  step-leaves (row.reset l) k = reset-leaves l k
-  step-leaves (row.insert i l) k = target-leaves i (λ t. told (calls.insert K s t l) insertedAnswer) (λ t. insert-leaves t l (k .1))
-  step-leaves (row.split flag i l) k = at-leaves (calls.cursor K s i) (λ c. told (calls.splitEntry K s c l flag) byId.dividedAnswer) (λ c. rw (id-number (calls.splitEntry K s c l flag .answer)) (split-leaves c l flag (k .1)))
-  step-leaves (row.setLengths i l) k = at-leaves (calls.cursor K s i) (λ c. told (calls.setLengths K s c l) outcomeAnswer) (λ c. set-leaves c l (k .1))
-  step-leaves (row.update i l) k = at-leaves (calls.cursor K s i) (λ c. told (calls.update K s c l) numberAnswer) (λ c. update-leaves c l (k .1))
-  step-leaves (row.lookup v x) k = look-leaves v x
-  step-leaves (row.rank v i) k = at-leaves (calls.cursor K s i) _ (λ c. unmoved _ s)
-  step-leaves (row.next i) k = at-leaves (calls.cursor K s i) _ (λ c. unmoved _ s)
-  step-leaves (row.compare i j) k = at-leaves (calls.cursor K s i) _ (λ a. at-leaves (calls.cursor K s j) _ (λ b. unmoved _ s))
-  step-leaves (row.lengths i) k = at-leaves (calls.cursor K s i) _ (λ c. unmoved _ s)
-  step-leaves row.count k = unmoved _ s
-  step-leaves row.first k = unmoved _ s
-  step-leaves row.malformed k = unmoved _ s
+  step-leaves c k = by-test (λ (m : Moved State). Leaves (m .answer .number) s (m .after)) (overlong K c) (row.moved s (row.refused 10)) (treeMove K s c) (λ _. unmoved 10 s) (λ _. move-leaves c k)
 
 -- all calls -------------------------------------------------------------------------------------------------------------------------------
 
@@ -402,11 +411,11 @@ refusals K s =
 
 pub make-leaves : (K : Kind) (fan limit : ℕ) (l ls xs hs : List ℕ) → Words K l → Made K fan limit l ls xs hs
 unfolding calls.make
-make-leaves K fan limit l ls xs hs w = go (eqb (refusal (calls.makeCauses K fan limit ls xs hs)) 0) refl
+make-leaves K fan limit l ls xs hs w = go (eqb (refusal (calls.makeCauses K fan limit l ls xs hs)) 0) refl
   where
-    go : (b : Bool) → eqb (refusal (calls.makeCauses K fan limit ls xs hs)) 0 ≡ b → Made K fan limit l ls xs hs
+    go : (b : Bool) → eqb (refusal (calls.makeCauses K fan limit l ls xs hs)) 0 ≡ b → Made K fan limit l ls xs hs
     go true e =
-        let b = begun-spans K (state (headOf 0 0 0 0 0 0 0 held.Absent) ls xs hs) fan limit l ls xs hs (sizes-of K fan limit ls xs hs (eqb-true _ _ e)) w in
+        let b = begun-spans K (state (headOf 0 0 0 0 0 0 0 held.Absent) ls xs hs) fan limit l ls xs hs (sizes-of K fan limit ls xs hs (few K l _ (eqb-true _ _ e))) w in
         record { refused = rw e (λ d. absurd (d refl)); leaves = rw e (b .0); inners = rw e (b .1); homes = rw e (b .2) }
     go false e = record { refused = rw e (λ d. refl); leaves = rw e refl; inners = rw e refl; homes = rw e refl }
 

@@ -9,7 +9,7 @@ use lib.Dec.{ltb, eqb}
 use lib.ListN.{length, getD, drop, set, length-map, length-drop, List·getD-eq-default}
 use lib.Seq.{take-set-le}
 use borrow.Author.Tests.{lt-ltb, le-ltb, ltb-false}
-use Rattle.model.specs.Kind.{stride, viewsOf}
+use Rattle.model.specs.Kind.{stride, viewsOf, tooManyLines}
 use Rattle.model.specs.declared.shape.Kind.{Kind}
 use Rattle.model.specs.Lists.{sumBy, some, Cause, refusal}
 use Rattle.model.specs.Node as node
@@ -19,14 +19,13 @@ use Rattle.model.specs.Climb.{climbUp}
 use Rattle.model.specs.Locate.{changing, rewound}
 use Rattle.model.specs.Place.{Change, change, withFinger, replace, climb, summed}
 use Rattle.model.specs.Row as row
-use Rattle.model.specs.Row.{Entry, entry, Answer, done, refused, unless, before, changed, rowStep}
-use Rattle.model.specs.Sound.{leafIn, innerIn, shapeIn, Sound, entriesOf}
+use Rattle.model.specs.Row.{Entry, entry, Answer, done, refused, unless, before, changed, rowMove}
+use Rattle.model.specs.Sound.{leafIn, innerIn, shapeIn, Coherent, entriesOf}
 use Rattle.model.specs.Refuse.{opening, atCursor, past, totalOf}
 use Rattle.model.specs.Calls as calls
 use Rattle.model.specs.Calls.{cursorAt, resized, resizeCauses}
-use Rattle.model.specs.ById.{told, treeStep}
+use Rattle.model.specs.ById.{told, treeMove}
 use Rattle.model.specs.Answer.{outcomeAnswer, numberAnswer}
-use Rattle.model.specs.Promise.{Stands}
 use Rattle.model.specs.declared.head.Held.{Held}
 use Rattle.model.specs.declared.head.Held.the-variants as held
 use Rattle.model.specs.declared.way.Sum.{Sum}
@@ -53,12 +52,12 @@ use Rattle.theory.specs.Neat.{Neat, Viewed, neat-of}
 use Rattle.theory.specs.Down.{body-of}
 use Rattle.theory.specs.Up.{sound-up}
 use Rattle.theory.specs.Entries.{firsts, entryFrom, total-entries, split-entries}
-use Rattle.theory.specs.Open.{passed, stopped, opens, fresh-at, Seat}
+use Rattle.theory.specs.Open.{passed, stopped, few-lines, opens, fresh-at, Seat}
 use Rattle.theory.specs.Way.{way}
 use Rattle.theory.specs.Put.{Keeps, leaf-keeps, inner-keeps, put-same, put-slots}
 use Rattle.theory.specs.Carry.{minus-at, lengths-at, lengths-tidy, lengths-slots, Up, up-of, added, Carried, climb-up}
 use Rattle.theory.specs.Read.{front-small, rank-is}
-use Rattle.theory.specs.Agree.{Agrees, rowOf, row-passed, row-stopped, own, entries-are, by-id, before-is, from-is, slot-is, total-before}
+use Rattle.theory.specs.Agree.{Agrees, Mirrors, rowOf, row-passed, row-stopped, own, entries-are, by-id, before-is, from-is, slot-is, total-before}
 
 pub viewed-changing : (s k j : ℕ) (h : Held) → Viewed s h → Viewed s (changing k j h)
 viewed-changing s k j held.Absent v = tt
@@ -80,7 +79,7 @@ ltb-same a b c d f g = go (decLt a b)
         later (yes h) = absurd (n (g h))
         later (no m) = omega arith
 
-module _ (K : Kind) (t : State) (w : Sound K t) (i : ℕ) (c : Seat K t w i) (l : List ℕ) (wl : length l ≡ K .views) where
+module _ (K : Kind) (t : State) (w : Coherent K t) (i : ℕ) (c : Seat K t w i) (l : List ℕ) (wl : length l ≡ K .views) (lines : tooManyLines K l ≡ false) where
   -- the slot, its lengths, the difference
   x : List ℕ
   x = getD (leafIn (stride K) t (c .leaf) .slots) (c .slot) []
@@ -229,15 +228,15 @@ module _ (K : Kind) (t : State) (w : Sound K t) (i : ℕ) (c : Seat K t w i) (l 
     unfolding after-row
     done-is = set-done (K .effect) (treeOf (stride K) t) (spot (treeOf (stride K) t) (c .leaf) (c .slot)) (front (c .cur)) (c .cur .e) (behind (c .cur)) (c .cur .room) new (c .cur .inside) small
 
-    sound′ : Sound K state′
+    sound′ : Coherent K state′
     sound′ = sound-up (stride K) state′ (K .effect) neat′ (subst (tree.Sound (K .effect)) (sym tree-is) (done-is .sound))
 
     entries′ : entriesOf K state′ ≡ changed i l (entriesOf K t)
     entries′ = entries-are K state′ sound′ ∙ ap (λ (T : Tree). map (entryFrom (K .views)) (tree.row T)) tree-is ∙ ap (map (entryFrom (K .views))) (done-is .is) ∙ entries-after
 
-    stands′ : Stands K state′ (row.row (t .head .limit) (changed i l (entriesOf K t)))
+    stands′ : Mirrors K state′ (row.row (t .head .limit) (changed i l (entriesOf K t)))
     unfolding state′
-    stands′ = record { sound = sound′; entries = entries′; limit = refl }
+    stands′ = record { coherent = sound′; entries = entries′; limit = refl }
 
   -- the change as the call makes it
   resized-is : resized K t (cursorAt (t .head .entries) (c .leaf) (c .slot)) l ≡ (change 0 state′ (c .leaf) (c .slot), sumBy (len (K .effect)) (front (c .cur)))
@@ -257,13 +256,14 @@ module _ (K : Kind) (t : State) (w : Sound K t) (i : ℕ) (c : Seat K t w i) (l 
   resize-causes : refusal (resizeCauses K t (cursorAt (t .head .entries) (c .leaf) (c .slot)) l) ≡ refusal (row.past K (changed i l (entriesOf K t)) ∷ [])
   unfolding refusal x
   resize-causes =
-      ap refusal (append-assoc (opening K t) (atCursor K t (cursorAt (t .head .entries) (c .leaf) (c .slot))) (past K t (lengths x) l ∷ []))
+      few-lines K l (opening K t ++ atCursor K t (cursorAt (t .head .entries) (c .leaf) (c .slot)) ++ past K t (lengths x) l ∷ []) lines
+      ∙ ap refusal (append-assoc (opening K t) (atCursor K t (cursorAt (t .head .entries) (c .leaf) (c .slot))) (past K t (lengths x) l ∷ []))
       ∙ opens K t w (atCursor K t (cursorAt (t .head .entries) (c .leaf) (c .slot)) ++ past K t (lengths x) l ∷ []) ∙ fresh-at K t w (c .leaf) (c .slot) (past K t (lengths x) l ∷ []) (c .leaf-in) (c .slot-in)
       ∙ ap (λ (b : Bool). cond b 7 0) past-is
 
   -- a call that answers A, where the row answers a
   module _ {A : Type 0} (refuse : ℕ → A) (answer : ℕ → A) (say : A → Answer) (a : Answer) (says : (n : ℕ) → say (refuse n) ≡ refused n) (right : say (answer (sumBy (len (K .effect)) (front (c .cur)))) ≡ a) where
-    resize-step : Agrees K
+    resize-step : Agrees (Mirrors K)
         (told (calls.unless (resizeCauses K t (cursorAt (t .head .entries) (c .leaf) (c .slot)) l) (λ n. calls.reply t (refuse n))
         (calls.settled t (resized K t (cursorAt (t .head .entries) (c .leaf) (c .slot)) l .0) refuse (answer (resized K t (cursorAt (t .head .entries) (c .leaf) (c .slot)) l .1)))) say)
         (unless (rowOf K t) (row.past K (changed i l (entriesOf K t)) ∷ []) (changed i l (entriesOf K t)) a)
@@ -273,7 +273,7 @@ module _ (K : Kind) (t : State) (w : Sound K t) (i : ℕ) (c : Seat K t w i) (l 
         cs : List Cause
         cs = resizeCauses K t (cursorAt (t .head .entries) (c .leaf) (c .slot)) l
 
-        go : (b : Bool) → some (λ v. ltb 4294967295 (row.total v (changed i l (entriesOf K t)))) (viewsOf K) ≡ b → Agrees K
+        go : (b : Bool) → some (λ v. ltb 4294967295 (row.total v (changed i l (entriesOf K t)))) (viewsOf K) ≡ b → Agrees (Mirrors K)
             (told (calls.unless (resizeCauses K t (cursorAt (t .head .entries) (c .leaf) (c .slot)) l) (λ n. calls.reply t (refuse n))
             (calls.settled t (resized K t (cursorAt (t .head .entries) (c .leaf) (c .slot)) l .0) refuse (answer (resized K t (cursorAt (t .head .entries) (c .leaf) (c .slot)) l .1)))) say)
             (unless (rowOf K t) (row.past K (changed i l (entriesOf K t)) ∷ []) (changed i l (entriesOf K t)) a)
@@ -293,13 +293,13 @@ module _ (K : Kind) (t : State) (w : Sound K t) (i : ℕ) (c : Seat K t w i) (l 
             )
             (record { same = right; kept = stands′ q })
 
-module _ (K : Kind) (ok : K .effect < K .views) (t : State) (w : Sound K t) where
-  pub step-set : (i : ℕ) (l : List ℕ) (wl : length l ≡ K .views) → Agrees K (treeStep K t (row.setLengths i l)) (rowStep K (rowOf K t) (row.setLengths i l))
-  unfolding treeStep rowStep calls.setLengths
-  step-set i l wl = by-id K t w i (λ c. told (calls.setLengths K t c l) outcomeAnswer) (row.past K (changed i l (entriesOf K t)) ∷ []) (changed i l (entriesOf K t)) (done [])
-      (λ c. resize-step K t w i c l wl outcome.Refused (λ n. outcome.Done) outcomeAnswer (done []) (λ n. refl) refl)
+module _ (K : Kind) (ok : K .effect < K .views) (t : State) (w : Coherent K t) where
+  pub step-set : (i : ℕ) (l : List ℕ) (wl : length l ≡ K .views) → tooManyLines K l ≡ false → Agrees (Mirrors K) (treeMove K t (row.setLengths i l)) (rowMove K (rowOf K t) (row.setLengths i l))
+  unfolding treeMove rowMove calls.setLengths
+  step-set i l wl lines = by-id K t w i (λ c. told (calls.setLengths K t c l) outcomeAnswer) (row.past K (changed i l (entriesOf K t)) ∷ []) (changed i l (entriesOf K t)) (done [])
+      (λ c. resize-step K t w i c l wl lines outcome.Refused (λ n. outcome.Done) outcomeAnswer (done []) (λ n. refl) refl)
 
-  pub step-update : (i : ℕ) (l : List ℕ) (wl : length l ≡ K .views) → Agrees K (treeStep K t (row.update i l)) (rowStep K (rowOf K t) (row.update i l))
-  unfolding treeStep rowStep calls.update
-  step-update i l wl = by-id K t w i (λ c. told (calls.update K t c l) numberAnswer) (row.past K (changed i l (entriesOf K t)) ∷ []) (changed i l (entriesOf K t)) (done (row.total (K .effect) (before i (entriesOf K t)) ∷ []))
-      (λ c. resize-step K t w i c l wl number.Refused number.Is numberAnswer (done (row.total (K .effect) (before i (entriesOf K t)) ∷ [])) (λ n. refl) (ap (λ (n : ℕ). done (n ∷ [])) (sym (total-before K t w i c (K .effect) (ok)))))
+  pub step-update : (i : ℕ) (l : List ℕ) (wl : length l ≡ K .views) → tooManyLines K l ≡ false → Agrees (Mirrors K) (treeMove K t (row.update i l)) (rowMove K (rowOf K t) (row.update i l))
+  unfolding treeMove rowMove calls.update
+  step-update i l wl lines = by-id K t w i (λ c. told (calls.update K t c l) numberAnswer) (row.past K (changed i l (entriesOf K t)) ∷ []) (changed i l (entriesOf K t)) (done (row.total (K .effect) (before i (entriesOf K t)) ∷ []))
+      (λ c. resize-step K t w i c l wl lines number.Refused number.Is numberAnswer (done (row.total (K .effect) (before i (entriesOf K t)) ∷ [])) (λ n. refl) (ap (λ (n : ℕ). done (n ∷ [])) (sym (total-before K t w i c (K .effect) (ok)))))

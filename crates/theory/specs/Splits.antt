@@ -10,7 +10,7 @@ use lib.Dec.{ltb, leb}
 use lib.ListN.{length, getD, take, drop, length-append, List·getD-eq-default}
 use lib.Seq.{drop-cons, getD-append-add, length-take-le}
 use borrow.Author.Tests.{lt-ltb, le-leb, ltb-false, leb-false}
-use Rattle.model.specs.Kind.{stride, viewsOf}
+use Rattle.model.specs.Kind.{stride, viewsOf, tooManyLines}
 use Rattle.model.specs.declared.shape.Kind.{Kind}
 use Rattle.model.specs.Lists.{sumBy, some, Cause, refusal}
 use Rattle.model.specs.Node.{Node, lengths, lengthIn, used, childSplit}
@@ -19,14 +19,13 @@ use Rattle.model.specs.Locate.{changing}
 use Rattle.model.specs.Place as place
 use Rattle.model.specs.Place.{change, enter}
 use Rattle.model.specs.Row as row
-use Rattle.model.specs.Row.{Row, Entry, entry, Answer, done, refused, Moved, moved, newEntry, unless, after, divided, rowStep}
-use Rattle.model.specs.Sound.{leafIn, shapeIn, Sound, entriesOf}
+use Rattle.model.specs.Row.{Row, Entry, entry, Answer, done, refused, Moved, moved, newEntry, unless, after, divided, rowMove}
+use Rattle.model.specs.Sound.{leafIn, shapeIn, Coherent, entriesOf}
 use Rattle.model.specs.Refuse.{opening, atCursor}
 use Rattle.model.specs.Refuse as refuse′
 use Rattle.model.specs.Calls as calls
-use Rattle.model.specs.Calls.{cursorAt, dividedAt}
-use Rattle.model.specs.ById.{told, treeStep, dividedAnswer}
-use Rattle.model.specs.Promise.{Stands}
+use Rattle.model.specs.Calls.{cursorAt, dividedAt, splitCauses}
+use Rattle.model.specs.ById.{told, treeMove, dividedAnswer}
 use Rattle.model.specs.declared.answer.Divided.{Divided}
 use Rattle.model.specs.declared.answer.Divided.the-variants as division
 use Rattle.abstract_tree.specs.Lists.{cat, sumBy-append, map-append}
@@ -48,13 +47,13 @@ use Rattle.theory.specs.Down.{body-of}
 use Rattle.theory.specs.Up.{sound-up}
 use Rattle.theory.specs.Put.{inner-keeps}
 use Rattle.theory.specs.Entries.{firsts, getD-firsts, entryFrom}
-use Rattle.theory.specs.Open.{passed, stopped, opens, fresh-at, Seat}
+use Rattle.theory.specs.Open.{passed, stopped, few-lines, opens, fresh-at, Seat}
 use Rattle.theory.specs.Carry.{slot-of, lengths-at}
 use Rattle.theory.specs.Room.{Roomed}
 use Rattle.theory.specs.Gap.{opened, leafWith, Gap, gap}
 use Rattle.theory.specs.Enter.{entered, entered-read, entered-neat, entered-tree}
 use Rattle.theory.specs.Halved.{halved-tidy, halved-parent, halved-at, halved-slots}
-use Rattle.theory.specs.Agree.{Agrees, rowOf, row-passed, row-stopped, own, entries-are, count-is, by-id, before-is, from-is, slot-is}
+use Rattle.theory.specs.Agree.{Agrees, Mirrors, rowOf, row-passed, row-stopped, own, entries-are, count-is, by-id, before-is, from-is, slot-is}
 
 -- the children of a divided entry's two parts
 first-part : (flag : Bool) (e : Slot) (u : ℕ → ℕ) (n : ℕ) (S : List Slot) → getD (ops.divided flag e u n S) 0 noSlot .child ≡ cond flag n (e .child)
@@ -71,14 +70,14 @@ two-parts false e u n S = omega arith
 
 -- a sound state in which a divided entry's parts stand in slot j of leaf k and in the slot after it; n is the new id
 pub record TwoParts (K : Kind) (flag : Bool) (i n : ℕ) (s : State) (k j : ℕ) : Type 0 where
-  pub sound : Sound K s
+  pub sound : Coherent K s
   pub count : s .head .entries ≡ n + 1
   pub leaf-in : k < s .head .leaves
   pub slot-in : j + 1 < leafIn (stride K) s k .len
   pub first : slotAt (treeOf (stride K) s) k j .child ≡ cond flag n i
   pub second : slotAt (treeOf (stride K) s) k (j + 1) .child ≡ cond flag i n
 
-module _ (K : Kind) (t : State) (w : Sound K t) (i : ℕ) (c : Seat K t w i) (l : List ℕ) (wl : length l ≡ K .views) (flag : Bool) where
+module _ (K : Kind) (t : State) (w : Coherent K t) (i : ℕ) (c : Seat K t w i) (l : List ℕ) (wl : length l ≡ K .views) (lines : tooManyLines K l ≡ false) (flag : Bool) where
   abbrev new : ℕ → ℕ
   new u = getD l u 0
 
@@ -159,7 +158,7 @@ module _ (K : Kind) (t : State) (w : Sound K t) (i : ℕ) (c : Seat K t w i) (l 
     done-is : Done (K .effect) (spot (treeOf (stride K) t₁) (q .leaf) (q .slot)) R₁ (divideIn flag (treeOf (stride K) t₁) (q .leaf) (q .slot) new) (R₁ ++ ops.divided flag e new (t .head .entries) R₃)
     done-is = divide-done (K .effect) flag (treeOf (stride K) t) (spot (treeOf (stride K) t₁) (q .leaf) (q .slot)) R₁ e R₃ (gp .made .room) new ins (gp .made .space) few enough
 
-    sound₃ : Sound K t₃
+    sound₃ : Coherent K t₃
     unfolding t₃
     sound₃ = sound-up (stride K) t₃ (K .effect) (entered-neat (stride K) (omega arith) t₁ (q .neat) (q .leaf) (q .slot) (gp .leaf-in) m₂ td₂ pa at few (q .xs) (inner-keeps (stride K) t₁ (q .neat))) (subst (tree.Sound (K .effect)) (sym tree-is) (done-is .sound))
 
@@ -217,9 +216,9 @@ module _ (K : Kind) (t : State) (w : Sound K t) (i : ℕ) (c : Seat K t w i) (l 
           second = ap (λ (z : Slot). z .child) (at 1) ∙ second-part flag y new (t .head .entries) S ∙ ap (λ (k : ℕ). cond flag k (t .head .entries)) own;
         }
 
-    stands₃ : Stands K t₃ (row.row (t .head .limit) (divided flag i (newEntry (rowOf K t) l) (entriesOf K t)))
+    stands₃ : Mirrors K t₃ (row.row (t .head .limit) (divided flag i (newEntry (rowOf K t) l) (entriesOf K t)))
     unfolding t₃
-    stands₃ = record { sound = sound₃; entries = entries₃; limit = refl }
+    stands₃ = record { coherent = sound₃; entries = entries₃; limit = refl }
 
   -- the causes of both
   abbrev short : Bool
@@ -240,7 +239,7 @@ module _ (K : Kind) (t : State) (w : Sound K t) (i : ℕ) (c : Seat K t w i) (l 
       go (no ge) = (let z : getD l v 0 ≡ 0 = List·getD-eq-default l 0 {n = v} (omega arith) in omega arith)
 
   abbrev causes : List Cause
-  causes = (opening K t ++ atCursor K t (cursorAt (t .head .entries) (c .leaf) (c .slot))) ++ refuse′.tooMuch K l (lengths (getD (leafIn (stride K) t (c .leaf) .slots) (c .slot) [])) ∷ refuse′.full t ∷ []
+  causes = splitCauses K t (cursorAt (t .head .entries) (c .leaf) (c .slot)) l
 
   abbrev rowCauses : List Cause
   rowCauses = row.tooMuch K l (row.lengthsOf i (entriesOf K t)) ∷ row.full (rowOf K t) ∷ []
@@ -248,7 +247,8 @@ module _ (K : Kind) (t : State) (w : Sound K t) (i : ℕ) (c : Seat K t w i) (l 
   both-causes : refusal causes ≡ refusal rowCauses
   unfolding refusal
   both-causes =
-      ap refusal (append-assoc (opening K t) (atCursor K t (cursorAt (t .head .entries) (c .leaf) (c .slot))) (refuse′.tooMuch K l (lengths (getD (leafIn (stride K) t (c .leaf) .slots) (c .slot) [])) ∷ refuse′.full t ∷ []))
+      few-lines K l (opening K t ++ atCursor K t (cursorAt (t .head .entries) (c .leaf) (c .slot)) ++ refuse′.tooMuch K l (lengths (getD (leafIn (stride K) t (c .leaf) .slots) (c .slot) [])) ∷ refuse′.full t ∷ []) lines
+      ∙ ap refusal (append-assoc (opening K t) (atCursor K t (cursorAt (t .head .entries) (c .leaf) (c .slot))) (refuse′.tooMuch K l (lengths (getD (leafIn (stride K) t (c .leaf) .slots) (c .slot) [])) ∷ refuse′.full t ∷ []))
       ∙ opens K t w (atCursor K t (cursorAt (t .head .entries) (c .leaf) (c .slot)) ++ refuse′.tooMuch K l (lengths (getD (leafIn (stride K) t (c .leaf) .slots) (c .slot) [])) ∷ refuse′.full t ∷ [])
       ∙ fresh-at K t w (c .leaf) (c .slot) (refuse′.tooMuch K l (lengths (getD (leafIn (stride K) t (c .leaf) .slots) (c .slot) [])) ∷ refuse′.full t ∷ []) (c .leaf-in) (c .slot-in)
       ∙ ap₂ (λ (a b : Bool). cond a 6 (cond b 8 0)) short-is (ap (leb (t .head .limit)) (sym (count-is K t w)))
@@ -261,7 +261,7 @@ module _ (K : Kind) (t : State) (w : Sound K t) (i : ℕ) (c : Seat K t w i) (l 
 
   -- where both stop at the same number, or the entry is parted and the state stands for the row
   pub split-by : (P : calls.Reply Divided → Moved Row → Type 0) → ((n : ℕ) → P (calls.reply t (division.Refused n)) (moved (rowOf K t) (refused n)))
-      → ((s : State) (k j : ℕ) → TwoParts K flag i (t .head .entries) s k j → Stands K s (row.row (t .head .limit) entries′)
+      → ((s : State) (k j : ℕ) → TwoParts K flag i (t .head .entries) s k j → Mirrors K s (row.row (t .head .limit) entries′)
       → P (calls.reply s (dividedAt (t .head .entries) k j)) (moved (row.row (t .head .limit) entries′) rowAnswer))
       → P (calls.splitEntry K t (cursorAt (t .head .entries) (c .leaf) (c .slot)) l flag) (unless (rowOf K t) rowCauses entries′ rowAnswer)
   unfolding refusal calls.splitEntry
@@ -286,7 +286,7 @@ module _ (K : Kind) (t : State) (w : Sound K t) (i : ℕ) (c : Seat K t w i) (l 
           rw (passed causes refuse answered (both-causes ∙ z), row-passed (rowOf K t) rowCauses entries′ rowAnswer z, divide-is (enough-of e′) few)
           (parting (t₃ (enough-of e′) few) (q (enough-of e′) few .leaf) (q (enough-of e′) few .slot) (parted₃ (enough-of e′) few) (stands₃ (enough-of e′) few))
 
-pub step-split : (K : Kind) (t : State) (w : Sound K t) (flag : Bool) (i : ℕ) (l : List ℕ) (wl : length l ≡ K .views) → Agrees K (treeStep K t (row.split flag i l)) (rowStep K (rowOf K t) (row.split flag i l))
-unfolding treeStep rowStep
-step-split K t w flag i l wl = by-id K t w i (λ c. told (calls.splitEntry K t c l flag) dividedAnswer) (row.tooMuch K l (row.lengthsOf i (entriesOf K t)) ∷ row.full (rowOf K t) ∷ []) (divided flag i (newEntry (rowOf K t) l) (entriesOf K t)) (done (length (entriesOf K t) ∷ []))
-    (λ c. split-by K t w i c l wl flag (λ m n. Agrees K (told m dividedAnswer) n) (λ n. record { same = refl; kept = own K t w }) (λ s k j p h. record { same = ap (λ (n : ℕ). done (n ∷ [])) (sym (count-is K t w)); kept = h }))
+pub step-split : (K : Kind) (t : State) (w : Coherent K t) (flag : Bool) (i : ℕ) (l : List ℕ) (wl : length l ≡ K .views) → tooManyLines K l ≡ false → Agrees (Mirrors K) (treeMove K t (row.split flag i l)) (rowMove K (rowOf K t) (row.split flag i l))
+unfolding treeMove rowMove
+step-split K t w flag i l wl lines = by-id K t w i (λ c. told (calls.splitEntry K t c l flag) dividedAnswer) (row.tooMuch K l (row.lengthsOf i (entriesOf K t)) ∷ row.full (rowOf K t) ∷ []) (divided flag i (newEntry (rowOf K t) l) (entriesOf K t)) (done (length (entriesOf K t) ∷ []))
+    (λ c. split-by K t w i c l wl lines flag (λ m n. Agrees (Mirrors K) (told m dividedAnswer) n) (λ n. record { same = refl; kept = own K t w }) (λ s k j p h. record { same = ap (λ (n : ℕ). done (n ∷ [])) (sym (count-is K t w)); kept = h }))

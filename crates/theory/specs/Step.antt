@@ -1,14 +1,17 @@
--- Every call of a list, on a sound state: its answer is the row's, and what it leaves is sound and stands for what the row becomes.
-use mathlib.Core.Path.{refl, ap₂, subst}
+-- Every call of a list, on a sound state: its answer is the row's, and what it leaves is sound and stands for what the row becomes. A call that gives
+-- too many line ends changes neither; any other leaves a coherent state with the row's entries, none of which has too many.
+use mathlib.Core.Path.{_≡_, refl, ap₂, subst}
+use mathlib.Core.Bool.{Bool, true, false, cond}
 use Prim.Native.Nat.{ℕ, _<_}
 use Rattle.model.specs.declared.shape.Kind.{Kind}
 use Rattle.model.specs.State.{State}
 use Rattle.model.specs.Row as row
-use Rattle.model.specs.Row.{Row, Call, rowStep}
-use Rattle.model.specs.ById.{treeStep}
-use Rattle.model.specs.Sound.{Sound}
+use Rattle.model.specs.Row.{Row, Call, moved, refused, overlong, rowMove, rowStep}
+use Rattle.model.specs.ById.{treeMove, treeStep}
+use Rattle.model.specs.Sound.{Coherent}
 use Rattle.model.specs.Promise.{InWords, Stands}
-use Rattle.theory.specs.Agree.{Agrees, rowOf, own}
+use Rattle.theory.specs.Agree.{Agrees, Mirrors, rowOf, own}
+use Rattle.theory.specs.Lines.{move-few, stands-few, stands-of}
 use Rattle.theory.specs.Make.{step-reset}
 use Rattle.theory.specs.Read.{step-count, step-lengths, step-rank, step-first, step-next}
 use Rattle.theory.specs.Compare.{step-compare}
@@ -17,21 +20,28 @@ use Rattle.theory.specs.Resize.{step-set, step-update}
 use Rattle.theory.specs.Inserts.{step-insert}
 use Rattle.theory.specs.Splits.{step-split}
 
-own-step : (K : Kind) (ok : K .effect < K .views) (t : State) → Sound K t → (c : Call) → InWords K c → Agrees K (treeStep K t c) (rowStep K (rowOf K t) c)
-unfolding treeStep rowStep
-own-step K ok t w (row.reset l) h = step-reset K t w l h
-own-step K ok t w (row.insert i l) h = step-insert K ok t w i l (h .1 .long)
-own-step K ok t w (row.split flag i l) h = step-split K t w flag i l (h .1 .long)
-own-step K ok t w (row.setLengths i l) h = step-set K ok t w i l (h .1 .long)
-own-step K ok t w (row.update i l) h = step-update K ok t w i l (h .1 .long)
-own-step K ok t w (row.lookup v x) h = step-lookup K ok t w v (h .0) x
-own-step K ok t w (row.rank v i) h = step-rank K t w v (h .0) i
-own-step K ok t w (row.next i) h = step-next K t w i
-own-step K ok t w (row.compare i j) h = step-compare K t w i j
-own-step K ok t w (row.lengths i) h = step-lengths K t w i
-own-step K ok t w row.count h = step-count K t w
-own-step K ok t w row.first h = step-first K t w
-own-step K ok t w row.malformed h = record { same = refl; kept = own K t w }
+own-step : (K : Kind) (ok : K .effect < K .views) (t : State) → Coherent K t → (c : Call) → overlong K c ≡ false → InWords K c → Agrees (Mirrors K) (treeMove K t c) (rowMove K (rowOf K t) c)
+unfolding treeMove rowMove
+own-step K ok t w (row.reset l) o h = step-reset K t w l h o
+own-step K ok t w (row.insert i l) o h = step-insert K ok t w i l (h .1 .long) o
+own-step K ok t w (row.split flag i l) o h = step-split K t w flag i l (h .1 .long) o
+own-step K ok t w (row.setLengths i l) o h = step-set K ok t w i l (h .1 .long) o
+own-step K ok t w (row.update i l) o h = step-update K ok t w i l (h .1 .long) o
+own-step K ok t w (row.lookup v x) o h = step-lookup K ok t w v (h .0) x
+own-step K ok t w (row.rank v i) o h = step-rank K t w v (h .0) i
+own-step K ok t w (row.next i) o h = step-next K t w i
+own-step K ok t w (row.compare i j) o h = step-compare K t w i j
+own-step K ok t w (row.lengths i) o h = step-lengths K t w i
+own-step K ok t w row.count o h = step-count K t w
+own-step K ok t w row.first o h = step-first K t w
+own-step K ok t w row.malformed o h = record { same = refl; kept = own K t w }
 
-pub step : (K : Kind) (ok : K .effect < K .views) (t : State) (r : Row) → Stands K t r → (c : Call) → InWords K c → Agrees K (treeStep K t c) (rowStep K r c)
-step K ok t r h c k = subst (λ (q : Row). Agrees K (treeStep K t c) (rowStep K q c)) (ap₂ row.row (h .limit) (h .entries)) (own-step K ok t (h .sound) c k)
+pub step : (K : Kind) (ok : K .effect < K .views) (t : State) (r : Row) → Stands K t r → (c : Call) → InWords K c → Agrees (Stands K) (treeStep K t c) (rowStep K r c)
+unfolding treeStep rowStep
+step K ok t r h c k = go (overlong K c) refl
+  where
+    go : (b : Bool) → overlong K c ≡ b → Agrees (Stands K) (cond b (moved t (refused 10)) (treeMove K t c)) (cond b (moved r (refused 10)) (rowMove K r c))
+    go true o = record { same = refl; kept = h }
+    go false o =
+        let a : Agrees (Mirrors K) (treeMove K t c) (rowMove K r c) = subst (λ (q : Row). Agrees (Mirrors K) (treeMove K t c) (rowMove K q c)) (ap₂ row.row (h .limit) (h .entries)) (own-step K ok t (h .sound .coherent) c o k) in
+        record { same = a .same; kept = stands-of K (treeMove K t c .after) (rowMove K r c .after) (a .kept) (move-few K r c o (stands-few K t r h)) }

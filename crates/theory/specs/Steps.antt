@@ -33,7 +33,8 @@ module _ (K : Kind) (t : State) where
       h .levels + 1 + (h .fan - n .len) + 2
       + cond (leb (n .len) (h .fan)) (sumBy (stepsChild (cond lowest (leafIn (stride K) t) (innerIn (stride K) t)) (cond lowest (h .leaves) (h .inners)) k) (range 0 (n .len))) 0
 
-  -- unused slots, the link to the parent and the slot there, depth by climbing, then each slot in use, its home and the ids before it
+  -- unused slots, the link to the parent and the slot there, depth by climbing, then each slot in use (its id and its line ends), its home and the ids before
+  -- it
   unfoldable pub stepsLeaf : ℕ → ℕ
   stepsLeaf k =
       let h = t .head in

@@ -14,7 +14,7 @@ use Rattle.model.specs.Lists.{All, sumBy, range}
 use Rattle.model.specs.Node as node
 use Rattle.model.specs.Node.{Node, child, used, half}
 use Rattle.model.specs.State.{State}
-use Rattle.model.specs.Sound.{leafIn, innerIn, level, innersReached, leavesReached, slotsIn, below, Child, Filled, leastLeaf, leastInner, SoundAt, FingerRight, Once, until}
+use Rattle.model.specs.Sound.{leafIn, innerIn, level, innersReached, leavesReached, slotsIn, below, Child, Filled, leastLeaf, leastInner, CoherentAt, FingerRight, Once, until}
 use Rattle.model.specs.declared.head.Held.{Held}
 use Rattle.model.specs.declared.head.Held.the-variants as held
 use Rattle.abstract_tree.specs.Lists.{cat, NoDup, All-map, All-map₂, Pairs-append, All-cat}
@@ -171,7 +171,7 @@ module _ (s : ℕ) (t : State) (e : ℕ) (n : Neat s t) (b : Body (treeOf s t)) 
     prepareWithin = r .prepareWithin ∙ sym (sum-take 0 (f .slot) (used (leafIn s t (f .leaf))));
   }
 
-pub sound-up : (s : ℕ) (t : State) (e : ℕ) → Neat s t → tree.Sound e (treeOf s t) → SoundAt s t e
+pub sound-up : (s : ℕ) (t : State) (e : ℕ) → Neat s t → tree.Sound e (treeOf s t) → CoherentAt s t e
 sound-up s t e n so =
     let b : Body (treeOf s t) = so .body in
     record {

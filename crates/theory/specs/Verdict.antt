@@ -15,7 +15,7 @@ use Rattle.model.specs.Lists.{sumBy, range}
 use Rattle.model.specs.Node as node
 use Rattle.model.specs.Node.{Node, none, child, used, half}
 use Rattle.model.specs.State.{State}
-use Rattle.model.specs.Sound.{shapeIn, leafIn, innerIn, leastInner, Sound}
+use Rattle.model.specs.Sound.{shapeIn, leafIn, innerIn, leastInner, Coherent}
 use Rattle.model.specs.Climb.{rankUp}
 use Rattle.model.specs.Audit.{depth, depthOf}
 use Rattle.model.specs.declared.head.Held.{Held}
@@ -251,5 +251,5 @@ module _ (K : Kind) (t : State) (z : Sizes K (t .head .fan) (t .head .limit) (t 
         prepareWithin = r .prepareWithin ∙ start-at (stride K) (t .head .fan) 0 (g .slot) (leafIn (stride K) t k) td (omega arith);
       }
 
-  pub facts-sound : Sound K t
+  pub facts-sound : Coherent K t
   facts-sound = sound-up (stride K) t (K .effect) neat (record { body = body; finger = right (t .head .finger) (f .finger) })

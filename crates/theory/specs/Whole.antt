@@ -7,16 +7,16 @@ use Prim.Native.Nat.{ℕ, zero, suc, _*_, _^_, _≤_, _<_}
 use native.Mathlib.Omega.{arith}
 use lib.ListN.{length}
 use lib.Dec.{eqb}
-use Rattle.model.specs.Kind.{stride}
+use Rattle.model.specs.Kind.{stride, tooManyLines}
 use Rattle.model.specs.declared.shape.Kind.{Kind}
 use Rattle.model.specs.Lists.{All, Cause, refusal}
 use Rattle.model.specs.Node.{half}
 use Rattle.model.specs.State.{State, state, headOf}
 use Rattle.model.specs.Row as row
-use Rattle.model.specs.Row.{Row, Call, Answer, done, refused, moved, unless, madeRow, rowStep}
+use Rattle.model.specs.Row.{Row, Call, Answer, done, refused, moved, unless, madeRow, rowMove, rowStep}
 use Rattle.model.specs.ById.{treeStep}
 use Rattle.model.specs.Calls as calls
-use Rattle.model.specs.Calls.{make, begun, makeCauses}
+use Rattle.model.specs.Calls.{make, begun, areaCauses, makeCauses}
 use Rattle.model.specs.Promise.{Words, InWords, answers, finally, isLookup, others, otherAnswers, Stands, Kept, Along, Demand3}
 use Rattle.model.specs.declared.head.Held.the-variants as held
 use Rattle.model.specs.declared.answer.Outcome.{Outcome}
@@ -24,24 +24,25 @@ use Rattle.model.specs.declared.answer.Outcome.the-variants as outcome
 use Rattle.abstract_tree.specs.Follows.{levels-most, entry-floor}
 use Rattle.theory.specs.Tree.{treeOf}
 use Rattle.theory.specs.Down.{body-of}
-use Rattle.theory.specs.Open.{passed, stopped}
+use Rattle.theory.specs.Open.{passed, stopped, clear}
 use Rattle.theory.specs.Agree.{Agrees, count-is}
 use Rattle.theory.specs.Make.{sizes-of, begun-stands}
+use Rattle.theory.specs.Lines.{stands-of}
 use Rattle.theory.specs.Step.{step}
 use Rattle.theory.specs.Numbers.{numbers-are}
 use Rattle.theory.specs.Fixed.{step-fixed}
 
 pub kept-of : (K : Kind) (ok : K .effect < K .views) (fan : ℕ) (s : State) (r : Row) → Stands K s r → s .head .fan ≡ fan → Kept K fan s r
 kept-of K ok fan s r h f =
-    let n : s .head .entries ≡ length (r .entries) = sym (count-is K s (h .sound)) ∙ ap length (h .entries) in
-    let b = body-of (stride K) s (K .effect) (h .sound) in
+    let n : s .head .entries ≡ length (r .entries) = sym (count-is K s (h .sound .coherent)) ∙ ap length (h .entries) in
+    let b = body-of (stride K) s (K .effect) (h .sound .coherent) in
     record {
       sound = h .sound;
       entries = h .entries;
       fan-is = f;
       limit = h .limit;
       count = n;
-      within = (let z = h .sound .entry-count in let y = h .limit in omega arith);
+      within = (let z = h .sound .coherent .entry-count in let y = h .limit in omega arith);
       levels = levels-most (treeOf (stride K) s) b;
       floor = λ two. subst (λ (m : ℕ). 2 * half m ^ s .head .levels ≤ length (r .entries)) f (let z = entry-floor (treeOf (stride K) s) b two in omega arith);
       numbers = numbers-are K ok s r h;
@@ -60,7 +61,7 @@ unless-keeps r cs a = go (eqb (refusal cs) 0)
     go false = refl
 
 lookup-keeps : (K : Kind) (r : Row) (c : Call) → isLookup c ≡ true → rowStep K r c .after ≡ r
-unfolding rowStep
+unfolding rowMove rowStep
 lookup-keeps K r (row.lookup v x) e = unless-keeps r (row.noSuchPosition r v x ∷ []) (done (row.found K v x 0 0 0 (r .entries)))
 lookup-keeps K r (row.reset l) e = absurd (never e)
 lookup-keeps K r (row.insert i l) e = absurd (never e)
@@ -79,7 +80,7 @@ pub runs-alike : (K : Kind) (ok : K .effect < K .views) (s : State) (r : Row) (c
 unfolding answers finally All
 runs-alike K ok s r [] h k = (refl, h)
 runs-alike K ok s r (c ∷ cs) h k =
-    let a : Agrees K (treeStep K s c) (rowStep K r c) = step K ok s r h c (k .0) in
+    let a : Agrees (Stands K) (treeStep K s c) (rowStep K r c) = step K ok s r h c (k .0) in
     let i = runs-alike K ok (treeStep K s c .after) (rowStep K r c .after) cs (a .kept) (k .1) in
     (ap₂ _∷_ (a .same) (i .0), i .1)
 
@@ -87,14 +88,14 @@ along : (K : Kind) (ok : K .effect < K .views) (fan : ℕ) (s : State) (r : Row)
 unfolding Along All
 along K ok fan s r [] h f k = kept-of K ok fan s r h f
 along K ok fan s r (c ∷ cs) h f k =
-    let a : Agrees K (treeStep K s c) (rowStep K r c) = step K ok s r h c (k .0) in
+    let a : Agrees (Stands K) (treeStep K s c) (rowStep K r c) = step K ok s r h c (k .0) in
     (kept-of K ok fan s r h f, a .same, along K ok fan (treeStep K s c .after) (rowStep K r c .after) cs (a .kept) (step-fixed K s c .fan ∙ f) (k .1))
 
 others-alike : (K : Kind) (ok : K .effect < K .views) (s : State) (r : Row) (cs : List Call) → Stands K s r → All (InWords K) cs → otherAnswers (treeStep K) s cs ≡ answers (rowStep K) r (others cs)
 unfolding answers otherAnswers others All
 others-alike K ok s r [] h k = refl
 others-alike K ok s r (c ∷ cs) h k =
-    let a : Agrees K (treeStep K s c) (rowStep K r c) = step K ok s r h c (k .0) in
+    let a : Agrees (Stands K) (treeStep K s c) (rowStep K r c) = step K ok s r h c (k .0) in
     other (isLookup c) refl (a .same) (others-alike K ok (treeStep K s c .after) (rowStep K r c .after) cs (a .kept) (k .1))
   where
     other : (b : Bool) → isLookup c ≡ b → treeStep K s c .answer ≡ rowStep K r c .answer → otherAnswers (treeStep K) (treeStep K s c .after) cs ≡ answers (rowStep K) (rowStep K r c .after) (others cs)
@@ -110,23 +111,26 @@ fan-kept K s (c ∷ cs) = fan-kept K (treeStep K s c .after) cs ∙ step-fixed K
 
 -- make, not refused
 module _ (K : Kind) (ok : K .effect < K .views) (fan limit : ℕ) (l : List ℕ) (ls xs hs : List ℕ) (small : Words K l) (given : make K fan limit l ls xs hs .answer ≡ outcome.Done) where
-  not-refused : refusal (makeCauses K fan limit ls xs hs) ≡ 0
+  not-refused : refusal (makeCauses K fan limit l ls xs hs) ≡ 0
   unfolding make
-  not-refused = go (refusal (makeCauses K fan limit ls xs hs)) refl
+  not-refused = go (refusal (makeCauses K fan limit l ls xs hs)) refl
     where
-      go : (n : ℕ) → refusal (makeCauses K fan limit ls xs hs) ≡ n → refusal (makeCauses K fan limit ls xs hs) ≡ 0
+      go : (n : ℕ) → refusal (makeCauses K fan limit l ls xs hs) ≡ n → refusal (makeCauses K fan limit l ls xs hs) ≡ 0
       go zero e = e
-      go (suc n) e = absurd (let q : outcome.Refused (suc n) ≡ outcome.Done = sym (ap (λ (r : calls.Reply Outcome). r .answer) (stopped (makeCauses K fan limit ls xs hs) (λ n. calls.reply (state (headOf 0 0 0 0 0 0 0 held.Absent) ls xs hs) (outcome.Refused n)) (calls.reply (begun K fan limit l ls xs hs) outcome.Done) n e)) ∙ given in
+      go (suc n) e = absurd (let q : outcome.Refused (suc n) ≡ outcome.Done = sym (ap (λ (r : calls.Reply Outcome). r .answer) (stopped (makeCauses K fan limit l ls xs hs) (λ n. calls.reply (state (headOf 0 0 0 0 0 0 0 held.Absent) ls xs hs) (outcome.Refused n)) (calls.reply (begun K fan limit l ls xs hs) outcome.Done) n e)) ∙ given in
           let z : _≡_ {A = ℕ} 0 1 = cc in omega arith)
 
+  passes : (tooManyLines K l ≡ false) × (refusal (areaCauses K fan limit ls xs hs) ≡ 0)
+  passes = clear 10 (tooManyLines K l) (areaCauses K fan limit ls xs hs) (λ z. omega arith) not-refused
+
   pub made : Stands K (make K fan limit l ls xs hs .after) (madeRow limit l)
-  unfolding make
-  made = subst (λ (r : calls.Reply Outcome). Stands K (r .after) (madeRow limit l)) (sym (passed (makeCauses K fan limit ls xs hs) (λ n. calls.reply (state (headOf 0 0 0 0 0 0 0 held.Absent) ls xs hs) (outcome.Refused n)) (calls.reply (begun K fan limit l ls xs hs) outcome.Done) not-refused))
-      (begun-stands K fan limit l ls xs hs (sizes-of K fan limit ls xs hs not-refused) small)
+  unfolding make All
+  made = subst (λ (r : calls.Reply Outcome). Stands K (r .after) (madeRow limit l)) (sym (passed (makeCauses K fan limit l ls xs hs) (λ n. calls.reply (state (headOf 0 0 0 0 0 0 0 held.Absent) ls xs hs) (outcome.Refused n)) (calls.reply (begun K fan limit l ls xs hs) outcome.Done) not-refused))
+      (stands-of K (begun K fan limit l ls xs hs) (madeRow limit l) (begun-stands K fan limit l ls xs hs (sizes-of K fan limit ls xs hs (passes .1)) small) (passes .0, tt))
 
   pub fan-made : make K fan limit l ls xs hs .after .head .fan ≡ fan
   unfolding make begun
-  fan-made = ap (λ (r : calls.Reply Outcome). r .after .head .fan) (passed (makeCauses K fan limit ls xs hs) (λ n. calls.reply (state (headOf 0 0 0 0 0 0 0 held.Absent) ls xs hs) (outcome.Refused n)) (calls.reply (begun K fan limit l ls xs hs) outcome.Done) not-refused)
+  fan-made = ap (λ (r : calls.Reply Outcome). r .after .head .fan) (passed (makeCauses K fan limit l ls xs hs) (λ n. calls.reply (state (headOf 0 0 0 0 0 0 0 held.Absent) ls xs hs) (outcome.Refused n)) (calls.reply (begun K fan limit l ls xs hs) outcome.Done) not-refused)
 
   -- every list of calls: the answers are the row's, and the state left is kept
   pub whole : (cs : List Call) → All (InWords K) cs

@@ -9,12 +9,13 @@ use native.Mathlib.Omega.{arith}
 use lib.Dec.{eqb, leb}
 use lib.ListN.{length}
 use borrow.Author.Tests.{ne-eqb}
+use Rattle.model.specs.Kind.{tooManyLines}
 use Rattle.model.specs.declared.shape.Kind.{Kind}
 use Rattle.model.specs.Lists.{All, refusal}
 use Rattle.model.specs.State.{State}
 use Rattle.model.specs.Row as row
 use Rattle.model.specs.Row.{Row, Answer}
-use Rattle.model.specs.Sound.{Sound}
+use Rattle.model.specs.Sound.{Coherent}
 use Rattle.model.specs.Refuse.{stale, current}
 use Rattle.model.specs.Calls as calls
 use Rattle.model.specs.Calls.{make}
@@ -53,7 +54,7 @@ entry-nine K r (by.self i) k e = go (leb (length (r .entries)) i) refl
 entry-nine K r by.isEmpty k e = omega arith
 entry-nine K r (by.failed n) k e = k e
 
-module _ (K : Kind) (ok : K .effect < K .views) (s : State) (w : Sound K s) where
+module _ (K : Kind) (ok : K .effect < K .views) (s : State) (w : Coherent K s) where
   one-nine : (c : Cursor) (f : ℕ → EntryCall) → ((i : ℕ) → NotNine (f i)) → NotNine (by.standing K s c f)
   unfolding by.standing NotNine
   one-nine c f h = go (which K s w c)
@@ -62,14 +63,22 @@ module _ (K : Kind) (ok : K .effect < K .views) (s : State) (w : Sound K s) wher
       go (inl q) = rw (q .1) (h (entryAt K s c))
       go (inr f) = rw (ne-eqb (refusal (stale K s c)) 0 (λ z. fails-not K s w c (refusal (stale K s c)) 0 f (omega arith) (λ y. omega arith) (sym z))) (λ z. fails-not K s w c (refusal (stale K s c)) 9 f (omega arith) (λ y. omega arith) (sym z))
 
+  lines-nine : (l : List ℕ) (c : Cursor) (f : ℕ → EntryCall) → ((i : ℕ) → NotNine (f i)) → NotNine (by.standingFor K s l c f)
+  unfolding by.standingFor
+  lines-nine l c f h = go (tooManyLines K l)
+    where
+      go : (b : Bool) → NotNine (cond b (f (entryAt K s c)) (by.standing K s c f))
+      go true = h (entryAt K s c)
+      go false = one-nine c f h
+
   meant-nine : (c : CursorCall) → NotNine (meant K s c)
   unfolding meant NotNine
   meant-nine (by.reset l) = tt
-  meant-nine (by.insert (target.Before c) l) = one-nine c (λ i. by.plain (row.insert i l)) (λ i. tt)
+  meant-nine (by.insert (target.Before c) l) = lines-nine l c (λ i. by.plain (row.insert i l)) (λ i. tt)
   meant-nine (by.insert target.End l) = tt
-  meant-nine (by.split flag c l) = one-nine c (λ i. by.parts flag i l) (λ i. tt)
-  meant-nine (by.setLengths c l) = one-nine c (λ i. by.plain (row.setLengths i l)) (λ i. tt)
-  meant-nine (by.update c l) = one-nine c (λ i. by.plain (row.update i l)) (λ i. tt)
+  meant-nine (by.split flag c l) = lines-nine l c (λ i. by.parts flag i l) (λ i. tt)
+  meant-nine (by.setLengths c l) = lines-nine l c (λ i. by.plain (row.setLengths i l)) (λ i. tt)
+  meant-nine (by.update c l) = lines-nine l c (λ i. by.plain (row.update i l)) (λ i. tt)
   meant-nine (by.locate v x) = tt
   meant-nine (by.select v x) = tt
   meant-nine (by.rank v c) = one-nine c (λ i. by.plain (row.rank v i)) (λ i. tt)
@@ -110,15 +119,15 @@ module _ (K : Kind) (ok : K .effect < K .views) where
   unfolding answers meantAll All
   cursors-alike s r [] h k = refl
   cursors-alike s r (c ∷ cs) h k =
-      let a : Agrees K (cursorStep K s c) (entryStep K r (meant K s c)) = cursor-step K ok s (h .sound) r h c (k .0) in
+      let a : Agrees (Stands K) (cursorStep K s c) (entryStep K r (meant K s c)) = cursor-step K ok s (h .sound .coherent) r h c (k .0) in
       ap₂ _∷_ (a .same) (cursors-alike (cursorStep K s c .after) (entryStep K r (meant K s c) .after) cs (a .kept) (k .1))
 
   along-cursors : (fan : ℕ) (s : State) (r : Row) (cs : List CursorCall) → Stands K s r → s .head .fan ≡ fan → All (CursorInWords K) cs → AlongCursors K fan s r cs
   unfolding AlongCursors All
   along-cursors fan s r [] h f k = kept-of K ok fan s r h f
   along-cursors fan s r (c ∷ cs) h f k =
-      let a : Agrees K (cursorStep K s c) (entryStep K r (meant K s c)) = cursor-step K ok s (h .sound) r h c (k .0) in
-      (kept-of K ok fan s r h f, a .same, never-nine K ok s (h .sound) r h c (k .0), along-cursors fan (cursorStep K s c .after) (entryStep K r (meant K s c) .after) cs (a .kept) (cursor-fixed K s c ∙ f) (k .1))
+      let a : Agrees (Stands K) (cursorStep K s c) (entryStep K r (meant K s c)) = cursor-step K ok s (h .sound .coherent) r h c (k .0) in
+      (kept-of K ok fan s r h f, a .same, never-nine K ok s (h .sound .coherent) r h c (k .0), along-cursors fan (cursorStep K s c .after) (entryStep K r (meant K s c) .after) cs (a .kept) (cursor-fixed K s c ∙ f) (k .1))
 
 -- the whole list, from a make that isn't refused
 pub demand3-by-cursor : (K : Kind) → K .effect < K .views → (fan limit : ℕ) (l ls xs hs : List ℕ) → Words K l → make K fan limit l ls xs hs .answer ≡ outcome.Done → Demand3ByCursor K fan limit l ls xs hs

@@ -31,7 +31,7 @@ same-length c = search needs
 returns : tie.Need-returns
 returns c =
     let make-and-run = c .before .before .before .before .before .before .before .make-and-run in
-    by-answer _ _ _ (length-replicate {A = ℕ} 3456 0) (length-replicate {A = ℕ} 3456 0) (length-replicate {A = ℕ} 512 0) _ _ _ (make-and-run .ensures .0)
+    by-answer _ _ _ (length-replicate {A = ℕ} 4480 0) (length-replicate {A = ℕ} 4480 0) (length-replicate {A = ℕ} 512 0) _ _ _ (make-and-run .ensures .0)
     (make-and-run .ensures .1) outcome.Done (c .enum-told .given .1)
 
 same-length-2 : tie.Need-same-length-2
@@ -40,7 +40,7 @@ same-length-2 c = search needs
 returns-2 : tie.Need-returns-2
 returns-2 c =
     let make-and-run = c .before .before .before .before .before .before .before .before .make-and-run in
-    by-answer _ _ _ (length-replicate {A = ℕ} 3456 0) (length-replicate {A = ℕ} 3456 0) (length-replicate {A = ℕ} 512 0) _ _ _ (make-and-run .ensures .0)
+    by-answer _ _ _ (length-replicate {A = ℕ} 4480 0) (length-replicate {A = ℕ} 4480 0) (length-replicate {A = ℕ} 512 0) _ _ _ (make-and-run .ensures .0)
     (make-and-run .ensures .1) _ (c .before .answer .given .1)
 
 pub door-spec : {M : Type 1} → statement M

@@ -35,7 +35,7 @@ slice-aggregate-run-5 c = search needs
 run-requires : tie.Need-run-requires
 run-requires c κs =
     let door-tree = c .before .before .before .before .before .before .before .before .before .door-tree in
-    (door-tree .ensures .1 (length-replicate {A = ℕ} 3456 0) (length-replicate {A = ℕ} 3456 0) (length-replicate {A = ℕ} 512 0), length-replicate {A = ℕ} 4096 0, length-replicate {A = ℕ} 11264 0)
+    (door-tree .ensures .1 (length-replicate {A = ℕ} 4480 0) (length-replicate {A = ℕ} 4480 0) (length-replicate {A = ℕ} 512 0), length-replicate {A = ℕ} 4096 0, length-replicate {A = ℕ} 11264 0)
 
 returns : tie.Need-returns
 returns c = search needs

@@ -38,7 +38,7 @@ slice-aggregate-run-blocks-6 c = search needs
 run-blocks-requires : tie.Need-run-blocks-requires
 run-blocks-requires c κs =
     let door-tree = c .before .before .before .before .before .before .before .before .before .before .door-tree in (
-      door-tree .ensures .1 (length-replicate {A = ℕ} 3456 0) (length-replicate {A = ℕ} 3456 0) (length-replicate {A = ℕ} 512 0),
+      door-tree .ensures .1 (length-replicate {A = ℕ} 4480 0) (length-replicate {A = ℕ} 4480 0) (length-replicate {A = ℕ} 512 0),
       length-replicate {A = ℕ} 4096 0,
       length-replicate {A = ℕ} 4096 0,
       length-replicate {A = ℕ} 30250 0,

@@ -1,7 +1,9 @@
--- `audit_link::entry::is_entry`: each test is one of the three of the definition, in its order.
+-- `audit_link::entry::is_entry`: each test is one of the four of the definition, in its order.
+use mathlib.Core.Logic.{⊎-elim}
+use native.Mathlib.Omega.{arith}
 use borrow.Author.Needs.{needs}
 use denote.Ref.{now}
-use Rattle.audit_link.proofs.LeafLaws.{entry-out, entry-away, entry-last}
+use Rattle.audit_link.proofs.LeafLaws.{entry-out, entry-away, entry-long, entry-last}
 use Rattle.audit_link.proofs.entry.is_entry.Statement.{statement}
 use Rattle.audit_link.proofs.entry.is_entry.Tie as tie
 
@@ -29,17 +31,31 @@ returns-2 c =
     let if1 = c .before .before .before .if1 in
     entry-away (args .g) _ (now (args .leaves)) (now (args .homes)) _ _ _ (child-of .ensures) (if1 .left) (c .if2 .taken)
 
-is-new-requires : tie.Need-is-new-requires
-is-new-requires c κs =
-    let pre = c .before .before .before .before .before .before .before .pre in
-    (pre .0, pre .2, pre .3)
+length-of-requires : tie.Need-length-of-requires
+length-of-requires c κs =
+    let pre = c .before .before .before .before .before .before .before .before .pre in
+    (pre .0, omega (arith, c .if3 .taken), pre .2, pre .3)
 
 returns-3 : tie.Need-returns-3
 returns-3 c =
-    let args = c .before .before .before .before .before .before .before .before .args in
-    let child-of = c .before .before .before .before .before .child-of in
-    let if1 = c .before .before .before .before .if1 in
-    entry-last (args .g) _ (now (args .leaves)) (now (args .homes)) _ _ _ (child-of .ensures) (if1 .left) (c .before .if2 .left) _ (c .is-new .ensures)
+    let args = c .before .before .before .before .before .before .before .before .before .before .args in
+    let child-of = c .before .before .before .before .before .before .before .child-of in
+    let if1 = c .before .before .before .before .before .before .if1 in
+    let if2 = c .before .before .before .if2 in
+    entry-long (args .g) _ (now (args .leaves)) (now (args .homes)) _ _ _ (child-of .ensures) (if1 .left) (if2 .left) (c .before .before .if3 .taken) _ (c .before .length-of .ensures) (c .if4 .taken)
+
+is-new-requires : tie.Need-is-new-requires
+is-new-requires c κs =
+    let pre = c .before .before .before .before .before .before .before .before .pre in
+    (pre .0, pre .2, pre .3)
+
+returns-4 : tie.Need-returns-4
+returns-4 c =
+    let args = c .before .before .before .before .before .before .before .before .before .args in
+    let child-of = c .before .before .before .before .before .before .child-of in
+    let if1 = c .before .before .before .before .before .if1 in
+    entry-last (args .g) _ (now (args .leaves)) (now (args .homes)) _ _ _ (child-of .ensures) (if1 .left) (c .before .before .if2 .left)
+    (λ h. ⊎-elim (λ w. omega (arith, w .1 .ensures, w .2 .left)) (λ w. absurd (omega (arith, w .left, h))) (c .before .if3 .came)) _ (c .is-new .ensures)
 
 pub is-entry-spec : {M : Type 1} → statement M
 is-entry-spec =
@@ -51,5 +67,7 @@ is-entry-spec =
     mul-if2
     shared-slice-read-if2
     returns-2
+    length-of-requires
+    returns-3
     is-new-requires
-    returns-3)
+    returns-4)

@@ -4,7 +4,7 @@ use Rattle.model.specs.Kind.{kind}
 use Rattle.model.specs.Length.{lengthsIn}
 use Rattle.model.specs.State.{State, state}
 use Rattle.open.proofs.WidthLaws.{root-in}
-use Rattle.calls_insert.proofs.TargetLaws.{front-ready, insert-stop, insert-past, insert-full, insert-good}
+use Rattle.calls_insert.proofs.TargetLaws.{front-ready, insert-many, insert-stop, insert-past, insert-full, insert-good}
 use borrow.Author.Needs.{needs}
 use Rattle.calls_insert.proofs.any.open_insert.Statement.{statement}
 use Rattle.calls_insert.proofs.any.open_insert.Tie as tie
@@ -13,9 +13,18 @@ use Rattle.calls_insert.proofs.any.open_insert.Tie as tie
 abbrev entry : tie.Start → State
 entry a = state (a .args .head) (a .args .leaves .now) (a .args .inners .now) (a .args .homes .now)
 
+too-many-lines-requires : tie.Need-too-many-lines-requires
+too-many-lines-requires c κs = c .before .before .before .pre
+
+returns : tie.Need-returns
+returns c =
+    let s = c .before .before .before .before .before in
+    let l = lengthsIn (s .args .views) (s .args .x .now) in
+    λ effect. insert-many (kind (s .args .views) effect) (s .pre .0, s .pre .1) (entry s) (s .args .before) l _ (c .before .too-many-lines .ensures effect) (c .if1 .taken)
+
 open-for-requires : tie.Need-open-for-requires
 open-for-requires c κs =
-    let pre = c .before .before .before .pre in
+    let pre = c .before .before .before .before .before .pre in
     (pre .0, pre .1)
 
 enum-known-n : tie.Need-enum-known-n
@@ -26,63 +35,75 @@ enum-known-g c = search needs
 
 past-requires : tie.Need-past-requires
 past-requires c κs =
-    let s = c .before .before .before .before .before .before .before .before in
+    let s = c .before .before .before .before .before .before .before .before .before .before in
     let o = c .before .before .before .before .open-for in
     let h = front-ready (kind (s .args .views) 0) (s .pre .0, s .pre .1) (entry s) (s .args .before) _ _ (o .ensures 0) (c .before .before .g .given .1) in
     let i = root-in (entry s) _ h in
     (i .0, i .1, refl, s .pre .2)
 
-returns : tie.Need-returns
-returns c =
-    let s = c .before .before .before .before .before .before .before .before .before .before in
+returns-2 : tie.Need-returns-2
+returns-2 c =
+    let s = c .before .before .before .before .before .before .before .before .before .before .before .before in
+    let m = c .before .before .before .before .before .before .before .before .too-many-lines in
+    let few = c .before .before .before .before .before .before .before .if1 .left in
     let o = c .before .before .before .before .before .before .open-for in
     let l = lengthsIn (s .args .views) (s .args .x .now) in
     let g = c .before .before .before .before .g in
     let p = c .before .past in
-    λ effect. insert-past (kind (s .args .views) effect) (s .pre .0, s .pre .1) (entry s) (s .args .before) l _ (o .ensures effect) _ (g .given .1) _ (p .ensures) (c .if1 .taken)
+    λ effect. insert-past (kind (s .args .views) effect) (s .pre .0, s .pre .1) (entry s) (s .args .before) l _ (m .ensures effect) few _ (o .ensures effect) _ (g .given .1) _ (p .ensures) (c .if2 .taken)
 
 full-requires : tie.Need-full-requires
 full-requires c κs = tt
 
-returns-2 : tie.Need-returns-2
-returns-2 c =
-    let s = c .before .before .before .before .before .before .before .before .before .before .before .before in
+returns-3 : tie.Need-returns-3
+returns-3 c =
+    let s = c .before .before .before .before .before .before .before .before .before .before .before .before .before .before in
+    let m = c .before .before .before .before .before .before .before .before .before .before .too-many-lines in
+    let few = c .before .before .before .before .before .before .before .before .before .if1 .left in
     let o = c .before .before .before .before .before .before .before .before .open-for in
     let l = lengthsIn (s .args .views) (s .args .x .now) in
     let g = c .before .before .before .before .before .before .g in
     let p = c .before .before .before .past in
-    let one = c .before .before .if1 in
+    let two = c .before .before .if2 in
     let f = c .before .full in
-    λ effect. insert-full (kind (s .args .views) effect) (s .pre .0, s .pre .1) (entry s) (s .args .before) l _ (o .ensures effect) _ (g .given .1) _ (p .ensures) (one .left) _ (f .ensures) (c .if2 .taken)
-
-returns-3 : tie.Need-returns-3
-returns-3 c =
-    let s = c .before .before .before .before .before .before .before in
-    let o = c .before .before .before .open-for in
-    let l = lengthsIn (s .args .views) (s .args .x .now) in
-    λ effect. insert-stop (kind (s .args .views) effect) (s .pre .0, s .pre .1) (entry s) (s .args .before) l _ (o .ensures effect) _ (c .before .n .given .1)
+    λ effect. insert-full (kind (s .args .views) effect) (s .pre .0, s .pre .1) (entry s) (s .args .before) l _ (m .ensures effect) few _ (o .ensures effect) _ (g .given .1) _ (p .ensures) (two .left) _ (f .ensures)
+    (c .if3 .taken)
 
 returns-4 : tie.Need-returns-4
 returns-4 c =
-    let s = c .before .before .before .before .before .before .before .before .before .before .before .before in
+    let s = c .before .before .before .before .before .before .before .before .before in
+    let m = c .before .before .before .before .before .too-many-lines in
+    let few = c .before .before .before .before .if1 .left in
+    let o = c .before .before .before .open-for in
+    let l = lengthsIn (s .args .views) (s .args .x .now) in
+    λ effect. insert-stop (kind (s .args .views) effect) (s .pre .0, s .pre .1) (entry s) (s .args .before) l _ (m .ensures effect) few _ (o .ensures effect) _ (c .before .n .given .1)
+
+returns-5 : tie.Need-returns-5
+returns-5 c =
+    let s = c .before .before .before .before .before .before .before .before .before .before .before .before .before .before in
+    let m = c .before .before .before .before .before .before .before .before .before .before .too-many-lines in
+    let few = c .before .before .before .before .before .before .before .before .before .if1 .left in
     let o = c .before .before .before .before .before .before .before .before .open-for in
     let l = lengthsIn (s .args .views) (s .args .x .now) in
     let g = c .before .before .before .before .before .before .g in
     let p = c .before .before .before .past in
-    let one = c .before .before .if1 in
+    let two = c .before .before .if2 in
     let f = c .before .full in
-    λ effect. insert-good (kind (s .args .views) effect) (s .pre .0, s .pre .1) (entry s) (s .args .before) l _ (o .ensures effect) _ (g .given .1) _ (p .ensures) (one .left) _ (f .ensures) (c .if2 .left)
+    λ effect. insert-good (kind (s .args .views) effect) (s .pre .0, s .pre .1) (entry s) (s .args .before) l _ (m .ensures effect) few _ (o .ensures effect) _ (g .given .1) _ (p .ensures) (two .left) _ (f .ensures)
+    (c .if3 .left)
 
 pub open-insert-spec : {M : Type 1} → statement M
 open-insert-spec =
     tie.close
     (tie.spec
+    too-many-lines-requires
+    returns
     open-for-requires
     enum-known-n
     enum-known-g
     past-requires
-    returns
-    full-requires
     returns-2
+    full-requires
     returns-3
-    returns-4)
+    returns-4
+    returns-5)

@@ -1,4 +1,4 @@
--- `calls_insert::insert::insert`: the call of a tree with two lengths an entry, positions answered in the second.
+-- `calls_insert::insert::insert`: the call of a tree with three lengths an entry, positions answered in the second.
 use mathlib.Core.Path.{refl, ap, _∙_}
 use mathlib.Core.List.{[], _∷_}
 use native.Mathlib.Omega.{arith}
@@ -40,7 +40,8 @@ returns : tie.Need-returns
 returns c =
     let s = c .before .before .before .before .before .before .before .before .before .before .before .before .before .before .before in
     let slot = c .before .before .before .before .before .before .before .before .before .before .before .new in
-    c .before .before .before .before .before .before .insert .ensures ∙ ap (λ (z : Slot). calls.insert base (entry s) (s .args .before) (z .«prepare_len» ∷ z .«effect_len» ∷ [])) (slot .ensures)
+    c .before .before .before .before .before .before .insert .ensures
+    ∙ ap (λ (z : Slot). calls.insert base (entry s) (s .args .before) (z .«prepare_len» ∷ z .«effect_len» ∷ z .«line_ends» ∷ [])) (slot .ensures)
 
 pub insert-spec : {M : Type 1} → statement M
 insert-spec =

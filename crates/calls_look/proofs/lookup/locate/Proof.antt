@@ -1,4 +1,4 @@
--- `calls_look::lookup::locate`: the lookup on a tree of any kind, with two lengths an entry and the effect as view 1.
+-- `calls_look::lookup::locate`: the lookup on a tree of any kind, with three lengths an entry and the effect as view 1.
 use native.Mathlib.Omega.{arith}
 use Rattle.open.proofs.ReadyLaws.{view-few}
 use Rattle.calls_look.proofs.lookup.locate.Statement.{statement}

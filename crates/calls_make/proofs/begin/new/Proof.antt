@@ -36,7 +36,7 @@ returns c =
     let args = c .before .before .before .before .before .before .before .before .before .before .before .before .before .before .before .args in
     let slot = c .before .before .before .before .before .before .before .before .before .before .before .new in
     c .before .before .before .before .before .before .new2 .ensures 1
-    ∙ ap (λ (y : Slot). make base (args .fan) (args .limit) (y .«prepare_len» ∷ y .«effect_len» ∷ []) (args .leaves .now) (args .inners .now) (args .homes .now)) (slot .ensures)
+    ∙ ap (λ (y : Slot). make base (args .fan) (args .limit) (y .«prepare_len» ∷ y .«effect_len» ∷ y .«line_ends» ∷ []) (args .leaves .now) (args .inners .now) (args .homes .now)) (slot .ensures)
 
 pub new-spec : {M : Type 1} → statement M
 new-spec = tie.close (tie.spec new-requires new-requires-2 same-length same-length-2 same-length-3 returns)

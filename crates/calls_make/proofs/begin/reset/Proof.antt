@@ -37,7 +37,7 @@ returns c =
     let args = c .before .before .before .before .before .before .before .before .before .before .before .before .before .before .before .args in
     let slot = c .before .before .before .before .before .before .before .before .before .before .before .new in
     c .before .before .before .before .before .before .reset .ensures 1
-    ∙ ap (λ (y : Slot). reset base (state (args .head) (args .leaves .now) (args .inners .now) (args .homes .now)) (y .«prepare_len» ∷ y .«effect_len» ∷ [])) (slot .ensures)
+    ∙ ap (λ (y : Slot). reset base (state (args .head) (args .leaves .now) (args .inners .now) (args .homes .now)) (y .«prepare_len» ∷ y .«effect_len» ∷ y .«line_ends» ∷ [])) (slot .ensures)
 
 pub reset-spec : {M : Type 1} → statement M
 reset-spec = tie.close (tie.spec new-requires reset-requires same-length same-length-2 same-length-3 returns)

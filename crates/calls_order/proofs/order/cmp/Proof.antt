@@ -1,4 +1,4 @@
--- `calls_order::order::cmp`: the comparison on a tree of any kind, with two lengths an entry.
+-- `calls_order::order::cmp`: the comparison on a tree of any kind, with three lengths an entry.
 use native.Mathlib.Omega.{arith}
 use Rattle.calls_order.proofs.order.cmp.Statement.{statement}
 use Rattle.calls_order.proofs.order.cmp.Tie as tie

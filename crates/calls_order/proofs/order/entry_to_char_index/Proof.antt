@@ -1,4 +1,4 @@
--- `calls_order::order::entry_to_char_index`: the position on a tree of any kind, with two lengths an entry.
+-- `calls_order::order::entry_to_char_index`: the position on a tree of any kind, with three lengths an entry.
 use native.Mathlib.Omega.{arith}
 use Rattle.open.proofs.ReadyLaws.{view-few}
 use Rattle.calls_order.proofs.order.entry_to_char_index.Statement.{statement}

@@ -1,4 +1,4 @@
--- `calls_order::order::next`: the entry after on a tree of any kind, with two lengths an entry.
+-- `calls_order::order::next`: the entry after on a tree of any kind, with three lengths an entry.
 use native.Mathlib.Omega.{arith}
 use Rattle.calls_order.proofs.order.next.Statement.{statement}
 use Rattle.calls_order.proofs.order.next.Tie as tie

@@ -1,15 +1,25 @@
--- `calls_split::any::open_split`: the tree and its cursor are tested first, then what is taken, then the limit.
+-- `calls_split::any::open_split`: too many line ends are tested first, then the tree and its cursor, then what is taken, then the limit.
 use mathlib.Core.Path.{refl}
 use borrow.Author.Needs.{needs}
 use Rattle.model.specs.Kind.{kind}
+use Rattle.model.specs.Length.{lengthsIn}
 use Rattle.open.proofs.CursorLaws.{stands, slot-in}
-use Rattle.calls_split.proofs.SplitLaws.{split-refused, split-much, split-full, split-good}
+use Rattle.calls_split.proofs.SplitLaws.{split-many, split-refused, split-much, split-full, split-good}
 use Rattle.calls_split.proofs.any.open_split.Statement.{statement}
 use Rattle.calls_split.proofs.any.open_split.Tie as tie
 
+too-many-lines-requires : tie.Need-too-many-lines-requires
+too-many-lines-requires c κs = c .before .before .before .pre
+
+returns : tie.Need-returns
+returns c =
+    let s = c .before .before .before .before .before in
+    let views = s .args .views in
+    λ effect. split-many (kind views effect) _ (s .args .at) (lengthsIn views (s .args .x .now)) _ (c .before .too-many-lines .ensures effect) (c .if1 .taken)
+
 open-at-requires : tie.Need-open-at-requires
 open-at-requires c κs =
-    let pre = c .before .before .before .pre in
+    let pre = c .before .before .before .before .before .pre in
     (pre .0, pre .1)
 
 enum-known-n : tie.Need-enum-known-n
@@ -20,66 +30,78 @@ enum-known-g c = search needs
 
 lengths-at-requires : tie.Need-lengths-at-requires
 lengths-at-requires c κs =
-    let s = c .before .before .before .before .before .before .before .before in
+    let s = c .before .before .before .before .before .before .before .before .before .before in
     let o = c .before .before .before .before .open-at in
     let h = stands (kind (s .args .views) 0) (s .pre .0, s .pre .1) _ (s .args .at) _ _ (o .ensures 0) (c .before .before .g .given .1) in
     let i = slot-in _ (s .args .at) _ h in (i .0, i .1, i .2, refl)
 
 too-much-requires : tie.Need-too-much-requires
 too-much-requires c κs =
-    let s = c .before .before .before .before .before .before .before .before .before .before in
+    let s = c .before .before .before .before .before .before .before .before .before .before .before .before in
     let o = c .before .before .before .before .before .before .open-at in
     let h = stands (kind (s .args .views) 0) (s .pre .0, s .pre .1) _ (s .args .at) _ _ (o .ensures 0) (c .before .before .before .before .g .given .1) in
     (h .ready .shaped, s .pre .2, c .before .lengths-at .ensures .1)
 
-returns : tie.Need-returns
-returns c =
-    let s = c .before .before .before .before .before .before .before .before .before .before .before .before in
+returns-2 : tie.Need-returns-2
+returns-2 c =
+    let s = c .before .before .before .before .before .before .before .before .before .before .before .before .before .before in
+    let lines = c .before .before .before .before .before .before .before .before .before .before .too-many-lines in
+    let few = c .before .before .before .before .before .before .before .before .before .if1 .left in
     let o = c .before .before .before .before .before .before .before .before .open-at in
     let g = c .before .before .before .before .before .before .g in
     let y = c .before .before .before .lengths-at in
     let m = c .before .too-much in
-    λ effect. split-much (kind (s .args .views) effect) _ (s .args .at) (s .args .x .now) _ (o .ensures effect) _ (g .given .1) (y .last .1 .1 .1 .1 .0) (y .ensures .0) _ (m .ensures) (c .if1 .taken)
+    λ effect. split-much (kind (s .args .views) effect) _ (s .args .at) (s .args .x .now) _ (lines .ensures effect) few _ (o .ensures effect) _ (g .given .1) (y .last .1 .1 .1 .1 .0) (y .ensures .0) _
+    (m .ensures) (c .if2 .taken)
 
 full-requires : tie.Need-full-requires
 full-requires c κs = tt
 
-returns-2 : tie.Need-returns-2
-returns-2 c =
-    let s = c .before .before .before .before .before .before .before .before .before .before .before .before .before .before in
+returns-3 : tie.Need-returns-3
+returns-3 c =
+    let s = c .before .before .before .before .before .before .before .before .before .before .before .before .before .before .before .before in
+    let lines = c .before .before .before .before .before .before .before .before .before .before .before .before .too-many-lines in
+    let few = c .before .before .before .before .before .before .before .before .before .before .before .if1 .left in
     let o = c .before .before .before .before .before .before .before .before .before .before .open-at in
     let g = c .before .before .before .before .before .before .before .before .g in
     let y = c .before .before .before .before .before .lengths-at in
     let m = c .before .before .before .too-much in
-    λ effect. split-full (kind (s .args .views) effect) _ (s .args .at) (s .args .x .now) _ (o .ensures effect) _ (g .given .1) (y .last .1 .1 .1 .1 .0) (y .ensures .0) _ (m .ensures) (c .before .before .if1 .left) _
-    (c .before .full .ensures) (c .if2 .taken)
-
-returns-3 : tie.Need-returns-3
-returns-3 c =
-    let s = c .before .before .before .before .before .before .before in
-    λ effect. split-refused (kind (s .args .views) effect) _ (s .args .at) (s .args .x .now) _ (c .before .before .before .open-at .ensures effect) _ (c .before .n .given .1)
+    λ effect. split-full (kind (s .args .views) effect) _ (s .args .at) (s .args .x .now) _ (lines .ensures effect) few _ (o .ensures effect) _ (g .given .1) (y .last .1 .1 .1 .1 .0) (y .ensures .0) _
+    (m .ensures) (c .before .before .if2 .left) _ (c .before .full .ensures) (c .if3 .taken)
 
 returns-4 : tie.Need-returns-4
 returns-4 c =
-    let s = c .before .before .before .before .before .before .before .before .before .before .before .before .before .before in
+    let s = c .before .before .before .before .before .before .before .before .before in
+    let lines = c .before .before .before .before .before .too-many-lines in
+    let few = c .before .before .before .before .if1 .left in
+    let o = c .before .before .before .open-at in
+    λ effect. split-refused (kind (s .args .views) effect) _ (s .args .at) (s .args .x .now) _ (lines .ensures effect) few _ (o .ensures effect) _ (c .before .n .given .1)
+
+returns-5 : tie.Need-returns-5
+returns-5 c =
+    let s = c .before .before .before .before .before .before .before .before .before .before .before .before .before .before .before .before in
+    let lines = c .before .before .before .before .before .before .before .before .before .before .before .before .too-many-lines in
+    let few = c .before .before .before .before .before .before .before .before .before .before .before .if1 .left in
     let o = c .before .before .before .before .before .before .before .before .before .before .open-at in
     let g = c .before .before .before .before .before .before .before .before .g in
     let y = c .before .before .before .before .before .lengths-at in
     let m = c .before .before .before .too-much in
-    λ effect. split-good (kind (s .args .views) effect) _ (s .args .at) (s .args .x .now) _ (o .ensures effect) _ (g .given .1) (y .last .1 .1 .1 .1 .0) (y .ensures .0) _ (m .ensures) (c .before .before .if1 .left) _
-    (c .before .full .ensures) (c .if2 .left)
+    λ effect. split-good (kind (s .args .views) effect) _ (s .args .at) (s .args .x .now) _ (lines .ensures effect) few _ (o .ensures effect) _ (g .given .1) (y .last .1 .1 .1 .1 .0) (y .ensures .0) _
+    (m .ensures) (c .before .before .if2 .left) _ (c .before .full .ensures) (c .if3 .left)
 
 pub open-split-spec : {M : Type 1} → statement M
 open-split-spec =
     tie.close
     (tie.spec
+    too-many-lines-requires
+    returns
     open-at-requires
     enum-known-n
     enum-known-g
     lengths-at-requires
     too-much-requires
-    returns
-    full-requires
     returns-2
+    full-requires
     returns-3
-    returns-4)
+    returns-4
+    returns-5)

@@ -1,4 +1,4 @@
--- `calls_split::split::split_entry`: the call of a tree with two lengths an entry.
+-- `calls_split::split::split_entry`: the call of a tree with three lengths an entry.
 use mathlib.Core.Path.{refl, ap, _∙_}
 use mathlib.Core.List.{[], _∷_}
 use native.Mathlib.Omega.{arith}
@@ -41,7 +41,7 @@ returns c =
     let s = c .before .before .before .before .before .before .before .before .before .before .before .before .before .before .before in
     let slot = c .before .before .before .before .before .before .before .before .before .before .before .new in
     c .before .before .before .before .before .before .split-entry .ensures 1
-    ∙ ap (λ (z : Slot). splitEntry base (entry s) (s .args .at) (z .«prepare_len» ∷ z .«effect_len» ∷ []) (s .args .before)) (slot .ensures)
+    ∙ ap (λ (z : Slot). splitEntry base (entry s) (s .args .at) (z .«prepare_len» ∷ z .«effect_len» ∷ z .«line_ends» ∷ []) (s .args .before)) (slot .ensures)
 
 pub split-entry-spec : {M : Type 1} → statement M
 split-entry-spec =

@@ -1,6 +1,6 @@
 -- `records::fields::read`: each field is read at its own bytes.
 use Rattle.model.specs.Record.{fieldsOf}
-use Rattle.records.proofs.Laws.{reach, sum-fits}
+use Rattle.records.proofs.Laws.{reach, high-fits, sum-fits}
 use Rattle.records.proofs.fields.read.Statement.{statement}
 use Rattle.records.proofs.fields.read.Tie as tie
 
@@ -34,8 +34,11 @@ shared-slice-read-wide-4 c =
 wide-requires-4 : tie.Need-wide-requires-4
 wide-requires-4 c κs = tt
 
-add-t14 : tie.Need-add-t14
-add-t14 c = sum-fits _ _ (c .before .before .wide3 .ensures .1) (c .wide4 .ensures .1)
+mul-t14 : tie.Need-mul-t14
+mul-t14 c = high-fits _ (c .wide4 .ensures .1)
+
+add-t15 : tie.Need-add-t15
+add-t15 c = sum-fits _ _ (c .before .before .wide3 .ensures .1) (c .wide4 .ensures .1)
 
 word-at-requires : tie.Need-word-at-requires
 word-at-requires c κs =
@@ -73,7 +76,8 @@ read-spec =
     wide-requires-3
     shared-slice-read-wide-4
     wide-requires-4
-    add-t14
+    mul-t14
+    add-t15
     word-at-requires
     word-at-requires-2
     word-at-requires-3

@@ -3,7 +3,7 @@ use borrow.Author.Needs.{needs}
 use denote.Ref.{now}
 use Prim.Native.Nat.{ℕ}
 use native.Mathlib.Omega.{arith}
-use Rattle.row.proofs.MadeLaws.{two-words, make-refused, make-done}
+use Rattle.row.proofs.MadeLaws.{three-words, make-refused, make-done}
 use Rattle.row.proofs.made.make_and_run.Statement.{statement}
 use Rattle.row.proofs.made.make_and_run.Tie as tie
 
@@ -37,7 +37,7 @@ returns c =
     let good = c .before .before .before .before .before .before .before .before .before .before .before .before .before .before .before .before .before .before .before .before .before .before .before .before .before .before .before .before .before .before .before .good in
     let bytes = c .before .before .before .before .before .before .before .before .before .before .before .before .before .before .before .before .before .before .before .before .before .before .before .before .before .before .before .shared-slice-known in
     let new = c .before .before .before .before .before .before .before .before .before .before .before .before .before .before .before .before .before .before .before .before .before .before .new in
-    let words = two-words (args .lengths .prepare) (args .lengths .effect) (omega (arith, good)) (omega (arith, good)) in
+    let words = three-words (args .lengths .prepare) (args .lengths .effect) (args .lengths .lines) (omega (arith, good)) (omega (arith, good)) (omega (arith, good)) in
     make-done _ _ _ (now (args .leaves)) (now (args .inners)) (now (args .homes)) words (now (args .records)) (now (args .out)) (λ (i : ℕ). omega (arith, bytes .given i)) _ _
     (new .ensures) (c .before .before .before .before .before .before .before .before .before .before .before .before .before .enum-told .given .1) _
     (c .before .before .before .before .before .before .before .before .run .ensures .0)
@@ -57,7 +57,7 @@ returns-2 c =
     let good = c .before .before .before .before .before .before .before .before .before .before .before .before .before .before .before .before .before .before .before .good in
     let bytes = c .before .before .before .before .before .before .before .before .before .before .before .before .before .before .before .shared-slice-known in
     let new = c .before .before .before .before .before .before .before .before .before .before .new in
-    let words = two-words (args .lengths .prepare) (args .lengths .effect) (omega (arith, good)) (omega (arith, good)) in
+    let words = three-words (args .lengths .prepare) (args .lengths .effect) (args .lengths .lines) (omega (arith, good)) (omega (arith, good)) (omega (arith, good)) in
     make-refused _ _ _ (now (args .leaves)) (now (args .inners)) (now (args .homes)) words (now (args .records)) (now (args .out)) (λ (i : ℕ). omega (arith, bytes .given i)) _ _
     (new .ensures) _ (c .before .answer .given .1)
 

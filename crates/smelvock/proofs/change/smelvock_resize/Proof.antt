@@ -34,7 +34,7 @@ returns c =
     let args = c .before .before .before .before .before .before .before .before .args in
     let g = given (args .head .now) (args .leaves .now) (args .inners .now) (args .homes .now) in
     reply-refused numberOf numberAnswer headAfter _ g _ _ (sym (c .before .before .bad-flag .ensures) ∙ c .before .if1 .taken) (c .refused-number .ensures)
-    ∙ resize-flat g (cursorFrom (args .leaf) (args .slot) (args .stamp)) (lengthsFrom (args .prepare) (args .effect)) (args .summed)
+    ∙ resize-flat g (cursorFrom (args .leaf) (args .slot) (args .stamp)) (lengthsFrom (args .prepare) (args .effect) (args .lines)) (args .summed)
 
 cursor-from-requires : tie.Need-cursor-from-requires
 cursor-from-requires c κs = search needs
@@ -94,7 +94,7 @@ returns-2 c =
     (resize .ensures
     ∙ ap₃ (λ (h : Head) (k : Cursor) (l : Lengths). size.resize base (eqb (args .summed) 1) (state h (args .leaves .now) (args .inners .now) (args .homes .now)) k (listOf l))
     (head-from .ensures) (cursor-from .ensures) (lengths-from .ensures))
-    ∙ resize-flat g (cursorFrom (args .leaf) (args .slot) (args .stamp)) (lengthsFrom (args .prepare) (args .effect)) (args .summed)
+    ∙ resize-flat g (cursorFrom (args .leaf) (args .slot) (args .stamp)) (lengthsFrom (args .prepare) (args .effect) (args .lines)) (args .summed)
 
 pub smelvock-resize-spec : {M : Type 1} → statement M
 smelvock-resize-spec =

@@ -1,4 +1,4 @@
--- `smelvock::look::smelvock_locate`: 10 where head or flag is bad, else the call's answer in words, and its finger where it was done.
+-- `smelvock::look::smelvock_locate`: 10 where head or view is bad, else the call's answer in words, and its finger where it was done.
 use borrow.Author.Needs.{needs}
 use mathlib.Core.Path.{refl, sym, ap₂, _∙_}
 use Rattle.marshal.specs.Flat.{headAfter, locatedOf}
@@ -18,8 +18,8 @@ use Rattle.marshal.specs.declared.flat.FlatLocated.{FlatLocated}
 use Rattle.smelvock.proofs.look.smelvock_locate.Statement.{statement}
 use Rattle.smelvock.proofs.look.smelvock_locate.Tie as tie
 
-bad-flag-requires : tie.Need-bad-flag-requires
-bad-flag-requires c κs = search needs
+bad-view-requires : tie.Need-bad-view-requires
+bad-view-requires c κs = search needs
 
 refused-located-requires : tie.Need-refused-located-requires
 refused-located-requires c κs = search needs
@@ -32,10 +32,10 @@ unfolding flat.locate
 returns c =
     let args = c .before .before .before .before .before .before .before .before .args in
     reply-refused locatedOf locatedAnswer headAfter _ (given (args .head .now) (args .leaves .now) (args .inners .now) (args .homes .now)) _ _
-    (sym (c .before .before .bad-flag .ensures) ∙ c .before .if1 .taken) (c .refused-located .ensures)
+    (sym (c .before .before .bad-view .ensures) ∙ c .before .if1 .taken) (c .refused-located .ensures)
 
 head-from-requires : tie.Need-head-from-requires
-head-from-requires c κs = good-flag _ _ (sym (c .before .before .bad-flag .ensures) ∙ c .before .if1 .left)
+head-from-requires c κs = good-flag _ _ (sym (c .before .before .bad-view .ensures) ∙ c .before .if1 .left)
 
 view-from-requires : tie.Need-view-from-requires
 view-from-requires c κs = search needs
@@ -48,13 +48,13 @@ located-of-requires c κs = search needs
 
 settle-finger-requires : tie.Need-settle-finger-requires
 settle-finger-requires c κs =
-    let bad-flag = c .before .before .before .before .before .before .before .before .bad-flag in
+    let bad-view = c .before .before .before .before .before .before .before .before .bad-view in
     let if1 = c .before .before .before .before .before .before .before .if1 in
     let args = c .before .before .before .before .before .before .before .before .before .before .before .before .before .before .args in
     let head-from = c .before .before .before .before .before .head-from in
     let locate = c .before .before .before .locate in
     let view-from = c .before .before .before .before .view-from in (
-      good-flag _ _ (sym (bad-flag .ensures) ∙ if1 .left),
+      good-flag _ _ (sym (bad-view .ensures) ∙ if1 .left),
       λ _. finger-alone (args .head .now) (head-from .result) _ (args .leaves .now) (args .inners .now) (args .homes .now) _ _ _ _ _
           (head-from .ensures) (locate .ensures)
           (locate-fingered base (state (head-from .result) (args .leaves .now) (args .inners .now) (args .homes .now)) (viewNumber (view-from .result)) (args .index)),
@@ -67,14 +67,14 @@ returns-2 : tie.Need-returns-2
 unfolding flat.locate
 returns-2 c =
     let args = c .before .before .before .before .before .before .before .before .before .before .before .before .before .before .before .before .before .args in
-    let bad-flag = c .before .before .before .before .before .before .before .before .before .before .before .bad-flag in
+    let bad-view = c .before .before .before .before .before .before .before .before .before .before .before .bad-view in
     let if1 = c .before .before .before .before .before .before .before .before .before .before .if1 in
     let located-of = c .before .before .before .before .located-of in
     let locate = c .before .before .before .before .before .before .locate in
     let head-from = c .before .before .before .before .before .before .before .before .head-from in
     let view-from = c .before .before .before .before .before .before .before .view-from in
     reply-settled locatedOf locatedAnswer (λ (q : FlatLocated). q .number) (λ x. refl) _ (given (args .head .now) (args .leaves .now) (args .inners .now) (args .homes .now)) _ _ _ _ _ _ _ _
-    (sym (bad-flag .ensures)
+    (sym (bad-view .ensures)
     ∙ if1 .left) (located-of .ensures)
     (c .before .before .settle-finger .ensures) (locate .ensures
     ∙ ap₂ (λ (h : Head) (v : View). calls.locate base (state h (args .leaves .now) (args .inners .now) (args .homes .now)) (viewNumber v) (args .index))
@@ -84,7 +84,7 @@ pub smelvock-locate-spec : {M : Type 1} → statement M
 smelvock-locate-spec =
     tie.close
     (tie.spec
-    bad-flag-requires
+    bad-view-requires
     refused-located-requires
     same-length
     returns

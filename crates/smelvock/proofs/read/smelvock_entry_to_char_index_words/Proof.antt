@@ -1,4 +1,4 @@
--- `smelvock::read::smelvock_entry_to_char_index_words`: 10 where head or flag is bad, else the call's answer in words.
+-- `smelvock::read::smelvock_entry_to_char_index_words`: 10 where head or view is bad, else the call's answer in words.
 use borrow.Author.Needs.{needs}
 use mathlib.Core.Path.{sym, ap, _∙_}
 use Rattle.marshal.specs.Flat.{numberOf}
@@ -16,18 +16,18 @@ use Rattle.model.specs.declared.length.View.{View}
 use Rattle.smelvock.proofs.read.smelvock_entry_to_char_index_words.Statement.{statement}
 use Rattle.smelvock.proofs.read.smelvock_entry_to_char_index_words.Tie as tie
 
-bad-flag-requires : tie.Need-bad-flag-requires
-bad-flag-requires c κs = search needs
+bad-view-requires : tie.Need-bad-view-requires
+bad-view-requires c κs = search needs
 
 refused-number-requires : tie.Need-refused-number-requires
 refused-number-requires c κs = search needs
 
 returns : tie.Need-returns
 unfolding flat.entryToCharIndex
-returns c = answer-refused numberOf _ _ _ (sym (c .before .before .bad-flag .ensures) ∙ c .before .if1 .taken) (c .refused-number .ensures)
+returns c = answer-refused numberOf _ _ _ (sym (c .before .before .bad-view .ensures) ∙ c .before .if1 .taken) (c .refused-number .ensures)
 
 head-from-requires : tie.Need-head-from-requires
-head-from-requires c κs = good-flag _ _ (sym (c .before .bad-flag .ensures) ∙ c .if1 .left)
+head-from-requires c κs = good-flag _ _ (sym (c .before .bad-view .ensures) ∙ c .if1 .left)
 
 view-from-requires : tie.Need-view-from-requires
 view-from-requires c κs = search needs
@@ -44,12 +44,12 @@ number-of-requires c κs = search needs
 returns-2 : tie.Need-returns-2
 unfolding flat.entryToCharIndex
 returns-2 c =
-    let bad-flag = c .before .before .before .before .before .before .bad-flag in
+    let bad-view = c .before .before .before .before .before .before .bad-view in
     let if1 = c .before .before .before .before .before .if1 in
     let args = c .before .before .before .before .before .before .before .before .before .before .before .args in
     let head-from = c .before .before .before .before .head-from in
     let view-from = c .before .before .before .view-from in
-    answer-good numberOf _ _ _ _ (sym (bad-flag .ensures) ∙ if1 .left)
+    answer-good numberOf _ _ _ _ (sym (bad-view .ensures) ∙ if1 .left)
     (c .number-of .ensures) (ap numberAnswer (c .before .entry-to-char-index .ensures
     ∙ ap₃ (λ (h : Head) (v : View) (k : Cursor). calls.entryToCharIndex base (state h (args .leaves .now) (args .inners .now) (args .homes .now)) (viewNumber v) k)
     (head-from .ensures) (view-from .ensures) (c .before .before .cursor-from .ensures)))
@@ -58,7 +58,7 @@ pub smelvock-entry-to-char-index-words-spec : {M : Type 1} → statement M
 smelvock-entry-to-char-index-words-spec =
     tie.close
     (tie.spec
-    bad-flag-requires
+    bad-view-requires
     refused-number-requires
     returns
     head-from-requires
