@@ -13,7 +13,8 @@ use again::{Cursor, Lengths, PrepareEffectTree, View};
 
 pub struct Called<const N: usize>(PrepareEffectTree<N>);
 
-fn pair([prepare, effect]: [u32; 2]) -> Lengths {
+/// lib.rs has no line ends: they are 0 in all that is timed.
+fn pair([prepare, effect, _]: [u32; 3]) -> Lengths {
     Lengths { prepare, effect }
 }
 
@@ -23,7 +24,7 @@ fn side(view: usize) -> View {
 
 impl<const N: usize> Called<N> {
     #[inline(never)]
-    pub fn new(lengths: [u32; 2]) -> Self {
+    pub fn new(lengths: [u32; 3]) -> Self {
         Called(PrepareEffectTree::new(pair(lengths)))
     }
 }
@@ -40,7 +41,7 @@ impl<const N: usize> Calls for Called<N> {
     type Cursor = Cursor;
 
     calls! {
-        fn reset(&mut self, lengths: [u32; 2]) {
+        fn reset(&mut self, lengths: [u32; 3]) {
             self.0.reset(pair(lengths))
         }
         fn len(&self) -> usize {
@@ -58,9 +59,9 @@ impl<const N: usize> Calls for Called<N> {
         fn id(&self, at: Cursor) -> u32 {
             self.0.id(at)
         }
-        fn lengths(&self, at: Cursor) -> [u32; 2] {
+        fn lengths(&self, at: Cursor) -> [u32; 3] {
             let Lengths { prepare, effect } = self.0.lengths(at);
-            [prepare, effect]
+            [prepare, effect, 0]
         }
         fn cursor(&self, id: u32) -> Cursor {
             self.0.cursor(id)
@@ -77,16 +78,16 @@ impl<const N: usize> Calls for Called<N> {
         fn entry_to_char_index(&self, view: usize, at: Cursor) -> u32 {
             self.0.entry_to_char_index(side(view), at)
         }
-        fn set_lengths(&mut self, at: Cursor, lengths: [u32; 2]) {
+        fn set_lengths(&mut self, at: Cursor, lengths: [u32; 3]) {
             self.0.set_lengths(at, pair(lengths))
         }
-        fn update(&mut self, at: Cursor, lengths: [u32; 2]) -> u32 {
+        fn update(&mut self, at: Cursor, lengths: [u32; 3]) -> u32 {
             self.0.update(at, pair(lengths))
         }
-        fn insert(&mut self, before: Option<Cursor>, lengths: [u32; 2]) -> (u32, u32) {
+        fn insert(&mut self, before: Option<Cursor>, lengths: [u32; 3]) -> (u32, u32) {
             self.0.insert(before, pair(lengths))
         }
-        fn split_entry(&mut self, at: Cursor, lengths: [u32; 2], before: bool) -> (u32, [Cursor; 2]) {
+        fn split_entry(&mut self, at: Cursor, lengths: [u32; 3], before: bool) -> (u32, [Cursor; 2]) {
             self.0.split_entry(at, pair(lengths), before)
         }
     }

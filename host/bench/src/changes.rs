@@ -16,7 +16,8 @@ pub fn resizes<A: Calls, B: Calls, C: Calls>(table: &mut Table, trees: &mut Tree
     let mut random = Random::new(11);
     let count = rust.len() as u64;
     let ids: Vec<u32> = (0..CALLS).map(|_| random.below(count) as u32).collect();
-    let lengths: Vec<[u32; 2]> = ids.iter().map(|_| [0; 2].map(|_: u32| random.below(8) as u32)).collect();
+    let mut length = || random.below(8) as u32;
+    let lengths: Vec<[u32; 3]> = ids.iter().map(|_| [length(), length(), 0]).collect();
     let (rusts, calleds, ports) = (cursors(rust, &ids), cursors(called, &ids), cursors(port, &ids));
     table.call(
         "set_lengths",
@@ -35,10 +36,11 @@ pub fn resizes<A: Calls, B: Calls, C: Calls>(table: &mut Table, trees: &mut Tree
 /// Trees made anew and filled to their limit, the making included: the time is per entry. `cursor` is a part of every call but
 /// those at the end.
 pub fn growth<const N: usize>(table: &mut Table, entries: u32) {
-    let first = [3, 3];
+    let first = [3, 3, 0];
     let rust = || PrepareEffectTree::<N>::new(Lengths { prepare: 3, effect: 3 });
     let called = || Called::<N>::new(first);
-    let port = || Port(smelvock::PrepareEffectTree::<N>::with_limit(entries, port::pair(first)).expect("a good limit"));
+    let port =
+        || Port(smelvock::PrepareEffectTree::<N>::with_limit(entries, port::three(first)).expect("a good limit"));
     let mut filling = |name: &str, way: Way| {
         table.call(
             name,
@@ -80,11 +82,11 @@ fn fill<T: Calls>(tree: &mut T, entries: u32, way: Way) -> usize {
     let mut near = 0;
     for count in 1..entries {
         let id = random.below(count as u64) as u32;
-        let lengths = [3, 1];
+        let lengths = [3, 1, 0];
         match way {
             Way::InsertAtEnd => _ = black_box(tree.insert(None, lengths)),
             Way::Insert => _ = black_box(tree.insert(Some(tree.cursor(id)), lengths)),
-            Way::Split => _ = black_box(tree.split_entry(tree.cursor(id), [0, 0], id % 2 == 0)),
+            Way::Split => _ = black_box(tree.split_entry(tree.cursor(id), [0; 3], id % 2 == 0)),
             Way::Edit => near = edit(tree, near, count),
         }
     }
@@ -96,11 +98,11 @@ fn edit<T: Calls>(tree: &mut T, near: u32, count: u32) -> u32 {
     let index = if count.is_multiple_of(50) { 0 } else { near };
     let (at, offset, _) = tree.locate(0, index);
     if count.is_multiple_of(3) {
-        let [_, effect] = tree.lengths(at);
-        let (_, [_, second]) = tree.split_entry(at, [offset, effect.min(1)], true);
+        let [_, effect, _] = tree.lengths(at);
+        let (_, [_, second]) = tree.split_entry(at, [offset, effect.min(1), 0], true);
         black_box(tree.update(second, tree.lengths(second)));
     } else {
-        black_box(tree.insert(Some(at), [3, 1]));
+        black_box(tree.insert(Some(at), [3, 1, 0]));
     }
     index + 2
 }

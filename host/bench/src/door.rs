@@ -1,5 +1,5 @@
 //! The door beside lib.rs, per record: 511 inserts and then 6,000 records of one kind or of all, on a tree made anew. lib.rs is played by
-//! a loop that reads each record, makes its call and writes the answer record.
+//! a loop that reads each record, makes its call and writes the answer record; it has no line ends, so no record has.
 
 use crate::timing::Table;
 use oracle::lists::{Lister, Sizes, Style, EVEN};
@@ -52,7 +52,7 @@ fn lists() -> Vec<(&'static str, Vec<Record>)> {
 
 /// A tree filled by 511 inserts at random places.
 fn filled() -> (Row, Vec<Record>) {
-    let (mut row, mut random) = (Row::make(LIMIT, [0, 0]), Random::new(3));
+    let (mut row, mut random) = (Row::make(LIMIT, [0; 3]), Random::new(3));
     let mut insert = |id: u64| {
         let record = Record::new(2, 0, random.below(id) as u32, 1 + random.below(7) as u32, random.below(8) as u32);
         row.play(&record);
@@ -67,12 +67,17 @@ fn full(kinds: &[u8]) -> Vec<Record> {
     let (mut row, mut records) = filled();
     let mut lister = Lister::new(1, Style { weights: EVEN, sizes: Sizes::Small, close: 0, miss: 0 });
     for kind in kinds.iter().cycle().take(RECORDS) {
-        let record = lister.good(*kind, &row);
+        let record = without_lines(lister.good(*kind, &row));
         if row.play(&record).number == 0 {
             records.push(record);
         }
     }
     records
+}
+
+/// The record without line ends; a lookup or rank in view 2 is one in the prepare view.
+fn without_lines(record: Record) -> Record {
+    Record { byte1: if record.byte1 == 2 { 0 } else { record.byte1 }, lines: 0, ..record }
 }
 
 /// Lookups a few positions apart.
@@ -84,11 +89,11 @@ fn rising() -> Vec<Record> {
 
 /// Records of every kind on a tree that grows to its limit and begins anew.
 fn growing() -> Vec<Record> {
-    let mut row = Row::make(LIMIT, [0, 0]);
+    let mut row = Row::make(LIMIT, [0; 3]);
     let mut lister = Lister::new(2, Style { weights: EVEN, sizes: Sizes::Small, close: 30, miss: 0 });
     let mut records = Vec::new();
     while records.len() < RECORDS {
-        let record = if row.count() == LIMIT { Record::new(1, 0, 0, 2, 2) } else { lister.draw(&row) };
+        let record = if row.count() == LIMIT { Record::new(1, 0, 0, 2, 2) } else { without_lines(lister.draw(&row)) };
         if row.play(&record).number == 0 {
             records.push(record);
         }

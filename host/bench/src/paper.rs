@@ -46,7 +46,7 @@ fn write_sheet<T: Calls>(
     let mut lines = 0usize;
     let mut at = Some(tree.first());
     while let Some(cursor) = at {
-        let (id, [prepare, effect]) = (tree.id(cursor), tree.lengths(cursor));
+        let (id, [prepare, effect, _]) = (tree.id(cursor), tree.lengths(cursor));
         let [prepare_at, effect_at] = positions(cursor, [prepare, effect]);
         writeln!(page, "{id:>10} {prepare_at:>10} {effect_at:>10} {prepare:>10} {effect:>10}").expect("a Vec takes it");
         lines += 1;

@@ -6,29 +6,27 @@ use crate::met::Met;
 use crate::plays::Plays;
 use crate::words::raw_of;
 use oracle::driver::Parted;
+use oracle::lined::Lined;
 use oracle::random::Random;
-use oracle::rust::pair;
-use oracle::state::State;
-use oracle::tree::PrepareEffectTree;
+use oracle::state::{State, MOST_LINES};
 use smelvock::raw::{Cursor, Lengths};
 use std::rc::Rc;
 
 #[derive(Clone)]
 pub struct Beside<const N: usize, P> {
-    rust: PrepareEffectTree<N>,
-    limit: u32,
+    rust: Lined<N>,
     port: P,
-    /// What the last call left: lib.rs's state, and the port's words.
+    /// What the last call left: lib.rs's state with line ends, and the port's words.
     state: Rc<State>,
     words: [Vec<u32>; 4],
 }
 
 impl<const N: usize, P: Plays> Beside<N, P> {
     /// The port has just been made with that limit and one entry of those lengths.
-    pub fn new(port: P, limit: u32, lengths: [u32; 2]) -> Self {
-        let rust = PrepareEffectTree::new(pair(lengths));
-        let (state, words) = (Rc::new(rust.state(limit)), port.words());
-        Beside { rust, limit, port, state, words }
+    pub fn new(port: P, limit: u32, lengths: [u32; 3]) -> Self {
+        let rust = Lined::make(limit, lengths);
+        let (state, words) = (Rc::new(rust.state()), port.words());
+        Beside { rust, port, state, words }
     }
 
     /// lib.rs's state.
@@ -54,7 +52,7 @@ impl<const N: usize, P: Plays> Beside<N, P> {
             };
         }
         let values = answer(&mut self.rust, export, given);
-        self.state = Rc::new(self.rust.state(self.limit));
+        self.state = Rc::new(self.rust.state());
         if got.values != values {
             return parted(&format!("lib.rs answers {values:?}"));
         }
@@ -65,13 +63,13 @@ impl<const N: usize, P: Plays> Beside<N, P> {
         Ok(got)
     }
 
-    /// Whether these are lib.rs's words; those not in use must be as they were.
+    /// Whether these are lib.rs's words, with the row's line ends; those not in use must be as they were.
     fn same_words(&self, words: &[Vec<u32>; 4]) -> bool {
         let [head, areas @ ..] = words;
-        let unused = |((area, before), used): ((&Vec<u32>, &Vec<u32>), usize)| area[used..] == before[used..];
-        *head == raw_of(self.state.head)
-            && self.rust.same_words(areas.each_ref().map(Vec::as_slice))
-            && areas.iter().zip(&self.words[1..]).zip(self.rust.used_words()).all(unused)
+        let same = |((area, before), used): ((&Vec<u32>, &Vec<u32>), Vec<u32>)| {
+            area.starts_with(&used) && area[used.len()..] == before[used.len()..]
+        };
+        *head == raw_of(self.state.head) && areas.iter().zip(&self.words[1..]).zip(self.rust.used()).all(same)
     }
 }
 
@@ -93,7 +91,7 @@ pub struct Style {
 
 /// How often each call stands in a list, beside resets.
 const WEIGHTS: [(Export, u64); 15] = [
-    (Export::Insert, 12),
+    (Export::Insert, 18),
     (Export::SplitEntry, 8),
     (Export::SetLengths, 5),
     (Export::Update, 5),
@@ -220,14 +218,15 @@ impl<const N: usize, P: Plays> List<N, P> {
     }
 
     fn given(&mut self, state: &State, [at, other]: [Cursor; 2]) -> Given {
-        let view = self.below(2);
+        let view = self.below(3);
         let total = state.inner(state.head.root).total()[view as usize];
         let far = if self.random.percent(4) { u32::MAX } else { 0 };
         let mut length = |most| if far == 0 { self.random.below(most) as u32 } else { far };
+        let [prepare, effect] = [4, 3].map(&mut length);
         Given {
             at,
             other,
-            lengths: Lengths { prepare: length(4), effect: length(3) },
+            lengths: Lengths { prepare, effect, lines: self.line_ends() },
             id: self.below(state.head.entry_count + 1),
             view,
             index: self.random.below(total + 1) as u32,
@@ -235,6 +234,16 @@ impl<const N: usize, P: Plays> List<N, P> {
             before: self.below(2),
             fan: state.head.fan,
             limit: state.head.limit,
+        }
+    }
+
+    /// Mostly 0; seldom as many as an entry may have, or more.
+    fn line_ends(&mut self) -> u32 {
+        match self.random.below(100) {
+            0 => MOST_LINES,
+            1 => MOST_LINES + 1,
+            2 => u32::MAX,
+            _ => self.below(6).saturating_sub(3),
         }
     }
 

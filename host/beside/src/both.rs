@@ -1,6 +1,7 @@
-//! lib.rs and the port as one subject: every call is made on both, and everything is compared after it.
+//! lib.rs and the port as one subject: every call is made on both, and everything is compared after it. Line ends, which lib.rs doesn't
+//! have, are the plain row's: those of lengths, lookups and ranks in view 2, the fourth word of every slot.
 
-use crate::port::{pair, side, Port};
+use crate::port::{side, three, Port};
 use crate::words::{head_of, on_zeros, raw_of};
 use oracle::calls::{entries, play};
 use oracle::cursors::{Held, Source};
@@ -8,7 +9,7 @@ use oracle::record::Call;
 use oracle::row::Entry;
 use oracle::rust::{Reply, Rust, Subject};
 use oracle::sheet;
-use oracle::state::{Head, State};
+use oracle::state::{Head, State, LINES, MOST_LINES};
 use smelvock::{raw, Cursor, PrepareEffectTree, Refusal};
 use std::fmt::Debug;
 
@@ -28,7 +29,7 @@ fn words<const N: usize>(tree: &PrepareEffectTree<N>) -> [&[u32]; 3] {
 }
 
 impl<const N: usize> Both<N> {
-    pub fn make(limit: u32, lengths: [u32; 2]) -> Self {
+    pub fn make(limit: u32, lengths: [u32; 3]) -> Self {
         let port = on_zeros(limit, lengths);
         let before = words(&port).map(|area| vec![0; area.len()]);
         let mut both = Both { rust: Rust::make(limit, lengths), port: Port(port), held: Held::default(), before };
@@ -36,25 +37,21 @@ impl<const N: usize> Both<N> {
         both
     }
 
-    /// Head and areas are lib.rs's, word by word; a word that is not in use is as it was before the call.
+    /// Head and areas are lib.rs's and, where these are line ends, the row's, word by word; a word that is not in use is as it was
+    /// before the call.
     fn same_words(&mut self, call: impl Debug) {
         assert_eq!(self.port.0.head(), raw_of(self.rust.head()), "N {N}, head after {call:?}");
-        let areas = words(&self.port.0);
-        assert!(
-            self.rust.tree.same_words(areas),
-            "N {N}, areas after {call:?}: {:?}, {:?}",
-            self.rust.state(),
-            self.port.0
-        );
-        for ((area, before), used) in areas.iter().zip(&mut self.before).zip(self.rust.tree.used_words()) {
-            assert!(area[used..] == before[used..], "N {N}, unused words after {call:?}: {:?}", self.port.0);
-            before[..used].copy_from_slice(&area[..used]);
+        for ((area, before), used) in words(&self.port.0).iter().zip(&mut self.before).zip(self.rust.tree.used()) {
+            let (now, rest) = area.split_at(used.len());
+            assert!(*now == used, "N {N}, areas after {call:?}: {:?}, {:?}", self.rust.state(), self.port.0);
+            assert!(*rest == before[used.len()..], "N {N}, unused words after {call:?}: {:?}", self.port.0);
+            before[..used.len()].copy_from_slice(now);
         }
     }
 
     /// The sheet that lib.rs's own answers make.
     pub fn sheet(&self) -> String {
-        sheet::of_tree(&self.rust.tree)
+        sheet::of_tree(&self.rust.tree.rust)
     }
 
     /// The port's tree.
@@ -86,7 +83,8 @@ impl<const N: usize> Both<N> {
     }
 }
 
-/// What the port answers to a row call that is refused: the refusal of `cursor` or of the call itself.
+/// What the port answers to a row call that is refused: the refusal of `cursor` or of the call itself. Too many line ends come before
+/// both: such a call is made on any cursor.
 pub fn refusal<const N: usize>(
     tree: &mut PrepareEffectTree<N>,
     held: &Held<Cursor>,
@@ -95,15 +93,19 @@ pub fn refusal<const N: usize>(
 ) -> Option<Refusal> {
     let ([first, second], by_id) = (call.ids(), |id| tree.cursor(id));
     let first = held.handed(from).map(|(_, cursor)| Ok(cursor)).or_else(|| first.map(by_id));
+    let overlong = call.lengths().is_some_and(|lengths| lengths[LINES] > MOST_LINES);
+    let first =
+        first.map(|at| at.or_else(|refusal| if overlong { Ok(raw::Cursor::default().into()) } else { Err(refusal) }));
     if let Some(refusal) = [first, second.map(by_id)].into_iter().flatten().find_map(Result::err) {
         return Some(refusal);
     }
     let at = first.and_then(Result::ok);
     match call {
-        Call::Insert { lengths, .. } => tree.insert(at, pair(lengths)).err(),
-        Call::Split { lengths, before, .. } => tree.split_entry(at?, pair(lengths), before).err(),
-        Call::Set { lengths, .. } => tree.set_lengths(at?, pair(lengths)).err(),
-        Call::Update { lengths, .. } => tree.update(at?, pair(lengths)).err(),
+        Call::Reset { lengths } => tree.reset(three(lengths)).err(),
+        Call::Insert { lengths, .. } => tree.insert(at, three(lengths)).err(),
+        Call::Split { lengths, before, .. } => tree.split_entry(at?, three(lengths), before).err(),
+        Call::Set { lengths, .. } => tree.set_lengths(at?, three(lengths)).err(),
+        Call::Update { lengths, .. } => tree.update(at?, three(lengths)).err(),
         Call::Lookup { view, index } => tree.locate(side(view), index).err(),
         Call::Select { view, index } => tree.char_index_to_entry(side(view), index).err(),
         _ => None,

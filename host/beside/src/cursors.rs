@@ -1,10 +1,12 @@
 //! A call on cursors that may be any, by lib.rs: the number by which lib.rs's own state wants it refused, and lib.rs's answer where
-//! that is 0.
+//! that is 0. Line ends are the row's.
 
 use crate::exports::{Export, Given};
-use oracle::rust::{pair, side, Place};
-use oracle::state::{State, NONE, PREPARE};
-use oracle::tree::{self, PrepareEffectTree};
+use oracle::calls::Calls;
+use oracle::lined::Lined;
+use oracle::rust::Place;
+use oracle::state::{State, MOST_LINES, NONE, PREPARE};
+use oracle::tree;
 use smelvock::raw::{Cursor, Lengths};
 
 /// The calls that take cursors.
@@ -19,6 +21,12 @@ pub const TAKING: [Export; 9] = [
     Export::Lengths,
     Export::Id,
 ];
+
+/// The calls that give lengths, but for make.
+pub const GIVING: [Export; 5] = [Export::Reset, Export::Insert, Export::SplitEntry, Export::SetLengths, Export::Update];
+
+/// The calls that take a view.
+pub const VIEWED: [Export; 3] = [Export::Locate, Export::CharIndexToEntry, Export::EntryToCharIndex];
 
 /// The other public calls of lib.rs, but for make and the retired `add`.
 pub const OTHERS: [Export; 7] = [
@@ -62,8 +70,11 @@ pub fn entry_at(state: &State, at: Cursor) -> Option<u32> {
     Some(slot[0])
 }
 
-/// The number of a call on lib.rs's state; 0 where lib.rs may be called.
+/// The number of a call on lib.rs's state; 0 where lib.rs may be called. Too many line ends come first.
 pub fn wanted(state: &State, export: Export, given: &Given) -> u32 {
+    if GIVING.contains(&export) && given.lengths.lines > MOST_LINES {
+        return 10;
+    }
     let failed = tested(export, given).into_iter().map(|at| fault(state, at)).find(|&number| number != 0);
     failed.unwrap_or_else(|| behind_cursors(state, export, given))
 }
@@ -73,34 +84,38 @@ fn behind_cursors(state: &State, export: Export, given: &Given) -> u32 {
     let head = &state.head;
     let totals = state.inner(head.root).total();
     let own = || {
-        let [_, prepare, effect] = state.leaf(given.at.leaf).used().nth(given.at.slot as usize).expect("it is current");
-        [prepare, effect].map(u64::from)
+        let [_, lengths @ ..] = state.leaf(given.at.leaf).used().nth(given.at.slot as usize).expect("it is current");
+        lengths.map(u64::from)
     };
-    let Lengths { prepare, effect } = given.lengths;
-    let new = [prepare, effect].map(u64::from);
-    let past = |old: [u64; 2]| (0..2).any(|view| totals[view] - old[view] + new[view] > u32::MAX as u64);
+    let new = lengths(given).map(u64::from);
+    let past = |old: [u64; 3]| (0..3).any(|view| totals[view] - old[view] + new[view] > u32::MAX as u64);
     match export {
         Export::Cursor if given.id >= head.entry_count => 4,
         Export::Locate | Export::CharIndexToEntry if given.index as u64 >= totals[given.view as usize] => 5,
-        Export::SplitEntry if (0..2).any(|view| new[view] > own()[view]) => 6,
-        Export::Insert if past([0, 0]) => 7,
+        Export::SplitEntry if (0..3).any(|view| new[view] > own()[view]) => 6,
+        Export::Insert if past([0; 3]) => 7,
         Export::SetLengths | Export::Update if past(own()) => 7,
         Export::Insert | Export::SplitEntry if head.entry_count >= head.limit => 8,
         _ => 0,
     }
 }
 
+fn lengths(given: &Given) -> [u32; 3] {
+    let Lengths { prepare, effect, lines } = given.lengths;
+    [prepare, effect, lines]
+}
+
 /// Leaf and slot as lib.rs prints them, and the stamp: the entry count at issue.
-fn standing<const N: usize>(tree: &PrepareEffectTree<N>, at: tree::Cursor) -> Vec<u32> {
+fn standing<const N: usize>(tree: &Lined<N>, at: tree::Cursor) -> Vec<u32> {
     let Place { leaf, slot } = Place::of(at);
     vec![leaf, slot, tree.len() as u32]
 }
 
 /// What lib.rs answers, in the order of the export's values.
-pub fn answer<const N: usize>(tree: &mut PrepareEffectTree<N>, export: Export, given: &Given) -> Vec<u32> {
+pub fn answer<const N: usize>(tree: &mut Lined<N>, export: Export, given: &Given) -> Vec<u32> {
     let at = tree::Cursor::standing(given.at.leaf, given.at.slot);
     let before = (given.end == 0).then_some(at);
-    let lengths = pair([given.lengths.prepare, given.lengths.effect]);
+    let lengths = lengths(given);
     match export {
         Export::Reset => tree.reset(lengths),
         Export::SetLengths => tree.set_lengths(at, lengths),
@@ -118,19 +133,16 @@ pub fn answer<const N: usize>(tree: &mut PrepareEffectTree<N>, export: Export, g
     vec![]
 }
 
-fn question<const N: usize>(tree: &mut PrepareEffectTree<N>, export: Export, given: &Given) -> Vec<u32> {
+fn question<const N: usize>(tree: &mut Lined<N>, export: Export, given: &Given) -> Vec<u32> {
     let [at, other] = [given.at, given.other].map(|at| tree::Cursor::standing(at.leaf, at.slot));
-    let view = side(given.view as usize);
+    let view = given.view as usize;
     match export {
         Export::Len => vec![tree.len() as u32],
         Export::IsEmpty => vec![tree.is_empty() as u32],
         Export::First => standing(tree, tree.first()),
         Export::Next => tree.next(at).map_or(vec![NONE, 0, 0], |next| standing(tree, next)),
         Export::Id => vec![tree.id(at)],
-        Export::Lengths => {
-            let lengths = tree.lengths(at);
-            vec![lengths.prepare, lengths.effect]
-        }
+        Export::Lengths => tree.lengths(at).to_vec(),
         Export::Cursor => standing(tree, tree.cursor(given.id)),
         Export::Cmp => vec![(tree.cmp(at, other) as i32 + 1) as u32],
         Export::CharIndexToEntry => {
@@ -139,7 +151,7 @@ fn question<const N: usize>(tree: &mut PrepareEffectTree<N>, export: Export, giv
         }
         Export::Locate => {
             let (at, offset, position) = tree.locate(view, given.index);
-            let prepare = tree.entry_to_char_index(side(PREPARE), at);
+            let prepare = tree.entry_to_char_index(PREPARE, at);
             [standing(tree, at), vec![offset, position, prepare]].concat()
         }
         Export::EntryToCharIndex => vec![tree.entry_to_char_index(view, at)],

@@ -240,7 +240,7 @@ impl Export {
             Export::Id => number(raw::id(head, areas, given.at)),
             Export::Lengths => {
                 let r = raw::lengths(head, areas, given.at);
-                answer(r.number, &[r.lengths.prepare, r.lengths.effect])
+                answer(r.number, &[r.lengths.prepare, r.lengths.effect, r.lengths.lines])
             }
             Export::Cursor => standing(raw::cursor(head, areas, given.id)),
             Export::Cmp => number(raw::cmp(head, areas, given.at, given.other)),

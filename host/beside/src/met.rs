@@ -1,7 +1,7 @@
 //! What lists on any cursors have met, counted, so that a test can assert that they met what it claims.
 
 use crate::any_cursor::Drawn;
-use crate::cursors::{entry_at, fault, tested, OTHERS, TAKING};
+use crate::cursors::{entry_at, fault, tested, GIVING, OTHERS, TAKING, VIEWED};
 use crate::exports::{Export, Given};
 use oracle::state::State;
 use std::collections::BTreeMap;
@@ -34,6 +34,8 @@ pub enum Thing {
     Pair(u32, u32),
     /// A cursor of a call, the first or, 1, the second.
     Odd(Export, usize, Odd),
+    /// A call that takes a view, answered in that view.
+    Viewed(Export, u32),
 }
 
 #[derive(Clone, Default, PartialEq, Eq, Debug)]
@@ -52,6 +54,9 @@ impl Met {
         self.count(if cursors.is_empty() { Thing::Other(export, number) } else { Thing::Taking(export, number) });
         if let [first, second] = cursors[..] {
             self.count(Thing::Pair(fault(state, first), fault(state, second)));
+        }
+        if number == 0 && VIEWED.contains(&export) {
+            self.count(Thing::Viewed(export, given.view));
         }
         for (place, drawn) in drawn.into_iter().enumerate().take(cursors.len()) {
             if let Some(odd) = odd(state, drawn) {
@@ -86,7 +91,8 @@ fn odd(state: &State, Drawn { at, entry }: Drawn) -> Option<Odd> {
 }
 
 /// Every call that takes cursors with every number of a cursor and with every odd cursor in every place; comparisons of every two
-/// numbers; the other calls, answered.
+/// numbers; the other calls, answered; lookups and ranks in every view; too many line ends in every call that gives lengths and takes
+/// a cursor.
 pub fn needed() -> Vec<Thing> {
     let mut needed = Vec::new();
     for export in TAKING {
@@ -95,6 +101,9 @@ pub fn needed() -> Vec<Thing> {
         needed.extend((0..places).flat_map(|place| ODD.map(|odd| Thing::Odd(export, place, odd))));
     }
     needed.extend(FAULTS.into_iter().flat_map(|first| FAULTS.map(|second| Thing::Pair(first, second))));
+    needed.extend(VIEWED.into_iter().flat_map(|export| (0..3).map(move |view| Thing::Viewed(export, view))));
+    let giving = GIVING.into_iter().filter(|export| TAKING.contains(export));
+    needed.extend(giving.map(|export| Thing::Taking(export, 10)));
     needed.extend(OTHERS.into_iter().chain([Export::Insert]).map(|export| Thing::Other(export, 0)));
     needed
 }
@@ -109,8 +118,8 @@ impl std::ops::AddAssign<&Met> for Met {
     }
 }
 
-/// A line for each call that takes cursors: how often each number was answered, and each odd cursor met; one for the other calls, and
-/// one for the pairs of numbers that comparisons met.
+/// A line for each call that takes cursors: how often each number was answered, and each odd cursor met; one for the other calls, one
+/// for the views, and one for the pairs of numbers that comparisons met.
 impl fmt::Display for Met {
     fn fmt(&self, f: &mut fmt::Formatter<'_>) -> fmt::Result {
         writeln!(f, "{} calls, up to {} levels", self.calls, self.most_levels)?;
@@ -129,6 +138,12 @@ impl fmt::Display for Met {
         for (thing, count) in &self.things {
             if let Thing::Other(export, number) = thing {
                 write!(f, " {export:?} {number}: {count},")?;
+            }
+        }
+        write!(f, "\n  by view:")?;
+        for (thing, count) in &self.things {
+            if let Thing::Viewed(export, view) = thing {
+                write!(f, " {export:?} {view}: {count},")?;
             }
         }
         write!(f, "\n  pairs:")?;

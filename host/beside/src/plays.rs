@@ -74,7 +74,7 @@ fn ask<const N: usize>(tree: &mut PrepareEffectTree<N>, export: Export, given: &
         Export::First => tree.first().map(standing),
         Export::Next => tree.next(at).map(|next| next.map_or(vec![NONE, 0, 0], standing)),
         Export::Id => tree.id(at).map(|id| vec![id]),
-        Export::Lengths => tree.lengths(at).map(|lengths| vec![lengths.prepare, lengths.effect]),
+        Export::Lengths => tree.lengths(at).map(|of| vec![of.prepare, of.effect, of.lines]),
         Export::Cursor => tree.cursor(given.id).map(standing),
         Export::Cmp => tree.cmp(at, other).map(|order| vec![(order as i32 + 1) as u32]),
         Export::CharIndexToEntry => {

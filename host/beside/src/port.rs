@@ -11,19 +11,19 @@ fn done<T>(answer: Result<T, Refusal>) -> T {
     answer.expect("the row does not refuse the call")
 }
 
-pub fn pair([prepare, effect]: [u32; 2]) -> Lengths {
-    Lengths { prepare, effect }
+pub fn three([prepare, effect, lines]: [u32; 3]) -> Lengths {
+    Lengths { prepare, effect, lines }
 }
 
 pub fn side(view: usize) -> View {
-    [View::Prepare, View::Effect][view]
+    [View::Prepare, View::Effect, View::Lines][view]
 }
 
 impl<const N: usize> Calls for Port<N> {
     type Cursor = Cursor;
 
-    fn reset(&mut self, lengths: [u32; 2]) {
-        done(self.0.reset(pair(lengths)))
+    fn reset(&mut self, lengths: [u32; 3]) {
+        done(self.0.reset(three(lengths)))
     }
     fn len(&self) -> usize {
         done(self.0.len())
@@ -40,9 +40,9 @@ impl<const N: usize> Calls for Port<N> {
     fn id(&self, at: Cursor) -> u32 {
         done(self.0.id(at))
     }
-    fn lengths(&self, at: Cursor) -> [u32; 2] {
-        let Lengths { prepare, effect } = done(self.0.lengths(at));
-        [prepare, effect]
+    fn lengths(&self, at: Cursor) -> [u32; 3] {
+        let Lengths { prepare, effect, lines } = done(self.0.lengths(at));
+        [prepare, effect, lines]
     }
     fn cursor(&self, id: u32) -> Cursor {
         done(self.0.cursor(id))
@@ -63,16 +63,16 @@ impl<const N: usize> Calls for Port<N> {
     fn entry_to_char_index(&self, view: usize, at: Cursor) -> u32 {
         done(self.0.entry_to_char_index(side(view), at))
     }
-    fn set_lengths(&mut self, at: Cursor, lengths: [u32; 2]) {
-        done(self.0.set_lengths(at, pair(lengths)))
+    fn set_lengths(&mut self, at: Cursor, lengths: [u32; 3]) {
+        done(self.0.set_lengths(at, three(lengths)))
     }
-    fn update(&mut self, at: Cursor, lengths: [u32; 2]) -> u32 {
-        done(self.0.update(at, pair(lengths)))
+    fn update(&mut self, at: Cursor, lengths: [u32; 3]) -> u32 {
+        done(self.0.update(at, three(lengths)))
     }
-    fn insert(&mut self, before: Option<Cursor>, lengths: [u32; 2]) -> (u32, u32) {
-        done(self.0.insert(before, pair(lengths)))
+    fn insert(&mut self, before: Option<Cursor>, lengths: [u32; 3]) -> (u32, u32) {
+        done(self.0.insert(before, three(lengths)))
     }
-    fn split_entry(&mut self, at: Cursor, lengths: [u32; 2], before: bool) -> (u32, [Cursor; 2]) {
-        done(self.0.split_entry(at, pair(lengths), before))
+    fn split_entry(&mut self, at: Cursor, lengths: [u32; 3], before: bool) -> (u32, [Cursor; 2]) {
+        done(self.0.split_entry(at, three(lengths), before))
     }
 }

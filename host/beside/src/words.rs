@@ -1,6 +1,6 @@
 //! A tree's words between oracle's form and the port's.
 
-use oracle::state::{Finger, Head, State};
+use oracle::state::{node_words, Finger, Head, State};
 use smelvock::{raw, PrepareEffectTree};
 
 /// The head as the oracle has it; a finger is there unless `present` is 0.
@@ -29,12 +29,12 @@ pub fn tree_of<const N: usize>(state: State) -> PrepareEffectTree<N> {
 }
 
 /// A new tree of the port on areas of zeros, so that every word of them is known, not those in use alone.
-pub fn on_zeros<const N: usize>(limit: u32, [prepare, effect]: [u32; 2]) -> PrepareEffectTree<N> {
-    let nodes = (limit as usize / (N / 2)).max(1) * (3 + 3 * N);
+pub fn on_zeros<const N: usize>(limit: u32, [prepare, effect, lines]: [u32; 3]) -> PrepareEffectTree<N> {
+    let nodes = (limit as usize / (N / 2)).max(1) * node_words(N as u32);
     let (mut head, mut leaves, mut inners, mut homes) =
         ([0; 17], vec![0; nodes], vec![0; nodes], vec![0; limit as usize]);
     let areas = raw::AreasMut { leaves: &mut leaves, inners: &mut inners, homes: &mut homes };
-    let number = raw::new(N as u32, limit, raw::Lengths { prepare, effect }, &mut head, areas);
+    let number = raw::new(N as u32, limit, raw::Lengths { prepare, effect, lines }, &mut head, areas);
     assert_eq!(number, 0, "fan and limit are good");
     PrepareEffectTree::from_words(head, leaves, inners, homes)
 }

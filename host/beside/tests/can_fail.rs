@@ -11,10 +11,10 @@ use oracle::state::{Head, NONE};
 use smelvock::raw::Cursor;
 use std::panic::{catch_unwind, AssertUnwindSafe};
 
-/// Twelve entries (1, 2) with room for two more.
+/// Twelve entries (1, 2, 3) with room for two more.
 fn twelve() -> Driver<Both<4>> {
-    let mut driver = Driver::beside(Both::make(14, [1, 2]), Row::make(14, [1, 2]), 0);
-    driver.play_all(&[Record::new(3, 0, NONE, 1, 2); 11]).unwrap();
+    let mut driver = Driver::beside(Both::make(14, [1, 2, 3]), Row::make(14, [1, 2, 3]), 0);
+    driver.play_all(&[Record::new(3, 0, NONE, 1, 2).with_lines(3); 11]).unwrap();
     driver
 }
 
@@ -37,7 +37,7 @@ fn a_changed_word_is_found_out() {
     let located = Call::Lookup { view: 0, index: 5 };
     assert!(!found_out(located, |_, _| ()));
     let mut words = 0;
-    for (area, length) in [7 * 15, 7 * 15, 14].into_iter().enumerate() {
+    for (area, length) in [7 * 19, 7 * 19, 14].into_iter().enumerate() {
         for at in 0..length {
             assert!(found_out(located, |_, areas| areas[area][at] ^= 1), "area {area}, word {at}");
             words += 1;
@@ -45,15 +45,18 @@ fn a_changed_word_is_found_out() {
     }
     assert!(found_out(located, |head, _| head.root += 1) && found_out(located, |head, _| head.levels += 1));
     assert!(found_out(located, |head, _| head.leaf_count += 1) && found_out(located, |head, _| head.inner_count -= 1));
-    for looked in [located, Call::Select { view: 0, index: 5 }] {
+    for looked in [located, Call::Select { view: 0, index: 5 }, Call::Lookup { view: 2, index: 16 }] {
         assert!(!found_out(looked, |_, _| ()));
         assert!(found_out(looked, |head, _| head.finger = None));
+        assert!(found_out(looked, |head, _| head.finger.as_mut().unwrap().view ^= 1));
+        assert!(found_out(looked, |head, _| head.finger.as_mut().unwrap().start += 1));
+        assert!(found_out(looked, |head, _| head.finger.as_mut().unwrap().within += 1));
         assert!(found_out(looked, |head, _| head.finger.as_mut().unwrap().effect_within += 1));
         assert!(found_out(looked, |head, _| head.finger.as_mut().unwrap().prepare += 1));
         assert!(found_out(looked, |head, _| head.finger.as_mut().unwrap().prepare_within += 1));
     }
     let _ = std::panic::take_hook();
-    println!("{words} words of the areas and twelve changes of the head, each found out");
+    println!("{words} words of the areas, line ends among them, and 25 changes of the head, each found out");
 }
 
 /// Whether a call of that kind is found out that is handed the cursor of such a call, changed in the port.
@@ -62,7 +65,10 @@ fn handed_found_out(giver: Giver, kind: u8, spoil: impl Fn(&mut Cursor)) -> bool
     driver.play(giving(giver, if giver == Giver::First { 0 } else { 5 }).unwrap()).unwrap();
     let (from, id) = driver.held.last((giver == Giver::SplitFirst) as usize).unwrap();
     driver.subject.spoil_held(spoil);
-    parts(driver, Step { from, ..Record::new(kind, 0, id, 0, (kind <= 6) as u32).into() })
+    parts(
+        driver,
+        Step { from, ..Record::new(kind, 0, id, 0, (kind <= 6) as u32).with_lines((kind <= 6) as u16).into() },
+    )
 }
 
 #[test]

@@ -7,7 +7,7 @@ use beside::cursors::TAKING;
 use beside::exports::{Export, Given, Tree};
 use beside::met::{Met, Thing, FAULTS};
 use beside::plays::Plays;
-use beside::port::pair;
+use beside::port::three;
 use beside::words::on_zeros;
 use oracle::at_fan;
 use oracle::fans::FANS;
@@ -26,13 +26,13 @@ const STYLES: [(Style, u32); 3] = [
 ];
 
 fn made<const N: usize>(limit: u32) -> PrepareEffectTree<N> {
-    on_zeros(limit, [2, 1])
+    on_zeros(limit, [2, 1, 1])
 }
 
 fn played<const N: usize, P: Plays>(style: Style, make: fn(&PrepareEffectTree<N>) -> P) -> Met {
     let mut met = Met::default();
     for seed in 0..LISTS {
-        let beside = Beside::<N, P>::new(make(&made(style.limit)), style.limit, [2, 1]);
+        let beside = Beside::<N, P>::new(make(&made(style.limit)), style.limit, [2, 1, 1]);
         let mut list = List::new(beside, style, seed * 64 + N as u64);
         list.play(CALLS).unwrap();
         met += &list.met;
@@ -62,8 +62,8 @@ fn random_lists() {
 
 /// A tree of that limit, with so many entries inserted at the end.
 fn extended<const N: usize>(limit: u32, inserts: usize) -> Beside<N, Tree> {
-    let mut beside = Beside::new(Tree::of(&made::<N>(limit)), limit, [2, 1]);
-    let given = Given { end: 1, lengths: pair([1, 2]).into(), ..Given::default() };
+    let mut beside = Beside::new(Tree::of(&made::<N>(limit)), limit, [2, 1, 1]);
+    let given = Given { end: 1, lengths: three([1, 2, 3]).into(), ..Given::default() };
     for _ in 0..inserts {
         beside.play(Export::Insert, &given).unwrap();
     }
@@ -84,7 +84,7 @@ fn every_call<const N: usize>(beside: &Beside<N, Tree>, at: raw::Cursor, others:
         let number = beside.clone().play(export, &given).unwrap().number;
         met.note(&state, export, &given, [given.at, given.other].map(|at| Drawn { at, entry: None }), number);
     };
-    let lengths = pair([0, 0]).into();
+    let lengths = three([0; 3]).into();
     for export in TAKING.into_iter().filter(|&export| export != Export::Cmp) {
         play(export, Given { at, lengths, ..Given::default() });
     }
@@ -161,43 +161,43 @@ fn fails<const N: usize>(tree: &PrepareEffectTree<N>, old: Cursor, restamped: Re
 }
 
 /// A tree with those entries, each inserted at the end.
-fn grown<const N: usize>(entries: &[[u32; 2]]) -> PrepareEffectTree<N> {
+fn grown<const N: usize>(entries: &[[u32; 3]]) -> PrepareEffectTree<N> {
     let mut tree = on_zeros(40, entries[0]);
-    entries[1..].iter().for_each(|&lengths| assert!(tree.insert(None, pair(lengths)).is_ok()));
+    entries[1..].iter().for_each(|&lengths| assert!(tree.insert(None, three(lengths)).is_ok()));
     tree
 }
 
-const FIVE: [[u32; 2]; 5] = [[1, 1], [2, 2], [3, 3], [4, 4], [5, 5]];
+const FIVE: [[u32; 3]; 5] = [[1; 3], [2; 3], [3; 3], [4; 3], [5; 3]];
 
 /// Cases A (two trees), B (two trees), C and D of docs/DIFFERENCES.md.
 #[test]
 fn the_cases_of_differences() {
-    let mut tree = grown::<4>(&[[3, 3], [2, 0]]);
+    let mut tree = grown::<4>(&[[3, 3, 1], [2, 0, 0]]);
     let old = tree.cursor(1).unwrap();
-    tree.insert(Some(tree.cursor(0).unwrap()), pair([0, 5])).unwrap();
+    tree.insert(Some(tree.cursor(0).unwrap()), three([0, 5, 2])).unwrap();
     fails(&tree, old, Ok(0));
-    let mut tree = grown::<4>(&[[3, 3]]);
+    let mut tree = grown::<4>(&[[3; 3]]);
     let old = tree.cursor(0).unwrap();
-    tree.split_entry(old, pair([1, 1]), true).unwrap();
+    tree.split_entry(old, three([1; 3]), true).unwrap();
     fails(&tree, old, Ok(1));
 
     let mut tree = grown::<4>(&FIVE[..4]);
     let old = tree.cursor(3).unwrap();
-    tree.insert(None, pair([5, 5])).unwrap();
+    tree.insert(None, three([5; 3])).unwrap();
     fails(&tree, old, Err(Refusal::SLOT));
-    let mut tree = grown::<32>(&[[1, 1]; 32]);
+    let mut tree = grown::<32>(&[[1; 3]; 32]);
     let old = tree.cursor(31).unwrap();
-    tree.insert(None, pair([1, 1])).unwrap();
+    tree.insert(None, three([1; 3])).unwrap();
     fails(&tree, old, Err(Refusal::SLOT));
 
     let mut tree = grown::<4>(&FIVE);
     let old = tree.cursor(4).unwrap();
-    tree.reset(pair([1, 1])).unwrap();
+    tree.reset(three([1; 3])).unwrap();
     fails(&tree, old, Err(Refusal::LEAF));
 
     let mut tree = grown::<4>(&FIVE);
     let old = tree.cursor(1).unwrap();
-    tree.insert(None, pair([6, 6])).unwrap();
+    tree.insert(None, three([6; 3])).unwrap();
     fails(&tree, old, Ok(1));
 }
 
@@ -205,17 +205,17 @@ fn the_cases_of_differences() {
 /// by its leaf or its slot. Seven entries are in three leaves, then in two, the first of them full.
 #[test]
 fn a_cursor_from_before_a_reset() {
-    let mut tree = grown::<4>(&[[1, 1]; 7]);
+    let mut tree = grown::<4>(&[[1; 3]; 7]);
     let cursors = [0, 1, 2, 3, 4, 5, 6].map(|id| tree.cursor(id).unwrap());
-    tree.reset(pair([1, 1])).unwrap();
-    (1..5).for_each(|id| assert_eq!(tree.insert(None, pair([1, 1])), Ok((id, id))));
+    tree.reset(three([1; 3])).unwrap();
+    (1..5).for_each(|id| assert_eq!(tree.insert(None, three([1; 3])), Ok((id, id))));
     for _ in 0..2 {
-        tree.insert(Some(tree.cursor(0).unwrap()), pair([1, 1])).unwrap();
+        tree.insert(Some(tree.cursor(0).unwrap()), three([1; 3])).unwrap();
     }
     let gone = Err(Refusal::LEAF);
     assert_eq!(cursors.map(|at| tree.id(at)), [Ok(5), Ok(6), Ok(2), Ok(3), gone, gone, gone]);
     let last_of_four = tree.cursor(1).unwrap();
-    tree.reset(pair([1, 1])).unwrap();
-    (1..7).for_each(|id| assert_eq!(tree.insert(None, pair([1, 1])), Ok((id, id))));
+    tree.reset(three([1; 3])).unwrap();
+    (1..7).for_each(|id| assert_eq!(tree.insert(None, three([1; 3])), Ok((id, id))));
     assert_eq!(tree.id(last_of_four), Err(Refusal::SLOT));
 }

@@ -2,14 +2,15 @@
 //! that has not met everything.
 
 use beside::any_cursor::{Beside, List, Style};
-use beside::cursors::TAKING;
+use beside::cursors::{GIVING, TAKING};
 use beside::exports::{Answer, Export, Given, Tree};
 use beside::met::{needed, Met};
 use beside::plays::Plays;
 use beside::words::on_zeros;
 use oracle::driver::Parted;
+use oracle::state::{node_words, EFFECT, LINES, MOST_LINES};
 use smelvock::raw::word::{ENTRIES, FAN, LEAVES};
-use smelvock::raw::Cursor;
+use smelvock::raw::{Cursor, Lengths};
 
 type Wrong = fn(&mut Tree, Export, &Given) -> Answer;
 
@@ -61,7 +62,7 @@ fn thirteen_for_fourteen(tree: &mut Tree, export: Export, given: &Given) -> Answ
 
 /// The len of a leaf in use.
 fn len(tree: &Tree, at: Cursor) -> Option<u32> {
-    let words = 3 + 3 * tree.word(FAN) as usize;
+    let words = node_words(tree.word(FAN));
     (at.leaf < tree.word(LEAVES)).then(|| tree.leaves.words()[at.leaf as usize * words])
 }
 
@@ -183,21 +184,75 @@ fn split_stamped_late(tree: &mut Tree, export: Export, given: &Given) -> Answer 
     answer
 }
 
+fn with_lines(given: &Given, lines: u32) -> Given {
+    Given { lengths: Lengths { lines, ..given.lengths }, ..*given }
+}
+
+fn line_ends_dropped(tree: &mut Tree, export: Export, given: &Given) -> Answer {
+    let lines = if given.lengths.lines > MOST_LINES { given.lengths.lines } else { 0 };
+    right(tree, export, &with_lines(given, lines))
+}
+
+fn too_many_line_ends_taken(tree: &mut Tree, export: Export, given: &Given) -> Answer {
+    right(tree, export, &with_lines(given, given.lengths.lines.min(MOST_LINES)))
+}
+
+/// The number of a cursor is told before that of the line ends.
+fn line_ends_after_the_cursor(tree: &mut Tree, export: Export, given: &Given) -> Answer {
+    match Export::Id.play(&mut tree.clone(), given).number {
+        0 => right(tree, export, given),
+        number => Answer { number, values: vec![] },
+    }
+}
+
+fn lines_by_the_effect_view(tree: &mut Tree, export: Export, given: &Given) -> Answer {
+    let view = if given.view == LINES as u32 { EFFECT as u32 } else { given.view };
+    right(tree, export, &Given { view, ..*given })
+}
+
+fn no_line_ends(tree: &mut Tree, export: Export, given: &Given) -> Answer {
+    let mut answer = right(tree, export, given);
+    answer.values[LINES] = 0;
+    answer
+}
+
+/// A split that moves more line ends than the entry has moves all.
+fn six_blind_to_line_ends(tree: &mut Tree, export: Export, given: &Given) -> Answer {
+    match Export::Lengths.play(&mut tree.clone(), given) {
+        Answer { number: 0, values } if given.lengths.lines <= MOST_LINES => {
+            right(tree, export, &with_lines(given, given.lengths.lines.min(values[LINES])))
+        }
+        _ => right(tree, export, given),
+    }
+}
+
+/// What stands in for each call that gives lengths and takes a cursor.
+const WRONG_GIVING: [(&str, Wrong); 3] = [
+    ("line ends dropped", line_ends_dropped),
+    ("too many line ends taken", too_many_line_ends_taken),
+    ("line ends after the cursor", line_ends_after_the_cursor),
+];
+
 /// What stands in for one call alone.
-const WRONG_IN: [(Export, &str, Wrong); 5] = [
+const WRONG_IN: [(Export, &str, Wrong); 10] = [
     (Export::Cmp, "the second cursor first", second_first),
     (Export::Cmp, "both stamps, both leaves, both slots", part_by_part),
     (Export::Cmp, "the second cursor not tested", second_not_tested),
     (Export::Cmp, "the second cursor by 3 whatever it lacks", second_by_three),
     (Export::SplitEntry, "an old stamp in the second cursor", split_stamped_late),
+    (Export::SplitEntry, "6 blind to line ends", six_blind_to_line_ends),
+    (Export::Lengths, "no line ends", no_line_ends),
+    (Export::EntryToCharIndex, "lines by the effect view", lines_by_the_effect_view),
+    (Export::Locate, "lines by the effect view", lines_by_the_effect_view),
+    (Export::CharIndexToEntry, "lines by the effect view", lines_by_the_effect_view),
 ];
 
 const STYLE: Style = Style { name: "can fail", limit: 120, reset_every: 1_000 };
 
 /// Plays a list of 6,000 calls at fan 4.
 fn play(wrong: Wrong, only: Export) -> Result<Met, Parted> {
-    let tree = Tree::of(&on_zeros::<4>(STYLE.limit, [2, 1]));
-    let beside = Beside::<4, _>::new(StandIn { tree, wrong, only }, STYLE.limit, [2, 1]);
+    let tree = Tree::of(&on_zeros::<4>(STYLE.limit, [2, 1, 1]));
+    let beside = Beside::<4, _>::new(StandIn { tree, wrong, only }, STYLE.limit, [2, 1, 1]);
     let mut list = List::new(beside, STYLE, 5);
     list.play(6_000).map(|()| list.met)
 }
@@ -205,7 +260,9 @@ fn play(wrong: Wrong, only: Export) -> Result<Met, Parted> {
 #[test]
 fn every_stand_in_is_found_out() {
     let of_each = TAKING.into_iter().flat_map(|export| WRONG.map(|(name, wrong)| (export, name, wrong)));
-    for (export, name, wrong) in of_each.chain(WRONG_IN) {
+    let giving = TAKING.into_iter().filter(|export| GIVING.contains(export));
+    let of_giving = giving.flat_map(|export| WRONG_GIVING.map(|(name, wrong)| (export, name, wrong)));
+    for (export, name, wrong) in of_each.chain(of_giving).chain(WRONG_IN) {
         let parted = play(wrong, export).expect_err(name);
         assert!(parted.contains(&format!("{export:?} Given")), "{name}: {parted}");
         println!("{export:?}, {name}: {parted}");

@@ -2,13 +2,13 @@
 //! of document 01 or 12 to 14, and audit's verdict is that of oracle's audit, which is written from the paper.
 
 use beside::exports::{unprinted, Area, Export, Given, Tree, EXPORTS, UNPRINTED};
-use beside::port::pair;
+use beside::port::three;
 use beside::words::{head_of, on_zeros};
 use oracle::at_fan;
 use oracle::audit::{audit, Verdict};
 use oracle::fans::FANS;
 use oracle::random::Random;
-use oracle::state::State;
+use oracle::state::{node_words, State, MOST_LINES, NONE};
 use smelvock::raw::word::{ENTRIES, FAN, LEAVES, LIMIT, PRESENT};
 use smelvock::raw::{Cursor, Lengths};
 use smelvock::{View, PAGE_BYTES};
@@ -26,10 +26,10 @@ struct Met {
 }
 
 fn sound<const N: usize>(entries: u32) -> Tree {
-    let mut tree = on_zeros::<N>(entries + 3, [1, 7]);
+    let mut tree = on_zeros::<N>(entries + 3, [1, 7, 2]);
     for id in 1..entries {
         let before = (id % 3 != 0).then(|| tree.cursor(id * 7 % id).unwrap());
-        tree.insert(before, pair([1 + id % 5, 3 + id % 11])).unwrap();
+        tree.insert(before, three([1 + id % 5, 3 + id % 11, 2 + id % 7])).unwrap();
     }
     tree.locate(View::Prepare, entries).unwrap();
     Tree::of(&tree)
@@ -100,9 +100,9 @@ fn given(tree: &Tree, random: &mut Random) -> Given {
         at,
         other,
         id: small(tree.word(ENTRIES)),
-        view: small(1),
+        view: small(2),
         index: small(200),
-        lengths: Lengths { prepare: small(3), effect: small(3) },
+        lengths: Lengths { prepare: small(3), effect: small(3), lines: small(3) },
         end: small(1),
         before: small(1),
         fan: tree.word(FAN),
@@ -157,6 +157,51 @@ fn every_single_flipped_word() {
     assert!(met.unsound > 1_000 && [0, 1, 2, 3, 9, 10, 12, 13, 14].iter().all(|&number| met.numbers[number] > 0));
 }
 
+/// Gives an entry those line ends, in its leaf and in every sum above it: where there are too many, nothing else is wrong.
+fn with_lines(tree: &Tree, leaf: usize, slot: usize, lines: u32) -> Tree {
+    let mut tree = tree.with(PRESENT, 0);
+    let node = node_words(tree.word(FAN));
+    let line_word = |slot: usize| 3 + 4 * slot + 3;
+    let more = lines.wrapping_sub(tree.leaves.words()[leaf * node + line_word(slot)]);
+    let mut words = &mut tree.leaves.words_mut()[leaf * node..][..node];
+    let mut at = slot;
+    loop {
+        words[line_word(at)] = words[line_word(at)].wrapping_add(more);
+        let parent = words[1];
+        if parent == NONE {
+            return tree;
+        }
+        at = words[2] as usize;
+        words = &mut tree.inners.words_mut()[parent as usize * node..][..node];
+    }
+}
+
+/// One line end more than an entry may have, in each leaf slot in use, is unsound by both audits; as many as it may have is sound.
+#[test]
+fn too_many_line_ends_in_a_leaf_slot() {
+    let (mut met, mut slots) = (Met::default(), 0);
+    let given = Given::default();
+    for fan in FANS {
+        let tree = at_fan!(fan, N => sound::<N>(34 + N as u32 * 3 / 2));
+        let node = node_words(fan);
+        for leaf in 0..tree.word(LEAVES) as usize {
+            for slot in 0..tree.leaves.words()[leaf * node] as usize {
+                for lines in [0, MOST_LINES, MOST_LINES + 1, 1 << 31] {
+                    let tree = with_lines(&tree, leaf, slot, lines);
+                    let before = [met.sound, met.unsound];
+                    audited(&tree, &given, &mut met);
+                    let sound = lines <= MOST_LINES;
+                    let wanted = [before[0] + sound as u64, before[1] + !sound as u64];
+                    assert_eq!([met.sound, met.unsound], wanted, "fan {fan}, leaf {leaf}, slot {slot}, {lines}");
+                }
+                slots += 1;
+            }
+        }
+    }
+    println!("{slots} leaf slots, each with 65,535 line ends and with more: {met:?}");
+    assert_eq!([met.sound, met.unsound], [2 * slots; 2]);
+}
+
 /// Several words at once; then a chain of calls, each on what the one before left.
 #[test]
 fn chains_of_calls_on_damaged_trees() {
@@ -200,12 +245,12 @@ fn random_words() {
                 .collect();
             Area::new(&words)
         };
-        let words = nodes * (3 + 3 * fan);
+        let words = nodes * node_words(fan) as u32;
         let [leaves, inners, homes] = [draw(words), draw(words), draw(limit)];
         let finger: [u32; 8] = [0; 8].map(|_: u32| random.below(6) as u32);
         let [root, used, inners_used] = [0; 3].map(|_: u32| random.below(nodes as u64 + 1) as u32);
         let (levels, entries) = (random.below(6) as u32, random.below(limit as u64 + 2) as u32);
-        let (present, view) = (random.below(2) as u32, random.below(3) as u32);
+        let (present, view) = (random.below(2) as u32, random.below(4) as u32);
         let counts = [fan, limit, root, levels, used, inners_used, entries, present, view];
         let head = Area::new(&[&counts[..], &finger].concat());
         let page = unprinted(random.below(3) as usize * PAGE_BYTES);

@@ -1,5 +1,5 @@
 //! The door beside the plain row and lib.rs: its answer records are the row's for every list of records, good and damaged, and lib.rs
-//! answers the same to every call that isn't refused.
+//! answers the same to every call that isn't refused, line ends left out.
 
 use beside::program::bytes;
 use oracle::driver::Driver;
@@ -16,7 +16,7 @@ const SCALE: u64 = if cfg!(debug_assertions) { 1 } else { 10 };
 
 /// The row's answer records.
 fn wanted(records: &[Record]) -> Vec<u8> {
-    let mut row = Row::make(LIMIT, [0, 0]);
+    let mut row = Row::make(LIMIT, [0; 3]);
     records.iter().flat_map(|record| row.play(record).encode(record.kind)).collect()
 }
 
@@ -30,7 +30,7 @@ fn styles() -> [Style; 3] {
 
 /// A list of that length, drawn with the row in sight.
 fn drawn(seed: u64, style: Style, length: usize) -> Vec<Record> {
-    let mut row = Row::make(LIMIT, [0, 0]);
+    let mut row = Row::make(LIMIT, [0; 3]);
     let mut lister = Lister::new(seed, style);
     let mut next = || {
         let record = lister.draw(&row);
@@ -47,7 +47,7 @@ fn every_length_from_0() {
         for (style, seed) in styles().into_iter().zip(0..) {
             let list = drawn(seed + length as u64 * 3, style, length);
             assert_eq!(door(&bytes(&list)), Ok(wanted(&list)), "{length} records, style {seed}");
-            Driver::<Rust<8>>::make(LIMIT, [0, 0], 0).play_all(&list).expect("lib.rs answers as the row does");
+            Driver::<Rust<8>>::make(LIMIT, [0; 3], 0).play_all(&list).expect("lib.rs answers as the row does");
             played += length;
         }
     }
@@ -62,7 +62,7 @@ fn lists_longer_than_the_limit() {
             assert_eq!(door(&bytes(&list)), Ok(wanted(&list)));
         }
     }
-    let full = [Record::new(3, 0, u32::MAX, 0, 1); 600];
+    let full = [Record::new(3, 0, u32::MAX, 0, 1).with_lines(u16::MAX); 600];
     assert_eq!(door(&bytes(&full)), Ok(wanted(&full)));
     println!("door: {} lists of 3,000 records, and 600 records of kind 3", 3 * SCALE);
 }
@@ -89,10 +89,11 @@ fn kind_3_is_answered_as_kind_2() {
     assert!(placed > 0 && placed < threes);
 }
 
-/// Every byte of a good record of every kind replaced by others: a field outside its values is number 10, all else is the row's.
+/// Every byte of a good record of every kind replaced by others: a field outside its values is number 10, all else is the row's. The
+/// lengths of both entries and the line of the second follow.
 #[test]
 fn damaged_records_of_every_kind() {
-    let row = Row::make(LIMIT, [0, 0]);
+    let row = Row::make(LIMIT, [0; 3]);
     let mut lister = Lister::new(7, styles()[1]);
     let mut played = 0;
     for kind in 1..=13 {
@@ -101,13 +102,45 @@ fn damaged_records_of_every_kind() {
             for byte in [0, 1, 2, 14, 128, 255] {
                 let mut bad = good;
                 bad[place] = byte;
-                let list = [Record::new(2, 0, u32::MAX, 3, 4), Record::decode(&bad), Record::new(12, 0, 0, 0, 0)];
+                let before = [Record::new(2, 0, u32::MAX, 3, 4).with_lines(0x0203), Record::decode(&bad)];
+                let after = [(12, 0, 0), (11, 0, 0), (11, 0, 1), (8, 2, 1)]
+                    .map(|(kind, view, id)| Record::new(kind, view, id, 0, 0));
+                let list = [&before[..], &after].concat();
                 assert_eq!(door(&bytes(&list)), Ok(wanted(&list)), "{bad:?}");
                 played += 1;
             }
         }
     }
     println!("door: {played} damaged records");
+}
+
+/// Line ends are bytes 2 and 3 of a record, the lower first: they come back in the third field of lengths, and split.
+#[test]
+fn line_ends_of_every_byte() {
+    let mut played = 0;
+    for lines in (0..256).chain((0..256).map(|byte| byte << 8)).chain([0x0102, 0x0201, 0xfffe, u16::MAX]) {
+        let part = lines / 3;
+        let list = [
+            Record::new(1, 0, 0, 4, 4).with_lines(lines),
+            Record::new(11, 0, 0, 0, 0),
+            Record::new(4, 0, 0, 1, 2).with_lines(part),
+            Record::new(11, 0, 1, 0, 0),
+            Record::new(8, 2, 1, 0, 0),
+            Record::new(4, 1, 1, 0, 0).with_lines(part.saturating_add(1)),
+            Record::new(7, 2, lines as u32 / 2, 0, 0),
+            Record::new(7, 2, lines as u32, 0, 0),
+        ];
+        let answers = door(&bytes(&list)).expect("good lengths");
+        assert_eq!(answers, wanted(&list), "{lines} line ends");
+        let field = |record: usize, field: usize| answers[16 * record + 4 * field..][..4].to_vec();
+        let [third, first] = [3, 1];
+        assert_eq!(field(1, third), (lines as u32).to_le_bytes());
+        assert_eq!(field(3, third), (part as u32).to_le_bytes());
+        assert_eq!(field(4, first), ((lines - part) as u32).to_le_bytes());
+        assert_eq!((answers[16 * 5], answers[16 * 7]), (6, 5));
+        played += 1;
+    }
+    println!("door: {played} numbers of line ends");
 }
 
 /// Records of random bytes, the kind mostly a known one.

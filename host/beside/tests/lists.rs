@@ -1,5 +1,5 @@
-//! lib.rs and the port on the same lists, beside the row: every answer, each cursor's leaf and slot, every word of head and areas
-//! after every call, and the number of every refused call. More than two million calls in a release build.
+//! lib.rs and the port on the same lists, beside the row, which settles line ends: every answer, each cursor's leaf and slot, every word
+//! of head and areas after every call, and the number of every refused call. More than two million calls in a release build.
 
 use beside::lists::{both, runs};
 use oracle::coverage::Coverage;
@@ -16,7 +16,7 @@ fn at(fan: u32) -> Setup {
     Setup { make: both, fan, check_every: 0 }
 }
 
-/// Every run meets all of the finger's ways at every fan, hands a cursor of every call that answers one to every kind of call that
+/// Every run meets all of the finger's ways and every view at every fan, hands a cursor of every call that answers one to every kind of call that
 /// takes one, and splits leaves and inner nodes.
 #[test]
 fn random_lists() {
@@ -25,11 +25,8 @@ fn random_lists() {
         let mut of_run = Coverage::default();
         let (at_fans, cursors) = run.at_each_fan(both, 0);
         for at_fan in &at_fans {
-            assert!(
-                at_fan.finger_whole() && at_fan.leaf_splits > 0 && at_fan.leaf_split_under_finger > 0,
-                "{}",
-                run.name
-            );
+            assert!(at_fan.finger_whole() && at_fan.every_view(), "{}", run.name);
+            assert!(at_fan.leaf_splits > 0 && at_fan.leaf_split_under_finger > 0, "{}", run.name);
             of_run += at_fan;
         }
         assert!(of_run.root_growths > 0 && of_run.inner_splits > of_run.root_growths, "{}", run.name);
@@ -38,20 +35,20 @@ fn random_lists() {
     }
     println!("random lists: {} calls, {met:?}", met.calls());
     assert_eq!(met.calls(), 5 * FANS.len() as u64 * LISTS * 5_000);
-    assert!(met.all_kinds() && [4, 5, 6, 7, 8].iter().all(|&number| met.refused[number] > 0));
+    assert!(met.all_kinds() && [4, 5, 6, 7, 8, 10].iter().all(|&number| met.refused[number] > 0));
 }
 
 #[test]
 fn every_short_list_of_all_kinds() {
     let met = every_short_list_at_each_fan(all_kinds, 2, both);
-    assert_eq!(met.checks, 46 * (20 + 20 * 20));
+    assert_eq!(met.checks, 46 * (22 + 22 * 22));
 }
 
 #[test]
 fn every_short_list_of_moving_calls() {
     let longest = if SCALE == 1 { 3 } else { 4 };
     let met = every_short_list_at_each_fan(movers, longest, both);
-    assert_eq!(met.checks, 46 * (1..=longest).map(|length| 8u64.pow(length)).sum::<u64>());
+    assert_eq!(met.checks, 46 * (1..=longest).map(|length| 9u64.pow(length)).sum::<u64>());
 }
 
 #[test]

@@ -1,11 +1,12 @@
 //! Each cause of a refusal on the exports themselves: its number, zeros for values, head, areas and buffer as they were. The numbers
-//! wanted are document 01's ("When a call cannot be done") and document 02's 12 to 14, written down here.
+//! wanted are document 01's ("When a call cannot be done") and document 02's 10 of line ends and 12 to 14, written down here.
 
 use beside::exports::{unprinted, Area, Export, Given, Tree, EXPORTS};
-use beside::port::pair;
+use beside::port::three;
 use beside::words::on_zeros;
 use oracle::at_fan;
 use oracle::fans::FANS;
+use oracle::state::{node_words, MOST_LINES};
 use smelvock::raw::word::{FAN, LEAVES, LIMIT, PRESENT, ROOT};
 use smelvock::raw::{Cursor, Lengths};
 use smelvock::{View, PAGE_BYTES};
@@ -16,17 +17,18 @@ static PLAYED: AtomicU64 = AtomicU64::new(0);
 
 use Export::*;
 
-/// Those that take a cursor, and a view.
+/// Those that take a cursor, a view, and lengths.
 const AT: [Export; 9] = [Next, Id, Export::Lengths, Cmp, EntryToCharIndex, SetLengths, Update, Insert, SplitEntry];
 const VIEWS: [Export; 3] = [CharIndexToEntry, Locate, EntryToCharIndex];
+const LENGTHS: [Export; 6] = [New, Reset, SetLengths, Update, Insert, SplitEntry];
 
-/// Thirty entries of lengths (1 to 5, 1 to 3) with room for one more, a finger in the effect view, and what every export
+/// Thirty entries of lengths (1 to 5, 1 to 3, 1 to 4) with room for one more, a finger in the effect view, and what every export
 /// answers on it without a refusal.
 fn whole<const N: usize>() -> (Tree, Given) {
-    let mut tree = on_zeros::<N>(31, [2, 3]);
+    let mut tree = on_zeros::<N>(31, [2, 3, 1]);
     for id in 1..30 {
         let before = (id % 3 != 0).then(|| tree.cursor(id * 7 % id).unwrap());
-        tree.insert(before, pair([1 + id % 5, 1 + id % 3])).unwrap();
+        tree.insert(before, three([1 + id % 5, 1 + id % 3, 1 + id % 4])).unwrap();
     }
     tree.locate(View::Effect, 11).unwrap();
     let [at, other] = [4, 23].map(|id| tree.cursor(id).unwrap().into());
@@ -36,7 +38,7 @@ fn whole<const N: usize>() -> (Tree, Given) {
         id: 7,
         view: 1,
         index: 12,
-        lengths: Lengths { prepare: 1, effect: 1 },
+        lengths: Lengths { prepare: 1, effect: 1, lines: 1 },
         end: 0,
         before: 1,
         fan: N as u32,
@@ -49,19 +51,20 @@ fn whole<const N: usize>() -> (Tree, Given) {
     (tree, given)
 }
 
-fn totals(tree: &Tree) -> [u32; 2] {
-    let size = (3 + 3 * tree.word(FAN)) as usize;
+fn totals(tree: &Tree) -> [u32; 3] {
+    let size = node_words(tree.word(FAN));
     let root = &tree.inners.words()[tree.word(ROOT) as usize * size..][..size];
-    [1, 2].map(|view| root[3..].chunks_exact(3).take(root[0] as usize).map(|slot| slot[view]).sum())
+    [1, 2, 3].map(|view| root[3..].chunks_exact(4).take(root[0] as usize).map(|slot| slot[view]).sum())
 }
 
-/// The export is refused by that number; nothing changes. A refused make gives a head of zeros instead.
+/// The export is refused by that number; nothing changes. A refused make gives a head of zeros instead, if it is one of seventeen words.
 fn refused(number: u32, export: Export, tree: &Tree, given: &Given) {
     let mut after = tree.clone();
     let answer = export.play(&mut after, given);
     assert_eq!(answer.number, number, "{export:?} {given:?} on {:?}", tree.head);
     assert!(answer.values.iter().all(|&value| value == 0), "{export:?} {answer:?}");
-    let head = if export == New && number != 10 { Area::new(&[0; 17]) } else { tree.head.clone() };
+    let made = export == New && tree.head.words().len() == 17;
+    let head = if made { Area::new(&[0; 17]) } else { tree.head.clone() };
     assert_eq!(after, Tree { head, ..tree.clone() }, "{export:?}");
     PLAYED.fetch_add(1, Ordering::Relaxed);
 }
@@ -118,7 +121,7 @@ fn an_area_too_short_is_2() {
 fn a_cursor_that_is_not_current_is_3_13_or_14() {
     at_each_fan(|tree, given| {
         let good = given.at;
-        let len = tree.leaves.words()[good.leaf as usize * (3 + 3 * tree.word(FAN) as usize)];
+        let len = tree.leaves.words()[good.leaf as usize * node_words(tree.word(FAN))];
         let leaves = [tree.word(LEAVES), tree.word(LEAVES) + 1, u32::MAX];
         let slots = [len, len + 1, tree.word(FAN), u32::MAX];
         let mut bad = Vec::new();
@@ -164,14 +167,14 @@ fn an_id_not_below_the_number_of_entries_is_4() {
     });
 }
 
-/// With and without a finger, the finger in the same view and in the other; its words stay, those of an absent one too.
+/// With and without a finger, the finger in the same view and in another; its words stay, those of an absent one too.
 #[test]
 fn a_position_at_or_past_the_total_is_5() {
     at_each_fan(|tree, given| {
         let totals = totals(&tree);
         for present in [0, 1] {
             let tree = tree.with(PRESENT, present);
-            for (view, export) in [0, 1].into_iter().flat_map(|view| [(view, Locate), (view, CharIndexToEntry)]) {
+            for (view, export) in [0, 1, 2].into_iter().flat_map(|view| [(view, Locate), (view, CharIndexToEntry)]) {
                 let total = totals[view as usize];
                 for index in [total, total + 1, u32::MAX - 1, u32::MAX] {
                     refused(5, export, &tree, &Given { view, index, ..given });
@@ -187,29 +190,61 @@ fn a_position_at_or_past_the_total_is_5() {
 fn a_split_of_more_than_there_is_is_6() {
     at_each_fan(|tree, given| {
         let own = Export::Lengths.play(&mut tree.clone(), &given).values;
-        for (more, before) in [[1, 0], [0, 1], [1, 1]].into_iter().flat_map(|more| [(more, 0), (more, 1)]) {
-            let lengths = Lengths { prepare: own[0] + more[0], effect: own[1] + more[1] };
+        let more = [[1, 0, 0], [0, 1, 0], [0, 0, 1], [1, 1, 1]];
+        for (more, before) in more.into_iter().flat_map(|more| [(more, 0), (more, 1)]) {
+            let lengths = three([0, 1, 2].map(|view| own[view] + more[view])).into();
             refused(6, SplitEntry, &tree, &Given { lengths, before, ..given });
         }
-        let lengths = Lengths { prepare: own[0], effect: own[1] };
+        for lines in [own[2] + 2, 256, MOST_LINES] {
+            let lengths = Lengths { prepare: 0, effect: 0, lines };
+            refused(6, SplitEntry, &tree, &Given { lengths, ..given });
+        }
+        let lengths = three([own[0], own[1], own[2]]).into();
         assert_eq!(SplitEntry.play(&mut tree.clone(), &Given { lengths, ..given }).number, 0);
     });
 }
 
-/// The total with the new lengths is 4,294,967,295 and one more, in either view.
+/// A split moves its line ends from the entry to the new one, before it and after it.
+#[test]
+fn a_split_moves_line_ends() {
+    at_each_fan(|tree, given| {
+        let own = Export::Lengths.play(&mut tree.clone(), &given).values[2];
+        for (lines, before) in (0..=own).flat_map(|lines| [(lines, 0), (lines, 1)]) {
+            let mut tree = tree.clone();
+            let total = totals(&tree)[2];
+            let lengths = Lengths { prepare: 0, effect: 0, lines };
+            let answer = SplitEntry.play(&mut tree, &Given { lengths, before, ..given });
+            assert_eq!(answer.number, 0);
+            let parts = [&answer.values[1..4], &answer.values[4..7]].map(|at| Given {
+                at: Cursor { leaf: at[0], slot: at[1], stamp: at[2] },
+                view: 2,
+                ..given
+            });
+            let lines_of = parts.map(|part| Export::Lengths.play(&mut tree, &part).values[2]);
+            let wanted = if before == 1 { [lines, own - lines] } else { [own - lines, lines] };
+            assert_eq!((lines_of, totals(&tree)[2]), (wanted, total));
+            let ranks = parts.map(|part| EntryToCharIndex.play(&mut tree, &part).values[0]);
+            assert_eq!(ranks[1] - ranks[0], wanted[0]);
+            assert_eq!(Audit.play(&mut tree, &given).values, [1]);
+        }
+    });
+}
+
+/// The total with the new lengths is 4,294,967,295 and one more, in either old view; line ends never are 7.
 #[test]
 fn a_total_past_u32_is_7() {
     at_each_fan(|tree, given| {
         let totals = totals(&tree);
         let own = Export::Lengths.play(&mut tree.clone(), &given).values;
         for (export, own) in [(Insert, [0, 0]), (SetLengths, [own[0], own[1]]), (Update, [own[0], own[1]])] {
-            let most = Lengths { prepare: u32::MAX - totals[0] + own[0], effect: u32::MAX - totals[1] + own[1] };
+            let [prepare, effect] = [0, 1].map(|view| u32::MAX - totals[view] + own[view]);
+            let most = Lengths { prepare, effect, lines: MOST_LINES };
             for end in [0, 1] {
                 let given = Given { lengths: most, end, ..given };
                 assert_eq!(export.play(&mut tree.clone(), &given).number, 0);
-                let prepare = Lengths { prepare: most.prepare + 1, effect: 0 };
+                let prepare = Lengths { prepare: most.prepare + 1, effect: 0, lines: 0 };
                 refused(7, export, &tree, &Given { lengths: prepare, ..given });
-                let effect = Lengths { prepare: 0, effect: most.effect + 1 };
+                let effect = Lengths { prepare: 0, effect: most.effect + 1, lines: 0 };
                 refused(7, export, &tree, &Given { lengths: effect, ..given });
             }
         }
@@ -224,7 +259,7 @@ fn an_entry_more_than_the_limit_is_8() {
         for end in [0, 1] {
             refused(8, Insert, &tree, &Given { at, end, ..given });
         }
-        let lengths = Lengths { prepare: 0, effect: 0 };
+        let lengths = Lengths::default();
         refused(8, SplitEntry, &tree, &Given { at, lengths, ..given });
     });
 }
@@ -237,9 +272,43 @@ fn a_view_or_flag_outside_its_values_is_10() {
             let with_head = EXPORTS.iter().filter(|&&export| export != New);
             let flagged = tree.with(PRESENT, bad);
             with_head.for_each(|&export| refused(10, export, &flagged, &given));
-            VIEWS.iter().for_each(|&export| refused(10, export, &tree, &Given { view: bad, ..given }));
             refused(10, Insert, &tree, &Given { end: bad, ..given });
             refused(10, SplitEntry, &tree, &Given { before: bad, ..given });
+        }
+        for view in [3, 4, 256, u32::MAX] {
+            VIEWS.iter().for_each(|&export| refused(10, export, &tree, &Given { view, ..given }));
+        }
+        for view in [0, 1, 2] {
+            let played = |export: &Export| export.play(&mut tree.clone(), &Given { view, ..given }).number;
+            assert!(VIEWS.iter().all(|export| played(export) == 0), "view {view}");
+        }
+    });
+}
+
+/// More line ends than an entry may have, in every call that takes lengths, alone and with every other cause; as many as it may have are
+/// taken, but for the split of an entry that has fewer.
+#[test]
+fn more_than_65535_line_ends_are_10() {
+    at_each_fan(|tree, given| {
+        let lined = |lines| Given { lengths: Lengths { lines, ..given.lengths }, ..given };
+        let wide = |lines| Lengths { prepare: u32::MAX, effect: u32::MAX, lines };
+        let mut full = tree.clone();
+        assert_eq!(Insert.play(&mut full, &given).number, 0);
+        let bad_fan = Tree { homes: Area::new(&[]), ..tree.with(FAN, 3) };
+        let short = Tree { leaves: Area::new(&[]), ..tree.clone() };
+        let astray = Cursor { leaf: u32::MAX, slot: u32::MAX, stamp: u32::MAX };
+        for export in LENGTHS {
+            for lines in [MOST_LINES + 1, MOST_LINES + 2, 1 << 17, 1 << 31, u32::MAX] {
+                refused(10, export, &tree, &lined(lines));
+                for tree in [&tree, &full, &bad_fan, &short] {
+                    let bad = Given { at: astray, lengths: wide(lines), fan: 3, limit: 0, ..given };
+                    refused(10, export, tree, &bad);
+                    refused(10, export, tree, &Given { at: given.at, ..bad });
+                    refused(10, export, tree, &Given { end: 1, before: 0, ..bad });
+                }
+            }
+            let most = export.play(&mut tree.clone(), &lined(MOST_LINES)).number;
+            assert_eq!(most, if export == SplitEntry { 6 } else { 0 }, "{export:?}");
         }
     });
 }
@@ -294,8 +363,8 @@ fn the_order_of_the_refusals() {
     at_each_fan(|mut tree, given| {
         assert_eq!(Insert.play(&mut tree, &given).number, 0);
         let current = Cursor { stamp: 31, ..given.at };
-        let wide = Lengths { prepare: u32::MAX, effect: u32::MAX };
-        let all = Given { lengths: wide, view: 2, end: 2, before: 2, index: u32::MAX, ..given };
+        let wide = Lengths { prepare: u32::MAX, effect: u32::MAX, lines: MOST_LINES };
+        let all = Given { lengths: wide, view: 3, end: 2, before: 2, index: u32::MAX, ..given };
         let bad_fan = Tree { homes: Area::new(&[]), ..tree.with(FAN, 3) };
         let short = Tree { homes: Area::new(&[]), ..tree.clone() };
         for export in [Locate, EntryToCharIndex, Insert, SplitEntry] {

@@ -49,7 +49,7 @@ fn list() -> Vec<Record> {
 }
 
 fn answers(limit: u32, records: &[Record]) -> Vec<Answer> {
-    let mut row = Row::make(limit, [0, 0]);
+    let mut row = Row::make(limit, [0; 3]);
     records.iter().map(|record| row.play(record)).collect()
 }
 
@@ -61,6 +61,17 @@ fn the_list_meets_every_answer() {
     assert!((1..=13).all(|kind| met.contains(&(kind, 0))), "{met:?}");
     assert!([4, 5, 6, 7, 8, 10].iter().all(|number| met.iter().any(|(_, met)| met == number)), "{met:?}");
     assert!((2..=4).all(|kind| met.contains(&(kind, 8))), "{met:?}");
+    let of_lines: BTreeSet<_> = list
+        .iter()
+        .zip(answers(LIMIT, &list))
+        .filter(|(record, answer)| match record.kind {
+            7 | 8 => record.byte1 == 2 && answer.number == 0,
+            11 => answer.fields[2] > 0,
+            kind => (1..=6).contains(&kind) && record.lines > 0 && answer.number == 0,
+        })
+        .map(|(record, _)| record.kind)
+        .collect();
+    assert_eq!(of_lines, BTreeSet::from([1, 2, 3, 4, 5, 6, 7, 8, 11]));
     // a tree that holds an entry less is found out, and a program that stops after two reads
     assert_ne!(answers(LIMIT - 1, &list), answers(LIMIT, &list));
     assert!(bytes(&list).len() > 2 * (BLOCK + 1) + 16);

@@ -3,7 +3,7 @@
 
 use beside::both::Both;
 use beside::exports::{unprinted, Export, Given, Tree, UNPRINTED};
-use beside::port::pair;
+use beside::port::three;
 use beside::words::{on_zeros, tree_of};
 use oracle::driver::Driver;
 use oracle::fans::FANS;
@@ -55,7 +55,7 @@ fn same_sheet<const N: usize>(driver: &Driver<Both<N>>) {
     }
 }
 
-fn beside<const N: usize>(limit: u32, lengths: [u32; 2]) -> Driver<Both<N>> {
+fn beside<const N: usize>(limit: u32, lengths: [u32; 3]) -> Driver<Both<N>> {
     Driver::beside(Both::make(limit, lengths), Row::make(limit, lengths), 0)
 }
 
@@ -72,7 +72,7 @@ fn grow<const N: usize>(driver: &mut Driver<Both<N>>, lister: &mut Lister, rando
 }
 
 /// The sheet at each of these numbers of entries, and the lengths met on it.
-fn growing<const N: usize>(limit: u32, sizes: Sizes, first: [u32; 2], met: &mut BTreeSet<u32>) {
+fn growing<const N: usize>(limit: u32, sizes: Sizes, first: [u32; 3], met: &mut BTreeSet<u32>) {
     let mut lister = Lister::new(N as u64, Style { weights: GROWING, sizes, close: 50, miss: 0 });
     let mut random = Random::new(N as u64);
     let mut driver = beside::<N>(limit, first);
@@ -91,7 +91,7 @@ fn of_1_49_50_51_100_entries_and_the_limit() {
     let (mut sheets, limits) = (0, [101, 150, 512]);
     for (fan, sizes) in FANS.into_iter().flat_map(|fan| SIZES.map(|sizes| (fan, sizes))) {
         let limit = limits[sheets % limits.len()];
-        let first = [[3, 3], [u32::MAX, 0], [0, u32::MAX]][(sheets + fan as usize) % 3];
+        let first = [[3; 3], [u32::MAX, 0, 1], [0, u32::MAX, 0]][(sheets + fan as usize) % 3];
         at_fan!(fan, N => growing::<N>(limit, sizes, first, &mut met));
         sheets += 1;
     }
@@ -103,7 +103,7 @@ fn of_1_49_50_51_100_entries_and_the_limit() {
 #[test]
 fn of_lengths_of_0_and_of_4294967295() {
     fn ends<const N: usize>(first: [u32; 2], entries: u32) {
-        let mut driver = beside::<N>(entries, first);
+        let mut driver = beside::<N>(entries, [first[0], first[1], 9]);
         let none = Record::new(3, 0, NONE, 0, 0);
         driver.play_all(&vec![none; entries as usize - 2]).unwrap();
         driver.play(Record::new(3, 0, NONE, u32::MAX - first[0], u32::MAX - first[1])).unwrap();
@@ -125,7 +125,7 @@ fn after_random_changes() {
         let weights = with_resets(if sizes == Sizes::Zeros { GROWING } else { EVEN });
         for list in 0..lists {
             let mut lister = Lister::new(list * 64 + N as u64, Style { weights, sizes, close: 50, miss: 4 });
-            let mut driver = beside::<N>(180, [2, 1]);
+            let mut driver = beside::<N>(180, [2, 1, 1]);
             for _ in 0..40 {
                 driver.play_drawn(&mut lister, 17).unwrap();
                 same_sheet(&driver);
@@ -140,7 +140,7 @@ fn after_random_changes() {
     println!("{sheets} sheets after random changes");
 }
 
-/// The most entries of any tree: 1,311 pages. The port has lib.rs's own words.
+/// The most entries of any tree: 1,311 pages. The port has lib.rs's own words, and as many line ends in each entry as its id.
 #[test]
 fn of_65536_entries() {
     fn whole<const N: usize>() {
@@ -151,7 +151,7 @@ fn of_65536_entries() {
             let lengths = [random.below(100_000) as u32 / 2, 1 << random.below(16)];
             rust.insert(Some(before), rust::pair(lengths));
         }
-        let port = tree_of::<N>(rust.state(65_536));
+        let port = tree_of::<N>(rust.state(65_536, &(0..65_536).collect::<Vec<u32>>()));
         let wanted = of_tree(&rust);
         assert_eq!(wanted.len(), 1_311 * PAGE_BYTES);
         compared(&Tree::of(&port), &wanted, 1).unwrap_or_else(|fault| panic!("N {N}: {fault}"));
@@ -162,12 +162,12 @@ fn of_65536_entries() {
     }
 }
 
-/// A tree of so many entries of lengths (0 to 4, 3 to 13), with a finger.
+/// A tree of so many entries of lengths (0 to 4, 3 to 13, 0 to 6), with a finger.
 fn some<const N: usize>(entries: u32) -> PrepareEffectTree<N> {
-    let mut tree = on_zeros::<N>(entries, [1, 7]);
+    let mut tree = on_zeros::<N>(entries, [1, 7, 2]);
     for id in 1..entries {
         let before = (id % 3 != 0).then(|| tree.cursor(id * 7 % id).unwrap());
-        tree.insert(before, pair([id % 5, 3 + id % 11])).unwrap();
+        tree.insert(before, three([id % 5, 3 + id % 11, id % 7])).unwrap();
     }
     tree.locate(smelvock::View::Effect, entries).unwrap();
     tree
@@ -224,7 +224,8 @@ fn print_and_sheet_of_a_tree() {
     assert_eq!(with(FAN, 33), Err(Refusal::SIZE));
 }
 
-/// With any one byte of the wanted pages changed, or any word of an entry in the port's tree, the comparison finds it out.
+/// With any one byte of the wanted pages changed, or any word of an entry in the port's tree but its line ends, which no line has, the
+/// comparison finds it out.
 #[test]
 fn a_changed_byte_or_word_is_found_out() {
     let port = some::<4>(51);
@@ -239,12 +240,13 @@ fn a_changed_byte_or_word_is_found_out() {
     }
     let mut words = 0;
     for leaf in 0..tree.word(LEAVES) as usize {
-        let first = leaf * 15;
-        for place in first + 3..first + 3 + 3 * tree.leaves.words()[first] as usize {
+        let first = leaf * 19;
+        for word in 0..4 * tree.leaves.words()[first] as usize {
             let mut changed = tree.clone();
-            changed.leaves.words_mut()[place] += 1;
-            assert!(compared(&changed, &wanted, 0).is_err(), "word {place} of the leaves");
-            words += 1;
+            changed.leaves.words_mut()[first + 3 + word] += 1;
+            let found_out = compared(&changed, &wanted, 0).is_err();
+            assert_eq!(found_out, word % 4 < 3, "leaf {leaf}, word {word} of the slots");
+            words += found_out as u32;
         }
     }
     assert_eq!(words, 3 * 51);

@@ -2,7 +2,7 @@
 //! tree on areas of zeros, and so lib.rs's, and `areas()` has the words in use and no other.
 
 use beside::both::{refusal, Both};
-use beside::port::{pair, Port};
+use beside::port::{three, Port};
 use oracle::at_fan;
 use oracle::calls::{entries, play};
 use oracle::coverage::Coverage;
@@ -12,7 +12,7 @@ use oracle::record::Call;
 use oracle::row::Entry;
 use oracle::runs::Run;
 use oracle::rust::{Reply, Subject};
-use oracle::state::{Head, State};
+use oracle::state::{node_words, Head, State};
 use smelvock::raw::word::{ENTRIES, INNERS, LEAVES};
 use smelvock::{Cursor, PrepareEffectTree};
 use std::alloc::{GlobalAlloc, Layout, System};
@@ -59,10 +59,10 @@ struct Three<const N: usize> {
 }
 
 impl<const N: usize> Three<N> {
-    fn make(limit: u32, lengths: [u32; 2]) -> Self {
+    fn make(limit: u32, lengths: [u32; 3]) -> Self {
         let both = Both::make(limit, lengths);
         let before = FILLED.load(Relaxed);
-        let own = Port(PrepareEffectTree::with_limit(limit, pair(lengths)).expect("fan and limit are good"));
+        let own = Port(PrepareEffectTree::with_limit(limit, three(lengths)).expect("fan and limit are good"));
         let all = both.port().areas();
         let words = all.leaves.len() + all.inners.len() + all.homes.len();
         assert!(FILLED.load(Relaxed) - before >= words, "the new tree's {words} words held garbage");
@@ -76,7 +76,7 @@ impl<const N: usize> Three<N> {
         let (own, zeros) = (&self.own.0, self.both.port());
         let head = own.head();
         assert_eq!(head, zeros.head(), "N {N}, head after {call:?}");
-        let node = 3 + 3 * N;
+        let node = node_words(N as u32);
         let used = [head[LEAVES] as usize * node, head[INNERS] as usize * node, head[ENTRIES] as usize];
         let (own, zeros) = (own.areas(), zeros.areas());
         let areas = [(own.leaves, zeros.leaves), (own.inners, zeros.inners), (own.homes, zeros.homes)];
@@ -121,7 +121,7 @@ impl<const N: usize> Subject for Three<N> {
     }
 }
 
-fn three(fan: u32, limit: u32, lengths: [u32; 2]) -> Box<dyn Subject> {
+fn all_three(fan: u32, limit: u32, lengths: [u32; 3]) -> Box<dyn Subject> {
     at_fan!(fan, N => Box::new(Three::<N>::make(limit, lengths)))
 }
 
@@ -130,14 +130,19 @@ fn three(fan: u32, limit: u32, lengths: [u32; 2]) -> Box<dyn Subject> {
 fn whatever_the_memory_held() {
     let style = Style { weights: with_resets(GROWING), sizes: Sizes::Small, close: 50, miss: 4 };
     let lists = if cfg!(debug_assertions) { 1 } else { 3 };
-    let run = Run { name: "unwritten", style, limit: 900, first: [2, 1], lists, calls: 5_000, check_every: 500 };
+    let run = Run { name: "unwritten", style, limit: 900, first: [2, 1, 1], lists, calls: 5_000, check_every: 500 };
     let mut met = Coverage::default();
     for (garbage, seed) in [0xdead_beef, u32::MAX, 1, 3, 0].into_iter().zip(0..) {
         GARBAGE.store(garbage, Relaxed);
-        let (at_fans, _) = run.at_each_fan(three, seed * 100);
+        let (at_fans, _) = run.at_each_fan(all_three, seed * 100);
         assert!(at_fans[0].most_levels >= 5 && at_fans.iter().all(|at_fan| at_fan.most_levels >= 2));
         at_fans.iter().for_each(|at_fan| met += at_fan);
     }
     println!("unwritten: {} calls, {met:?}; {} words of garbage", met.calls(), FILLED.load(Relaxed));
-    assert!(met.all_kinds() && met.kinds[1] > 10 && [4, 5, 6, 7, 8].iter().all(|&number| met.refused[number] > 0));
+    assert!(
+        met.every_view()
+            && met.all_kinds()
+            && met.kinds[1] > 10
+            && [4, 5, 6, 7, 8].iter().all(|&number| met.refused[number] > 0)
+    );
 }

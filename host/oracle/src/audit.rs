@@ -1,7 +1,7 @@
 //! The audit of document 01, on arbitrary words: it ends and never panics. Each check is one phrase
-//! of the paragraph "Audit", and [`sound`] names them in the order in which they can be trusted.
+//! of the paragraph "Audit", or document 02's on line ends, and [`sound`] names them in the order in which they can be trusted.
 
-use crate::state::{Head, Node, State, EFFECT, NONE, PREPARE};
+use crate::state::{added, Head, Node, State, EFFECT, LINES, MOST_LINES, NONE, PREPARE};
 
 #[derive(Clone, Copy, PartialEq, Eq, Debug)]
 pub enum Verdict {
@@ -51,6 +51,7 @@ fn sound(state: &State) -> Result<(), &'static str> {
     holds(root_links_right(state) && links_right(state, &levels), "parent, at")?;
     holds(ids_once(state), "ids 0 to count - 1 once each")?;
     holds(homes_right(state), "homes")?;
+    holds(few_lines(state), "at most 65,535 line ends")?;
     holds(sums_right(state, &levels), "inner sums")?;
     holds(totals_within_u32(state), "totals within u32")?;
     holds(unused_slots_empty(state), "unused slots empty")?;
@@ -124,11 +125,11 @@ fn links_right(state: &State, levels: &[Vec<u32>]) -> bool {
 
 /// "inner sums": each slot of an inner node holds the plain sums of its child.
 fn sums_right(state: &State, levels: &[Vec<u32>]) -> bool {
-    every_link(state, levels, |_, _, [_, prepare, effect], child| child.total() == [prepare as u64, effect as u64])
+    every_link(state, levels, |_, _, [_, sums @ ..], child| child.total() == sums.map(u64::from))
 }
 
 /// Whether something holds of every inner node's number, place, slot in use and the child there.
-fn every_link(state: &State, levels: &[Vec<u32>], holds: impl Fn(u32, u32, [u32; 3], Node<'_>) -> bool) -> bool {
+fn every_link(state: &State, levels: &[Vec<u32>], holds: impl Fn(u32, u32, [u32; 4], Node<'_>) -> bool) -> bool {
     (0..levels.len() - 1).all(|level| {
         let above_leaves = level + 2 == levels.len();
         levels[level].iter().all(|&parent| {
@@ -151,6 +152,11 @@ fn homes_right(state: &State) -> bool {
     (0..state.head.leaf_count).all(|leaf| state.leaf(leaf).used().all(|[id, ..]| state.homes[id as usize] == leaf))
 }
 
+/// Document 02, CR 7: a line count above 65,535 is "unsound in a leaf slot".
+fn few_lines(state: &State) -> bool {
+    (0..state.head.leaf_count).all(|leaf| state.leaf(leaf).used().all(|[.., lines]| lines <= MOST_LINES))
+}
+
 /// "totals within u32".
 fn totals_within_u32(state: &State) -> bool {
     state.inner(state.head.root).total().iter().all(|&total| total <= u32::MAX as u64)
@@ -158,7 +164,7 @@ fn totals_within_u32(state: &State) -> bool {
 
 /// "unused slots empty", in every node in use.
 fn unused_slots_empty(state: &State) -> bool {
-    let empty = |node: Node<'_>| node.slots().skip(node.len() as usize).all(|slot| slot == [NONE, 0, 0]);
+    let empty = |node: Node<'_>| node.slots().skip(node.len() as usize).all(|slot| slot == [NONE, 0, 0, 0]);
     (0..state.head.leaf_count).all(|leaf| empty(state.leaf(leaf)))
         && (0..state.head.inner_count).all(|inner| empty(state.inner(inner)))
 }
@@ -168,13 +174,11 @@ fn unused_slots_empty(state: &State) -> bool {
 fn finger_right(state: &State, leaves: &[u32]) -> bool {
     let Some(finger) = state.head.finger else { return true };
     let view = finger.view as usize;
-    if view > EFFECT || finger.leaf >= state.head.leaf_count || finger.slot >= state.leaf(finger.leaf).len() {
+    if view > LINES || finger.leaf >= state.head.leaf_count || finger.slot >= state.leaf(finger.leaf).len() {
         return false;
     }
-    let start = leaves.iter().take_while(|&&leaf| leaf != finger.leaf).fold([0, 0], |sum, &leaf| {
-        let total = state.leaf(leaf).total();
-        [sum[0] + total[0], sum[1] + total[1]]
-    });
+    let before = leaves.iter().take_while(|&&leaf| leaf != finger.leaf);
+    let start = before.fold([0; 3], |sums, &leaf| added(sums, state.leaf(leaf).total()));
     let within = state.leaf(finger.leaf).sums(finger.slot);
     [view, EFFECT, PREPARE].map(|view| [start[view], within[view]])
         == [

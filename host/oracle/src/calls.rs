@@ -10,17 +10,17 @@ use crate::tree::{Cursor, Lengths, PrepareEffectTree};
 use std::cmp::Ordering;
 use std::fmt::Debug;
 
-/// A view is 0 or 1, lengths are prepare and effect.
+/// A view is 0, 1 or 2, lengths are prepare, effect and line ends.
 pub trait Calls {
     type Cursor: Copy + Debug;
 
-    fn reset(&mut self, lengths: [u32; 2]);
+    fn reset(&mut self, lengths: [u32; 3]);
     fn len(&self) -> usize;
     fn is_empty(&self) -> bool;
     fn first(&self) -> Self::Cursor;
     fn next(&self, at: Self::Cursor) -> Option<Self::Cursor>;
     fn id(&self, at: Self::Cursor) -> u32;
-    fn lengths(&self, at: Self::Cursor) -> [u32; 2];
+    fn lengths(&self, at: Self::Cursor) -> [u32; 3];
     fn cursor(&self, id: u32) -> Self::Cursor;
     fn cmp(&self, a: Self::Cursor, b: Self::Cursor) -> Ordering;
     fn char_index_to_entry(&mut self, view: usize, index: u32) -> (Self::Cursor, u32);
@@ -31,16 +31,17 @@ pub trait Calls {
         (at, offset, effect, self.entry_to_char_index(PREPARE, at))
     }
     fn entry_to_char_index(&self, view: usize, at: Self::Cursor) -> u32;
-    fn set_lengths(&mut self, at: Self::Cursor, lengths: [u32; 2]);
-    fn update(&mut self, at: Self::Cursor, lengths: [u32; 2]) -> u32;
-    fn insert(&mut self, before: Option<Self::Cursor>, lengths: [u32; 2]) -> (u32, u32);
-    fn split_entry(&mut self, at: Self::Cursor, lengths: [u32; 2], before: bool) -> (u32, [Self::Cursor; 2]);
+    fn set_lengths(&mut self, at: Self::Cursor, lengths: [u32; 3]);
+    fn update(&mut self, at: Self::Cursor, lengths: [u32; 3]) -> u32;
+    fn insert(&mut self, before: Option<Self::Cursor>, lengths: [u32; 3]) -> (u32, u32);
+    fn split_entry(&mut self, at: Self::Cursor, lengths: [u32; 3], before: bool) -> (u32, [Self::Cursor; 2]);
 }
 
+/// lib.rs has no line ends: it is played without those given, answers 0 of them, and has no view 2.
 impl<const N: usize> Calls for PrepareEffectTree<N> {
     type Cursor = Cursor;
 
-    fn reset(&mut self, lengths: [u32; 2]) {
+    fn reset(&mut self, lengths: [u32; 3]) {
         self.reset(pair(lengths))
     }
     fn len(&self) -> usize {
@@ -58,9 +59,9 @@ impl<const N: usize> Calls for PrepareEffectTree<N> {
     fn id(&self, at: Cursor) -> u32 {
         self.id(at)
     }
-    fn lengths(&self, at: Cursor) -> [u32; 2] {
+    fn lengths(&self, at: Cursor) -> [u32; 3] {
         let Lengths { prepare, effect } = self.lengths(at);
-        [prepare, effect]
+        [prepare, effect, 0]
     }
     fn cursor(&self, id: u32) -> Cursor {
         self.cursor(id)
@@ -77,16 +78,16 @@ impl<const N: usize> Calls for PrepareEffectTree<N> {
     fn entry_to_char_index(&self, view: usize, at: Cursor) -> u32 {
         self.entry_to_char_index(side(view), at)
     }
-    fn set_lengths(&mut self, at: Cursor, lengths: [u32; 2]) {
+    fn set_lengths(&mut self, at: Cursor, lengths: [u32; 3]) {
         self.set_lengths(at, pair(lengths))
     }
-    fn update(&mut self, at: Cursor, lengths: [u32; 2]) -> u32 {
+    fn update(&mut self, at: Cursor, lengths: [u32; 3]) -> u32 {
         self.update(at, pair(lengths))
     }
-    fn insert(&mut self, before: Option<Cursor>, lengths: [u32; 2]) -> (u32, u32) {
+    fn insert(&mut self, before: Option<Cursor>, lengths: [u32; 3]) -> (u32, u32) {
         self.insert(before, pair(lengths))
     }
-    fn split_entry(&mut self, at: Cursor, lengths: [u32; 2], before: bool) -> (u32, [Cursor; 2]) {
+    fn split_entry(&mut self, at: Cursor, lengths: [u32; 3], before: bool) -> (u32, [Cursor; 2]) {
         self.split_entry(at, pair(lengths), before)
     }
 }
@@ -166,8 +167,8 @@ fn ask<T: Calls>(tree: &mut T, call: Call, given: [Option<T::Cursor>; 2]) -> Opt
         Call::Rank { view, .. } => [tree.entry_to_char_index(view, given[0]?), 0, 0, 0],
         Call::Compare { .. } => [(tree.cmp(given[0]?, given[1]?) as i32 + 1) as u32, 0, 0, 0],
         Call::Lengths { .. } => {
-            let [prepare, effect] = tree.lengths(given[0]?);
-            [prepare, effect, 0, 0]
+            let [prepare, effect, lines] = tree.lengths(given[0]?);
+            [prepare, effect, lines, 0]
         }
         Call::Count => {
             assert!(!tree.is_empty());

@@ -28,6 +28,10 @@ pub struct Coverage {
     pub stayed: u64,
     /// Changes at an entry of the finger's own leaf that split this leaf.
     pub leaf_split_under_finger: u64,
+    /// Lookups and ranks answered, and lookups that the finger served, by view.
+    pub looked: [u64; 3],
+    pub ranked: [u64; 3],
+    pub served: [u64; 3],
     /// Full comparisons of entries and audit.
     pub checks: u64,
 }
@@ -63,6 +67,11 @@ impl Coverage {
         ways.iter().all(|&count| count > 0)
     }
 
+    /// Whether every view was looked up, ranked in, and looked up by the finger.
+    pub fn every_view(&self) -> bool {
+        [self.looked, self.ranked, self.served].as_flattened().iter().all(|&count| count > 0)
+    }
+
     /// Notes an answered call and the kind of its record, with the heads before and after it and the leaf of the entry it names.
     pub fn note(&mut self, (call, kind): (Call, u8), leaf: Option<u32>, before: &Head, after: &Head) {
         self.kinds[kind as usize] += 1;
@@ -70,8 +79,10 @@ impl Coverage {
         match call {
             Call::Reset { .. } => {}
             Call::Lookup { view, index } | Call::Select { view, index } => {
+                self.looked[view] += 1;
                 self.note_lookup(view as u32, index, before.finger, after.finger)
             }
+            Call::Rank { view, .. } => self.ranked[view] += 1,
             _ => self.note_change(kind, leaf, before, after),
         }
     }
@@ -84,6 +95,7 @@ impl Coverage {
         let counter = if before.leaf != after.leaf {
             &mut self.passed_over
         } else {
+            self.served[view as usize] += 1;
             match after.slot.cmp(&before.slot) {
                 std::cmp::Ordering::Greater => &mut self.served_forwards,
                 std::cmp::Ordering::Less => &mut self.served_backwards,
@@ -113,6 +125,9 @@ impl std::ops::AddAssign<&Coverage> for Coverage {
     fn add_assign(&mut self, other: &Coverage) {
         add(&mut self.kinds, &other.kinds);
         add(&mut self.refused, &other.refused);
+        add(&mut self.looked, &other.looked);
+        add(&mut self.ranked, &other.ranked);
+        add(&mut self.served, &other.served);
         self.leaf_splits += other.leaf_splits;
         self.inner_splits += other.inner_splits;
         self.root_growths += other.root_growths;

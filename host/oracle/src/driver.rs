@@ -33,7 +33,7 @@ pub struct Driver<S: Subject> {
 
 impl<const N: usize> Driver<Rust<N>> {
     /// lib.rs at fan `N` and the row, both made with one entry.
-    pub fn make(limit: u32, lengths: [u32; 2], check_every: u64) -> Self {
+    pub fn make(limit: u32, lengths: [u32; 3], check_every: u64) -> Self {
         Driver::beside(Rust::make(limit, lengths), Row::make(limit, lengths), check_every)
     }
 }

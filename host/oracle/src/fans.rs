@@ -25,10 +25,10 @@ macro_rules! at_fan {
 }
 
 /// Makes a subject at a fan, with that limit and one entry of those lengths.
-pub type Make = fn(u32, u32, [u32; 2]) -> Box<dyn Subject>;
+pub type Make = fn(u32, u32, [u32; 3]) -> Box<dyn Subject>;
 
 /// lib.rs.
-pub fn rust(fan: u32, limit: u32, lengths: [u32; 2]) -> Box<dyn Subject> {
+pub fn rust(fan: u32, limit: u32, lengths: [u32; 3]) -> Box<dyn Subject> {
     at_fan!(fan, N => Box::new(Rust::<N>::make(limit, lengths)))
 }
 
@@ -43,7 +43,7 @@ pub struct Setup {
 
 impl Setup {
     /// The beginning of a list, with that limit and one entry of those lengths.
-    pub fn driver(&self, limit: u32, lengths: [u32; 2]) -> Driver<Box<dyn Subject>> {
+    pub fn driver(&self, limit: u32, lengths: [u32; 3]) -> Driver<Box<dyn Subject>> {
         Driver::beside((self.make)(self.fan, limit, lengths), Row::make(limit, lengths), self.check_every)
     }
 }

@@ -1,5 +1,5 @@
-//! The oracle of the port: lib.rs itself, the plain row of document 01, the audit of a tree's
-//! words, and a driver that plays one list of calls on both and compares everything.
+//! The oracle of the port: lib.rs itself, the plain row of document 01, which has line ends where lib.rs has none, the audit of a
+//! tree's words, and a driver that plays one list of calls on both and compares everything.
 //!
 //! "Document 01" is the project's scope paper, document 02 its change requests; "lib.rs" is `docs/src/crates/strider-tree/src/lib.rs`.
 
@@ -10,6 +10,7 @@ pub mod cursors;
 pub mod driver;
 pub mod edits;
 pub mod fans;
+pub mod lined;
 pub mod lists;
 pub mod patterns;
 pub mod random;

@@ -5,16 +5,16 @@ use crate::cursors::{Held, Source, Step, HANDED};
 use crate::random::Random;
 use crate::record::{Call, Record};
 use crate::row::{Entry, Row};
-use crate::state::NONE;
+use crate::state::{LINES, MOST_LINES, NONE};
 
-/// How the lengths of entries are drawn.
+/// How the lengths of entries are drawn, prepare and effect and, after them, line ends.
 #[derive(Clone, Copy, PartialEq, Eq, Debug)]
 pub enum Sizes {
-    /// 0 to 4.
+    /// 0 to 4; 0 to 3, seldom 65,535.
     Small,
-    /// Mostly 0.
+    /// Mostly 0, line ends too.
     Zeros,
-    /// Around what is left below 4,294,967,295.
+    /// Around what is left below 4,294,967,295; often 65,535.
     NearEnd,
 }
 
@@ -68,7 +68,8 @@ impl Lister {
     }
 
     /// The next step of such a list: a record drawn; or, one time in four, a call that answers a cursor or a call that is handed
-    /// one of those held. Half of the lookups are by `char_index_to_entry`.
+    /// one of those held. Half of the lookups are by `char_index_to_entry`, and one call in a hundred that gives lengths gives more
+    /// line ends than an entry may have.
     pub fn step(&mut self, row: &Row, held: &Held<u32>) -> Step {
         let step = match self.random.below(8) {
             0 => self.answering(row).into(),
@@ -77,6 +78,10 @@ impl Lister {
         };
         match step.call {
             Some(Call::Lookup { view, index }) if self.random.percent(50) => Call::Select { view, index }.into(),
+            Some(call) if call.lengths().is_some() && self.random.percent(1) => {
+                let lines = [MOST_LINES + 1, u32::MAX][self.random.below(2) as usize];
+                Step { call: Some(call.with_lines(lines)), ..step }
+            }
             _ => step,
         }
     }
@@ -116,11 +121,11 @@ impl Lister {
             2 | 3 => self.with_lengths(kind, before, row),
             4 => {
                 let taken = entry.lengths.map(|own| self.part_of(own));
-                Record::new(4, self.random.below(2) as u8, entry.id, taken[0], taken[1])
+                Record::new(4, self.random.below(2) as u8, entry.id, taken[0], taken[1]).with_lines(taken[LINES] as u16)
             }
             5 | 6 => self.with_lengths(kind, entry.id, row),
             7 => self.lookup(row),
-            8 => Record::new(8, self.random.below(2) as u8, entry.id, 0, 0),
+            8 => Record::new(8, self.random.below(3) as u8, entry.id, 0, 0),
             10 => Record::new(10, 0, entry.id, self.entry(row).id, 0),
             9 | 11 => Record::new(kind, 0, entry.id, 0, 0),
             _ => Record::new(kind, 0, 0, 0, 0),
@@ -152,7 +157,7 @@ impl Lister {
     /// A position within a close entry, or at its end; past the view's last entry this is refused.
     fn lookup(&mut self, row: &Row) -> Record {
         if !self.random.percent(self.style.close) {
-            self.view = self.random.below(2) as u8;
+            self.view = self.random.below(3) as u8;
         }
         let entry = self.entry(row);
         let offset = self.part_of(entry.lengths[self.view as usize]);
@@ -162,7 +167,20 @@ impl Lister {
 
     fn with_lengths(&mut self, kind: u8, a: u32, row: &Row) -> Record {
         let [b, c] = [0, 1].map(|view| self.length(view, row));
-        Record::new(kind, 0, a, b, c)
+        Record::new(kind, 0, a, b, c).with_lines(self.line_ends())
+    }
+
+    fn line_ends(&mut self) -> u16 {
+        let most = match self.style.sizes {
+            Sizes::Small => 2,
+            Sizes::Zeros => return self.random.below(12).saturating_sub(9) as u16,
+            Sizes::NearEnd => 30,
+        };
+        if self.random.percent(most) {
+            u16::MAX
+        } else {
+            self.random.below(4) as u16
+        }
     }
 
     fn length(&mut self, view: usize, row: &Row) -> u32 {
@@ -195,19 +213,22 @@ impl Lister {
     /// a bad field.
     fn missing(&mut self, entry: Entry, row: &Row) -> Record {
         let past = row.count() + self.random.below(2) as u32;
-        let view = self.random.below(2) as u8;
+        let (flag, view) = (self.random.below(2) as u8, self.random.below(3) as u8);
         let too_much = [0, 1].map(|view| (u32::MAX - row.total(view)).saturating_add(1));
-        match self.random.below(10) {
+        match self.random.below(13) {
             0 => Record::new([4, 5, 6, 8, 9, 11][self.random.below(6) as usize], 0, past, 0, 0),
-            1 => Record::new(2 + view, 0, past, 1, 1),
+            1 => Record::new(2 + flag, 0, past, 1, 1),
             2 => Record::new(10, 0, entry.id, past, 0),
             3 => Record::new(7, view, row.total(view as usize), 0, 0),
-            4 => Record::new(4, view, entry.id, entry.lengths[0].saturating_add(1), entry.lengths[1]),
-            5 => Record::new(4, view, entry.id, 0, entry.lengths[1].saturating_add(1)),
-            6 => Record::new(2 + view, 0, entry.id, too_much[0], 1),
-            7 => Record::new(5 + view, 0, entry.id, 1, too_much[1].saturating_add(entry.lengths[1])),
-            8 => Record::new(14 * view, 0, 0, 0, 0),
-            _ => Record::new(1 + self.random.below(13) as u8, 2, 0, 0, 0),
+            4 => Record::new(4, flag, entry.id, entry.lengths[0].saturating_add(1), entry.lengths[1]),
+            5 => Record::new(4, flag, entry.id, 0, entry.lengths[1].saturating_add(1)),
+            6 => Record::new(2 + flag, 0, entry.id, too_much[0], 1),
+            7 => Record::new(5 + flag, 0, entry.id, 1, too_much[1].saturating_add(entry.lengths[1])),
+            8 => Record::new(14 * flag, 0, 0, 0, 0),
+            9 => Record::new(4, flag, entry.id, 0, 0).with_lines((entry.lengths[LINES] as u16).saturating_add(1)),
+            10 => Record::new(1 + self.random.below(6) as u8, 2, 0, 0, 0),
+            11 => Record::new(1 + self.random.below(13) as u8, 3, 0, 0, 0),
+            _ => Record::new(7 + self.random.below(7) as u8, 0, 0, 0, 0).with_lines(1 << self.random.below(16)),
         }
     }
 }

@@ -1,42 +1,43 @@
-//! The 16-byte records and answers of document 01 ("Door and program").
+//! The 16-byte records and answers of document 01 ("Door and program"), with document 02's line ends.
 
 use crate::cursors::Giver;
-use crate::state::NONE;
+use crate::state::{LINES, NONE};
 
-/// A record as it came: kind, byte 1 (a view or a flag), two bytes that must be 0, then three words.
+/// A record as it came: kind, byte 1 (a view or a flag), line ends in bytes 2 and 3, then three words.
 #[derive(Clone, Copy, PartialEq, Eq, Debug)]
 pub struct Record {
     pub kind: u8,
     pub byte1: u8,
-    pub zeros: [u8; 2],
+    pub lines: u16,
     pub a: u32,
     pub b: u32,
     pub c: u32,
 }
 
-/// The call that a good record asks for, and `Select`. Lengths are a pair, prepare and effect; a view is 0 or 1.
+/// The call that a good record asks for, and `Select`. Lengths are prepare, effect and line ends, of which no record has more
+/// than 65,535; a view is 0, 1 or 2.
 #[derive(Clone, Copy, PartialEq, Eq, Debug)]
 pub enum Call {
     Reset {
-        lengths: [u32; 2],
+        lengths: [u32; 3],
     },
     /// Before that id, or at the end for [`NONE`]. A record of kind 3, once lib.rs's `add`, asks for it too.
     Insert {
         before: u32,
-        lengths: [u32; 2],
+        lengths: [u32; 3],
     },
     Split {
         id: u32,
-        lengths: [u32; 2],
+        lengths: [u32; 3],
         before: bool,
     },
     Set {
         id: u32,
-        lengths: [u32; 2],
+        lengths: [u32; 3],
     },
     Update {
         id: u32,
-        lengths: [u32; 2],
+        lengths: [u32; 3],
     },
     Lookup {
         view: usize,
@@ -72,42 +73,46 @@ pub struct Answer {
     pub fields: [u32; 4],
 }
 
-/// Which of byte 1, a, b and c a kind uses; no kind but 1 to 13 is known.
-fn used(kind: u8) -> Option<[bool; 4]> {
+/// The largest byte 1 of a kind, and which of its line ends, a, b and c it uses; no kind but 1 to 13 is known.
+fn used(kind: u8) -> Option<(u8, [bool; 4])> {
     Some(match kind {
-        1 => [false, false, true, true],
-        2 | 3 | 5 | 6 => [false, true, true, true],
-        4 => [true, true, true, true],
-        7 | 8 => [true, true, false, false],
-        9 | 11 => [false, true, false, false],
-        10 => [false, true, true, false],
-        12 | 13 => [false, false, false, false],
+        1 => (0, [true, false, true, true]),
+        2 | 3 | 5 | 6 => (0, [true, true, true, true]),
+        4 => (1, [true, true, true, true]),
+        7 | 8 => (2, [false, true, false, false]),
+        9 | 11 => (0, [false, true, false, false]),
+        10 => (0, [false, true, true, false]),
+        12 | 13 => (0, [false, false, false, false]),
         _ => return None,
     })
 }
 
 impl Record {
+    /// A record without line ends.
     pub fn new(kind: u8, byte1: u8, a: u32, b: u32, c: u32) -> Record {
-        Record { kind, byte1, zeros: [0, 0], a, b, c }
+        Record { kind, byte1, lines: 0, a, b, c }
+    }
+
+    pub fn with_lines(self, lines: u16) -> Record {
+        Record { lines, ..self }
     }
 
     pub fn decode(bytes: &[u8; 16]) -> Record {
         let word = |at: usize| u32::from_le_bytes([bytes[at], bytes[at + 1], bytes[at + 2], bytes[at + 3]]);
-        Record { kind: bytes[0], byte1: bytes[1], zeros: [bytes[2], bytes[3]], a: word(4), b: word(8), c: word(12) }
+        let lines = u16::from_le_bytes([bytes[2], bytes[3]]);
+        Record { kind: bytes[0], byte1: bytes[1], lines, a: word(4), b: word(8), c: word(12) }
     }
 
     pub fn encode(&self) -> [u8; 16] {
-        sixteen([self.kind, self.byte1, self.zeros[0], self.zeros[1]], [self.a, self.b, self.c])
+        let [low, high] = self.lines.to_le_bytes();
+        sixteen([self.kind, self.byte1, low, high], [self.a, self.b, self.c])
     }
 
-    /// Whether every field is within its values: a view or flag is 0 or 1, what is unused is 0.
+    /// Whether every field is within its values: a view is 0 to 2, a flag 0 or 1, what is unused is 0.
     fn fields_good(&self) -> bool {
-        let Some([byte1, a, b, c]) = used(self.kind) else { return false };
-        self.zeros == [0, 0]
-            && self.byte1 <= byte1 as u8
-            && (a || self.a == 0)
-            && (b || self.b == 0)
-            && (c || self.c == 0)
+        let Some((byte1, used)) = used(self.kind) else { return false };
+        let fields = [self.lines as u32, self.a, self.b, self.c];
+        self.byte1 <= byte1 && fields.into_iter().zip(used).all(|(field, used)| used || field == 0)
     }
 
     /// The call asked for, or nothing where the answer is number 10.
@@ -115,7 +120,7 @@ impl Record {
         if !self.fields_good() {
             return None;
         }
-        let (lengths, view) = ([self.b, self.c], self.byte1 as usize);
+        let (lengths, view) = ([self.b, self.c, self.lines as u32], self.byte1 as usize);
         Some(match self.kind {
             1 => Call::Reset { lengths },
             2 | 3 => Call::Insert { before: self.a, lengths },
@@ -134,6 +139,28 @@ impl Record {
 }
 
 impl Call {
+    /// The lengths that the call gives.
+    pub fn lengths(&self) -> Option<[u32; 3]> {
+        let mut call = *self;
+        call.lengths_mut().copied()
+    }
+
+    fn lengths_mut(&mut self) -> Option<&mut [u32; 3]> {
+        match self {
+            Call::Reset { lengths } | Call::Insert { lengths, .. } | Call::Split { lengths, .. } => Some(lengths),
+            Call::Set { lengths, .. } | Call::Update { lengths, .. } => Some(lengths),
+            _ => None,
+        }
+    }
+
+    /// The call with other line ends, where it gives lengths.
+    pub fn with_lines(mut self, lines: u32) -> Call {
+        if let Some(lengths) = self.lengths_mut() {
+            lengths[LINES] = lines;
+        }
+        self
+    }
+
     /// The ids of the entries that the call names; the end is none.
     pub fn ids(&self) -> [Option<u32>; 2] {
         match *self {

@@ -1,12 +1,13 @@
-//! The plain row of document 01, written from the paper and not from lib.rs.
+//! The plain row of document 01, with document 02's line ends, written from the papers and not from lib.rs.
 
 use crate::record::{Answer, Call, Record};
-use crate::state::{EFFECT, NONE, PREPARE};
+use crate::state::{EFFECT, LINES, MOST_LINES, NONE, PREPARE};
 
 #[derive(Clone, Copy, PartialEq, Eq, Debug)]
 pub struct Entry {
     pub id: u32,
-    pub lengths: [u32; 2],
+    /// Prepare length, effect length, line ends.
+    pub lengths: [u32; 3],
 }
 
 /// A limit and a list of entries.
@@ -20,7 +21,7 @@ pub struct Row {
 type Reply = Result<[u32; 4], u8>;
 
 impl Row {
-    pub fn make(limit: u32, lengths: [u32; 2]) -> Row {
+    pub fn make(limit: u32, lengths: [u32; 3]) -> Row {
         Row { limit, entries: vec![Entry { id: 0, lengths }] }
     }
 
@@ -38,6 +39,9 @@ impl Row {
     }
 
     fn call(&mut self, call: Call) -> Reply {
+        if call.lengths().is_some_and(|lengths| lengths[LINES] > MOST_LINES) {
+            return Err(10);
+        }
         match call {
             Call::Reset { lengths } => self.reset(lengths),
             Call::Insert { before, lengths } => self.insert(before, lengths),
@@ -49,40 +53,43 @@ impl Row {
             Call::Rank { view, id } => Ok([self.before(view, self.place(id)?), 0, 0, 0]),
             Call::Next { id } => Ok([self.next(self.place(id)?), 0, 0, 0]),
             Call::Compare { first, second } => self.compare(first, second),
-            Call::Lengths { id } => self.place(id).map(|place| self.entries[place].lengths).map(|[p, e]| [p, e, 0, 0]),
+            Call::Lengths { id } => {
+                self.place(id).map(|place| self.entries[place].lengths).map(|[p, e, l]| [p, e, l, 0])
+            }
             Call::Count => Ok([self.count(), 0, 0, 0]),
             Call::First => Ok([self.entries[0].id, 0, 0, 0]),
         }
     }
 
-    fn reset(&mut self, lengths: [u32; 2]) -> Reply {
+    fn reset(&mut self, lengths: [u32; 3]) -> Reply {
         self.entries = vec![Entry { id: 0, lengths }];
         Ok([0; 4])
     }
 
-    fn insert(&mut self, before: u32, lengths: [u32; 2]) -> Reply {
+    fn insert(&mut self, before: u32, lengths: [u32; 3]) -> Reply {
         let place = if before == NONE { self.entries.len() } else { self.place(before)? };
-        self.totals_fit([0, 0], lengths)?;
+        self.totals_fit([0; 3], lengths)?;
         self.room()?;
         let id = self.count();
         self.entries.insert(place, Entry { id, lengths });
         Ok([id, self.before(EFFECT, place), 0, 0])
     }
 
-    fn split(&mut self, id: u32, lengths: [u32; 2], before: bool) -> Reply {
+    fn split(&mut self, id: u32, lengths: [u32; 3], before: bool) -> Reply {
         let place = self.place(id)?;
         let own = self.entries[place].lengths;
-        if lengths[PREPARE] > own[PREPARE] || lengths[EFFECT] > own[EFFECT] {
+        let views = [PREPARE, EFFECT, LINES];
+        if views.iter().any(|&view| lengths[view] > own[view]) {
             return Err(6);
         }
         self.room()?;
         let new = self.count();
-        self.entries[place].lengths = [own[PREPARE] - lengths[PREPARE], own[EFFECT] - lengths[EFFECT]];
+        self.entries[place].lengths = views.map(|view| own[view] - lengths[view]);
         self.entries.insert(if before { place } else { place + 1 }, Entry { id: new, lengths });
         Ok([new, 0, 0, 0])
     }
 
-    fn update(&mut self, id: u32, lengths: [u32; 2]) -> Reply {
+    fn update(&mut self, id: u32, lengths: [u32; 3]) -> Reply {
         let place = self.place(id)?;
         self.totals_fit(self.entries[place].lengths, lengths)?;
         self.entries[place].lengths = lengths;
@@ -142,9 +149,9 @@ impl Row {
     }
 
     /// Number 7 if a view's total would pass u32 with `new` in the place of `old`.
-    fn totals_fit(&self, old: [u32; 2], new: [u32; 2]) -> Result<(), u8> {
+    fn totals_fit(&self, old: [u32; 3], new: [u32; 3]) -> Result<(), u8> {
         let fits = |view: usize| self.total(view) as u64 - old[view] as u64 + new[view] as u64 <= u32::MAX as u64;
-        if fits(PREPARE) && fits(EFFECT) {
+        if [PREPARE, EFFECT, LINES].into_iter().all(fits) {
             Ok(())
         } else {
             Err(7)
@@ -165,9 +172,9 @@ fn sum(view: usize, entries: &[Entry]) -> u64 {
     entries.iter().map(|entry| entry.lengths[view] as u64).sum()
 }
 
-/// What the program `rowrun` prints for these bytes: fan 8, limit 512, first entry (0, 0).
+/// What the program `rowrun` prints for these bytes: fan 8, limit 512, first entry (0, 0, 0).
 pub fn rowrun(input: &[u8]) -> String {
-    let mut row = Row::make(512, [0, 0]);
+    let mut row = Row::make(512, [0; 3]);
     let mut printed = String::new();
     let (records, tail) = input.as_chunks::<16>();
     for record in records {

@@ -10,7 +10,7 @@ pub struct Run {
     pub name: &'static str,
     pub style: Style,
     pub limit: u32,
-    pub first: [u32; 2],
+    pub first: [u32; 3],
     pub lists: u64,
     pub calls: u64,
     /// Entries and audit are compared after every so many calls, all else after every call.

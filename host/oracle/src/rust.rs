@@ -1,11 +1,12 @@
-//! lib.rs as the subject of a run.
+//! lib.rs, with line ends, as the subject of a run.
 
 use crate::calls::{entries, play};
 use crate::cursors::{Held, Source};
+use crate::lined::Lined;
 use crate::record::Call;
 use crate::row::Entry;
-use crate::state::{Head, State};
-use crate::tree::{Cursor, Lengths, PrepareEffectTree, View};
+use crate::state::{Head, State, EFFECT, PREPARE};
+use crate::tree::{Cursor, Lengths, View};
 use std::fmt::Debug;
 
 /// Where a cursor stands.
@@ -92,14 +93,13 @@ impl Subject for Box<dyn Subject> {
 
 #[derive(Clone)]
 pub struct Rust<const N: usize> {
-    pub tree: PrepareEffectTree<N>,
-    pub limit: u32,
+    pub tree: Lined<N>,
     held: Held<Cursor>,
 }
 
 impl<const N: usize> Rust<N> {
-    pub fn make(limit: u32, lengths: [u32; 2]) -> Self {
-        Rust { tree: PrepareEffectTree::new(pair(lengths)), limit, held: Held::default() }
+    pub fn make(limit: u32, lengths: [u32; 3]) -> Self {
+        Rust { tree: Lined::make(limit, lengths), held: Held::default() }
     }
 }
 
@@ -109,11 +109,11 @@ impl<const N: usize> Subject for Rust<N> {
     }
 
     fn head(&self) -> Head {
-        self.tree.head(self.limit)
+        self.tree.head()
     }
 
     fn state(&self) -> State {
-        self.tree.state(self.limit)
+        self.tree.state()
     }
 
     fn entries(&self) -> Vec<Entry> {
@@ -125,14 +125,15 @@ impl<const N: usize> Subject for Rust<N> {
     }
 }
 
-pub fn pair([prepare, effect]: [u32; 2]) -> Lengths {
-    Lengths { prepare, effect }
+/// lib.rs's two lengths; line ends behind them are left out.
+pub fn pair<const VIEWS: usize>(lengths: [u32; VIEWS]) -> Lengths {
+    Lengths { prepare: lengths[PREPARE], effect: lengths[EFFECT] }
 }
 
 pub fn side(view: usize) -> View {
-    if view == 0 {
-        View::Prepare
-    } else {
-        View::Effect
+    match view {
+        PREPARE => View::Prepare,
+        EFFECT => View::Effect,
+        _ => panic!("lib.rs has no view {view}"),
     }
 }

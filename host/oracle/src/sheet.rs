@@ -36,9 +36,9 @@ pub fn of_row(row: &Row) -> String {
 }
 
 /// What the program `sheetrun` prints for these bytes: the sheet of the row that their whole records leave, from fan 8, limit 512
-/// and a first entry (0, 0).
+/// and a first entry of no lengths.
 pub fn sheetrun(input: &[u8]) -> String {
-    let mut row = Row::make(512, [0, 0]);
+    let mut row = Row::make(512, [0; 3]);
     for record in input.as_chunks::<16>().0 {
         row.play(&Record::decode(record));
     }

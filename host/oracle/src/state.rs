@@ -4,9 +4,13 @@
 /// The child of an unused slot, the root's missing parent, "none" and "at the end".
 pub const NONE: u32 = u32::MAX;
 
-/// Numbers of the two views.
+/// Numbers of the three views.
 pub const PREPARE: usize = 0;
 pub const EFFECT: usize = 1;
+pub const LINES: usize = 2;
+
+/// The most line ends of an entry.
+pub const MOST_LINES: u32 = 65_535;
 
 #[derive(Clone, Copy, PartialEq, Eq, Debug)]
 pub struct Finger {
@@ -52,15 +56,20 @@ impl Head {
         self.fan / 2
     }
 
-    /// The words of one node: len, parent, at, then `fan` slots of child, prepare, effect.
+    /// The words of one node: len, parent, at, then `fan` slots of child, prepare, effect, line ends.
     pub fn node_words(&self) -> usize {
-        3 + 3 * self.fan as usize
+        node_words(self.fan)
     }
 
     /// The nodes that the leaf area and the inner area each need.
     pub fn nodes_needed(&self) -> u32 {
         (self.limit / self.half()).max(1)
     }
+}
+
+/// The words of a node at a fan.
+pub fn node_words(fan: u32) -> usize {
+    3 + 4 * fan as usize
 }
 
 /// The words of one node.
@@ -84,24 +93,22 @@ impl Node<'_> {
         self.0[2]
     }
 
-    /// Every slot, in use or not, as child, prepare, effect.
-    pub fn slots(&self) -> impl Iterator<Item = [u32; 3]> + '_ {
-        self.0[3..].chunks_exact(3).map(|slot| [slot[0], slot[1], slot[2]])
+    /// Every slot, in use or not, as child, prepare, effect, line ends.
+    pub fn slots(&self) -> impl Iterator<Item = [u32; 4]> + '_ {
+        self.0[3..].as_chunks().0.iter().copied()
     }
 
     /// The slots below len.
-    pub fn used(&self) -> impl Iterator<Item = [u32; 3]> + '_ {
+    pub fn used(&self) -> impl Iterator<Item = [u32; 4]> + '_ {
         self.slots().take(self.len() as usize)
     }
 
     /// The plain sums of the first `count` slots in use, one a view.
-    pub fn sums(&self, count: u32) -> [u64; 2] {
-        self.used()
-            .take(count as usize)
-            .fold([0, 0], |sum, slot| [sum[PREPARE] + slot[1] as u64, sum[EFFECT] + slot[2] as u64])
+    pub fn sums(&self, count: u32) -> [u64; 3] {
+        self.used().take(count as usize).fold([0; 3], |sums, [_, lengths @ ..]| added(sums, lengths.map(u64::from)))
     }
 
-    pub fn total(&self) -> [u64; 2] {
+    pub fn total(&self) -> [u64; 3] {
         self.sums(self.len())
     }
 }
@@ -116,6 +123,11 @@ impl State {
     pub fn inner(&self, number: u32) -> Node<'_> {
         node(&self.inners, self.head.node_words(), number)
     }
+}
+
+/// The sums with those lengths more, view by view.
+pub fn added(sums: [u64; 3], lengths: [u64; 3]) -> [u64; 3] {
+    [PREPARE, EFFECT, LINES].map(|view| sums[view] + lengths[view])
 }
 
 fn node(area: &[u32], words: usize, number: u32) -> Node<'_> {

@@ -1,4 +1,5 @@
-//! lib.rs unchanged, and beside it the readers of its private state.
+//! lib.rs unchanged, and beside it the readers of its private state. lib.rs's slots have three words: the fourth, line ends, is made of
+//! those of the entries, which the plain row has.
 
 include!("../../../docs/src/crates/strider-tree/src/lib.rs");
 
@@ -8,9 +9,19 @@ use crate::state;
 pub const LENT: u32 = 0x5A5A_5A5A;
 
 impl<const N: usize> Node<N> {
-    fn words(&self) -> impl Iterator<Item = u32> + '_ {
-        let slots = self.slots.iter().flat_map(|slot| [slot.child, slot.prepare_len, slot.effect_len]);
-        [self.len, self.parent, self.at].into_iter().chain(slots)
+    /// The line ends of each slot: of each child in use, none elsewhere.
+    fn line_ends(&self, mut of: impl FnMut(u32) -> u32) -> [u32; N] {
+        std::array::from_fn(|at| if at < self.len as usize { of(self.slots[at].child) } else { 0 })
+    }
+
+    /// Writes the node's words with these line ends, whose sum it answers.
+    fn write(&self, words: &mut [u32], lines: [u32; N]) -> u32 {
+        let (first, slots) = words.split_at_mut(3);
+        first.copy_from_slice(&[self.len, self.parent, self.at]);
+        for ((words, slot), lines) in slots.as_chunks_mut().0.iter_mut().zip(&self.slots).zip(lines) {
+            *words = [slot.child, slot.prepare_len, slot.effect_len, lines];
+        }
+        lines.iter().sum()
     }
 }
 
@@ -28,32 +39,28 @@ impl<const N: usize> Clone for PrepareEffectTree<N> {
     }
 }
 
-impl<const N: usize> Node<N> {
-    /// Whether these are the node's words.
-    fn same(&self, words: &[u32]) -> bool {
-        let (first, rest) = words.split_at(3);
-        let slots = self.slots.iter().zip(rest.chunks_exact(3));
-        [self.len, self.parent, self.at] == *first
-            && slots
-                .fold(true, |same, (slot, words)| same & ([slot.child, slot.prepare_len, slot.effect_len] == *words))
-    }
-}
-
-/// Whether an area begins with these nodes.
-fn same_nodes<const N: usize>(nodes: &[Node<N>], area: &[u32]) -> bool {
-    nodes.len() <= area.len() / (3 + 3 * N)
-        && nodes.iter().zip(area.chunks_exact(3 + 3 * N)).all(|(node, words)| node.same(words))
-}
-
 impl<const N: usize> PrepareEffectTree<N> {
-    /// How many words of each area are in use.
-    pub fn used_words(&self) -> [usize; 3] {
-        [self.leaves.len() * (3 + 3 * N), self.nodes.len() * (3 + 3 * N), self.leaf_of_entry.len()]
+    /// The words in use of leaves, inner nodes and homes. `lines` are the line ends of the entries by id; those past its end have none.
+    pub fn used(&self, lines: &[u32]) -> [Vec<u32>; 3] {
+        let node = state::node_words(N as u32);
+        let own = |id: u32| lines.get(id as usize).copied().unwrap_or(0);
+        let [mut leaves, mut inners] = [self.leaves.len(), self.nodes.len()].map(|nodes| vec![0; nodes * node]);
+        let written = self.leaves.iter().zip(leaves.chunks_exact_mut(node));
+        let sums: Vec<u32> = written.map(|(leaf, words)| leaf.write(words, leaf.line_ends(own))).collect();
+        self.write_inner(self.root, self.height, &sums, &mut inners);
+        [leaves, inners, self.leaf_of_entry.clone()]
     }
 
-    /// Whether each area begins with this tree's words.
-    pub fn same_words(&self, [leaves, inners, homes]: [&[u32]; 3]) -> bool {
-        same_nodes(&self.leaves, leaves) && same_nodes(&self.nodes, inners) && homes.starts_with(&self.leaf_of_entry)
+    /// Writes the words of an inner node and of those below it, with the sums of the leaves: each slot has the line ends of all entries
+    /// below it. It answers their sum.
+    fn write_inner(&self, number: u32, level: u32, leaves: &[u32], inners: &mut [u32]) -> u32 {
+        let node = &self.nodes[number as usize];
+        let lines = node.line_ends(|child| match level {
+            1 => leaves[child as usize],
+            _ => self.write_inner(child, level - 1, leaves, inners),
+        });
+        let words = state::node_words(N as u32);
+        node.write(&mut inners[number as usize * words..][..words], lines)
     }
 
     /// The head that the port holds for this tree; the limit is ours.
@@ -70,15 +77,17 @@ impl<const N: usize> PrepareEffectTree<N> {
         }
     }
 
-    /// Head and areas, the areas as long as the limit needs.
-    pub fn state(&self, limit: u32) -> state::State {
+    /// Head and areas, the areas as long as the limit needs. `lines` are the line ends of the entries by id; those past its end have
+    /// none.
+    pub fn state(&self, limit: u32, lines: &[u32]) -> state::State {
         let head = self.head(limit);
         let words = head.nodes_needed() as usize * head.node_words();
+        let [leaves, inners, homes] = self.used(lines);
         state::State {
             head,
-            leaves: lent(self.leaves.iter().flat_map(Node::words), words),
-            inners: lent(self.nodes.iter().flat_map(Node::words), words),
-            homes: lent(self.leaf_of_entry.iter().copied(), limit as usize),
+            leaves: lent(leaves, words),
+            inners: lent(inners, words),
+            homes: lent(homes, limit as usize),
         }
     }
 
@@ -99,10 +108,21 @@ impl<const N: usize> PrepareEffectTree<N> {
         }
     }
 
+    /// Puts the finger at an entry, as a lookup in the prepare view that finds it does.
+    pub fn point_at(&mut self, at: Cursor) {
+        let first = Cursor { slot: 0, ..at };
+        let [start, effect] = [View::Prepare, View::Effect].map(|view| self.entry_to_char_index(view, first));
+        let [within, effect_within] = [(View::Prepare, start), (View::Effect, effect)]
+            .map(|(view, start)| self.entry_to_char_index(view, at) - start);
+        let Cursor { leaf, slot } = at;
+        let slot = slot as usize;
+        self.finger = Some(Finger { view: View::Prepare, leaf, start, effect, slot, within, effect_within });
+    }
+
     /// Puts a finger there that lib.rs would not have, for the tests that must fail.
     pub fn put_finger(&mut self, finger: Option<state::Finger>) {
         self.finger = finger.map(|finger| Finger {
-            view: if finger.view == 0 { View::Prepare } else { View::Effect },
+            view: if finger.view == 1 { View::Effect } else { View::Prepare },
             leaf: finger.leaf,
             start: finger.start,
             effect: finger.effect,
@@ -125,8 +145,7 @@ impl Cursor {
     }
 }
 
-fn lent(used: impl Iterator<Item = u32>, words: usize) -> Vec<u32> {
-    let mut area: Vec<u32> = used.collect();
+fn lent(mut area: Vec<u32>, words: usize) -> Vec<u32> {
     area.resize(area.len().max(words), LENT);
     area
 }

@@ -1,6 +1,7 @@
 //! The tests can fail: wrong trees played beside the row are caught, by full checks at once and by
 //! the answers alone in the end.
 
+use oracle::calls::Calls;
 use oracle::cursors::{Source, GIVERS, HANDED};
 use oracle::driver::{Driver, Parted};
 use oracle::fans::{rust, Setup};
@@ -9,7 +10,7 @@ use oracle::patterns::handed_on;
 use oracle::record::Call;
 use oracle::row::{Entry, Row};
 use oracle::rust::{Reply, Rust, Subject};
-use oracle::state::{Finger, Head, State};
+use oracle::state::{Finger, Head, State, EFFECT, LINES};
 use std::panic::{catch_unwind, AssertUnwindSafe};
 
 /// lib.rs at fan 4 whose calls go through a wrong step, with what that step remembers.
@@ -62,7 +63,7 @@ fn keeps(tree: &mut Mutant, call: Call, from: Source, stale: impl Fn(Finger, &He
     let reply = right(tree, call, from);
     let change = !matches!(call, Call::Reset { .. } | Call::Lookup { .. } | Call::Select { .. });
     if let Some(finger) = old.filter(|&finger| change && stale(finger, &tree.head())) {
-        tree.rust.tree.put_finger(Some(finger));
+        tree.rust.tree.rust.put_finger(Some(finger));
     }
     reply
 }
@@ -147,9 +148,49 @@ fn none_from_every_next(tree: &mut Mutant, call: Call, from: Source) -> Reply {
 }
 
 fn set_forgets_the_effect_length(tree: &mut Mutant, call: Call, from: Source) -> Reply {
-    let Call::Set { id, lengths: [prepare, _] } = call else { return right(tree, call, from) };
-    let own = tree.rust.tree.lengths(tree.rust.tree.cursor(id)).effect;
-    tree.rust.call(Call::Set { id, lengths: [prepare, own] }, from)
+    let Call::Set { id, lengths: [prepare, _, lines] } = call else { return right(tree, call, from) };
+    let [_, own, _] = own_lengths(tree, id);
+    tree.rust.call(Call::Set { id, lengths: [prepare, own, lines] }, from)
+}
+
+fn own_lengths(tree: &Mutant, id: u32) -> [u32; 3] {
+    tree.rust.tree.lengths(tree.rust.tree.cursor(id))
+}
+
+fn set_forgets_the_line_ends(tree: &mut Mutant, call: Call, from: Source) -> Reply {
+    match call {
+        Call::Set { id, .. } => tree.rust.call(call.with_lines(own_lengths(tree, id)[LINES]), from),
+        _ => right(tree, call, from),
+    }
+}
+
+fn split_moves_no_line_ends(tree: &mut Mutant, call: Call, from: Source) -> Reply {
+    match call {
+        Call::Split { .. } => tree.rust.call(call.with_lines(0), from),
+        _ => right(tree, call, from),
+    }
+}
+
+fn lines_ranked_in_the_effect_view(tree: &mut Mutant, call: Call, from: Source) -> Reply {
+    match call {
+        Call::Rank { view: LINES, id } => tree.rust.call(Call::Rank { view: EFFECT, id }, from),
+        _ => right(tree, call, from),
+    }
+}
+
+fn lines_looked_up_in_the_effect_view(tree: &mut Mutant, call: Call, from: Source) -> Reply {
+    match call {
+        Call::Lookup { view: LINES, index } => tree.rust.call(Call::Lookup { view: EFFECT, index }, from),
+        _ => right(tree, call, from),
+    }
+}
+
+fn no_line_ends_from_lengths(tree: &mut Mutant, call: Call, from: Source) -> Reply {
+    let mut reply = right(tree, call, from);
+    if matches!(call, Call::Lengths { .. }) {
+        reply.fields[2] = 0;
+    }
+    reply
 }
 
 fn hands_on_the_cursor_held_before(tree: &mut Mutant, call: Call, from: Source) -> Reply {
@@ -159,16 +200,16 @@ fn hands_on_the_cursor_held_before(tree: &mut Mutant, call: Call, from: Source) 
     }
 }
 
-fn selects_in_the_other_view(tree: &mut Mutant, call: Call, from: Source) -> Reply {
+fn selects_in_another_view(tree: &mut Mutant, call: Call, from: Source) -> Reply {
     match call {
-        Call::Select { view, index } => tree.rust.call(Call::Select { view: 1 - view, index }, from),
+        Call::Select { view, index } => tree.rust.call(Call::Select { view: (view + 1) % 3, index }, from),
         _ => right(tree, call, from),
     }
 }
 
 /// Document 01's "Mistakes near to hand" and its clause c, as far as they are not about refusals:
-/// what is refused is the row's to say here, and is not played on the tree. Then a wrong cursor, and `char_index_to_entry`.
-const MUTANTS: [(&str, Wrong); 14] = [
+/// what is refused is the row's to say here, and is not played on the tree. Then a wrong cursor, `char_index_to_entry`, and line ends.
+const MUTANTS: [(&str, Wrong); 19] = [
     ("swapped split flag", swapped_split_flag),
     ("finger kept after every change", finger_kept),
     ("finger kept although its slot left with the upper half", finger_kept_although_its_slot_left),
@@ -182,14 +223,19 @@ const MUTANTS: [(&str, Wrong); 14] = [
     ("none from every next", none_from_every_next),
     ("set forgets the effect length", set_forgets_the_effect_length),
     ("a call is handed the cursor held before", hands_on_the_cursor_held_before),
-    ("char_index_to_entry in the other view", selects_in_the_other_view),
+    ("char_index_to_entry in another view", selects_in_another_view),
+    ("set forgets the line ends", set_forgets_the_line_ends),
+    ("a split moves no line ends", split_moves_no_line_ends),
+    ("lines ranked in the effect view", lines_ranked_in_the_effect_view),
+    ("lines looked up in the effect view", lines_looked_up_in_the_effect_view),
+    ("no line ends from lengths", no_line_ends_from_lengths),
 ];
 
 /// Plays a list of up to 3,000 calls; an error or a panic of lib.rs is a catch.
 fn play(wrong: Wrong, check_every: u64) -> Result<u64, Parted> {
     let style = Style { weights: LOOKING, sizes: Sizes::Small, close: 80, miss: 1 };
-    let mutant = Mutant { rust: Rust::make(2_000, [2, 3]), wrong, splits: 0, first_lookup: None };
-    let mut driver = Driver::beside(mutant, Row::make(2_000, [2, 3]), check_every);
+    let mutant = Mutant { rust: Rust::make(2_000, [2, 3, 1]), wrong, splits: 0, first_lookup: None };
+    let mut driver = Driver::beside(mutant, Row::make(2_000, [2, 3, 1]), check_every);
     let mut lister = Lister::new(7, style);
     let run = AssertUnwindSafe(|| driver.play_drawn(&mut lister, 3_000).map(|()| driver.coverage.calls()));
     catch_unwind(run).unwrap_or(Err("lib.rs panicked".into()))

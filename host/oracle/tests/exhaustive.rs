@@ -9,12 +9,12 @@ use oracle::patterns::{all_kinds, every_short_list_at_each_fan, movers};
 fn every_list_of_up_to_three_calls_of_all_kinds() {
     let met = every_short_list_at_each_fan(all_kinds, 3, rust);
     assert!(met.all_kinds());
-    assert_eq!(met.checks, 46 * (20 + 400 + 8_000));
+    assert_eq!(met.checks, 46 * (22 + 484 + 10_648));
 }
 
 #[test]
 fn every_list_of_up_to_five_moving_calls() {
     let met = every_short_list_at_each_fan(movers, 5, rust);
     assert!(met.refused[8] > 0);
-    assert_eq!(met.checks, 46 * (8 + 64 + 512 + 4_096 + 32_768));
+    assert_eq!(met.checks, 46 * (9 + 81 + 729 + 6_561 + 59_049));
 }

@@ -1,35 +1,29 @@
 //! The audit says no for every single word that matters, and ends on words of any kind.
 
 use oracle::audit::{audit, Verdict};
+use oracle::calls::Calls;
+use oracle::lined::Lined;
 use oracle::random::Random;
 use oracle::rust::pair;
-use oracle::state::State;
-use oracle::tree::{PrepareEffectTree, View};
+use oracle::state::{State, EFFECT, LINES, MOST_LINES, PREPARE};
+use oracle::tree::PrepareEffectTree;
 use std::collections::BTreeMap;
 
 /// A sound tree that holds exactly its limit, with a finger in the midst of a leaf. Lengths differ
 /// from entry to entry and from view to view, so that no other finger has the same sums.
-fn sound<const N: usize>(entries: u32, view: View) -> State {
-    let mut tree = PrepareEffectTree::<N>::new(pair([1, 7]));
+fn sound<const N: usize>(entries: u32, view: usize) -> State {
+    let mut tree = Lined::<N>::make(entries, [1, 7, 2]);
     for id in 1..entries {
         let before = (id % 3 != 0).then(|| tree.cursor(id * 7 % id));
-        tree.insert(before, pair([1 + id % 5, 3 + id % 11]));
+        let lines = if id % 17 == 0 { MOST_LINES } else { 2 + id % 13 };
+        tree.insert(before, [1 + id % 5, 3 + id % 11, lines]);
     }
-    let total = tree.entry_to_char_index(view, last(&tree));
-    let mut index = total / 2;
-    while tree.head(entries).finger.is_none_or(|finger| finger.slot == 0) {
+    let mut index = tree.row.total(view) / 2;
+    while tree.head().finger.is_none_or(|finger| finger.slot == 0) {
         tree.locate(view, index);
         index += 1;
     }
-    tree.state(entries)
-}
-
-fn last<const N: usize>(tree: &PrepareEffectTree<N>) -> oracle::tree::Cursor {
-    let mut at = tree.first();
-    while let Some(next) = tree.next(at) {
-        at = next;
-    }
-    at
+    tree.state()
 }
 
 /// Other values for a word: each single bit, its neighbours, and the ends.
@@ -102,11 +96,13 @@ fn flip_everything(mut state: State, met: &mut Verdicts) {
 #[test]
 fn every_flip_of_a_word_in_use_is_caught() {
     let states = [
-        sound::<4>(2, View::Prepare),
-        sound::<4>(60, View::Prepare),
-        sound::<5>(60, View::Effect),
-        sound::<8>(90, View::Prepare),
-        sound::<32>(70, View::Effect),
+        sound::<4>(2, PREPARE),
+        sound::<4>(60, PREPARE),
+        sound::<5>(60, EFFECT),
+        sound::<8>(90, PREPARE),
+        sound::<32>(70, EFFECT),
+        sound::<4>(60, LINES),
+        sound::<8>(90, LINES),
     ];
     let mut met = Verdicts::new();
     for state in states {
@@ -117,7 +113,19 @@ fn every_flip_of_a_word_in_use_is_caught() {
         assert!(flips > 33 * head.node_words() as u64 * (head.leaf_count + head.inner_count) as u64);
     }
     println!("{met:?}");
-    assert_eq!(met.len(), 11);
+    assert_eq!(met.len(), 12);
+}
+
+/// One line end more than an entry may have is unsound, although every sum above it is right; 65,535 isn't.
+#[test]
+fn more_than_65535_line_ends_in_a_leaf_slot_are_unsound() {
+    for lines in [0, 1, MOST_LINES - 1, MOST_LINES, MOST_LINES + 1, 2 * MOST_LINES, u32::MAX] {
+        // a first leaf of one entry, and the root's slot for it
+        let mut state = Lined::<4>::make(5, [3, 3, 7]).state();
+        (state.leaves[6], state.inners[6]) = (lines, lines);
+        let wanted = if lines > MOST_LINES { Verdict::No("at most 65,535 line ends") } else { Verdict::Yes };
+        assert_eq!(audit(&state), wanted, "{lines}");
+    }
 }
 
 /// Several words at once, with counts, links and lens that lead anywhere: the audit ends and does not panic.
@@ -126,7 +134,7 @@ fn the_audit_ends_on_any_words() {
     let mut random = Random::new(1);
     let (mut yes, mut no) = (0, 0);
     for _ in 0..20_000 {
-        let mut state = sound::<4>(40, View::Prepare);
+        let mut state = sound::<4>(40, PREPARE);
         for _ in 0..1 + random.below(6) {
             let value = [0, 1, 2, 4, 19, u32::MAX, random.word() as u32][random.below(7) as usize];
             let areas = [&mut state.leaves, &mut state.inners, &mut state.homes];
@@ -150,11 +158,13 @@ fn the_audit_ends_on_any_words() {
 /// Every inner node names itself or the root in every slot: the lists of a level could grow without end.
 #[test]
 fn the_audit_ends_on_circles() {
+    let mut tree = PrepareEffectTree::<32>::new(pair([1, 1]));
+    (1..65_536).for_each(|id| assert_eq!(tree.insert(None, pair([1, 1])).0, id));
     for levels in 1..=15 {
-        let mut state = sound::<32>(65_536, View::Prepare);
+        let mut state = tree.state(65_536, &[]);
         state.head.levels = levels;
         state.inners.fill(0);
-        for node in state.inners.chunks_exact_mut(99) {
+        for node in state.inners.chunks_exact_mut(131) {
             node[0] = 32;
         }
         assert_ne!(audit(&state), Verdict::Yes);

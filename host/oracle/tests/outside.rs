@@ -70,5 +70,5 @@ fn walked(tree: &Tree) -> Vec<[u32; 3]> {
 }
 
 fn verdict(tree: &Tree) -> Verdict {
-    audit(&tree.state(1_000))
+    audit(&tree.state(1_000, &[]))
 }

@@ -6,10 +6,13 @@ use oracle::row::{Entry, Row};
 use oracle::rust::Rust;
 use oracle::sheet::{of_row, of_tree, sheetrun, PAGE_BYTES, PAGE_LINES};
 
-/// Document 01's sheet of five entries.
+/// Document 01's sheet of five entries, with line ends, which no line has.
 fn five() -> Row {
     let entry = |(id, lengths)| Entry { id, lengths };
-    Row { limit: 5, entries: [(2, [0, 5]), (3, [1, 1]), (0, [2, 2]), (4, [1, 1]), (1, [2, 0])].map(entry).to_vec() }
+    Row {
+        limit: 5,
+        entries: [(2, [0, 5, 9]), (3, [1, 1, 0]), (0, [2, 2, 1]), (4, [1, 1, 0]), (1, [2, 0, 7])].map(entry).to_vec(),
+    }
 }
 
 #[test]
@@ -27,9 +30,9 @@ fn a_page_written_out() {
 
 #[test]
 fn numbers_of_ten_digits_fill_their_columns() {
-    let widest = Row::make(1, [u32::MAX; 2]);
+    let widest = Row::make(1, [u32::MAX, u32::MAX, 65_535]);
     assert!(of_row(&widest).starts_with("         0          0          0 4294967295 4294967295\n"));
-    let last = Entry { id: 1, lengths: [0, 0] };
+    let last = Entry { id: 1, lengths: [0; 3] };
     let two = Row { limit: 2, entries: vec![widest.entries[0], last] };
     assert_eq!(&of_row(&two)[55..110], "         1 4294967295 4294967295          0          0\n");
 }
@@ -38,7 +41,7 @@ fn numbers_of_ten_digits_fill_their_columns() {
 #[test]
 fn pages_by_the_number_of_entries() {
     for (entries, pages, blank) in [(1, 1, 49), (49, 1, 1), (50, 1, 0), (51, 2, 49), (100, 2, 0), (101, 3, 49)] {
-        let row = Row { limit: entries, entries: (0..entries).map(|id| Entry { id, lengths: [1, 1] }).collect() };
+        let row = Row { limit: entries, entries: (0..entries).map(|id| Entry { id, lengths: [1; 3] }).collect() };
         let sheet = of_row(&row);
         assert_eq!(sheet.len(), pages * PAGE_BYTES);
         assert_eq!(sheet.lines().count(), pages * PAGE_LINES);
@@ -51,7 +54,7 @@ fn pages_by_the_number_of_entries() {
 #[test]
 fn of_lib_rs_and_of_the_row() {
     for (seed, sizes) in [Sizes::Small, Sizes::Zeros, Sizes::NearEnd].into_iter().enumerate() {
-        let mut driver = Driver::<Rust<4>>::make(300, [3, 3], 0);
+        let mut driver = Driver::<Rust<4>>::make(300, [3; 3], 0);
         let mut lister = Lister::new(seed as u64, Style { weights: GROWING, sizes, close: 50, miss: 4 });
         for _ in 0..20 {
             driver.play_drawn(&mut lister, 20).unwrap();
@@ -66,5 +69,5 @@ fn a_short_tail_leaves_the_sheet_of_the_whole_records() {
     let two = "         0          0          0          0          0\n         1          0          0          2          0\n";
     assert!(sheetrun(&record).starts_with(two));
     assert_eq!(sheetrun(&[&record[..], b"abc"].concat()), sheetrun(&record));
-    assert_eq!(sheetrun(&[]), of_row(&Row::make(512, [0, 0])));
+    assert_eq!(sheetrun(&[]), of_row(&Row::make(512, [0; 3])));
 }

@@ -26,7 +26,7 @@ const CASES: [Case; 11] = [
 
 #[test]
 fn p1_to_p12() {
-    let mut driver = Driver::<Rust<4>>::make(5, [3, 3], 1);
+    let mut driver = Driver::<Rust<4>>::make(5, [3, 3, 0], 1);
     let (mut row_after_p9, mut place_at_p10) = (vec![], None);
     for (number, ((kind, byte1, a, b, c), wanted)) in (2..).zip(CASES) {
         let line = driver.play(Record::new(kind, byte1, a, b, c)).unwrap();
@@ -48,7 +48,7 @@ fn p1_to_p12() {
 #[test]
 fn fan_and_limit_out_of_bounds_are_1() {
     for (fan, limit) in [(3, 5), (33, 5), (4, 0), (4, 65_537), (0, 5), (u32::MAX, 5), (4, u32::MAX)] {
-        let mut state = Rust::<4>::make(5, [3, 3]).tree.state(5);
+        let mut state = Rust::<4>::make(5, [3, 3, 0]).tree.state();
         (state.head.fan, state.head.limit) = (fan, limit);
         assert!(!make_allowed(fan, limit));
         assert_eq!(audit(&state), Verdict::Refused(1));
@@ -60,15 +60,15 @@ fn fan_and_limit_out_of_bounds_are_1() {
 
 #[test]
 fn a_full_view_takes_only_lengths_of_0() {
-    let mut driver = Driver::<Rust<4>>::make(5, [u32::MAX, 0], 1);
+    let mut driver = Driver::<Rust<4>>::make(5, [u32::MAX, 0, 0], 1);
     assert_eq!(driver.play(Record::new(2, 0, NONE, 1, 0)).unwrap().answer.number, 7);
     assert_eq!(driver.play(Record::new(2, 0, NONE, 0, 0)).unwrap().answer.fields, [1, 0, 0, 0]);
 }
 
 #[test]
 fn nothing_is_found_among_lengths_of_0() {
-    let mut driver = Driver::<Rust<4>>::make(5, [0, 0], 1);
-    for view in [0, 1] {
+    let mut driver = Driver::<Rust<4>>::make(5, [0; 3], 1);
+    for view in [0, 1, 2] {
         assert_eq!(driver.play(Record::new(7, view, 0, 0, 0)).unwrap().answer.number, 5);
     }
 }
@@ -87,7 +87,7 @@ fn the_sample_of_rowrun() {
 /// The door makes its tree as `rowrun` does.
 #[test]
 fn the_row_of_the_door_takes_512_entries() {
-    let mut row = Row::make(512, [0, 0]);
+    let mut row = Row::make(512, [0; 3]);
     let numbers: Vec<u8> = (1..=512).map(|_| row.play(&Record::new(3, 0, NONE, 1, 1)).number).collect();
     assert_eq!(numbers.iter().position(|&number| number == 8), Some(511));
     assert_eq!(row.count(), 512);

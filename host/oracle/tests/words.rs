@@ -1,24 +1,26 @@
 //! The readers of lib.rs's private state: the layout of the words, and the cursors' `Debug` text.
 
+use oracle::calls::Calls;
+use oracle::lined::Lined;
 use oracle::rust::{pair, Place};
-use oracle::state::{Finger, NONE};
-use oracle::tree::{PrepareEffectTree, View, LENT};
+use oracle::state::{Finger, LINES, NONE, PREPARE};
+use oracle::tree::{PrepareEffectTree, LENT};
 
-/// Document 01's sheet of five entries after P10, word for word.
+/// Document 01's sheet of five entries after P10, with line ends, word for word; and its fingers by character and by line.
 #[test]
 fn the_words_of_the_sheet_of_five_entries() {
-    let mut tree = PrepareEffectTree::<4>::new(pair([3, 3]));
-    tree.insert(None, pair([2, 0]));
-    tree.insert(Some(tree.cursor(0)), pair([0, 5]));
-    tree.split_entry(tree.cursor(0), pair([1, 1]), true);
-    tree.insert(Some(tree.cursor(1)), pair([1, 1]));
-    tree.locate(View::Prepare, 4);
-    let state = tree.state(6);
-    let empty = [NONE, 0, 0];
-    let leaves = [vec![2, 0, 0], vec![2, 0, 5], vec![3, 1, 1], empty.into(), empty.into()].concat();
-    let upper = [vec![3, 0, 1], vec![0, 2, 2], vec![4, 1, 1], vec![1, 2, 0], empty.into()].concat();
-    let root = [vec![2, NONE, 0], vec![0, 1, 6], vec![1, 5, 3], empty.into(), empty.into()].concat();
-    let lent = vec![LENT; 15];
+    let mut tree = Lined::<4>::make(6, [3, 3, 9]);
+    tree.insert(None, [2, 0, 65_535]);
+    tree.insert(Some(tree.cursor(0)), [0, 5, 4]);
+    tree.split_entry(tree.cursor(0), [1, 1, 2], true);
+    tree.insert(Some(tree.cursor(1)), [1, 1, 0]);
+    tree.locate(PREPARE, 4);
+    let state = tree.state();
+    let empty = [NONE, 0, 0, 0];
+    let leaves = [vec![2, 0, 0], vec![2, 0, 5, 4], vec![3, 1, 1, 2], empty.into(), empty.into()].concat();
+    let upper = [vec![3, 0, 1], vec![0, 2, 2, 7], vec![4, 1, 1, 0], vec![1, 2, 0, 65_535], empty.into()].concat();
+    let root = [vec![2, NONE, 0], vec![0, 1, 6, 6], vec![1, 5, 3, 65_542], empty.into(), empty.into()].concat();
+    let lent = vec![LENT; 19];
     assert_eq!(state.leaves, [leaves, upper, lent.clone()].concat());
     assert_eq!(state.inners, [root, lent.clone(), lent].concat());
     assert_eq!(state.homes, [1, 1, 0, 0, 1, LENT]);
@@ -37,6 +39,17 @@ fn the_words_of_the_sheet_of_five_entries() {
         prepare_within: 3,
     };
     assert_eq!(head.finger, Some(sums));
+    assert_eq!(tree.locate(LINES, 13), (tree.cursor(1), 0, 9));
+    assert_eq!(tree.head().finger, Some(Finger { view: 2, start: 6, within: 7, ..sums }));
+    // an earlier slot of the leaf changes, and then another leaf
+    tree.set_lengths(tree.cursor(4), [1, 1, 8]);
+    let rewound = Finger { view: 2, start: 6, slot: 0, within: 0, effect_within: 0, prepare_within: 0, ..sums };
+    assert_eq!(tree.head().finger, Some(rewound));
+    tree.set_lengths(tree.cursor(2), [0, 5, 0]);
+    assert_eq!(tree.head().finger, None);
+    assert_eq!(tree.locate(LINES, 1), (tree.cursor(3), 1, 5));
+    assert_eq!(tree.char_index_to_entry(PREPARE, 4), (tree.cursor(1), 0));
+    assert_eq!(tree.head().finger, Some(sums));
 }
 
 #[test]

@@ -1,7 +1,7 @@
 /* PrepareEffectTree through C linkage: libsmelvock.a, which `rt staticlib smelvock` writes, for x86-64 Linux.
  *
  * The caller lends a head of seventeen words and three areas of words, each as a pointer and its count. Fan 4 to 32, limit 1 to
- * 65,536. The leaf area and the inner area each need max(1, limit / (fan / 2)) nodes of 3 + 3 * fan words, homes needs limit
+ * 65,536. The leaf area and the inner area each need max(1, limit / (fan / 2)) nodes of 3 + 4 * fan words, homes needs limit
  * words. A buffer to print in needs 2,750 bytes a page, a page for every 50 entries. Head, areas and buffer may not overlap. A
  * tree's head is made by smelvock_new or smelvock_reset and written by the calls. The two calls on files of edits, at the end, take
  * no tree.
@@ -10,11 +10,13 @@
  *    1  fan or limit outside its values       7  a view's total would pass 4,294,967,295
  *    2  an area is too short                  8  the tree holds its limit
  *    3  the cursor's stamp is wrong           9  a link of an unsound tree leads outside
- *    4  no such entry or edit                10  a view or flag is neither 0 nor 1, or the head not seventeen words
- *    5  position at or past the total        12  the buffer is below 2,750 bytes a page
- *    6  a split moves more than the entry    13  the cursor's leaf is not in use
- *       has                                  14  the cursor's slot is at or past its leaf's len
- * A cursor is tested for 3, 13 and 14 in this order, before 4 to 8; smelvock_cmp tests the first cursor whole, then the second.
+ *    4  no such entry or edit                10  more than 65,535 line ends, a view above 2, a flag above 1, or a
+ *    5  position at or past the total            head that is not seventeen words
+ *    6  a split moves more than the entry    12  the buffer is below 2,750 bytes a page
+ *       has                                  13  the cursor's leaf is not in use
+ *                                            14  the cursor's slot is at or past its leaf's len
+ * A tree's call tests 10 before all others, and a cursor for 3, 13 and 14 in this order, before 4 to 8; smelvock_cmp tests the first
+ * cursor whole, then the second.
  * Of a file of edits: 10 the rest of a record isn't zero, 11 the file's length isn't a multiple of 16, 12 the list area is below
  * 512 words, 15 a parent isn't smaller than its edit, 16 more than 512 edits.
  * Refused: the other values are 0 and, but for 9, head, areas and buffer are as they were. */
@@ -30,11 +32,14 @@ extern "C" {
 
 #define SMELVOCK_PREPARE 0u
 #define SMELVOCK_EFFECT 1u
+#define SMELVOCK_LINES 2u
 /* The leaf of the cursor after the last entry, and the parent of an edit that has none. */
 #define SMELVOCK_NONE 4294967295u
 /* The lines of a page of the sheet, an entry each, and its bytes. */
 #define SMELVOCK_PAGE_LINES 50u
 #define SMELVOCK_PAGE_BYTES 2750u
+/* The most line ends of an entry. */
+#define SMELVOCK_LINE_ENDS 65535u
 
 /* The words of a head. The finger (present 0 or 1, then nine words) is a tree's memory of its last lookup; its words are of no
  * account where absent. */
@@ -48,8 +53,9 @@ typedef struct {
     uint32_t leaf, slot, stamp;
 } smelvock_cursor_at;
 
+/* An entry's visible characters in either version, and its visible line ends. */
 typedef struct {
-    uint32_t prepare, effect;
+    uint32_t prepare, effect, lines;
 } smelvock_length;
 
 typedef struct {
@@ -96,7 +102,7 @@ typedef struct {
 
 #define SMELVOCK_GIVEN head, head_words, leaves, leaf_words, inners, inner_words, homes, home_words
 #define SMELVOCK_CURSOR uint32_t leaf, uint32_t slot, uint32_t stamp
-#define SMELVOCK_LENGTHS uint32_t prepare, uint32_t effect
+#define SMELVOCK_LENGTHS uint32_t prepare, uint32_t effect, uint32_t lines
 
 /* The library's calls. Those whose names end in _words take cursors and lengths word by word, for a struct that is handed over by
  * value goes through memory, which costs time; below, each has a function with structs. */
@@ -112,13 +118,13 @@ smelvock_divided smelvock_split_entry_words(SMELVOCK_HEAD_WRITTEN, SMELVOCK_AREA
 /* update where summed is 1; where it is 0, set_lengths, with 0 for the position. */
 smelvock_number smelvock_resize(SMELVOCK_HEAD_WRITTEN, SMELVOCK_AREAS_WRITTEN, SMELVOCK_CURSOR, SMELVOCK_LENGTHS, uint32_t summed);
 
-/* A tree of one entry, id 0; what the head holds before is of no account to new. A make refused by another number than 10 leaves a
- * head of zeros. */
+/* A tree of one entry, id 0; what the head holds before is of no account to new. A refused new leaves zeros in a head of seventeen
+ * words. */
 static inline uint32_t smelvock_new(uint32_t fan, uint32_t limit, smelvock_length lengths, SMELVOCK_HEAD_WRITTEN, SMELVOCK_AREAS_WRITTEN) {
-    return smelvock_new_words(fan, limit, lengths.prepare, lengths.effect, SMELVOCK_GIVEN);
+    return smelvock_new_words(fan, limit, lengths.prepare, lengths.effect, lengths.lines, SMELVOCK_GIVEN);
 }
 static inline uint32_t smelvock_reset(SMELVOCK_HEAD_WRITTEN, SMELVOCK_AREAS_WRITTEN, smelvock_length lengths) {
-    return smelvock_reset_words(SMELVOCK_GIVEN, lengths.prepare, lengths.effect);
+    return smelvock_reset_words(SMELVOCK_GIVEN, lengths.prepare, lengths.effect, lengths.lines);
 }
 
 /* value: the number of entries; 0, for a tree is never empty. */
@@ -148,8 +154,8 @@ static inline smelvock_number smelvock_cmp(SMELVOCK_HEAD, SMELVOCK_AREAS, smelvo
     return smelvock_cmp_words(SMELVOCK_GIVEN, a.leaf, a.slot, a.stamp, b.leaf, b.slot, b.stamp);
 }
 
-/* The entry that holds a position of a view, and the offset into it; locate also its effect position
- * (position) and its prepare position. */
+/* The entry that holds a position of a view, a character or a line end, and the offset into it; locate also its effect position
+ * (position) and its prepare position, in every view. */
 smelvock_located smelvock_locate(SMELVOCK_HEAD_WRITTEN, SMELVOCK_AREAS, uint32_t view, uint32_t index);
 static inline smelvock_selected smelvock_char_index_to_entry(SMELVOCK_HEAD_WRITTEN, SMELVOCK_AREAS, uint32_t view, uint32_t index) {
     smelvock_located found = smelvock_locate(SMELVOCK_GIVEN, view, index);
@@ -159,22 +165,22 @@ static inline smelvock_selected smelvock_char_index_to_entry(SMELVOCK_HEAD_WRITT
 
 /* Gives an entry lengths; update also answers its effect position. */
 static inline uint32_t smelvock_set_lengths(SMELVOCK_HEAD_WRITTEN, SMELVOCK_AREAS_WRITTEN, smelvock_cursor_at at, smelvock_length lengths) {
-    return smelvock_resize(SMELVOCK_GIVEN, at.leaf, at.slot, at.stamp, lengths.prepare, lengths.effect, 0).number;
+    return smelvock_resize(SMELVOCK_GIVEN, at.leaf, at.slot, at.stamp, lengths.prepare, lengths.effect, lengths.lines, 0).number;
 }
 static inline smelvock_number smelvock_update(SMELVOCK_HEAD_WRITTEN, SMELVOCK_AREAS_WRITTEN, smelvock_cursor_at at, smelvock_length lengths) {
-    return smelvock_resize(SMELVOCK_GIVEN, at.leaf, at.slot, at.stamp, lengths.prepare, lengths.effect, 1);
+    return smelvock_resize(SMELVOCK_GIVEN, at.leaf, at.slot, at.stamp, lengths.prepare, lengths.effect, lengths.lines, 1);
 }
 
 /* A new entry before a cursor, or at the end where end is 1 and the cursor is of no account: its id, and its effect position. */
 static inline smelvock_inserted smelvock_insert(
     SMELVOCK_HEAD_WRITTEN, SMELVOCK_AREAS_WRITTEN, uint32_t end, smelvock_cursor_at before, smelvock_length lengths) {
-    return smelvock_insert_words(SMELVOCK_GIVEN, end, before.leaf, before.slot, before.stamp, lengths.prepare, lengths.effect);
+    return smelvock_insert_words(SMELVOCK_GIVEN, end, before.leaf, before.slot, before.stamp, lengths.prepare, lengths.effect, lengths.lines);
 }
 
 /* Takes lengths out of an entry into a new one just before it (before 1) or after it (0): its id, and both cursors in order. */
 static inline smelvock_divided smelvock_split_entry(
     SMELVOCK_HEAD_WRITTEN, SMELVOCK_AREAS_WRITTEN, smelvock_cursor_at at, smelvock_length lengths, uint32_t before) {
-    return smelvock_split_entry_words(SMELVOCK_GIVEN, at.leaf, at.slot, at.stamp, lengths.prepare, lengths.effect, before);
+    return smelvock_split_entry_words(SMELVOCK_GIVEN, at.leaf, at.slot, at.stamp, lengths.prepare, lengths.effect, lengths.lines, before);
 }
 
 /* Prints the entries in order from the start of the buffer on; value: the number of pages. A line is 55 bytes: id, prepare position,

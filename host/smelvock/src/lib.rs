@@ -17,18 +17,20 @@ use std::fmt;
 /// An entry's permanent id, numbered from 0 in creation order.
 pub type EntryId = u32;
 
-/// Which version a length or position is measured in.
+/// What a length or position is measured in: the characters of either version, or visible line ends.
 #[derive(Clone, Copy, PartialEq, Eq, Debug)]
 pub enum View {
     Prepare,
     Effect,
+    Lines,
 }
 
-/// An entry's visible length in the prepare and effect versions.
+/// An entry's visible length in the prepare and effect versions, and its visible line ends, of which it has 65,535 at most.
 #[derive(Clone, Copy, PartialEq, Eq, Debug, Default)]
 pub struct Lengths {
     pub prepare: u32,
     pub effect: u32,
+    pub lines: u32,
 }
 
 /// An entry's place in the tree, current until the next insertion or split.
@@ -48,7 +50,7 @@ pub const PAGE_LINES: usize = 50;
 pub const PAGE_BYTES: usize = 2_750;
 
 /// An order-statistic B+ tree over a sequence of entries, indexed by position in both the prepare
-/// and effect versions.
+/// and effect versions and by line.
 #[derive(Clone)]
 pub struct PrepareEffectTree<const N: usize = 32> {
     head: raw::Head,
@@ -104,7 +106,7 @@ impl<const N: usize> PrepareEffectTree<N> {
 
     /// The words that hold a number: all of a tree of given words, those in use of any other.
     pub fn areas(&self) -> Areas<'_> {
-        let node = N.saturating_mul(3).saturating_add(3);
+        let node = N.saturating_mul(4).saturating_add(3);
         let in_use = |word: usize| self.head[word] as usize;
         Areas {
             leaves: self.leaves.known(in_use(word::LEAVES).saturating_mul(node)),
@@ -267,20 +269,20 @@ fn words(fan: u32, limit: u32) -> [usize; 2] {
         return [0, 0];
     }
     let nodes = (limit / (fan / 2)).max(1);
-    [(nodes * (3 + 3 * fan)) as usize, limit as usize]
+    [(nodes * (3 + 4 * fan)) as usize, limit as usize]
 }
 
 impl From<Lengths> for raw::Lengths {
     #[inline]
-    fn from(Lengths { prepare, effect }: Lengths) -> Self {
-        raw::Lengths { prepare, effect }
+    fn from(Lengths { prepare, effect, lines }: Lengths) -> Self {
+        raw::Lengths { prepare, effect, lines }
     }
 }
 
 impl From<raw::Lengths> for Lengths {
     #[inline]
-    fn from(raw::Lengths { prepare, effect }: raw::Lengths) -> Self {
-        Lengths { prepare, effect }
+    fn from(raw::Lengths { prepare, effect, lines }: raw::Lengths) -> Self {
+        Lengths { prepare, effect, lines }
     }
 }
 

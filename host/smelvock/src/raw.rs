@@ -32,6 +32,7 @@ pub struct Cursor {
 pub struct Lengths {
     pub prepare: u32,
     pub effect: u32,
+    pub lines: u32,
 }
 
 /// An answer: 0 or the number of a refusal, then the values, zeros where the call was refused.
@@ -164,11 +165,11 @@ exports! {
 
 exports! {
     changing: AreasMut, &mut [u32], as_mut_ptr, *mut u32, as_mut_ptr, *mut u32;
-    new_words as smelvock_new_words(fan: u32, limit: u32, prepare: u32, effect: u32;) -> u32;
-    reset_words as smelvock_reset_words(; prepare: u32, effect: u32) -> u32;
-    insert_words as smelvock_insert_words(; end: u32, leaf: u32, slot: u32, stamp: u32, prepare: u32, effect: u32) -> Inserted;
-    split_entry_words as smelvock_split_entry_words(; leaf: u32, slot: u32, stamp: u32, prepare: u32, effect: u32, before: u32) -> Divided;
-    resize as smelvock_resize(; leaf: u32, slot: u32, stamp: u32, prepare: u32, effect: u32, summed: u32) -> Number;
+    new_words as smelvock_new_words(fan: u32, limit: u32, prepare: u32, effect: u32, lines: u32;) -> u32;
+    reset_words as smelvock_reset_words(; prepare: u32, effect: u32, lines: u32) -> u32;
+    insert_words as smelvock_insert_words(; end: u32, leaf: u32, slot: u32, stamp: u32, prepare: u32, effect: u32, lines: u32) -> Inserted;
+    split_entry_words as smelvock_split_entry_words(; leaf: u32, slot: u32, stamp: u32, prepare: u32, effect: u32, lines: u32, before: u32) -> Divided;
+    resize as smelvock_resize(; leaf: u32, slot: u32, stamp: u32, prepare: u32, effect: u32, lines: u32, summed: u32) -> Number;
 }
 
 /// A tree's calls with cursors and lengths as structs, as the header has them: the exports take their words one by one, since a
@@ -188,23 +189,23 @@ calls! {
     entry_to_char_index(&[u32], Areas; view: u32, at: Cursor) -> Number = entry_to_char_index_words(view, at.leaf, at.slot, at.stamp);
     next(&[u32], Areas; at: Cursor) -> Standing = next_words(at.leaf, at.slot, at.stamp);
     cmp(&[u32], Areas; a: Cursor, b: Cursor) -> Number = cmp_words(a.leaf, a.slot, a.stamp, b.leaf, b.slot, b.stamp);
-    reset(&mut [u32], AreasMut; lengths: Lengths) -> u32 = reset_words(lengths.prepare, lengths.effect);
+    reset(&mut [u32], AreasMut; lengths: Lengths) -> u32 = reset_words(lengths.prepare, lengths.effect, lengths.lines);
     insert(&mut [u32], AreasMut; end: u32, before: Cursor, lengths: Lengths) -> Inserted =
-        insert_words(end, before.leaf, before.slot, before.stamp, lengths.prepare, lengths.effect);
+        insert_words(end, before.leaf, before.slot, before.stamp, lengths.prepare, lengths.effect, lengths.lines);
     split_entry(&mut [u32], AreasMut; at: Cursor, lengths: Lengths, before: u32) -> Divided =
-        split_entry_words(at.leaf, at.slot, at.stamp, lengths.prepare, lengths.effect, before);
+        split_entry_words(at.leaf, at.slot, at.stamp, lengths.prepare, lengths.effect, lengths.lines, before);
     update(&mut [u32], AreasMut; at: Cursor, lengths: Lengths) -> Number =
-        resize(at.leaf, at.slot, at.stamp, lengths.prepare, lengths.effect, 1);
+        resize(at.leaf, at.slot, at.stamp, lengths.prepare, lengths.effect, lengths.lines, 1);
 }
 
 #[inline(always)]
 pub fn new<W: Word>(fan: u32, limit: u32, lengths: Lengths, head: &mut [u32], areas: AreasMut<'_, W>) -> u32 {
-    new_words(fan, limit, lengths.prepare, lengths.effect, head, areas)
+    new_words(fan, limit, lengths.prepare, lengths.effect, lengths.lines, head, areas)
 }
 
 #[inline(always)]
 pub fn set_lengths<W: Word>(head: &mut [u32], areas: AreasMut<'_, W>, at: Cursor, lengths: Lengths) -> u32 {
-    resize(head, areas, at.leaf, at.slot, at.stamp, lengths.prepare, lengths.effect, 0).number
+    resize(head, areas, at.leaf, at.slot, at.stamp, lengths.prepare, lengths.effect, lengths.lines, 0).number
 }
 
 #[inline(always)]

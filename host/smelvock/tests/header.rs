@@ -30,19 +30,31 @@ locate 0 4 0 8 3
 char_index_to_entry 5 0 0 0
 update 0 5
 set_lengths 0
-lengths 0 1 1
+lengths 0 1 1 4
+set_lengths 0
 entry_to_char_index 0 8
+entry_to_char_index 0 4
+locate 0 3 3 5 0
+locate 0 4 1 8 3
+locate 5 0 0 0 0
+split_entry 6 0 0 0 0 0
+split_entry 8 0 0 0 0 0
 cmp 0 2
 len 0 5
 is_empty 0 0
 audit 0 1
 stamp, leaf, slot: 3 13 14
 cmp of bad cursors: 14 3 13
-view 2: 10
+view 3: 10
+flag 2: 10
+65536 line ends: 10 10 10 10 10 10, then 0
 16 words: 10
 short: 2
 reset 0 1 0
 insert 0 1 0
+split_entry 0 2 0 0 0 1
+lengths 0 0 0 35
+lengths 0 1 0 65500
 edits_check 0 11
 511 words: 12 0 0
 edits_difference 0 2: 1 2, then 7

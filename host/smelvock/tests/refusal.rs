@@ -42,7 +42,7 @@ fn advice(refusal: Refusal) -> &'static str {
 
 #[test]
 fn an_outdated_cursor_is_told_from_a_mangled_one() {
-    let lengths = Lengths { prepare: 1, effect: 1 };
+    let lengths = Lengths { prepare: 1, effect: 1, lines: 0 };
     let mut tree = PrepareEffectTree::<4>::with_limit(5, lengths).unwrap();
     let old = tree.first().unwrap();
     tree.insert(None, lengths).unwrap();

@@ -4,7 +4,7 @@
 
 #define FAN 4u
 #define LIMIT 5u
-#define WORDS (2u * (3u + 3u * FAN))
+#define WORDS (2u * (3u + 4u * FAN))
 
 static uint32_t leaves[WORDS], inners[WORDS], homes[LIMIT];
 static uint32_t head[SMELVOCK_HEAD_WORDS];
@@ -31,6 +31,23 @@ static void locate(uint32_t view, uint32_t index) {
 static void split(uint32_t id, smelvock_length lengths) {
     smelvock_divided r = smelvock_split_entry(HEAD, AREAS, at(id), lengths, 1);
     printf("split_entry %u %u %u %u %u %u\n", r.number, r.id, r.first.leaf, r.first.slot, r.second.leaf, r.second.slot);
+}
+
+static void lengths(uint32_t id) {
+    smelvock_measured r = smelvock_lengths(HEAD, AREAS, at(id));
+    printf("lengths %u %u %u %u\n", r.number, r.lengths.prepare, r.lengths.effect, r.lengths.lines);
+}
+
+/* One line end more than an entry may have is refused by 10, whatever else is wrong: here the fan, the cursor, a full tree. */
+static void overlong(smelvock_cursor_at old) {
+    static const smelvock_length many = {0, 0, SMELVOCK_LINE_ENDS + 1};
+    uint32_t fresh[SMELVOCK_HEAD_WORDS] = {7};
+    printf("65536 line ends: %u", smelvock_new(3, LIMIT, many, fresh, SMELVOCK_HEAD_WORDS, AREAS));
+    printf(" %u", smelvock_reset(HEAD, AREAS, many));
+    printf(" %u", smelvock_insert(HEAD, AREAS, 1, nowhere, many).number);
+    printf(" %u", smelvock_split_entry(HEAD, AREAS, old, many, 0).number);
+    printf(" %u", smelvock_set_lengths(HEAD, AREAS, old, many));
+    printf(" %u, then %u\n", smelvock_update(HEAD, AREAS, old, many).number, fresh[SMELVOCK_FAN]);
 }
 
 static void print(void) {
@@ -66,20 +83,20 @@ static void edits(void) {
 }
 
 int main(void) {
-    printf("new %u\n", smelvock_new(FAN, LIMIT, (smelvock_length){3, 3}, HEAD, AREAS));
-    insert(1, nowhere, (smelvock_length){2, 0});
-    insert(0, at(0), (smelvock_length){0, 5});
+    printf("new %u\n", smelvock_new(FAN, LIMIT, (smelvock_length){3, 3, 0}, HEAD, AREAS));
+    insert(1, nowhere, (smelvock_length){2, 0, 0});
+    insert(0, at(0), (smelvock_length){0, 5, 0});
     locate(SMELVOCK_PREPARE, 0);
     locate(SMELVOCK_PREPARE, 5);
     smelvock_standing after = smelvock_next(HEAD, AREAS, at(1));
     printf("next %u %u\n", after.number, after.at.leaf == SMELVOCK_NONE);
     locate(SMELVOCK_EFFECT, 0);
     locate(SMELVOCK_EFFECT, 8);
-    split(0, (smelvock_length){1, 1});
-    insert(0, at(1), (smelvock_length){1, 1});
+    split(0, (smelvock_length){1, 1, 0});
+    insert(0, at(1), (smelvock_length){1, 1, 0});
     printf("cursor %u %u\n", at(4).leaf, at(4).slot);
-    insert(1, nowhere, (smelvock_length){0, 0});
-    split(0, (smelvock_length){3, 0});
+    insert(1, nowhere, (smelvock_length){0, 0, 0});
+    split(0, (smelvock_length){3, 0, 0});
     printf("row");
     for (smelvock_cursor_at c = smelvock_first(HEAD, AREAS).at; c.leaf != SMELVOCK_NONE; c = smelvock_next(HEAD, AREAS, c).at)
         printf(" %u", smelvock_id(HEAD, AREAS, c).value);
@@ -89,13 +106,20 @@ int main(void) {
     locate(SMELVOCK_EFFECT, 8);
     smelvock_selected selected = smelvock_char_index_to_entry(HEAD, AREAS, SMELVOCK_EFFECT, 9);
     printf("char_index_to_entry %u %u %u %u\n", selected.number, selected.at.leaf, selected.at.slot, selected.offset);
-    smelvock_number updated = smelvock_update(HEAD, AREAS, at(3), (smelvock_length){4, 2});
+    smelvock_number updated = smelvock_update(HEAD, AREAS, at(3), (smelvock_length){4, 2, 7});
     printf("update %u %u\n", updated.number, updated.value);
-    printf("set_lengths %u\n", smelvock_set_lengths(HEAD, AREAS, at(3), (smelvock_length){1, 1}));
-    smelvock_measured measured = smelvock_lengths(HEAD, AREAS, at(3));
-    printf("lengths %u %u %u\n", measured.number, measured.lengths.prepare, measured.lengths.effect);
+    printf("set_lengths %u\n", smelvock_set_lengths(HEAD, AREAS, at(3), (smelvock_length){1, 1, 4}));
+    lengths(3);
+    printf("set_lengths %u\n", smelvock_set_lengths(HEAD, AREAS, at(4), (smelvock_length){1, 1, 2}));
     smelvock_number rank = smelvock_entry_to_char_index(HEAD, AREAS, SMELVOCK_EFFECT, at(4));
     printf("entry_to_char_index %u %u\n", rank.number, rank.value);
+    rank = smelvock_entry_to_char_index(HEAD, AREAS, SMELVOCK_LINES, at(4));
+    printf("entry_to_char_index %u %u\n", rank.number, rank.value);
+    locate(SMELVOCK_LINES, 3);
+    locate(SMELVOCK_LINES, 5);
+    locate(SMELVOCK_LINES, 6);
+    split(3, (smelvock_length){0, 0, 5});
+    split(3, (smelvock_length){0, 0, 4});
     smelvock_number order = smelvock_cmp(HEAD, AREAS, at(0), at(3));
     printf("cmp %u %u\n", order.number, order.value);
     printf("len %u %u\n", smelvock_len(HEAD).number, smelvock_len(HEAD).value);
@@ -107,12 +131,17 @@ int main(void) {
            smelvock_id(HEAD, AREAS, past).number);
     printf("cmp of bad cursors: %u %u %u\n", smelvock_cmp(HEAD, AREAS, past, old).number,
            smelvock_cmp(HEAD, AREAS, old, past).number, smelvock_cmp(HEAD, AREAS, good, astray).number);
-    printf("view 2: %u\n", smelvock_locate(HEAD, AREAS, 2, 0).number);
+    printf("view 3: %u\n", smelvock_locate(HEAD, AREAS, 3, 0).number);
+    printf("flag 2: %u\n", smelvock_split_entry(HEAD, AREAS, good, (smelvock_length){0, 0, 0}, 2).number);
+    overlong(old);
     printf("16 words: %u\n", smelvock_len(head, SMELVOCK_HEAD_WORDS - 1).number);
     printf("short: %u\n", smelvock_first(HEAD, leaves, WORDS - 1, inners, WORDS, homes, LIMIT).number);
-    uint32_t reset = smelvock_reset(HEAD, AREAS, (smelvock_length){1, 0});
+    uint32_t reset = smelvock_reset(HEAD, AREAS, (smelvock_length){1, 0, SMELVOCK_LINE_ENDS});
     printf("reset %u %u %u\n", reset, head[SMELVOCK_ENTRIES], head[SMELVOCK_PRESENT]);
-    insert(1, nowhere, (smelvock_length){1, 1});
+    insert(1, nowhere, (smelvock_length){1, 1, 0});
+    split(0, (smelvock_length){0, 0, 35});
+    lengths(2);
+    lengths(0);
     edits();
     return 0;
 }

@@ -15,6 +15,6 @@ fn add_is_insert_without_the_position() {
         assert_eq!(added.locate(View::Prepare, looked).1, inserted.locate(View::Prepare, looked).1);
         let [a, b] = [&added, &inserted].map(|tree| before.map(|id| tree.cursor(id)));
         assert_eq!(added.add(a, lengths), inserted.insert(b, lengths).0);
-        assert_eq!(added.state(2_000), inserted.state(2_000));
+        assert_eq!(added.state(2_000, &[]), inserted.state(2_000, &[]));
     }
 }

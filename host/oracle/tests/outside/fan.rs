@@ -22,7 +22,7 @@ fn like_the_row<const N: usize>(limit: u32) {
     let style = Style { weights: EVEN, sizes: Sizes::Small, close: 50, miss: 2 };
     for seed in 0..10 {
         let mut lister = Lister::new(seed, style);
-        let mut driver = Driver::beside(Rust::<N>::make(limit, [3, 3]), Row::make(limit, [3, 3]), 0);
+        let mut driver = Driver::beside(Rust::<N>::make(limit, [3; 3]), Row::make(limit, [3; 3]), 0);
         driver.play_drawn(&mut lister, 2_000).unwrap();
         assert_eq!(driver.subject.entries(), driver.row.entries);
         assert_eq!(audit(&driver.subject.state()), Verdict::Refused(1));

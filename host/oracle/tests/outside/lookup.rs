@@ -57,10 +57,10 @@ fn no_later_answer_shows_the_moved_finger() {
     for looked in 0..15 {
         for (kind, flag) in [(2, 0), (4, 0), (4, 1), (6, 0), (12, 0)] {
             for id in [0, 1, 2, 3, 4, NONE] {
-                let mut driver = Driver::<Rust<4>>::make(10, [1, 1], 0);
+                let mut driver = Driver::<Rust<4>>::make(10, [1; 3], 0);
                 driver.play_all(&[2, 3, 4, 5].map(|length| Record::new(3, 0, NONE, length, length))).unwrap();
                 driver.play(Record::new(7, 0, looked, 0, 0)).unwrap();
-                assert!(outcome(|| driver.subject.tree.locate(View::Prepare, 15)).is_err());
+                assert!(outcome(|| driver.subject.tree.rust.locate(View::Prepare, 15)).is_err());
                 let change = if kind == 12 { Record::new(12, 0, 0, 0, 0) } else { Record::new(kind, flag, id, 1, 1) };
                 driver.play(change).unwrap();
                 for index in (0..16).rev().chain(0..16) {

@@ -1,0 +1,50 @@
+//! Line ends at their most: 65,535 in each of 65,536 entries, whose total is below 4,294,967,295.
+
+use beside::port::three;
+use beside::words::tree_of;
+use oracle::state::MOST_LINES;
+use oracle::{at_fan, rust, tree};
+use smelvock::{PrepareEffectTree, Refusal, View};
+
+const LIMIT: u32 = 65_536;
+const TOTAL: u32 = LIMIT * MOST_LINES;
+
+/// A full tree of entries (0, 1, 65,535) whose ids are their places. The words are lib.rs's.
+fn full<const N: usize>() -> PrepareEffectTree<N> {
+    let mut tree = tree::PrepareEffectTree::<N>::new(rust::pair([0, 1]));
+    (1..LIMIT).for_each(|id| assert_eq!(tree.insert(None, rust::pair([0, 1])), (id, id)));
+    tree_of(tree.state(LIMIT, &vec![MOST_LINES; LIMIT as usize]))
+}
+
+fn at_their_most<const N: usize>() {
+    let mut tree = full::<N>();
+    assert_eq!(tree.audit(), Ok(true));
+    for id in [0, 1, 40, LIMIT / 2, LIMIT - 1] {
+        let at = tree.cursor(id).unwrap();
+        assert_eq!(tree.entry_to_char_index(View::Lines, at), Ok(id * MOST_LINES));
+        for offset in [0, 1, MOST_LINES - 1] {
+            assert_eq!(tree.locate(View::Lines, id * MOST_LINES + offset), Ok((at, offset, id, 0)), "N {N}");
+            assert_eq!(tree.char_index_to_entry(View::Lines, id * MOST_LINES + offset), Ok((at, offset)), "N {N}");
+        }
+        // the tree is full: an entry more is 8, and its line ends are no cause for 7
+        assert_eq!(tree.insert(Some(at), three([0, 0, MOST_LINES])), Err(Refusal::FULL));
+        assert_eq!(tree.split_entry(at, three([0, 0, MOST_LINES]), false), Err(Refusal::FULL));
+        assert_eq!(tree.set_lengths(at, three([0, 1, 0])), Ok(()));
+        assert_eq!(tree.locate(View::Lines, TOTAL - MOST_LINES), Err(Refusal::POSITION));
+        assert_eq!(tree.update(at, three([0, 1, MOST_LINES])), Ok(id));
+    }
+    for index in [TOTAL, TOTAL + 1, u32::MAX] {
+        assert_eq!(tree.locate(View::Lines, index), Err(Refusal::POSITION));
+    }
+    assert_eq!(tree.insert(None, three([0, 0, MOST_LINES])), Err(Refusal::FULL));
+    assert_eq!(tree.insert(None, three([0, 0, MOST_LINES + 1])), Err(Refusal::FIELD));
+    assert_eq!(tree.insert(None, three([0, u32::MAX, MOST_LINES])), Err(Refusal::TOTAL));
+    assert_eq!(tree.audit(), Ok(true));
+}
+
+#[test]
+fn a_full_tree_of_65535_line_ends_each() {
+    for fan in [4, 8, 32] {
+        at_fan!(fan, N => at_their_most::<N>());
+    }
+}
