@@ -1,11 +1,13 @@
 -- What the calls answer that give an entry other lengths. Assumes nothing.
 use mathlib.Core.Path.{_≡_, refl, sym, ap, ap₂, _∙_}
-use mathlib.Core.Bool.{Bool, true, false}
+use mathlib.Core.Bool.{Bool, true, false, cond}
 use mathlib.Core.List.{List, [], _∷_, _++_, zipWith}
 use Prim.Native.Nat.{ℕ, zero, suc, _+_, _-_, _^_, _<_, _≤_}
 use native.Mathlib.Omega.{arith}
+use lib.Dec.{eqb}
 use lib.ListN.{length, getD, take, set}
 use Rattle.model.specs.Length.{listOf, lengthsIn}
+use Rattle.model.specs.Lists.{refusal}
 use Rattle.model.specs.Kind.{base, tooManyLines}
 use Rattle.model.specs.Node.{wrap, lengths, minus}
 use Rattle.model.specs.State.{State, state, shapeFor, nodeAt}
@@ -21,13 +23,15 @@ use Rattle.model.specs.declared.way.Sum.{Sum}
 use Rattle.model.specs.declared.way.Sum.the-variants as sum
 use Rattle.model.specs.declared.answer.Number.{Number}
 use Rattle.model.specs.declared.answer.Number.the-variants as number
+use Rattle.model.specs.declared.answer.Outcome.{Outcome}
+use Rattle.model.specs.declared.answer.Outcome.the-variants as outcome
 use Rattle.node_write.proofs.WriteLaws.{three-words, four-words}
 use Rattle.area.specs.Area.{Area}
 use Rattle.walk.specs.Low.{lowWay}
 use Rattle.place.specs.Asked.{asked, askedWay, wayUp}
 use Rattle.place.proofs.SizeLaws.{asked-whole, asked-lost, asked-wrap}
 use Rattle.place.proofs.CallLaws.{low-whole, low-lost}
-use Rattle.open.proofs.Causes.{opened-first, opened-next, opened-none, opened-stop, opened-more, good-shape, good-front, good-tail, call-refused, call-good, answering, answering-call}
+use Rattle.open.proofs.Causes.{opened-first, opened-next, opened-none, opened-stop, opened-more, good-shape, good-front, good-tail, call-refused, call-good}
 use Rattle.open.proofs.CursorLaws.{at-numbered, stands, slot-in, own-lengths}
 use Rattle.open.proofs.ReadyLaws.{inner-area}
 use Rattle.open.proofs.WidthLaws.{own-shape, own-views, past-same}
@@ -202,10 +206,28 @@ module _ (K : Kind) (s : State) (c : Cursor) (x : List ℕ) (b : Bool) where
 pub listed : (l : Lengths) (a b c : ℕ) → a ≡ l .prepare → b ≡ l .effect → c ≡ l .lines → a ∷ b ∷ c ∷ [] ≡ listOf l
 listed l a b c ea eb ec = rw (ea, eb, ec)
 
+-- a call that was opened or not and settled or not, with 0 or with nothing for its value: what sees no more than that in a reply sees the same
+module _ {X : Type 0} (f : Reply Number → X) (g : Reply Outcome → X) (done : (t : State) → f (reply t (number.Is 0)) ≡ g (reply t outcome.Done))
+    (refused : (t : State) (n : ℕ) → f (reply t (number.Refused n)) ≡ g (reply t (outcome.Refused n))) where
+  by-reply : (s : State) (n : ℕ) (r : Change) (opened full : Bool)
+      → f (cond opened (cond full (reply (r .state) (number.Is 0)) (reply (state (s .head) (r .state .leaves) (r .state .inners) (r .state .homes)) (number.Refused (r .number)))) (reply s (number.Refused n)))
+      ≡ g (cond opened (cond full (reply (r .state) outcome.Done) (reply (state (s .head) (r .state .leaves) (r .state .inners) (r .state .homes)) (outcome.Refused (r .number)))) (reply s (outcome.Refused n)))
+  by-reply s n r true true = done (r .state)
+  by-reply s n r true false = refused (state (s .head) (r .state .leaves) (r .state .inners) (r .state .homes)) (r .number)
+  by-reply s n r false full = refused s n
+
+  pub without-position : (K : Kind) (s : State) (c : Cursor) (l : List ℕ) → f (resize K false s c l) ≡ g (setLengths K s c l)
+  unfolding setLengths
+  without-position K s c l =
+      let cs = resizeCauses K s c l in
+      let r = resized K s c l .0 in
+      by-reply s (refusal cs) r (eqb (refusal cs) 0) (eqb (r .number) 0)
+
 pub update-is : (s : State) (c : Cursor) (l : Lengths) → resize base true s c (listOf l) ≡ update base s c (listOf l)
 unfolding update
 update-is s c l = refl
 
 pub set-is : (s : State) (c : Cursor) (l : Lengths) (x : Reply Number) → x ≡ resize base false s c (listOf l) → reply (x .after) (unnumbered (x .answer)) ≡ setLengths base s c (listOf l)
-unfolding setLengths
-set-is s c l x e = ap (answering unnumbered) e ∙ answering-call unnumbered (resizeCauses base s c (listOf l)) s (resized base s c (listOf l) .0) number.Refused (number.Is 0)
+set-is s c l x e =
+    ap (λ (r : Reply Number). reply (r .after) (unnumbered (r .answer))) e
+    ∙ without-position (λ r. reply (r .after) (unnumbered (r .answer))) (λ r. r) (λ t. refl) (λ t n. refl) base s c (listOf l)

@@ -6,9 +6,7 @@ use Prim.Native.Nat.{ℕ, zero, suc, _<_}
 use native.Mathlib.Omega.{arith}
 use lib.Dec.{eqb, eqb·suc-zero}
 use Rattle.model.specs.Lists.{Cause, cause, refusal, All}
-use Rattle.model.specs.State.{State}
-use Rattle.model.specs.Place.{Change}
-use Rattle.model.specs.Calls.{Reply, reply, unless, settled}
+use Rattle.model.specs.Calls.{unless}
 use Rattle.model.specs.declared.shape.Shape.{Shape}
 use Rattle.open.specs.Open.{openedBy}
 use Rattle.open.specs.declared.open.Opened.{Opened}
@@ -140,18 +138,3 @@ module _ (xs ys : List Cause) (g g′ : Shape) (e : openedBy (xs ++ ys) g ≡ Go
 
   pub good-rest : Numbered xs → Numbered ys → All (λ c. c .applies ≡ false) ys
   good-rest p q = none-applies ys q (sym (refusal-more xs ys p front-none) ∙ good-number (xs ++ ys) g g′ e)
-
--- a changing call that answers otherwise: f of the answer and of the refusals
-module _ {A B : Type 0} (f : A → B) where
-  abbrev pub answering : Reply A → Reply B
-  answering r = reply (r .after) (f (r .answer))
-
-  answering-cond : (b : Bool) (x y : Reply A) → answering (cond b x y) ≡ cond b (answering x) (answering y)
-  answering-cond true x y = refl
-  answering-cond false x y = refl
-
-  pub answering-call : (cs : List Cause) (s : State) (r : Change) (refuse : ℕ → A) (a : A)
-      → answering (unless cs (λ n. reply s (refuse n)) (settled s r refuse a)) ≡ unless cs (λ n. reply s (f (refuse n))) (settled s r (λ n. f (refuse n)) (f a))
-  answering-call cs s r refuse a =
-      answering-cond (eqb (refusal cs) 0) _ _
-      ∙ ap (λ (x : Reply B). cond (eqb (refusal cs) 0) x (reply s (f (refuse (refusal cs))))) (answering-cond (eqb (r .number) 0) _ _)

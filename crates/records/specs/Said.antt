@@ -1,4 +1,5 @@
 -- The code's fields, calls and answers in the row's own form. Assumes nothing.
+use mathlib.Core.Bool.{cond}
 use mathlib.Core.List.{[], _∷_}
 use lib.ListN.{getD}
 use Rattle.model.specs.Length.{listOf, viewNumber}
@@ -17,8 +18,7 @@ abbrev pub callOf : Call → row.Call
 callOf (call.Reset l) = row.reset (listOf l)
 callOf (call.Insert i l) = row.insert (i .0) (listOf l)
 callOf (call.Split flag i l) = row.split flag (i .0) (listOf l)
-callOf (call.SetLengths i l) = row.setLengths (i .0) (listOf l)
-callOf (call.Update i l) = row.update (i .0) (listOf l)
+callOf (call.Resize summed i l) = cond summed (row.update (i .0) (listOf l)) (row.setLengths (i .0) (listOf l))
 callOf (call.Lookup v index) = row.lookup (viewNumber v) index
 callOf (call.Rank v i) = row.rank (viewNumber v) (i .0)
 callOf (call.Next i) = row.next (i .0)

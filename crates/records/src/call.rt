@@ -8,13 +8,12 @@ ghost use mathlib.Core.Bool.{_&&_};
 ghost use Rattle.model.specs.Record.{viewOf, only};
 ghost use Rattle.records.specs.Said.{plainFields, callOf, said};
 
-// The calls of a list; Malformed stands for a record with a field outside its values.
+// The calls of a list; Resize is update, and set_lengths where no position is asked for; Malformed stands for a record with a field outside its values.
 pub enum Call {
     Reset(Lengths),
     Insert(EntryId, Lengths),
     Split(bool, EntryId, Lengths),
-    SetLengths(EntryId, Lengths),
-    Update(EntryId, Lengths),
+    Resize(bool, EntryId, Lengths),
     Lookup(View, u32),
     Rank(View, EntryId),
     Next(EntryId),
@@ -75,8 +74,8 @@ pub fn decode(f: Fields) -> Call
         2 => only(plain, Call::Insert(id, lengths)),
         3 => only(plain, Call::Insert(id, lengths)),
         4 => only(binary, Call::Split(flag == 1, id, lengths)),
-        5 => only(plain, Call::SetLengths(id, lengths)),
-        6 => only(plain, Call::Update(id, lengths)),
+        5 => only(plain, Call::Resize(false, id, lengths)),
+        6 => only(plain, Call::Resize(true, id, lengths)),
         7 => only(both(viewed, no_lengths), Call::Lookup(view, f.a)),
         8 => only(both(viewed, no_lengths), Call::Rank(view, id)),
         9 => only(both(plain, no_lengths), Call::Next(id)),
