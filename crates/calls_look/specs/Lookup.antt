@@ -16,7 +16,7 @@ abbrev pub locatedReply : Head → Located → LocatedReply
 locatedReply h a = record { head = h; answer = a }
 
 abbrev pub hitOf : Head → Finger → ℕ → LocatedReply
-hitOf h f offset = locatedReply (withFinger (held.At f) h) (located.At (cursorAt (h .entries) (f .leaf) (f .slot)) offset (effectAt f) (prepareAt f))
+hitOf h f offset = locatedReply (withFinger (held.At f) h) (located.At (cursorAt (h .stamp) (f .leaf) (f .slot)) offset (effectAt f) (prepareAt f))
 
 abbrev pub searchOf : Head → Search → LocatedReply
 searchOf h (search.At f offset) = hitOf h f offset

@@ -33,6 +33,7 @@ fn hit(head: Head, f: Finger, offset: u32) -> LocatedReply
         leaves: head.leaves,
         inners: head.inners,
         entries: head.entries,
+        stamp: head.stamp,
         finger: Held::At(f),
     };
     let effect = (f.effect as u64 + f.effect_within as u64) % 4294967296;
@@ -40,7 +41,7 @@ fn hit(head: Head, f: Finger, offset: u32) -> LocatedReply
     let at = Cursor {
         leaf: LeafNo(f.leaf),
         slot: f.slot,
-        stamp: head.entries,
+        stamp: kept.stamp,
     };
     LocatedReply {
         head: kept,

@@ -12,7 +12,7 @@ use Rattle.model.specs.Kind.{kind, stride, tooManyLines}
 use Rattle.model.specs.Lists.{All, putAt}
 use Rattle.model.specs.Node.{none, newNode}
 use Rattle.model.specs.Length.{lengthsIn}
-use Rattle.model.specs.State.{State, state, headOf, shape, putNode}
+use Rattle.model.specs.State.{State, state, headOf, nextStamp, shape, putNode}
 use Rattle.model.specs.Refuse.{shapeOf}
 use Rattle.model.specs.Calls.{reply, begun, areaCauses, makeCauses, make, reset}
 use Rattle.model.specs.declared.shape.Kind.{Kind}
@@ -38,10 +38,10 @@ first-node g ws xs h e =
     rw from (rw to at (lent-back 0 (g .size) ws xs (rw to h) (rw to e)))
 
 -- the first slot's words, in both areas
-module _ (views effect fan limit : ℕ) (g : Shape) (e : g ≡ shape (suc views) fan limit) (ls xs hs : List ℕ) where
+module _ (views effect fan limit stamp : ℕ) (g : Shape) (e : g ≡ shape (suc views) fan limit) (ls xs hs : List ℕ) where
   abbrev made : Shape → List ℕ → State
   made y slot =
-      state (headOf fan limit 0 1 1 1 1 held.Absent) (putNode y 0 (newNode (y .stride) (y .fan) 0 (slot ∷ [])) ls) (putNode y 0 (newNode (y .stride) (y .fan) none (slot ∷ [])) xs) (set hs 0 0)
+      state (headOf fan limit 0 1 1 1 1 stamp held.Absent) (putNode y 0 (newNode (y .stride) (y .fan) 0 (slot ∷ [])) ls) (putNode y 0 (newNode (y .stride) (y .fan) none (slot ∷ [])) xs) (set hs 0 0)
 
   first-slot : (x : List ℕ) → getD x 0 0 ≡ 0 → length x ≡ 4 → take (suc views) x ≡ 0 ∷ lengthsIn views x
   first-slot [] z four = absurd (omega arith)
@@ -49,7 +49,7 @@ module _ (views effect fan limit : ℕ) (g : Shape) (e : g ≡ shape (suc views)
 
   pub begin-words : (x ls′ xs′ : List ℕ) → getD x 0 0 ≡ 0 → length x ≡ 4 → ls′ ≡ putNode g 0 (newNode (g .stride) (g .fan) 0 (take (g .stride) x ∷ [])) ls
       → xs′ ≡ putNode g 0 (newNode (g .stride) (g .fan) none (take (g .stride) x ∷ [])) xs
-      → state (headOf fan limit 0 1 1 1 1 held.Absent) ls′ xs′ (set hs 0 0) ≡ begun (kind views effect) fan limit (lengthsIn views x) ls xs hs
+      → state (headOf fan limit 0 1 1 1 1 stamp held.Absent) ls′ xs′ (set hs 0 0) ≡ begun (kind views effect) fan limit stamp (lengthsIn views x) ls xs hs
   unfolding begun
   begin-words x ls′ xs′ z four el en =
       rw (el, en) (ap (λ (y : Shape). made y (take (y .stride) x)) e ∙ ap (made (shape (suc views) fan limit)) (first-slot x z four))
@@ -100,26 +100,30 @@ make-room K w fan limit l ls xs hs o e g d =
 
 -- make
 module _ (K : Kind) (fan limit : ℕ) (l ls xs hs : List ℕ) (o : Opened) (e : o ≡ openedBy (makeCauses K fan limit l ls xs hs) (shape (stride K) fan limit)) where
-  pub make-refused : (n : ℕ) → o ≡ Refused n → reply (state (headOf 0 0 0 0 0 0 0 held.Absent) ls xs hs) (outcome.Refused n) ≡ make K fan limit l ls xs hs
+  pub make-refused : (n : ℕ) → o ≡ Refused n → reply (state (headOf 0 0 0 0 0 0 0 0 held.Absent) ls xs hs) (outcome.Refused n) ≡ make K fan limit l ls xs hs
   unfolding make
   make-refused n d =
-      call-refused (λ (m : ℕ). reply (state (headOf 0 0 0 0 0 0 0 held.Absent) ls xs hs) (outcome.Refused m)) (λ (g : Shape). reply (begun K fan limit l ls xs hs) outcome.Done) _ _ o e n d
+      call-refused (λ (m : ℕ). reply (state (headOf 0 0 0 0 0 0 0 0 held.Absent) ls xs hs) (outcome.Refused m)) (λ (g : Shape). reply (begun K fan limit 1 l ls xs hs) outcome.Done) _ _ o e n d
 
-  pub make-good : (g : Shape) → o ≡ Good g → (s : State) → s ≡ begun K fan limit l ls xs hs → reply s outcome.Done ≡ make K fan limit l ls xs hs
+  pub make-good : (g : Shape) → o ≡ Good g → (s : State) → s ≡ begun K fan limit 1 l ls xs hs → reply s outcome.Done ≡ make K fan limit l ls xs hs
   unfolding make
   make-good g d s q =
-      call-good (λ (m : ℕ). reply (state (headOf 0 0 0 0 0 0 0 held.Absent) ls xs hs) (outcome.Refused m))
-      (λ (y : Shape). reply (begun K fan limit l ls xs hs) outcome.Done) _ _ o e g d _ (ap (λ (t : State). reply t outcome.Done) q)
+      call-good (λ (m : ℕ). reply (state (headOf 0 0 0 0 0 0 0 0 held.Absent) ls xs hs) (outcome.Refused m))
+      (λ (y : Shape). reply (begun K fan limit 1 l ls xs hs) outcome.Done) _ _ o e g d _ (ap (λ (t : State). reply t outcome.Done) q)
 
 -- reset
 module _ (K : Kind) (s : State) (l : List ℕ) (o : Opened) (e : o ≡ openedBy (makeCauses K (s .head .fan) (s .head .limit) l (s .leaves) (s .inners) (s .homes)) (shapeOf K (s .head))) where
-  abbrev new : State
-  new = begun K (s .head .fan) (s .head .limit) l (s .leaves) (s .inners) (s .homes)
+  abbrev new : ℕ → State
+  new stamp = begun K (s .head .fan) (s .head .limit) stamp l (s .leaves) (s .inners) (s .homes)
+
+  abbrev next : State
+  next = new (nextStamp (s .head .stamp))
 
   pub reset-refused : (n : ℕ) → o ≡ Refused n → reply s (outcome.Refused n) ≡ reset K s l
   unfolding reset
-  reset-refused n d = call-refused (λ (m : ℕ). reply s (outcome.Refused m)) (λ (g : Shape). reply new outcome.Done) _ _ o e n d
+  reset-refused n d = call-refused (λ (m : ℕ). reply s (outcome.Refused m)) (λ (g : Shape). reply next outcome.Done) _ _ o e n d
 
-  pub reset-good : (g : Shape) → o ≡ Good g → (t : State) → t ≡ new → reply t outcome.Done ≡ reset K s l
+  pub reset-good : (g : Shape) → o ≡ Good g → (stamp : ℕ) → stamp ≡ nextStamp (s .head .stamp) → (t : State) → t ≡ new stamp → reply t outcome.Done ≡ reset K s l
   unfolding reset
-  reset-good g d t q = call-good (λ (m : ℕ). reply s (outcome.Refused m)) (λ (y : Shape). reply new outcome.Done) _ _ o e g d _ (ap (λ (u : State). reply u outcome.Done) q)
+  reset-good g d stamp es t q =
+      call-good (λ (m : ℕ). reply s (outcome.Refused m)) (λ (y : Shape). reply next outcome.Done) _ _ o e g d _ (ap (λ (u : State). reply u outcome.Done) (q ∙ ap new es))

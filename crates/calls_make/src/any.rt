@@ -37,6 +37,7 @@ fn write_first(area: &mut [u32], g: Shape, parent: u32, x: &[u32; 4])
 fn begin(
     fan: u32,
     limit: u32,
+    stamp: u64,
     g: Shape,
     x: &[u32; 4],
     leaves: &mut [u32],
@@ -44,7 +45,7 @@ fn begin(
     homes: &mut [u32],
 ) -> Head
     requires { ⌜ Shaped g × (g .size ≤ length (now leaves)) × (g .size ≤ length (now inners)) × (0 < length (now homes)) × (getD (now x) 0 0 ≡ 0) × (length (now x) ≡ 4) ⌝ }
-    ensures { λ r. ⌜ ((views effect : ℕ) → g ≡ shape (suc views) fan limit → state r (now (leaves .exit)) (now (inners .exit)) (now (homes .exit)) ≡ begun (kind views effect) fan limit (lengthsIn views (now (x .entry))) (now (leaves .entry)) (now (inners .entry)) (now (homes .entry))) ⌝ }
+    ensures { λ r. ⌜ ((views effect : ℕ) → g ≡ shape (suc views) fan limit → state r (now (leaves .exit)) (now (inners .exit)) (now (homes .exit)) ≡ begun (kind views effect) fan limit stamp (lengthsIn views (now (x .entry))) (now (leaves .entry)) (now (inners .entry)) (now (homes .entry))) ⌝ }
 {
     let empty = Slot::EMPTY;
     write_first(leaves, g, 0, x);
@@ -58,6 +59,7 @@ fn begin(
         leaves: 1,
         inners: 1,
         entries: 1,
+        stamp: stamp,
         finger: Held::Absent,
     }
 }
@@ -104,6 +106,7 @@ pub fn new(
                 leaves: 0,
                 inners: 0,
                 entries: 0,
+                stamp: 0,
                 finger: Held::Absent,
             };
             OutcomeReply {
@@ -112,7 +115,7 @@ pub fn new(
             }
         }
         Opened::Good(g) => OutcomeReply {
-            head: begin(fan, limit, g, x, leaves, inners, homes),
+            head: begin(fan, limit, 1, g, x, leaves, inners, homes),
             answer: Outcome::Done,
         },
     }
@@ -132,13 +135,14 @@ pub fn reset(
 {
     let fan = head.fan;
     let limit = head.limit;
+    let stamp = std::num::wrapping_add_u64(head.stamp, 1);
     match open_make(views, fan, limit, x, leaves, inners, homes) {
         Opened::Refused(n) => OutcomeReply {
             head: head,
             answer: Outcome::Refused(n),
         },
         Opened::Good(g) => OutcomeReply {
-            head: begin(fan, limit, g, x, leaves, inners, homes),
+            head: begin(fan, limit, stamp, g, x, leaves, inners, homes),
             answer: Outcome::Done,
         },
     }

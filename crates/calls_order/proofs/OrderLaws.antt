@@ -63,16 +63,16 @@ module _ (K : Kind) (s : State) (c : Cursor) where
 
 module _ (K : Kind) (s : State) (o : Opened) (e : o ≡ openedBy (opening K s) (shapeOf K (s .head))) where
   abbrev firstBy : Shape → Standing
-  firstBy g = firstOf (s .head .entries) (firstDown g (s .head .levels) (s .head .root .0) (s .inners))
+  firstBy g = firstOf (s .head .stamp) (firstDown g (s .head .levels) (s .head .root .0) (s .inners))
 
   pub first-refused : (n : ℕ) → o ≡ Refused n → standing.Refused n ≡ first K s
   unfolding first
   first-refused n d = call-refused standing.Refused firstBy (opening K s) (shapeOf K (s .head)) o e n d
 
   pub first-good : (g : Shape) → o ≡ Good g → (r q : Leaf) → r ≡ firstDown g (s .head .levels) (s .head .root .0) (s .inners) → r ≡ q
-      → firstOf (s .head .entries) q ≡ first K s
+      → firstOf (s .head .stamp) q ≡ first K s
   unfolding first
-  first-good g d r q er eq = call-good standing.Refused firstBy (opening K s) (shapeOf K (s .head)) o e g d _ (ap (firstOf (s .head .entries)) (sym eq ∙ er))
+  first-good g d r q er eq = call-good standing.Refused firstBy (opening K s) (shapeOf K (s .head)) o e g d _ (ap (firstOf (s .head .stamp)) (sym eq ∙ er))
 
 -- next ------------------------------------------------------------------------------------------------------------------------------------
 
@@ -83,7 +83,7 @@ module _ (K : Kind) (s : State) (c : Cursor) where
   abbrev nextBy : Shape → Next
   nextBy g =
       let m = nodeAt g (c .leaf .0) (s .leaves) in
-      cond (ltb (c .slot + 1) (m .len)) (next.At (cursorAt (s .head .entries) (c .leaf .0) (c .slot + 1))) (nextOf (s .head .entries) (leafBy g (m .parent) (m .at)))
+      cond (ltb (c .slot + 1) (m .len)) (next.At (cursorAt (s .head .stamp) (c .leaf .0) (c .slot + 1))) (nextOf (s .head .stamp) (leafBy g (m .parent) (m .at)))
 
   module _ (o : Opened) (e : o ≡ openedBy (opening K s ++ atCursor K s c) (shapeOf K (s .head))) where
     pub next-refused : (n : ℕ) → o ≡ Refused n → next.Refused n ≡ nextAfter K s c
@@ -91,15 +91,15 @@ module _ (K : Kind) (s : State) (c : Cursor) where
     next-refused n d = call-refused next.Refused nextBy _ (shapeOf K (s .head)) o e n d
 
     module _ (g : Shape) (d : o ≡ Good g) (len : ℕ) (el : len ≡ nodeAt g (c .leaf .0) (s .leaves) .len) where
-      pub next-here : c .slot + 1 < len → next.At (cursorAt (s .head .entries) (c .leaf .0) (c .slot + 1)) ≡ nextAfter K s c
+      pub next-here : c .slot + 1 < len → next.At (cursorAt (s .head .stamp) (c .leaf .0) (c .slot + 1)) ≡ nextAfter K s c
       unfolding nextAfter
       next-here h = call-good next.Refused nextBy _ (shapeOf K (s .head)) o e g d _ (rw (← el, lt-ltb (c .slot + 1) len h))
 
       pub next-on : len ≤ c .slot + 1 → (p a : ℕ) (r q : Leaf) → p ≡ nodeAt g (c .leaf .0) (s .leaves) .parent → a ≡ nodeAt g (c .leaf .0) (s .leaves) .at
-          → r ≡ leafBy g p a → r ≡ q → nextOf (s .head .entries) q ≡ nextAfter K s c
+          → r ≡ leafBy g p a → r ≡ q → nextOf (s .head .stamp) q ≡ nextAfter K s c
       unfolding nextAfter
       next-on h p a r q ep ea er eq =
-          call-good next.Refused nextBy _ (shapeOf K (s .head)) o e g d _ (rw (← el, le-ltb (c .slot + 1) len h, ← ep, ← ea) (ap (nextOf (s .head .entries)) (sym eq ∙ er)))
+          call-good next.Refused nextBy _ (shapeOf K (s .head)) o e g d _ (rw (← el, le-ltb (c .slot + 1) len h, ← ep, ← ea) (ap (nextOf (s .head .stamp)) (sym eq ∙ er)))
 
 -- cmp -------------------------------------------------------------------------------------------------------------------------------------
 

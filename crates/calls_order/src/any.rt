@@ -71,12 +71,12 @@ pub fn first(views: usize, head: Head, leaves: &[u32], inners: &[u32], homes: &[
     match open(views, head, leaves, inners, homes) {
         Opened::Refused(n) => Standing::Refused(n),
         Opened::Good(g) => {
-            let entries = head.entries;
+            let stamp = head.stamp;
             match first_down(inners, g, head.levels, head.root.0) {
                 Leaf::At(k) => Standing::At(Cursor {
                     leaf: k,
                     slot: 0,
-                    stamp: entries,
+                    stamp: stamp,
                 }),
                 Leaf::Nothing => Standing::Refused(9),
                 Leaf::Broken => Standing::Refused(9),
@@ -100,14 +100,14 @@ pub fn next(
     match open_at(views, head, leaves, inners, homes, at) {
         Opened::Refused(n) => Next::Refused(n),
         Opened::Good(g) => {
-            let entries = head.entries;
+            let stamp = head.stamp;
             let k = at.leaf.0;
             let i = at.slot + 1;
             if i < len_of(leaves, g, k) {
                 return Next::At(Cursor {
                     leaf: LeafNo(k),
                     slot: i,
-                    stamp: entries,
+                    stamp: stamp,
                 });
             }
             let parent = parent_of(leaves, g, k);
@@ -116,7 +116,7 @@ pub fn next(
                 Leaf::At(l) => Next::At(Cursor {
                     leaf: l,
                     slot: 0,
-                    stamp: entries,
+                    stamp: stamp,
                 }),
                 Leaf::Nothing => Next::Nothing,
                 Leaf::Broken => Next::Refused(9),

@@ -108,7 +108,7 @@ module _ (K : Kind) (s : State) (i : ℕ) where
       let h = s .head in
       let k = getD (s .homes) i 0 in
       let m = nodeAt g k (s .leaves) in
-      cond (ltb k (h .leaves) && leb (m .len) (h .fan)) (standingIn (h .entries) k (indexFrom i 0 (used m))) (standing.Refused 9)
+      cond (ltb k (h .leaves) && leb (m .len) (h .fan)) (standingIn (h .stamp) k (indexFrom i 0 (used m))) (standing.Refused 9)
 
   module _ (o : Opened) (e : o ≡ openedBy (opening K s) (shapeOf K (s .head))) where
     pub cursor-refused : (n : ℕ) → o ≡ Refused n → standing.Refused n ≡ cursor K s i
@@ -135,6 +135,6 @@ module _ (K : Kind) (s : State) (i : ℕ) where
         pub cursor-astray : s .head .leaves ≤ k → standing.Refused 9 ≡ cursor K s i
         cursor-astray f = here (standing.Refused 9) (rw (← ek, le-ltb k (s .head .leaves) f))
 
-        pub cursor-good : k < s .head .leaves → (a : Standing) → a ≡ cursorIn g (s .leaves) k i (s .head .entries) → a ≡ cursor K s i
+        pub cursor-good : k < s .head .leaves → (a : Standing) → a ≡ cursorIn g (s .leaves) k i (s .head .stamp) → a ≡ cursor K s i
         unfolding cursorIn
         cursor-good f a q = here a (q ∙ rw (← ek, lt-ltb k (s .head .leaves) f, ap (λ (x : Shape). x .fan) (sym (good-shape (opening K s) _ g (sym e ∙ d)))))

@@ -82,7 +82,7 @@ fn slot_of(leaves: &[u32], g: Shape, k: LeafNo, id: EntryId) -> Place
 }
 
 // The cursor of the entry id, where leaf k holds it.
-fn cursor_in(leaves: &[u32], g: Shape, k: LeafNo, id: EntryId, stamp: u32) -> Standing
+fn cursor_in(leaves: &[u32], g: Shape, k: LeafNo, id: EntryId, stamp: u64) -> Standing
     requires { ⌜ Area g (length (now leaves)) × (k .0 < g .nodes) ⌝ }
     ensures { λ r. ⌜ r ≡ cursorIn g (now (leaves .entry)) (k .0) (id .0) stamp ⌝ }
 {
@@ -124,7 +124,7 @@ pub fn cursor(
             if k >= head.leaves {
                 return Standing::Refused(9);
             }
-            cursor_in(leaves, g, LeafNo(k), id, entries)
+            cursor_in(leaves, g, LeafNo(k), id, head.stamp)
         }
     }
 }

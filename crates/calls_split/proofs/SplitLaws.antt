@@ -10,7 +10,7 @@ use Rattle.model.specs.Lists.{All}
 use Rattle.model.specs.Kind.{tooManyLines}
 use Rattle.model.specs.Length.{lengthsIn}
 use Rattle.model.specs.Node.{lengths, childSplit}
-use Rattle.model.specs.State.{State, state, nodeAt}
+use Rattle.model.specs.State.{State, state, nextStamp, nodeAt}
 use Rattle.model.specs.Place.{Change, change, divide}
 use Rattle.model.specs.Refuse.{shapeOf, opening, atCursor, tooMuch, full}
 use Rattle.model.specs.Calls.{Reply, reply, settled, slotAt, dividedAt, splitCauses, splitEntry}
@@ -94,7 +94,7 @@ module _ (K : Kind) (w : (1 ≤ K .views) × (K .views ≤ 3)) (s : State) (c : 
       (good-rest (opening K s ++ atCursor K s c) (tooMuch K l (lengths (slotAt K s c)) ∷ full s ∷ []) (shapeOf K (s .head)) g behind-lines (at-numbered K s c)
       (omega arith, (omega arith, tt)) .1 .0)
 
-  pub few-entries : s .head .entries < 65536
+  few-entries : s .head .entries < 65536
   few-entries = omega (arith, below-limit, split-stands .ready .limit-most)
 
   pub divide-in : (x : List ℕ) → getD x 0 0 ≡ s .head .entries
@@ -119,16 +119,16 @@ module _ (K : Kind) (w : (1 ≤ K .views) × (K .views ≤ 3)) (s : State) (c : 
       )
 
   -- an entry that was divided stands in a slot that the leaf has
-  pub answer-in : (flag : Bool) (r : Change) → r ≡ settledIn (s .head) (divide g flag s (c .leaf .0) (c .slot) l) → r .number ≡ 0 → (s .head .entries < 4294967295) × (r .slot < 4294967295)
+  pub answer-in : (flag : Bool) (r : Change) → r ≡ settledIn (s .head) (divide g flag s (c .leaf .0) (c .slot) l) → r .number ≡ 0 → r .slot < 4294967295
   unfolding divide
   answer-in flag r er h =
       let i = entered-in g (λ j. childSplit flag j (s .head .entries ∷ l)) 1 s (c .leaf .0) (c .slot) r er h in
-      (omega (arith, few-entries), omega (arith, i .1, split-stands .ready .shaped .few))
+      omega (arith, i .1, split-stands .ready .shaped .few)
 
 -- the call
 module _ (K : Kind) (s : State) (c : Cursor) (l : List ℕ) (flag : Bool) (o : Opened) (e : o ≡ openedBy (splitCauses K s c l) (shapeOf K (s .head))) where
   abbrev answer : Change → Divided
-  answer r = dividedAt (s .head .entries) (r .leaf) (r .slot)
+  answer r = dividedAt (s .head .entries) (nextStamp (s .head .stamp)) (r .leaf) (r .slot)
 
   abbrev dividedBy : Shape → Reply Divided
   dividedBy g = let r = divide g flag s (c .leaf .0) (c .slot) l in settled s r divided.Refused (answer r)
@@ -154,5 +154,5 @@ module _ (K : Kind) (s : State) (c : Cursor) (l : List ℕ) (flag : Bool) (o : O
         ap (λ (z : Head). reply (state z ls xs hs) (divided.Refused n)) (settled-head (s .head) (divide g flag s (c .leaf .0) (c .slot) l) left er h)
         ∙ good _ (rw (ne-eqb n 0 h))
 
-    pub entry-whole : n ≡ 0 → (a : Divided) → a ≡ dividedAt (s .head .entries) k i → reply (state h1 ls xs hs) a ≡ splitEntry K s c l flag
+    pub entry-whole : n ≡ 0 → (a : Divided) → a ≡ dividedAt (s .head .entries) (nextStamp (s .head .stamp)) k i → reply (state h1 ls xs hs) a ≡ splitEntry K s c l flag
     entry-whole h a q = good _ (rw (eq-eqb n 0 h) (ap (reply (state h1 ls xs hs)) q))

@@ -17,7 +17,7 @@ ghost use Prim.Native.Nat.{ℕ, _<_, _≤_};
 ghost use lib.ListN.{length, getD};
 ghost use Rattle.model.specs.Length.{lengthsIn};
 ghost use Rattle.model.specs.Kind.{kind};
-ghost use Rattle.model.specs.State.{state};
+ghost use Rattle.model.specs.State.{state, nextStamp};
 ghost use Rattle.model.specs.Refuse.{shapeOf};
 ghost use Rattle.model.specs.Calls as calls;
 ghost use Rattle.model.specs.Calls.{reply, dividedAt, splitCauses};
@@ -55,21 +55,21 @@ fn open_split(
     }
 }
 
-// The new entry's id, and the cursors of both entries in order, which bear the new count.
-fn divided_at(id: EntryId, leaf: LeafNo, slot: u32) -> Divided
-    requires { ⌜ (id .0 < 4294967295) × (slot < 4294967295) ⌝ }
-    ensures { λ r. ⌜ r ≡ dividedAt (id .0) (leaf .0) slot ⌝ }
+// The new entry's id, and the cursors of both entries in order, which bear the stamp after this one.
+fn divided_at(id: EntryId, stamp: u64, leaf: LeafNo, slot: u32) -> Divided
+    requires { ⌜ slot < 4294967295 ⌝ }
+    ensures { λ r. ⌜ r ≡ dividedAt (id .0) (nextStamp stamp) (leaf .0) slot ⌝ }
 {
-    let stamp = id.0 + 1;
+    let next = std::num::wrapping_add_u64(stamp, 1);
     let first = Cursor {
         leaf: leaf,
         slot: slot,
-        stamp: stamp,
+        stamp: next,
     };
     let second = Cursor {
         leaf: leaf,
         slot: slot + 1,
-        stamp: stamp,
+        stamp: next,
     };
     Divided::At(id, first, second)
 }
@@ -108,7 +108,7 @@ pub fn split_entry(
             }
             DividedReply {
                 head: after,
-                answer: divided_at(id, leaf, r.slot),
+                answer: divided_at(id, head.stamp, leaf, r.slot),
             }
         }
     }

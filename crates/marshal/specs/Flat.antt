@@ -1,7 +1,7 @@
 -- Heads, cursors, lengths, views and answers as the words that cross the C boundary, and back. Assumes nothing.
 use mathlib.Core.Bool.{Bool, cond, not, _||_}
 use mathlib.Core.List.{List, [], _∷_}
-use Prim.Native.Nat.{ℕ}
+use Prim.Native.Nat.{ℕ, _+_, _*_, _/_, _%_}
 use lib.ListN.{length, getD}
 use lib.Dec.{eqb, ltb}
 use Rattle.model.specs.Row.{Answer}
@@ -18,6 +18,7 @@ use Rattle.model.specs.declared.answer.Target.{Target}
 use Rattle.model.specs.declared.answer.Target.the-variants as target
 use Rattle.marshal.specs.declared.flat.FlatNumber.{FlatNumber}
 use Rattle.marshal.specs.declared.flat.FlatMeasured.{FlatMeasured}
+use Rattle.marshal.specs.declared.flat.FlatCursor.{FlatCursor}
 use Rattle.marshal.specs.declared.flat.FlatStanding.{FlatStanding}
 use Rattle.marshal.specs.declared.flat.FlatLocated.{FlatLocated}
 use Rattle.marshal.specs.declared.flat.FlatInserted.{FlatInserted}
@@ -25,9 +26,9 @@ use Rattle.marshal.specs.declared.flat.FlatDivided.{FlatDivided}
 
 -- what a host hands over ------------------------------------------------------------------------------------------------------------------
 
--- seventeen words; the eighth says whether there is a finger
+-- nineteen words; the eighth says whether there is a finger
 unfoldable pub badHead : List ℕ → Bool
-badHead w = not (eqb (length w) 17) || ltb 1 (getD w 7 0)
+badHead w = not (eqb (length w) 19) || ltb 1 (getD w 7 0)
 
 abbrev pub fingerFrom : List ℕ → Finger
 fingerFrom w =
@@ -36,8 +37,12 @@ fingerFrom w =
 unfoldable pub heldFrom : List ℕ → Held
 heldFrom w = cond (eqb (getD w 7 0) 0) held.Absent (held.At (fingerFrom w))
 
+-- the last two words are the stamp, the low one first
+abbrev pub stampFrom : List ℕ → ℕ
+stampFrom w = getD w 17 0 + 4294967296 * getD w 18 0
+
 unfoldable pub headFrom : List ℕ → Head
-headFrom w = headOf (getD w 0 0) (getD w 1 0) (getD w 2 0) (getD w 3 0) (getD w 4 0) (getD w 5 0) (getD w 6 0) (heldFrom w)
+headFrom w = headOf (getD w 0 0) (getD w 1 0) (getD w 2 0) (getD w 3 0) (getD w 4 0) (getD w 5 0) (getD w 6 0) (stampFrom w) (heldFrom w)
 
 abbrev pub cursorFrom : ℕ → ℕ → ℕ → Cursor
 cursorFrom leaf slot stamp = record { leaf = record { 0 = leaf }; slot = slot; stamp = stamp }
@@ -64,7 +69,7 @@ abbrev pub fingerOf : Held → Finger
 fingerOf held.Absent = record { view = 0; leaf = 0; start = 0; effect = 0; slot = 0; within = 0; «effect_within» = 0; prepare = 0; «prepare_within» = 0 }
 fingerOf (held.At f) = f
 
--- root, levels and the counts; whether there is a finger, and its words
+-- root, levels and the counts; whether there is a finger, and its words; the stamp
 abbrev pub countWords : Head → List ℕ
 countWords h = h .root .0 ∷ h .levels ∷ h .leaves ∷ h .inners ∷ h .entries ∷ []
 
@@ -73,9 +78,12 @@ fingerWords t =
     let f = fingerOf t in
     presentOf t ∷ f .view ∷ f .leaf ∷ f .start ∷ f .effect ∷ f .slot ∷ f .within ∷ f .«effect_within» ∷ f .prepare ∷ f .«prepare_within» ∷ []
 
+abbrev pub stampWords : ℕ → List ℕ
+stampWords stamp = stamp % 4294967296 ∷ stamp / 4294967296 ∷ []
+
 abbrev pub wordsWith : Head → ℕ → Finger → List ℕ
 wordsWith h present f =
-    h .fan ∷ h .limit ∷ h .root .0 ∷ h .levels ∷ h .leaves ∷ h .inners ∷ h .entries ∷ present ∷ f .view ∷ f .leaf ∷ f .start ∷ f .effect ∷ f .slot ∷ f .within ∷ f .«effect_within» ∷ f .prepare ∷ f .«prepare_within» ∷ []
+    h .fan ∷ h .limit ∷ h .root .0 ∷ h .levels ∷ h .leaves ∷ h .inners ∷ h .entries ∷ present ∷ f .view ∷ f .leaf ∷ f .start ∷ f .effect ∷ f .slot ∷ f .within ∷ f .«effect_within» ∷ f .prepare ∷ f .«prepare_within» ∷ stampWords (h .stamp)
 
 unfoldable pub headWords : Head → List ℕ
 headWords h = wordsWith h (presentOf (h .finger)) (fingerOf (h .finger))
@@ -94,15 +102,18 @@ numberOf a = record { number = a .number; value = value 0 a }
 abbrev pub measuredOf : Answer → FlatMeasured
 measuredOf a = record { number = a .number; prepare = value 0 a; effect = value 1 a; lines = value 2 a }
 
+-- the cursor whose values stand from value i on
+abbrev pub cursorIn : ℕ → Answer → FlatCursor
+cursorIn i a = record { leaf = value i a; slot = value (i + 1) a; stamp = value (i + 2) a }
+
 abbrev pub standingOf : Answer → FlatStanding
-standingOf a = record { number = a .number; leaf = value 0 a; slot = value 1 a; stamp = value 2 a }
+standingOf a = record { number = a .number; at = cursorIn 0 a }
 
 abbrev pub locatedOf : Answer → FlatLocated
-locatedOf a = record { number = a .number; leaf = value 0 a; slot = value 1 a; stamp = value 2 a; offset = value 3 a; position = value 4 a; prepare = value 5 a }
+locatedOf a = record { number = a .number; at = cursorIn 0 a; offset = value 3 a; position = value 4 a; prepare = value 5 a }
 
 abbrev pub insertedOf : Answer → FlatInserted
 insertedOf a = record { number = a .number; id = value 0 a; position = value 1 a }
 
 abbrev pub dividedOf : Answer → FlatDivided
-dividedOf a =
-    record { number = a .number; id = value 0 a; leaf = value 1 a; slot = value 2 a; stamp = value 3 a; «next_leaf» = value 4 a; «next_slot» = value 5 a; «next_stamp» = value 6 a }
+dividedOf a = record { number = a .number; id = value 0 a; first = cursorIn 1 a; second = cursorIn 4 a }

@@ -1,7 +1,8 @@
 -- What a host reads in each answer, by the names of its fields; and what it was given and hands over again is the same. Assumes nothing.
-use mathlib.Core.Path.{_≡_, refl, ap}
+use mathlib.Core.Path.{_≡_, refl, ap₂}
 use mathlib.Core.Bool.{false}
-use Prim.Native.Nat.{ℕ}
+use Prim.Native.Nat.{ℕ, _+_, _*_, _/_, _%_}
+use native.Mathlib.Omega.{arith}
 use Rattle.model.specs.State.{headOf}
 use Rattle.model.specs.Answer.{outcomeAnswer, numberAnswer, verdictAnswer, standingAnswer, nextAnswer, namedAnswer, measuredAnswer, comparedAnswer, locatedAnswer, insertedAnswer, dividedAnswer}
 use Rattle.model.specs.declared.number.EntryId.{EntryId}
@@ -23,9 +24,17 @@ use Rattle.model.specs.declared.answer.Compared.the-variants as compared
 use Rattle.model.specs.declared.answer.Located.the-variants as located
 use Rattle.model.specs.declared.answer.Inserted.the-variants as inserted
 use Rattle.model.specs.declared.answer.Divided.the-variants as divided
+use Rattle.marshal.specs.declared.flat.FlatCursor.{FlatCursor}
 use Rattle.marshal.specs.Flat.{headFrom, heldFrom, headWords, wordsWith, presentOf, fingerOf, badHead, cursorFrom, viewFrom, targetFrom, numberOf, measuredOf, standingOf, locatedOf, insertedOf, dividedOf}
 
 -- answers ---------------------------------------------------------------------------------------------------------------------------------
+
+-- a cursor as the host reads it, and the one of a refusal
+abbrev at : Cursor → FlatCursor
+at c = record { leaf = c .leaf .0; slot = c .slot; stamp = c .stamp }
+
+abbrev zeros : FlatCursor
+zeros = record { leaf = 0; slot = 0; stamp = 0 }
 
 -- number 0 and the values; audit's yes is 1, and after the last entry the leaf is 4,294,967,295
 pub record Reads (c d : Cursor) (i : EntryId) (l : Lengths) (n offset position prepare : ℕ) : Type 0 where
@@ -38,12 +47,12 @@ pub record Reads (c d : Cursor) (i : EntryId) (l : Lengths) (n offset position p
   pub same : numberOf (comparedAnswer compared.Same) ≡ record { number = 0; value = 1 }
   pub after : numberOf (comparedAnswer compared.After) ≡ record { number = 0; value = 2 }
   pub lengths : measuredOf (measuredAnswer (measured.Are l)) ≡ record { number = 0; prepare = l .prepare; effect = l .effect; lines = l .lines }
-  pub cursor : standingOf (standingAnswer (standing.At c)) ≡ record { number = 0; leaf = c .leaf .0; slot = c .slot; stamp = c .stamp }
-  pub next : standingOf (nextAnswer (following.At c)) ≡ record { number = 0; leaf = c .leaf .0; slot = c .slot; stamp = c .stamp }
-  pub last : standingOf (nextAnswer following.Nothing) ≡ record { number = 0; leaf = 4294967295; slot = 0; stamp = 0 }
-  pub locate : locatedOf (locatedAnswer (located.At c offset position prepare)) ≡ record { number = 0; leaf = c .leaf .0; slot = c .slot; stamp = c .stamp; offset = offset; position = position; prepare = prepare }
+  pub cursor : standingOf (standingAnswer (standing.At c)) ≡ record { number = 0; at = at c }
+  pub next : standingOf (nextAnswer (following.At c)) ≡ record { number = 0; at = at c }
+  pub last : standingOf (nextAnswer following.Nothing) ≡ record { number = 0; at = record { leaf = 4294967295; slot = 0; stamp = 0 } }
+  pub locate : locatedOf (locatedAnswer (located.At c offset position prepare)) ≡ record { number = 0; at = at c; offset = offset; position = position; prepare = prepare }
   pub insert : insertedOf (insertedAnswer (inserted.At i position)) ≡ record { number = 0; id = i .0; position = position }
-  pub split : dividedOf (dividedAnswer (divided.At i c d)) ≡ record { number = 0; id = i .0; leaf = c .leaf .0; slot = c .slot; stamp = c .stamp; «next_leaf» = d .leaf .0; «next_slot» = d .slot; «next_stamp» = d .stamp }
+  pub split : dividedOf (dividedAnswer (divided.At i c d)) ≡ record { number = 0; id = i .0; first = at c; second = at d }
 
 pub reads : (c d : Cursor) (i : EntryId) (l : Lengths) (n offset position prepare : ℕ) → Reads c d i l n offset position prepare
 reads c d i l n offset position prepare = record {
@@ -72,11 +81,11 @@ pub record Refused (n : ℕ) : Type 0 where
   pub audit : numberOf (verdictAnswer (verdict.Refused n)) ≡ record { number = n; value = 0 }
   pub cmp : numberOf (comparedAnswer (compared.Refused n)) ≡ record { number = n; value = 0 }
   pub lengths : measuredOf (measuredAnswer (measured.Refused n)) ≡ record { number = n; prepare = 0; effect = 0; lines = 0 }
-  pub cursor : standingOf (standingAnswer (standing.Refused n)) ≡ record { number = n; leaf = 0; slot = 0; stamp = 0 }
-  pub next : standingOf (nextAnswer (following.Refused n)) ≡ record { number = n; leaf = 0; slot = 0; stamp = 0 }
-  pub locate : locatedOf (locatedAnswer (located.Refused n)) ≡ record { number = n; leaf = 0; slot = 0; stamp = 0; offset = 0; position = 0; prepare = 0 }
+  pub cursor : standingOf (standingAnswer (standing.Refused n)) ≡ record { number = n; at = zeros }
+  pub next : standingOf (nextAnswer (following.Refused n)) ≡ record { number = n; at = zeros }
+  pub locate : locatedOf (locatedAnswer (located.Refused n)) ≡ record { number = n; at = zeros; offset = 0; position = 0; prepare = 0 }
   pub insert : insertedOf (insertedAnswer (inserted.Refused n)) ≡ record { number = n; id = 0; position = 0 }
-  pub split : dividedOf (dividedAnswer (divided.Refused n)) ≡ record { number = n; id = 0; leaf = 0; slot = 0; stamp = 0; «next_leaf» = 0; «next_slot» = 0; «next_stamp» = 0 }
+  pub split : dividedOf (dividedAnswer (divided.Refused n)) ≡ record { number = n; id = 0; first = zeros; second = zeros }
 
 pub refuses : (n : ℕ) → Refused n
 refuses n = record {
@@ -95,7 +104,7 @@ refuses n = record {
 
 -- handed over again -----------------------------------------------------------------------------------------------------------------------
 
-pub cursor-back : (c : Cursor) → (let r = standingOf (standingAnswer (standing.At c)) in cursorFrom (r .leaf) (r .slot) (r .stamp) ≡ c)
+pub cursor-back : (c : Cursor) → (let r = standingOf (standingAnswer (standing.At c)) in cursorFrom (r .at .leaf) (r .at .slot) (r .at .stamp) ≡ c)
 cursor-back c = refl
 
 held-back : (h : Head) (f : Held) → heldFrom (wordsWith h (presentOf f) (fingerOf f)) ≡ f
@@ -103,10 +112,14 @@ unfolding heldFrom
 held-back h held.Absent = refl
 held-back h (held.At f) = refl
 
+stamp-back : (n : ℕ) → n % 4294967296 + 4294967296 * (n / 4294967296) ≡ n
+stamp-back n = omega arith
+
 -- the head's words are never refused, and are read as that head
 pub head-back : (h : Head) → headFrom (headWords h) ≡ h
 unfolding headFrom headWords
-head-back h = ap (headOf (h .fan) (h .limit) (h .root .0) (h .levels) (h .leaves) (h .inners) (h .entries)) (held-back h (h .finger))
+head-back h =
+    ap₂ (headOf (h .fan) (h .limit) (h .root .0) (h .levels) (h .leaves) (h .inners) (h .entries)) (stamp-back (h .stamp)) (held-back h (h .finger))
 
 good-words : (h : Head) (f : Held) → badHead (wordsWith h (presentOf f) (fingerOf f)) ≡ false
 unfolding badHead

@@ -1,4 +1,5 @@
 // What a host gets back: an answer's number and values.
+use crate::flat::FlatCursor;
 use crate::flat::FlatDivided;
 use crate::flat::FlatInserted;
 use crate::flat::FlatLocated;
@@ -19,9 +20,10 @@ use model::answer::Verdict;
 use model::head::Cursor;
 use model::number::NONE;
 ghost use mathlib.Core.Path.{_≡_};
+ghost use mathlib.Core.List.{[], _∷_};
 ghost use Rattle.model.specs.Answer.{outcomeAnswer, numberAnswer, verdictAnswer, standingAnswer, nextAnswer, namedAnswer, measuredAnswer, comparedAnswer, locatedAnswer, insertedAnswer, dividedAnswer, cursorValues};
 ghost use Rattle.model.specs.Row.{refused, done};
-ghost use Rattle.marshal.specs.Flat.{numberOf, measuredOf, standingOf, locatedOf, insertedOf, dividedOf};
+ghost use Rattle.marshal.specs.Flat.{cursorIn, numberOf, measuredOf, standingOf, locatedOf, insertedOf, dividedOf};
 
 pub fn outcome_of(a: Outcome) -> u32
     ensures { λ r. ⌜ r ≡ outcomeAnswer a .number ⌝ }
@@ -126,26 +128,34 @@ pub fn measured_of(a: Measured) -> FlatMeasured
     }
 }
 
-pub fn refused_standing(n: u32) -> FlatStanding
-    ensures { λ r. ⌜ r ≡ standingOf (refused n) ⌝ }
+// What stands for a cursor where there is none.
+fn nowhere(leaf: u32) -> FlatCursor
+    ensures { λ r. ⌜ r ≡ cursorIn 0 (done (leaf ∷ [])) ⌝ }
 {
-    FlatStanding {
-        number: n,
-        leaf: 0,
+    FlatCursor {
+        leaf: leaf,
         slot: 0,
         stamp: 0,
     }
 }
 
-fn standing_at(c: Cursor) -> FlatStanding
-    ensures { λ r. ⌜ r ≡ standingOf (done (cursorValues c)) ⌝ }
+fn cursor_of(c: Cursor) -> FlatCursor
+    ensures { λ r. ⌜ r ≡ cursorIn 0 (done (cursorValues c)) ⌝ }
 {
     let leaf = c.leaf;
-    FlatStanding {
-        number: 0,
+    FlatCursor {
         leaf: leaf.0,
         slot: c.slot,
         stamp: c.stamp,
+    }
+}
+
+pub fn refused_standing(n: u32) -> FlatStanding
+    ensures { λ r. ⌜ r ≡ standingOf (refused n) ⌝ }
+{
+    FlatStanding {
+        number: n,
+        at: nowhere(0),
     }
 }
 
@@ -153,7 +163,10 @@ pub fn standing_of(a: Standing) -> FlatStanding
     ensures { λ r. ⌜ r ≡ standingOf (standingAnswer a) ⌝ }
 {
     match a {
-        Standing::At(c) => standing_at(c),
+        Standing::At(c) => FlatStanding {
+            number: 0,
+            at: cursor_of(c),
+        },
         Standing::Refused(n) => refused_standing(n),
     }
 }
@@ -162,12 +175,13 @@ pub fn standing_of_next(a: Next) -> FlatStanding
     ensures { λ r. ⌜ r ≡ standingOf (nextAnswer a) ⌝ }
 {
     match a {
-        Next::At(c) => standing_at(c),
+        Next::At(c) => FlatStanding {
+            number: 0,
+            at: cursor_of(c),
+        },
         Next::Nothing => FlatStanding {
             number: 0,
-            leaf: NONE,
-            slot: 0,
-            stamp: 0,
+            at: nowhere(NONE),
         },
         Next::Refused(n) => refused_standing(n),
     }
@@ -178,9 +192,7 @@ pub fn refused_located(n: u32) -> FlatLocated
 {
     FlatLocated {
         number: n,
-        leaf: 0,
-        slot: 0,
-        stamp: 0,
+        at: nowhere(0),
         offset: 0,
         position: 0,
         prepare: 0,
@@ -191,18 +203,13 @@ pub fn located_of(a: Located) -> FlatLocated
     ensures { λ r. ⌜ r ≡ locatedOf (locatedAnswer a) ⌝ }
 {
     match a {
-        Located::At(c, offset, effect, prepare) => {
-            let leaf = c.leaf;
-            FlatLocated {
-                number: 0,
-                leaf: leaf.0,
-                slot: c.slot,
-                stamp: c.stamp,
-                offset: offset,
-                position: effect,
-                prepare: prepare,
-            }
-        }
+        Located::At(c, offset, effect, prepare) => FlatLocated {
+            number: 0,
+            at: cursor_of(c),
+            offset: offset,
+            position: effect,
+            prepare: prepare,
+        },
         Located::Refused(n) => refused_located(n),
     }
 }
@@ -236,12 +243,8 @@ pub fn refused_divided(n: u32) -> FlatDivided
     FlatDivided {
         number: n,
         id: 0,
-        leaf: 0,
-        slot: 0,
-        stamp: 0,
-        next_leaf: 0,
-        next_slot: 0,
-        next_stamp: 0,
+        first: nowhere(0),
+        second: nowhere(0),
     }
 }
 
@@ -249,20 +252,12 @@ pub fn divided_of(a: Divided) -> FlatDivided
     ensures { λ r. ⌜ r ≡ dividedOf (dividedAnswer a) ⌝ }
 {
     match a {
-        Divided::At(id, b, c) => {
-            let leaf = b.leaf;
-            let next_leaf = c.leaf;
-            FlatDivided {
-                number: 0,
-                id: id.0,
-                leaf: leaf.0,
-                slot: b.slot,
-                stamp: b.stamp,
-                next_leaf: next_leaf.0,
-                next_slot: c.slot,
-                next_stamp: c.stamp,
-            }
-        }
+        Divided::At(id, b, c) => FlatDivided {
+            number: 0,
+            id: id.0,
+            first: cursor_of(b),
+            second: cursor_of(c),
+        },
         Divided::Refused(n) => refused_divided(n),
     }
 }

@@ -1,6 +1,7 @@
-// What crosses the C boundary: plain words in structs of C's layout, and the head as seventeen words that the host lends: fan, limit,
-// root, levels, the counts of leaves, inner nodes and entries in use, 1 or 0 for a finger or none, and the finger's nine words.
-// A cursor and lengths cross it as words, each an argument of its own: a struct would go through memory.
+// What crosses the C boundary: plain numbers in structs of C's layout, and the head as nineteen words that the host lends: fan, limit,
+// root, levels, the counts of leaves, inner nodes and entries in use, 1 or 0 for a finger or none, the finger's nine words, and the
+// stamp's two, the low one first.
+// A cursor and lengths cross it as numbers, each an argument of its own: a struct would go through memory.
 
 // The answers: document 01's number, 0 where the call was done, then its values, zeros where it was refused.
 // len, is_empty, id, entry_to_char_index, cmp, audit, resize, print, edits_difference. Those without a value answer the number alone.
@@ -19,22 +20,26 @@ pub struct FlatMeasured {
     pub lines: u32,
 }
 
+// A cursor in an answer.
+#[repr(C)]
+pub struct FlatCursor {
+    pub leaf: u32,
+    pub slot: u32,
+    pub stamp: u64,
+}
+
 // first, next, cursor; after the last entry the leaf is 4,294,967,295.
 #[repr(C)]
 pub struct FlatStanding {
     pub number: u32,
-    pub leaf: u32,
-    pub slot: u32,
-    pub stamp: u32,
+    pub at: FlatCursor,
 }
 
 // locate.
 #[repr(C)]
 pub struct FlatLocated {
     pub number: u32,
-    pub leaf: u32,
-    pub slot: u32,
-    pub stamp: u32,
+    pub at: FlatCursor,
     pub offset: u32,
     pub position: u32,
     pub prepare: u32,
@@ -53,10 +58,6 @@ pub struct FlatInserted {
 pub struct FlatDivided {
     pub number: u32,
     pub id: u32,
-    pub leaf: u32,
-    pub slot: u32,
-    pub stamp: u32,
-    pub next_leaf: u32,
-    pub next_slot: u32,
-    pub next_stamp: u32,
+    pub first: FlatCursor,
+    pub second: FlatCursor,
 }

@@ -7,7 +7,7 @@ use model::number::LeafNo;
 ghost use mathlib.Core.Path.{_≡_};
 ghost use Rattle.marshal.specs.Flat.{cursorFrom, lengthsFrom, viewFrom, targetFrom};
 
-pub fn cursor_from(leaf: u32, slot: u32, stamp: u32) -> Cursor
+pub fn cursor_from(leaf: u32, slot: u32, stamp: u64) -> Cursor
     ensures { λ r. ⌜ r ≡ cursorFrom leaf slot stamp ⌝ }
 {
     Cursor {

@@ -1,21 +1,22 @@
-// The head in the seventeen words that a host lends.
+// The head in the nineteen words that a host lends; the last two are the stamp, the low one first.
 use model::head::Finger;
 use model::head::Head;
 use model::head::Held;
 use model::number::NodeNo;
 ghost use mathlib.Core.Path.{_≡_};
 ghost use mathlib.Core.Bool.{_||_};
+ghost use Prim.Native.Nat.{_<_};
 ghost use lib.Dec.{ltb};
 ghost use mathlib.Core.List.{_++_};
 ghost use lib.ListN.{length, getD, take, drop};
 ghost use Rattle.model.specs.Place.{withFinger};
-ghost use Rattle.marshal.specs.Flat.{badHead, heldFrom, headFrom, presentOf, fingerOf, countWords, fingerWords, headWords, headAfter};
+ghost use Rattle.marshal.specs.Flat.{badHead, stampFrom, heldFrom, headFrom, presentOf, fingerOf, countWords, fingerWords, stampWords, headWords, headAfter};
 
-// Whether it isn't seventeen words, or has neither 0 nor 1 for its finger.
+// Whether it isn't nineteen words, or has neither 0 nor 1 for its finger.
 pub fn bad_head(head: &[u32]) -> bool
     ensures { λ r. ⌜ r ≡ badHead (now (head .entry)) ⌝ }
 {
-    if head.len() != 17 {
+    if head.len() != 19 {
         return true;
     }
     1 < head[7]
@@ -42,7 +43,7 @@ pub fn bad_view(head: &[u32], view: u32) -> bool
 }
 
 fn held_from(head: &[u32]) -> Held
-    requires { ⌜ length (now head) ≡ 17 ⌝ }
+    requires { ⌜ length (now head) ≡ 19 ⌝ }
     ensures { λ r. ⌜ r ≡ heldFrom (now (head .entry)) ⌝ }
 {
     if head[7] == 0 {
@@ -61,11 +62,27 @@ fn held_from(head: &[u32]) -> Held
     })
 }
 
+// A word as a wider number.
+fn wide(x: u32) -> u64
+    ensures { λ r. ⌜ (r ≡ x) × (r < 4294967296) ⌝ }
+{
+    x as u64
+}
+
+// The low one is a word, which writing the stamp back turns on.
+fn stamp_from(head: &[u32]) -> u64
+    requires { ⌜ length (now head) ≡ 19 ⌝ }
+    ensures { λ r. ⌜ (r ≡ stampFrom (now (head .entry))) × (getD (now (head .entry)) 17 0 < 4294967296) ⌝ }
+{
+    wide(head[17]) + 4294967296 * wide(head[18])
+}
+
 pub fn head_from(head: &[u32]) -> Head
-    requires { ⌜ length (now head) ≡ 17 ⌝ }
-    ensures { λ r. ⌜ r ≡ headFrom (now (head .entry)) ⌝ }
+    requires { ⌜ length (now head) ≡ 19 ⌝ }
+    ensures { λ r. ⌜ (r ≡ headFrom (now (head .entry))) × (getD (now (head .entry)) 17 0 < 4294967296) ⌝ }
 {
     let finger = held_from(head);
+    let stamp = stamp_from(head);
     Head {
         fan: head[0],
         limit: head[1],
@@ -74,6 +91,7 @@ pub fn head_from(head: &[u32]) -> Head
         leaves: head[4],
         inners: head[5],
         entries: head[6],
+        stamp: stamp,
         finger: finger,
     }
 }
@@ -109,8 +127,8 @@ fn finger_of(finger: Held) -> Finger
 
 // The finger's ten words.
 fn put_finger(head: &mut [u32], finger: Held)
-    requires { ⌜ length (now head) ≡ 17 ⌝ }
-    ensures { λ _. ⌜ now (head .exit) ≡ take 7 (now (head .entry)) ++ fingerWords finger ⌝ }
+    requires { ⌜ length (now head) ≡ 19 ⌝ }
+    ensures { λ _. ⌜ now (head .exit) ≡ take 7 (now (head .entry)) ++ fingerWords finger ++ drop 17 (now (head .entry)) ⌝ }
 {
     let present = present_of(finger);
     let f = finger_of(finger);
@@ -128,7 +146,7 @@ fn put_finger(head: &mut [u32], finger: Held)
 
 // Root, levels and the counts.
 fn put_counts(head: &mut [u32], h: Head)
-    requires { ⌜ length (now head) ≡ 17 ⌝ }
+    requires { ⌜ length (now head) ≡ 19 ⌝ }
     ensures { λ _. ⌜ now (head .exit) ≡ take 2 (now (head .entry)) ++ countWords h ++ drop 7 (now (head .entry)) ⌝ }
 {
     let root = h.root;
@@ -139,8 +157,16 @@ fn put_counts(head: &mut [u32], h: Head)
     head[6] = h.entries;
 }
 
+fn put_stamp(head: &mut [u32], stamp: u64)
+    requires { ⌜ length (now head) ≡ 19 ⌝ }
+    ensures { λ _. ⌜ now (head .exit) ≡ take 17 (now (head .entry)) ++ stampWords stamp ⌝ }
+{
+    head[17] = (stamp % 4294967296) as u32;
+    head[18] = (stamp / 4294967296) as u32;
+}
+
 pub fn put_head(head: &mut [u32], h: Head)
-    requires { ⌜ length (now head) ≡ 17 ⌝ }
+    requires { ⌜ length (now head) ≡ 19 ⌝ }
     ensures { λ _. ⌜ now (head .exit) ≡ headWords h ⌝ }
 {
     let finger = h.finger;
@@ -148,11 +174,12 @@ pub fn put_head(head: &mut [u32], h: Head)
     head[1] = h.limit;
     put_counts(head, h);
     put_finger(head, finger);
+    put_stamp(head, h.stamp);
 }
 
 // The head after a call that answered so: a refused one leaves it.
 pub fn settle(head: &mut [u32], number: u32, h: Head)
-    requires { ⌜ length (now head) ≡ 17 ⌝ }
+    requires { ⌜ length (now head) ≡ 19 ⌝ }
     ensures { λ _. ⌜ now (head .exit) ≡ headAfter number h (now (head .entry)) ⌝ }
 {
     if number == 0 {
@@ -162,19 +189,20 @@ pub fn settle(head: &mut [u32], number: u32, h: Head)
 
 // The same after a call that leaves fan and limit: what doesn't change isn't written.
 pub fn settle_grown(head: &mut [u32], number: u32, h: Head)
-    requires { ⌜ (length (now head) ≡ 17) × (number ≡ 0 → (h .fan ≡ getD (now head) 0 0) × (h .limit ≡ getD (now head) 1 0)) ⌝ }
+    requires { ⌜ (length (now head) ≡ 19) × (number ≡ 0 → (h .fan ≡ getD (now head) 0 0) × (h .limit ≡ getD (now head) 1 0)) ⌝ }
     ensures { λ _. ⌜ now (head .exit) ≡ headAfter number h (now (head .entry)) ⌝ }
 {
     if number == 0 {
         let finger = h.finger;
         put_counts(head, h);
         put_finger(head, finger);
+        put_stamp(head, h.stamp);
     }
 }
 
 // The same after a call that leaves all but the finger.
 pub fn settle_finger(head: &mut [u32], number: u32, h: Head)
-    requires { ⌜ (length (now head) ≡ 17) × (number ≡ 0 → h ≡ withFinger (h .finger) (headFrom (now head))) ⌝ }
+    requires { ⌜ (length (now head) ≡ 19) × (getD (now head) 17 0 < 4294967296) × (number ≡ 0 → h ≡ withFinger (h .finger) (headFrom (now head))) ⌝ }
     ensures { λ _. ⌜ now (head .exit) ≡ headAfter number h (now (head .entry)) ⌝ }
 {
     if number == 0 {

@@ -10,7 +10,7 @@ use Rattle.model.specs.Kind.{stride}
 use Rattle.model.specs.declared.shape.Kind.{Kind}
 use Rattle.model.specs.Row.{Answer, done, refused}
 use Rattle.model.specs.Node.{Node, none, child, lengths, used, start, indexFrom, newNode, minus, wrap}
-use Rattle.model.specs.State.{State, state, headOf, shape, nodeAt, putNode}
+use Rattle.model.specs.State.{State, state, headOf, nextStamp, shape, nodeAt, putNode}
 use Rattle.model.specs.Climb.{leafNo, rankUp, stepsUp, firstDown, lastDown, nextUp}
 use Rattle.model.specs.Locate.{servedBy, fromRoot, effectAt, prepareAt}
 use Rattle.model.specs.Place.{Change, change, withFinger, place, divide, replace, climb}
@@ -70,7 +70,7 @@ abbrev pub settled : {A : Type 0} → State → Change → (ℕ → A) → A →
 settled s r refuse a =
     cond (eqb (r .number) 0) (reply (r .state) a) (reply (state (s .head) (r .state .leaves) (r .state .inners) (r .state .homes)) (refuse (r .number)))
 
--- cursors bear the entry count as their stamp
+-- cursors bear the tree's stamp
 abbrev pub cursorAt : ℕ → ℕ → ℕ → Cursor
 cursorAt stamp k i = record { leaf = leafNo k; slot = i; stamp = stamp }
 
@@ -86,11 +86,11 @@ slotAt K s c = getD (leafAt K s c .slots) (c .slot) []
 -- make and reset ------------------------------------------------------------------------------------------------------------------------
 
 -- one leaf with the entry 0 and one inner node above it; all other words stay
-unfoldable pub begun : Kind → ℕ → ℕ → List ℕ → List ℕ → List ℕ → List ℕ → State
-begun K fan limit l ls xs hs =
+unfoldable pub begun : Kind → ℕ → ℕ → ℕ → List ℕ → List ℕ → List ℕ → List ℕ → State
+begun K fan limit stamp l ls xs hs =
     let g = shape (stride K) fan limit in
     let x : List ℕ = 0 ∷ l in
-    state (headOf fan limit 0 1 1 1 1 held.Absent) (putNode g 0 (newNode (stride K) fan 0 (x ∷ [])) ls) (putNode g 0 (newNode (stride K) fan none (x ∷ [])) xs) (set hs 0 0)
+    state (headOf fan limit 0 1 1 1 1 stamp held.Absent) (putNode g 0 (newNode (stride K) fan 0 (x ∷ [])) ls) (putNode g 0 (newNode (stride K) fan none (x ∷ [])) xs) (set hs 0 0)
 
 -- the sizes, which audit and count test too
 abbrev pub areaCauses : Kind → ℕ → ℕ → List ℕ → List ℕ → List ℕ → List Cause
@@ -99,16 +99,17 @@ areaCauses K fan limit ls xs hs = badSize fan limit ∷ tooShort (shape (stride 
 abbrev pub makeCauses : Kind → ℕ → ℕ → List ℕ → List ℕ → List ℕ → List ℕ → List Cause
 makeCauses K fan limit l ls xs hs = manyLines K l ∷ areaCauses K fan limit ls xs hs
 
--- a refused make returns a head of zeros without finger
+-- the stamp is 1 at make; a refused make returns a head of zeros without finger
 unfoldable pub make : Kind → ℕ → ℕ → List ℕ → List ℕ → List ℕ → List ℕ → Reply Outcome
 make K fan limit l ls xs hs =
-    unless (makeCauses K fan limit l ls xs hs) (λ n. reply (state (headOf 0 0 0 0 0 0 0 held.Absent) ls xs hs) (outcome.Refused n)) (reply (begun K fan limit l ls xs hs) outcome.Done)
+    unless (makeCauses K fan limit l ls xs hs) (λ n. reply (state (headOf 0 0 0 0 0 0 0 0 held.Absent) ls xs hs) (outcome.Refused n)) (reply (begun K fan limit 1 l ls xs hs) outcome.Done)
 
+-- reset counts one more, for its first entry
 unfoldable pub reset : Kind → State → List ℕ → Reply Outcome
 reset K s l =
     let h = s .head in
     unless (makeCauses K (h .fan) (h .limit) l (s .leaves) (s .inners) (s .homes)) (λ n. reply s (outcome.Refused n))
-    (reply (begun K (h .fan) (h .limit) l (s .leaves) (s .inners) (s .homes)) outcome.Done)
+    (reply (begun K (h .fan) (h .limit) (nextStamp (h .stamp)) l (s .leaves) (s .inners) (s .homes)) outcome.Done)
 
 -- calls that read -------------------------------------------------------------------------------------------------------------------------
 
@@ -127,7 +128,7 @@ firstOf stamp leaf.Broken = standing.Refused 9
 unfoldable pub first : Kind → State → Standing
 first K s =
     let h = s .head in
-    unless (opening K s) standing.Refused (firstOf (h .entries) (firstDown (shapeOf K h) (h .levels) (h .root .0) (s .inners)))
+    unless (opening K s) standing.Refused (firstOf (h .stamp) (firstDown (shapeOf K h) (h .levels) (h .root .0) (s .inners)))
 
 abbrev pub nextOf : ℕ → Leaf → Next
 nextOf stamp (leaf.At k) = next.At (cursorAt stamp (k .0) 0)
@@ -139,7 +140,7 @@ nextAfter K s c =
     let h = s .head in
     let m = leafAt K s c in
     unless (opening K s ++ atCursor K s c) next.Refused
-    (cond (ltb (c .slot + 1) (m .len)) (next.At (cursorAt (h .entries) (c .leaf .0) (c .slot + 1))) (nextOf (h .entries) (nextUp (shapeOf K h) (h .levels) 0 (m .parent) (m .at) (s .inners))))
+    (cond (ltb (c .slot + 1) (m .len)) (next.At (cursorAt (h .stamp) (c .leaf .0) (c .slot + 1))) (nextOf (h .stamp) (nextUp (shapeOf K h) (h .levels) 0 (m .parent) (m .at) (s .inners))))
 
 unfoldable pub id : Kind → State → Cursor → Named
 id K s c = unless (opening K s ++ atCursor K s c) named.Refused (named.Entry (entryId (child (slotAt K s c))))
@@ -158,7 +159,7 @@ cursor K s i =
     let k = getD (s .homes) i 0 in
     let m = nodeAt (shapeOf K h) k (s .leaves) in
     unless (opening K s ++ noSuchId s i ∷ []) standing.Refused
-    (cond (ltb k (h .leaves) && leb (m .len) (h .fan)) (standingIn (h .entries) k (indexFrom i 0 (used m))) (standing.Refused 9))
+    (cond (ltb k (h .leaves) && leb (m .len) (h .fan)) (standingIn (h .stamp) k (indexFrom i 0 (used m))) (standing.Refused 9))
 
 -- two lists of equally many steps, compared in order
 unfoldable pub inOrder : List ℕ → List ℕ → Compared
@@ -199,7 +200,7 @@ entryToCharIndex K s v c =
 abbrev pub hit : State → Finger → ℕ → Reply Located
 hit s f offset =
     reply (state (withFinger (held.At f) (s .head)) (s .leaves) (s .inners) (s .homes))
-    (located.At (cursorAt (s .head .entries) (f .leaf) (f .slot)) offset (effectAt f) (prepareAt f))
+    (located.At (cursorAt (s .head .stamp) (f .leaf) (f .slot)) offset (effectAt f) (prepareAt f))
 
 -- 5: position at or past the view's total, which the root then doesn't hold
 abbrev pub bySearch : State → Search → Reply Located
@@ -276,9 +277,9 @@ insert K s t l =
     let r = placed K s t l in
     unless (insertCauses K s t l) (λ n. reply s (inserted.Refused n)) (settled s (r .0) inserted.Refused (inserted.At (entryId (s .head .entries)) (r .1)))
 
--- what a split answers: n is the count before, so the new id; slot i of leaf k holds the first of the two entries; both cursors bear the new count
-abbrev pub dividedAt : ℕ → ℕ → ℕ → Divided
-dividedAt n k i = divided.At (entryId n) (cursorAt (n + 1) k i) (cursorAt (n + 1) k (i + 1))
+-- what a split answers: n is the count before, so the new id; slot i of leaf k holds the first of the two entries; both cursors bear the new stamp
+abbrev pub dividedAt : ℕ → ℕ → ℕ → ℕ → Divided
+dividedAt n stamp k i = divided.At (entryId n) (cursorAt stamp k i) (cursorAt stamp k (i + 1))
 
 abbrev pub splitCauses : Kind → State → Cursor → List ℕ → List Cause
 splitCauses K s c l = manyLines K l ∷ (opening K s ++ atCursor K s c ++ tooMuch K l (lengths (slotAt K s c)) ∷ full s ∷ [])
@@ -287,4 +288,4 @@ unfoldable pub splitEntry : Kind → State → Cursor → List ℕ → Bool → 
 splitEntry K s c l flag =
     let r = divide (shapeOf K (s .head)) flag s (c .leaf .0) (c .slot) l in
     unless (splitCauses K s c l) (λ m. reply s (divided.Refused m))
-    (settled s r divided.Refused (dividedAt (s .head .entries) (r .leaf) (r .slot)))
+    (settled s r divided.Refused (dividedAt (s .head .entries) (nextStamp (s .head .stamp)) (r .leaf) (r .slot)))

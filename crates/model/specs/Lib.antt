@@ -22,6 +22,7 @@ pub mod Audit
 pub mod Table
 pub mod Spelling
 pub mod Promise
+pub mod Stamp
 pub mod Settled
 pub mod Spelled
 pub mod Paged

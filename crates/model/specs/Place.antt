@@ -6,7 +6,7 @@ use Prim.Native.Nat.{ℕ, _+_, _-_}
 use lib.ListN.{set}
 use lib.Dec.{ltb, leb, eqb}
 use Rattle.model.specs.Node.{Node, child, used, start, half, withLengths, inserted, childSplit, lowerHalf, upperHalf, wrap}
-use Rattle.model.specs.State.{State, state, headOf, nodeAt, putNode}
+use Rattle.model.specs.State.{State, state, headOf, nextStamp, nodeAt, putNode}
 use Rattle.model.specs.Climb.{climbUp}
 use Rattle.model.specs.Locate.{changing}
 use Rattle.model.specs.Grow.{areas, Top, top, addChild}
@@ -28,13 +28,13 @@ change n s k i = record { number = n; state = s; leaf = k; slot = i }
 
 -- the head with another finger, with one entry more, and after a leaf split
 abbrev pub withFinger : Held → Head → Head
-withFinger f h = headOf (h .fan) (h .limit) (h .root .0) (h .levels) (h .leaves) (h .inners) (h .entries) f
+withFinger f h = headOf (h .fan) (h .limit) (h .root .0) (h .levels) (h .leaves) (h .inners) (h .entries) (h .stamp) f
 
 abbrev pub withEntry : Held → Head → Head
-withEntry f h = headOf (h .fan) (h .limit) (h .root .0) (h .levels) (h .leaves) (h .inners) (h .entries + 1) f
+withEntry f h = headOf (h .fan) (h .limit) (h .root .0) (h .levels) (h .leaves) (h .inners) (h .entries + 1) (nextStamp (h .stamp)) f
 
 abbrev pub withLeaf : Top → Head → Head
-withLeaf t h = headOf (h .fan) (h .limit) (t .root) (t .levels) (h .leaves + 1) (t .inners) (h .entries) (h .finger)
+withLeaf t h = headOf (h .fan) (h .limit) (t .root) (t .levels) (h .leaves + 1) (t .inners) (h .entries) (h .stamp) (h .finger)
 
 -- the entries in the slots of leaf k learn that they live there
 unfoldable pub rehome : ℕ → ℕ → List (List ℕ) → List ℕ → ℕ × List ℕ

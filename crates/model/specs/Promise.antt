@@ -130,7 +130,7 @@ pub record Bares : Type 0 where
 
 -- make gives a head back, and a head of zeros without finger where it is refused
 pub record Made (K : Kind) (fan limit : ℕ) (l ls xs hs : List ℕ) : Type 0 where
-  pub refused : outcomeAnswer (calls.make K fan limit l ls xs hs .answer) .number ≢ 0 → calls.make K fan limit l ls xs hs .after ≡ state (headOf 0 0 0 0 0 0 0 held.Absent) ls xs hs
+  pub refused : outcomeAnswer (calls.make K fan limit l ls xs hs .answer) .number ≢ 0 → calls.make K fan limit l ls xs hs .after ≡ state (headOf 0 0 0 0 0 0 0 0 held.Absent) ls xs hs
   pub leaves : length (calls.make K fan limit l ls xs hs .after .leaves) ≡ length ls
   pub inners : length (calls.make K fan limit l ls xs hs .after .inners) ≡ length xs
   pub homes : length (calls.make K fan limit l ls xs hs .after .homes) ≡ length hs

@@ -38,14 +38,14 @@ opening K s =
     let h = s .head in
     badSize (h .fan) (h .limit) ∷ tooShort (shapeOf K h) (h .limit) (s .leaves) (s .inners) (s .homes) ∷ astray (shapeOf K h) h ∷ []
 
--- a cursor is current exactly when the stamp equals the entry count, the leaf is in use and the slot is below its len
+-- a cursor is current exactly when it bears the present stamp, the leaf is in use and the slot is below its len
 abbrev pub current : Kind → State → Cursor → Bool
-current K s c = eqb (c .stamp) (s .head .entries) && ltb (c .leaf .0) (s .head .leaves) && ltb (c .slot) (nodeAt (shapeOf K (s .head)) (c .leaf .0) (s .leaves) .len)
+current K s c = eqb (c .stamp) (s .head .stamp) && ltb (c .leaf .0) (s .head .leaves) && ltb (c .slot) (nodeAt (shapeOf K (s .head)) (c .leaf .0) (s .leaves) .len)
 
 -- 3: a wrong stamp; 13: a leaf not in use; 14: a slot at or past its len
 abbrev pub stale : Kind → State → Cursor → List Cause
 stale K s c =
-    cause 3 (not (eqb (c .stamp) (s .head .entries)))
+    cause 3 (not (eqb (c .stamp) (s .head .stamp)))
     ∷ cause 13 (leb (s .head .leaves) (c .leaf .0))
     ∷ cause 14 (leb (nodeAt (shapeOf K (s .head)) (c .leaf .0) (s .leaves) .len) (c .slot))
     ∷ []

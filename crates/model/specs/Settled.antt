@@ -40,7 +40,7 @@ seen a o n v = record { answer = a; order = o; newest = n; audit = v }
 
 -- fan 4, limit 5: two nodes of 19 words in each area, five homes; what they held before make is of no account
 abbrev pub before : State
-before = state (headOf 0 0 0 0 0 0 0 Absent) (replicate 38 7) (replicate 38 7) (replicate 5 7)
+before = state (headOf 0 0 0 0 0 0 0 0 Absent) (replicate 38 7) (replicate 38 7) (replicate 5 7)
 
 unfoldable pub treePlay : State → Play → Moved State
 treePlay s (made l) = told (calls.make base 4 5 l (s .leaves) (s .inners) (s .homes)) outcomeAnswer

@@ -1,7 +1,7 @@
 -- A tree as words: its head and the three areas that the caller lends (document 01, "Lengths, slots, nodes"). Assumes nothing.
 use mathlib.Core.Bool.{cond}
 use mathlib.Core.List.{List}
-use Prim.Native.Nat.{ℕ, suc, _+_, _*_, _/_}
+use Prim.Native.Nat.{ℕ, suc, _+_, _*_, _/_, _%_, _^_}
 use lib.Dec.{ltb}
 use Rattle.model.specs.Lists.{part, putAt}
 use Rattle.model.specs.Node.{Node, nodeOf, wordsOf, half}
@@ -18,9 +18,13 @@ pub record State : Type 0 where
 abbrev pub state : Head → List ℕ → List ℕ → List ℕ → State
 state h ls xs hs = record { head = h; leaves = ls; inners = xs; homes = hs }
 
-abbrev pub headOf : ℕ → ℕ → ℕ → ℕ → ℕ → ℕ → ℕ → Held → Head
-headOf fan limit root levels leaves inners entries finger =
-    record { fan = fan; limit = limit; root = record { 0 = root }; levels = levels; leaves = leaves; inners = inners; entries = entries; finger = finger }
+abbrev pub headOf : ℕ → ℕ → ℕ → ℕ → ℕ → ℕ → ℕ → ℕ → Held → Head
+headOf fan limit root levels leaves inners entries stamp finger =
+    record { fan = fan; limit = limit; root = record { 0 = root }; levels = levels; leaves = leaves; inners = inners; entries = entries; stamp = stamp; finger = finger }
+
+-- the stamp once one more entry is made: a u64 that goes round on purpose
+abbrev pub nextStamp : ℕ → ℕ
+nextStamp stamp = (stamp + 1) % 2 ^ 64
 
 -- the nodes that the leaf area and the inner area each need
 abbrev pub nodesFor : ℕ → ℕ → ℕ

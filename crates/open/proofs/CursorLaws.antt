@@ -25,25 +25,25 @@ use Rattle.open.specs.declared.open.Opened.the-variants.{Good, Refused}
 
 -- what `fault` answers, test by test
 module _ (K : Kind) (s : State) (c : Cursor) where
-  pub fault-stamp : (c .stamp ≡ s .head .entries → ⊥) → 3 ≡ refusal (stale K s c)
+  pub fault-stamp : (c .stamp ≡ s .head .stamp → ⊥) → 3 ≡ refusal (stale K s c)
   unfolding refusal
-  fault-stamp p = rw (ne-eqb (c .stamp) (s .head .entries) p)
+  fault-stamp p = rw (ne-eqb (c .stamp) (s .head .stamp) p)
 
-  pub fault-leaf : c .stamp ≡ s .head .entries → s .head .leaves ≤ c .leaf .0 → 13 ≡ refusal (stale K s c)
+  pub fault-leaf : c .stamp ≡ s .head .stamp → s .head .leaves ≤ c .leaf .0 → 13 ≡ refusal (stale K s c)
   unfolding refusal
-  fault-leaf p q = rw (eq-eqb (c .stamp) (s .head .entries) p, le-leb (s .head .leaves) (c .leaf .0) q)
+  fault-leaf p q = rw (eq-eqb (c .stamp) (s .head .stamp) p, le-leb (s .head .leaves) (c .leaf .0) q)
 
-  module _ (g : Shape) (len : ℕ) (e : g ≡ shapeOf K (s .head)) (p : c .stamp ≡ s .head .entries) (q : c .leaf .0 < s .head .leaves) (r : len ≡ nodeAt g (c .leaf .0) (s .leaves) .len) where
+  module _ (g : Shape) (len : ℕ) (e : g ≡ shapeOf K (s .head)) (p : c .stamp ≡ s .head .stamp) (q : c .leaf .0 < s .head .leaves) (r : len ≡ nodeAt g (c .leaf .0) (s .leaves) .len) where
     own-len : nodeAt (shapeOf K (s .head)) (c .leaf .0) (s .leaves) .len ≡ len
     own-len = ap (λ (x : Shape). nodeAt x (c .leaf .0) (s .leaves) .len) (sym e) ∙ sym r
 
     pub fault-slot : len ≤ c .slot → 14 ≡ refusal (stale K s c)
     unfolding refusal
-    fault-slot h = rw (eq-eqb (c .stamp) (s .head .entries) p, lt-leb (s .head .leaves) (c .leaf .0) q, own-len, le-leb len (c .slot) h)
+    fault-slot h = rw (eq-eqb (c .stamp) (s .head .stamp) p, lt-leb (s .head .leaves) (c .leaf .0) q, own-len, le-leb len (c .slot) h)
 
     pub fault-none : c .slot < len → 0 ≡ refusal (stale K s c)
     unfolding refusal
-    fault-none h = rw (eq-eqb (c .stamp) (s .head .entries) p, lt-leb (s .head .leaves) (c .leaf .0) q, own-len, lt-leb len (c .slot) h)
+    fault-none h = rw (eq-eqb (c .stamp) (s .head .stamp) p, lt-leb (s .head .leaves) (c .leaf .0) q, own-len, lt-leb len (c .slot) h)
 
   pub stale-numbered : Numbered (stale K s c)
   unfolding All

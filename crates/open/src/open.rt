@@ -163,14 +163,14 @@ pub fn open(views: usize, head: Head, leaves: &[u32], inners: &[u32], homes: &[u
     }
 }
 
-// The number by which a cursor fails: its stamp isn't the entry count (3), its leaf isn't in use (13), its slot is at or past
+// The number by which a cursor fails: its stamp isn't the tree's (3), its leaf isn't in use (13), its slot is at or past
 // the leaf's len (14). 0: it is current.
 pub fn fault(head: Head, leaves: &[u32], g: Shape, c: Cursor) -> u32
     requires { ⌜ Area g (length (now leaves)) × (head .leaves ≤ g .nodes) ⌝ }
     ensures { λ r. ⌜ ((K : Kind) → g ≡ shapeOf K head → r ≡ refusal (stale K (state head (now (leaves .entry)) [] []) c)) ⌝ }
 {
     let k = c.leaf.0;
-    if c.stamp != head.entries {
+    if c.stamp != head.stamp {
         return 3;
     }
     if k >= head.leaves {

@@ -5,7 +5,7 @@ use mathlib.Core.List.{List}
 use Prim.Native.Nat.{ℕ, _+_, _-_, _/_, _<_, _≤_}
 use lib.Dec.{ltb, leb, eqb}
 use lib.ListN.{length, getD}
-use Rattle.model.specs.State.{state, headOf, shapeFor, nodeAt}
+use Rattle.model.specs.State.{state, headOf, nextStamp, shapeFor, nodeAt}
 use Rattle.model.specs.Locate.{changing}
 use Rattle.model.specs.Grow.{Top}
 use Rattle.model.specs.Place as model
@@ -18,7 +18,7 @@ use Rattle.place.specs.declared.change.Change.{Change}
 
 -- a head with other counts
 abbrev pub counted : ℕ → Top → ℕ → Head → Head
-counted leaves t entries h = headOf (h .fan) (h .limit) (t .root) (t .levels) leaves (t .inners) entries (h .finger)
+counted leaves t entries h = headOf (h .fan) (h .limit) (t .root) (t .levels) leaves (t .inners) entries (h .stamp) (h .finger)
 
 -- a change as its call settles it: where it met 9, the head is as it was and the place of no account
 abbrev pub settledIn : Head → model.Change → model.Change
@@ -43,7 +43,7 @@ lost h = record { number = 9; head = h; leaf = record { 0 = 0 }; slot = 0 }
 -- one entry more at a room, with the inner nodes, root and levels of three words
 abbrev pub entered : Head → List ℕ → Room → Change
 entered h t r =
-    record { number = 0; head = headOf (h .fan) (h .limit) (getD t 1 0) (getD t 2 0) (r .leaves) (getD t 0 0) (h .entries + 1) (changing (r .leaf .0) (r .slot) (h .finger)); leaf = r .leaf; slot = r .slot }
+    record { number = 0; head = headOf (h .fan) (h .limit) (getD t 1 0) (getD t 2 0) (r .leaves) (getD t 0 0) (h .entries + 1) (nextStamp (h .stamp)) (changing (r .leaf .0) (r .slot) (h .finger)); leaf = r .leaf; slot = r .slot }
 
 -- leaf k is in the area, at least w slots from slot i on are in use, and one isn't
 abbrev pub roomyIn : Shape → ℕ → ℕ → ℕ → List ℕ → Bool

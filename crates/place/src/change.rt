@@ -38,6 +38,7 @@ pub fn with_finger(f: Held, h: Head) -> Head
         leaves: h.leaves,
         inners: h.inners,
         entries: h.entries,
+        stamp: h.stamp,
         finger: f,
     }
 }
@@ -89,6 +90,7 @@ pub fn entered(h: Head, top: &[u32; 3], r: Room) -> Change
         leaves: r.leaves,
         inners: top[0],
         entries: h.entries + 1,
+        stamp: std::num::wrapping_add_u64(h.stamp, 1),
         finger: changing(finger, leaf, r.slot),
     };
     Change {

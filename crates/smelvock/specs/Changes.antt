@@ -1,5 +1,5 @@
 -- The exported calls that write the lent head, on the words that a host lends: model's call between the conversions.
--- A head that isn't seventeen words, a flag that is neither 0 nor 1 and a view above 2 are refused by 10 before anything else, with head
+-- A head that isn't nineteen words, a flag that is neither 0 nor 1 and a view above 2 are refused by 10 before anything else, with head
 -- and areas as given. Assumes nothing.
 use mathlib.Core.Bool.{Bool, cond, not, _||_}
 use mathlib.Core.List.{List}
@@ -45,7 +45,7 @@ numberAlone a = a .number
 -- a refused make leaves a head of zeros
 unfoldable pub make : ℕ → ℕ → Lengths → Given → Left ℕ
 make fan limit l g =
-    leftBy numberAlone outcomeAnswer (λ n h w. headWords h) (not (eqb (length (g .head)) 17)) g (calls.make base fan limit (listOf l) (g .leaves) (g .inners) (g .homes))
+    leftBy numberAlone outcomeAnswer (λ n h w. headWords h) (not (eqb (length (g .head)) 19)) g (calls.make base fan limit (listOf l) (g .leaves) (g .inners) (g .homes))
 
 unfoldable pub reset : Given → Lengths → Left ℕ
 reset g l = leftBy numberAlone outcomeAnswer headAfter (badHead (g .head)) g (calls.reset base (stateOf g) (listOf l))

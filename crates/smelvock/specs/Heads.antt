@@ -29,17 +29,17 @@ module _ (fan limit : ℕ) (l : Lengths) (g : Given) where
   abbrev made : Bool → Left ℕ
   made good =
       leftBy numberAlone outcomeAnswer (λ n h w. headWords h) false g
-      (cond good (reply (calls.begun base fan limit (listOf l) (g .leaves) (g .inners) (g .homes)) outcome.Done)
-      (reply (state (headOf 0 0 0 0 0 0 0 held.Absent) (g .leaves) (g .inners) (g .homes)) (outcome.Refused causes)))
+      (cond good (reply (calls.begun base fan limit 1 (listOf l) (g .leaves) (g .inners) (g .homes)) outcome.Done)
+      (reply (state (headOf 0 0 0 0 0 0 0 0 held.Absent) (g .leaves) (g .inners) (g .homes)) (outcome.Refused causes)))
 
-  zeros : (good : Bool) → made good .reply ≢ 0 → made good .head ≡ replicate 17 0
+  zeros : (good : Bool) → made good .reply ≢ 0 → made good .head ≡ replicate 19 0
   unfolding leftBy headWords
   zeros true n = absurd (n refl)
   zeros false n = refl
 
-  pub make-zeros : length (g .head) ≡ 17 → make fan limit l g .reply ≢ 0 → make fan limit l g .head ≡ replicate 17 0
+  pub make-zeros : length (g .head) ≡ 19 → make fan limit l g .reply ≢ 0 → make fan limit l g .head ≡ replicate 19 0
   unfolding make calls.make
-  make-zeros e = rw (eq-eqb (length (g .head)) 17 e) (zeros (eqb causes 0))
+  make-zeros e = rw (eq-eqb (length (g .head)) 19 e) (zeros (eqb causes 0))
 
 -- of the others: `bad` is what is refused by 10
 module _ {A : Type 0} {R : Type 0} (flat : Answer → R) (answer : A → Answer) (g : Given) (r : Reply A) where

@@ -1,5 +1,5 @@
 -- The exported calls that read, on the words that a host hands over: model's call between the conversions.
--- A head that isn't seventeen words and a view above 2 are refused by 10 before anything else. Assumes nothing.
+-- A head that isn't nineteen words and a view above 2 are refused by 10 before anything else. Assumes nothing.
 use mathlib.Core.Bool.{Bool, cond, _||_}
 use mathlib.Core.List.{List}
 use Prim.Native.Nat.{ℕ}

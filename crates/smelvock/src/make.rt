@@ -28,7 +28,7 @@ pub extern "C" fn smelvock_new_words(
 ) -> u32
     ensures { λ r. ⌜ left r (now (head .exit)) (now (leaves .exit)) (now (inners .exit)) (now (homes .exit)) ≡ flat.make fan limit (lengthsFrom prepare effect lines) (given (now (head .entry)) (now (leaves .entry)) (now (inners .entry)) (now (homes .entry))) ⌝ }
 {
-    if head.len() != 17 {
+    if head.len() != 19 {
         return 10;
     }
     let r = new(

@@ -41,7 +41,7 @@ pub extern "C" fn smelvock_next_words(
     homes: &[u32],
     leaf: u32,
     slot: u32,
-    stamp: u32,
+    stamp: u64,
 ) -> FlatStanding
     ensures { λ r. ⌜ r ≡ flat.next (given (now (head .entry)) (now (leaves .entry)) (now (inners .entry)) (now (homes .entry))) (cursorFrom leaf slot stamp) ⌝ }
 {
@@ -66,10 +66,10 @@ pub extern "C" fn smelvock_cmp_words(
     homes: &[u32],
     leaf: u32,
     slot: u32,
-    stamp: u32,
+    stamp: u64,
     other_leaf: u32,
     other_slot: u32,
-    other_stamp: u32,
+    other_stamp: u64,
 ) -> FlatNumber
     ensures { λ r. ⌜ r ≡ flat.cmp (given (now (head .entry)) (now (leaves .entry)) (now (inners .entry)) (now (homes .entry))) (cursorFrom leaf slot stamp) (cursorFrom «other_leaf» «other_slot» «other_stamp») ⌝ }
 {

@@ -57,7 +57,7 @@ pub extern "C" fn smelvock_id_words(
     homes: &[u32],
     leaf: u32,
     slot: u32,
-    stamp: u32,
+    stamp: u64,
 ) -> FlatNumber
     ensures { λ r. ⌜ r ≡ flat.id (given (now (head .entry)) (now (leaves .entry)) (now (inners .entry)) (now (homes .entry))) (cursorFrom leaf slot stamp) ⌝ }
 {
@@ -82,7 +82,7 @@ pub extern "C" fn smelvock_lengths_words(
     homes: &[u32],
     leaf: u32,
     slot: u32,
-    stamp: u32,
+    stamp: u64,
 ) -> FlatMeasured
     ensures { λ r. ⌜ r ≡ flat.lengths (given (now (head .entry)) (now (leaves .entry)) (now (inners .entry)) (now (homes .entry))) (cursorFrom leaf slot stamp) ⌝ }
 {
@@ -125,7 +125,7 @@ pub extern "C" fn smelvock_entry_to_char_index_words(
     view: u32,
     leaf: u32,
     slot: u32,
-    stamp: u32,
+    stamp: u64,
 ) -> FlatNumber
     ensures { λ r. ⌜ r ≡ flat.entryToCharIndex (given (now (head .entry)) (now (leaves .entry)) (now (inners .entry)) (now (homes .entry))) view (cursorFrom leaf slot stamp) ⌝ }
 {

@@ -73,7 +73,7 @@ module _ (K : Kind) (t : State) (w : Coherent K t) where
   row-unknown i cs le = rw (le-leb (length (entriesOf K t)) i (omega (arith, count-is)))
 
   pub by-id : (i : ℕ) (f : Cursor → Moved State) (cs : List Cause) (es : List Entry) (a : Answer)
-      → ((c : Seat K t w i) → Agrees (Mirrors K) (f (calls.cursorAt (t .head .entries) (c .leaf) (c .slot))) (unless (rowOf K t) cs es a))
+      → ((c : Seat K t w i) → Agrees (Mirrors K) (f (calls.cursorAt (t .head .stamp) (c .leaf) (c .slot))) (unless (rowOf K t) cs es a))
       → Agrees (Mirrors K) (withCursor t (calls.cursor K t i) f) (unless (rowOf K t) (noSuchId (rowOf K t) i ∷ cs) es a)
   unfolding unless
   by-id i f cs es a h = go (decLt i (t .head .entries))

@@ -64,7 +64,7 @@ lex-after (x ∷ xs) (y ∷ ys) h = more (x ∷ xs) (y ∷ ys) h
 
 module _ (K : Kind) (t : State) (w : Coherent K t) where
   -- the path to a seat
-  path-is : (i : ℕ) (c : Seat K t w i) → calls.path K t (cursorAt (t .head .entries) (c .leaf) (c .slot)) ≡ pathTo (treeOf (stride K) t) (c .leaf)
+  path-is : (i : ℕ) (c : Seat K t w i) → calls.path K t (cursorAt (t .head .stamp) (c .leaf) (c .slot)) ≡ pathTo (treeOf (stride K) t) (c .leaf)
   unfolding calls.path
   path-is i c =
       let T : Tree = treeOf (stride K) t in
@@ -114,13 +114,13 @@ module _ (K : Kind) (t : State) (w : Coherent K t) where
   unfolding treeMove rowMove refusal calls.cmp
   step-compare i j =
       by-id K t w i (λ a. withCursor t (calls.cursor K t j) (λ b. moved t (comparedAnswer (calls.cmp K t a b)))) (noSuchId (rowOf K t) j ∷ []) (entriesOf K t) (done (ordered i j (entriesOf K t) ∷ []))
-      (λ a. by-id K t w j (λ b. moved t (comparedAnswer (calls.cmp K t (cursorAt (t .head .entries) (a .leaf) (a .slot)) b))) [] (entriesOf K t) (done (ordered i j (entriesOf K t) ∷ []))
+      (λ a. by-id K t w j (λ b. moved t (comparedAnswer (calls.cmp K t (cursorAt (t .head .stamp) (a .leaf) (a .slot)) b))) [] (entriesOf K t) (done (ordered i j (entriesOf K t) ∷ []))
       (λ c. rw (row-passed (rowOf K t) [] (entriesOf K t) (done (ordered i j (entriesOf K t) ∷ [])) refl) (record { same = at a c; kept = own K t w })))
     where
-      at : (a : Seat K t w i) (c : Seat K t w j) → comparedAnswer (calls.cmp K t (cursorAt (t .head .entries) (a .leaf) (a .slot)) (cursorAt (t .head .entries) (c .leaf) (c .slot))) ≡ done (ordered i j (entriesOf K t) ∷ [])
+      at : (a : Seat K t w i) (c : Seat K t w j) → comparedAnswer (calls.cmp K t (cursorAt (t .head .stamp) (a .leaf) (a .slot)) (cursorAt (t .head .stamp) (c .leaf) (c .slot))) ≡ done (ordered i j (entriesOf K t) ∷ [])
       at a c =
-          let ca : Cursor = cursorAt (t .head .entries) (a .leaf) (a .slot) in
-          let cc : Cursor = cursorAt (t .head .entries) (c .leaf) (c .slot) in
+          let ca : Cursor = cursorAt (t .head .stamp) (a .leaf) (a .slot) in
+          let cc : Cursor = cursorAt (t .head .stamp) (c .leaf) (c .slot) in
           ap comparedAnswer (passed (opening K t ++ (stale K t ca ++ stale K t cc)) compared.Refused _
           (opens K t w (stale K t ca ++ stale K t cc) ∙ fresh K t w (a .leaf) (a .slot) (stale K t cc) (a .leaf-in) (a .slot-in) ∙ fresh K t w (c .leaf) (c .slot) [] (c .leaf-in) (c .slot-in)))
           ∙ ap₂ (λ (p q : List ℕ). comparedAnswer (cond (eqb (a .leaf) (c .leaf)) (inOrder (a .slot ∷ []) (c .slot ∷ [])) (byPath p q))) (path-is i a) (path-is j c)

@@ -45,24 +45,24 @@ first-applies (x ∷ xs) ys n e = go (x .applies) refl (first-applies xs ys n)
 -- the cursor fails by that number: a wrong stamp, a leaf not in use, a slot at or past its len, tested in this order
 abbrev pub Fails : Kind → State → Cursor → ℕ → Type 0
 Fails K t c n =
-    ((n ≡ 3) × (c .stamp ≢ t .head .entries))
-    ⊎ (((n ≡ 13) × (c .stamp ≡ t .head .entries) × (t .head .leaves ≤ c .leaf .0))
-    ⊎ ((n ≡ 14) × (c .stamp ≡ t .head .entries) × (c .leaf .0 < t .head .leaves) × (leafIn (stride K) t (c .leaf .0) .len ≤ c .slot)))
+    ((n ≡ 3) × (c .stamp ≢ t .head .stamp))
+    ⊎ (((n ≡ 13) × (c .stamp ≡ t .head .stamp) × (t .head .leaves ≤ c .leaf .0))
+    ⊎ ((n ≡ 14) × (c .stamp ≡ t .head .stamp) × (c .leaf .0 < t .head .leaves) × (leafIn (stride K) t (c .leaf .0) .len ≤ c .slot)))
 
 module _ (K : Kind) (t : State) (w : Coherent K t) (c : Cursor) where
   -- a cursor passes and is current, or fails by the number of the first of stamp, leaf and slot that is wrong
   pub which : ((current K t c ≡ true) × (refusal (stale K t c) ≡ 0)) ⊎ Fails K t c (refusal (stale K t c))
   unfolding refusal
-  which = go (ℕ-discrete (c .stamp) (t .head .entries)) (decLt (c .leaf .0) (t .head .leaves)) (decLt (c .slot) (leafIn (stride K) t (c .leaf .0) .len))
+  which = go (ℕ-discrete (c .stamp) (t .head .stamp)) (decLt (c .leaf .0) (t .head .leaves)) (decLt (c .slot) (leafIn (stride K) t (c .leaf .0) .len))
     where
-      go : Dec (c .stamp ≡ t .head .entries) → Dec (c .leaf .0 < t .head .leaves) → Dec (c .slot < leafIn (stride K) t (c .leaf .0) .len)
+      go : Dec (c .stamp ≡ t .head .stamp) → Dec (c .leaf .0 < t .head .leaves) → Dec (c .slot < leafIn (stride K) t (c .leaf .0) .len)
           → ((current K t c ≡ true) × (refusal (stale K t c) ≡ 0)) ⊎ Fails K t c (refusal (stale K t c))
-      go (no a) b d = inr (rw (ne-eqb (c .stamp) (t .head .entries) a) (inl (refl, a)))
-      go (yes a) (no b) d = inr (rw (eq-eqb (c .stamp) (t .head .entries) a, le-leb (t .head .leaves) (c .leaf .0) (omega arith)) (inr (inl (refl, a, omega arith))))
-      go (yes a) (yes b) (no d) = inr (rw (eq-eqb (c .stamp) (t .head .entries) a, lt-leb (t .head .leaves) (c .leaf .0) b, le-leb (leafIn (stride K) t (c .leaf .0) .len) (c .slot) (omega arith)) (inr (inr (refl, a, b, omega arith))))
+      go (no a) b d = inr (rw (ne-eqb (c .stamp) (t .head .stamp) a) (inl (refl, a)))
+      go (yes a) (no b) d = inr (rw (eq-eqb (c .stamp) (t .head .stamp) a, le-leb (t .head .leaves) (c .leaf .0) (omega arith)) (inr (inl (refl, a, omega arith))))
+      go (yes a) (yes b) (no d) = inr (rw (eq-eqb (c .stamp) (t .head .stamp) a, lt-leb (t .head .leaves) (c .leaf .0) b, le-leb (leafIn (stride K) t (c .leaf .0) .len) (c .slot) (omega arith)) (inr (inr (refl, a, b, omega arith))))
       go (yes a) (yes b) (yes d) = inl (
-        rw (eq-eqb (c .stamp) (t .head .entries) a, lt-ltb (c .leaf .0) (t .head .leaves) b, lt-ltb (c .slot) (leafIn (stride K) t (c .leaf .0) .len) d),
-        rw (eq-eqb (c .stamp) (t .head .entries) a, lt-leb (t .head .leaves) (c .leaf .0) b, lt-leb (leafIn (stride K) t (c .leaf .0) .len) (c .slot) d),
+        rw (eq-eqb (c .stamp) (t .head .stamp) a, lt-ltb (c .leaf .0) (t .head .leaves) b, lt-ltb (c .slot) (leafIn (stride K) t (c .leaf .0) .len) d),
+        rw (eq-eqb (c .stamp) (t .head .stamp) a, lt-leb (t .head .leaves) (c .leaf .0) b, lt-leb (leafIn (stride K) t (c .leaf .0) .len) (c .slot) d),
       )
 
   -- its number is no other's
@@ -79,13 +79,13 @@ module _ (K : Kind) (t : State) (w : Coherent K t) (c : Cursor) where
       go zero q f = absurd (fails-not 0 0 f (omega arith) (λ z. omega arith) refl)
       go (suc m) q f = (m, q, opens K t w (stale K t c ++ cs) ∙ first-applies (stale K t c) cs m q)
 
-  pub current-is : current K t c ≡ true → (c .stamp ≡ t .head .entries) × (c .leaf .0 < t .head .leaves) × (c .slot < leafIn (stride K) t (c .leaf .0) .len)
+  pub current-is : current K t c ≡ true → (c .stamp ≡ t .head .stamp) × (c .leaf .0 < t .head .leaves) × (c .slot < leafIn (stride K) t (c .leaf .0) .len)
   current-is e =
       let k : ℕ = c .leaf .0 in
       let n : Node = leafIn (stride K) t k in
-      let r = both (eqb (c .stamp) (t .head .entries) && ltb k (t .head .leaves)) (ltb (c .slot) (n .len)) e in
-      let s = both (eqb (c .stamp) (t .head .entries)) (ltb k (t .head .leaves)) (r .0) in
-      (eqb-true (c .stamp) (t .head .entries) (s .0), ltb-true k (t .head .leaves) (s .1), ltb-true (c .slot) (n .len) (r .1))
+      let r = both (eqb (c .stamp) (t .head .stamp) && ltb k (t .head .leaves)) (ltb (c .slot) (n .len)) e in
+      let s = both (eqb (c .stamp) (t .head .stamp)) (ltb k (t .head .leaves)) (r .0) in
+      (eqb-true (c .stamp) (t .head .stamp) (s .0), ltb-true k (t .head .leaves) (s .1), ltb-true (c .slot) (n .len) (r .1))
 
   pub is-current : current K t c ≡ true → (child (slotAt K t c) < t .head .entries) × (calls.cursor K t (child (slotAt K t c)) ≡ standing.At c)
   is-current e =
@@ -105,6 +105,6 @@ module _ (K : Kind) (t : State) (w : Coherent K t) (c : Cursor) where
       let first : indexOf i (slotsOf n) ≡ j = ap (λ (y : Slot). indexOf (y .child) (slotsOf n)) (sym (getD-slot (used n) j lu)) ∙ body-checks (treeOf (stride K) t) b .firsts k lk j ls in (
         rw x below,
         ap (calls.cursor K t) x ∙ cursor-is K t w i below
-            ∙ ap₂ (λ (l s : ℕ). standing.At (cursorAt (t .head .entries) l s)) home (ap (λ (m : ℕ). indexOf i (slotsOf (leafIn (stride K) t m))) home ∙ first)
+            ∙ ap₂ (λ (l s : ℕ). standing.At (cursorAt (t .head .stamp) l s)) home (ap (λ (m : ℕ). indexOf i (slotsOf (leafIn (stride K) t m))) home ∙ first)
             ∙ ap (λ (m : ℕ). standing.At (cursorAt m k j)) (sym (r .0)),
       )

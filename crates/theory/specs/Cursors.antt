@@ -13,7 +13,7 @@ use Rattle.model.specs.Kind.{stride, tooManyLines}
 use Rattle.model.specs.declared.shape.Kind.{Kind}
 use Rattle.model.specs.Lists.{cause, refusal}
 use Rattle.model.specs.Node.{child}
-use Rattle.model.specs.State.{State}
+use Rattle.model.specs.State.{State, nextStamp}
 use Rattle.model.specs.Row as row
 use Rattle.model.specs.Row.{Row, Entry, lengthIn, Answer, done, refused, Moved, moved, unless, after, firstId, rowMove, rowStep}
 use Rattle.model.specs.Sound.{leafIn, Coherent, entriesOf}
@@ -70,8 +70,8 @@ unfolding calls.splitEntry
 split-lines K s c l flag e = stopped (calls.splitCauses K s c l) (λ m. calls.reply s (divided.Refused m)) _ 9 (many-lines K l _ e)
 
 module _ (K : Kind) (s : State) (w : Coherent K s) where
-  at-slot : (k j : ℕ) → k < s .head .leaves → j < leafIn (stride K) s k .len → At K s (cursorAt (s .head .entries) k j) (tree.slotAt (treeOf (stride K) s) k j .child)
-  at-slot k j lk lj = record { current = rw (eq-eqb (s .head .entries) (s .head .entries) refl, lt-ltb k (s .head .leaves) lk, lt-ltb j (leafIn (stride K) s k .len) lj); id = id-at K s w k j lk lj }
+  at-slot : (k j : ℕ) → k < s .head .leaves → j < leafIn (stride K) s k .len → At K s (cursorAt (s .head .stamp) k j) (tree.slotAt (treeOf (stride K) s) k j .child)
+  at-slot k j lk lj = record { current = rw (eq-eqb (s .head .stamp) (s .head .stamp) refl, lt-ltb k (s .head .leaves) lk, lt-ltb j (leafIn (stride K) s k .len) lj); id = id-at K s w k j lk lj }
 
   -- every current cursor stands at an entry, any other has no id
   pub current-at : (c : Cursor) → current K s c ≡ true → At K s c (child (slotAt K s c))
@@ -106,7 +106,7 @@ module _ (K : Kind) (ok : K .effect < K .views) (s : State) (w : Coherent K s) w
   pub cursor-at : (i : ℕ) → i < s .head .entries → StandsAt K s (calls.cursor K s i) i
   cursor-at i lt =
       let c = seat K s w i lt in
-      subst (λ (a : Standing). StandsAt K s a i) (sym (c .is)) (subst (At K s (cursorAt (s .head .entries) (c .leaf) (c .slot))) (ap (λ (y : Slot). y .child) (c .cur .at) ∙ c .cur .own) (at-slot K s w (c .leaf) (c .slot) (c .leaf-in) (c .slot-in)))
+      subst (λ (a : Standing). StandsAt K s a i) (sym (c .is)) (subst (At K s (cursorAt (s .head .stamp) (c .leaf) (c .slot))) (ap (λ (y : Slot). y .child) (c .cur .at) ∙ c .cur .own) (at-slot K s w (c .leaf) (c .slot) (c .leaf-in) (c .slot-in)))
 
   pub first-at : StandsAt K s (calls.first K s) (firstId (entriesOf K s))
   unfolding treeMove rowMove
@@ -153,16 +153,16 @@ module _ (K : Kind) (ok : K .effect < K .views) (s : State) (w : Coherent K s) w
   few-split-at c i h l wl lines flag =
       let o = own-cursor K s w c i h in
       let e = seat K s w i (o .0) in
-      let here : cursorAt (s .head .entries) (e .leaf) (e .slot) ≡ c = ap (cursorOf c) (sym (e .is) ∙ o .1) in
+      let here : cursorAt (s .head .stamp) (e .leaf) (e .slot) ≡ c = ap (cursorOf c) (sym (e .is) ∙ o .1) in
       subst (λ (d : Cursor). let r = calls.splitEntry K s d l flag in DividedAt K flag i (s .head .entries) (r .after) (r .answer) (rowMove K (rowOf K s) (row.split flag i l) .answer)) here
       (rw (row-known K s w i (row.tooMuch K l (row.lengthsOf i (entriesOf K s)) ∷ row.full (rowOf K s) ∷ []) (o .0))
       (split-by K s w i e l wl lines flag (λ m n. DividedAt K flag i (s .head .entries) (m .after) (m .answer) (n .answer)) (λ n. refl) (λ t k j p g. (ap (λ (n : ℕ). done (n ∷ [])) (count-is K s w), refl, first-part t k j p, second-part t k j p))))
     where
-      first-part : (t : State) (k j : ℕ) → TwoParts K flag i (s .head .entries) t k j → At K t (cursorAt (s .head .entries + 1) k j) (cond flag (s .head .entries) i)
-      first-part t k j p = subst (λ (m : ℕ). At K t (cursorAt m k j) (cond flag (s .head .entries) i)) (p .count) (subst (At K t (cursorAt (t .head .entries) k j)) (p .first) (at-slot K t (p .sound) k j (p .leaf-in) (let z = p .slot-in in omega arith)))
+      first-part : (t : State) (k j : ℕ) → TwoParts K flag i (s .head .entries) (nextStamp (s .head .stamp)) t k j → At K t (cursorAt (nextStamp (s .head .stamp)) k j) (cond flag (s .head .entries) i)
+      first-part t k j p = subst (λ (m : ℕ). At K t (cursorAt m k j) (cond flag (s .head .entries) i)) (p .stamp) (subst (At K t (cursorAt (t .head .stamp) k j)) (p .first) (at-slot K t (p .sound) k j (p .leaf-in) (let z = p .slot-in in omega arith)))
 
-      second-part : (t : State) (k j : ℕ) → TwoParts K flag i (s .head .entries) t k j → At K t (cursorAt (s .head .entries + 1) k (j + 1)) (cond flag i (s .head .entries))
-      second-part t k j p = subst (λ (m : ℕ). At K t (cursorAt m k (j + 1)) (cond flag i (s .head .entries))) (p .count) (subst (At K t (cursorAt (t .head .entries) k (j + 1))) (p .second) (at-slot K t (p .sound) k (j + 1) (p .leaf-in) (p .slot-in)))
+      second-part : (t : State) (k j : ℕ) → TwoParts K flag i (s .head .entries) (nextStamp (s .head .stamp)) t k j → At K t (cursorAt (nextStamp (s .head .stamp)) k (j + 1)) (cond flag i (s .head .entries))
+      second-part t k j p = subst (λ (m : ℕ). At K t (cursorAt m k (j + 1)) (cond flag i (s .head .entries))) (p .stamp) (subst (At K t (cursorAt (t .head .stamp) k (j + 1))) (p .second) (at-slot K t (p .sound) k (j + 1) (p .leaf-in) (p .slot-in)))
 
   pub split-at : (c : Cursor) (i : ℕ) → At K s c i → (l : List ℕ) (wl : length l ≡ K .views) (flag : Bool)
       → (let r = calls.splitEntry K s c l flag in DividedAt K flag i (s .head .entries) (r .after) (r .answer) (rowStep K (rowOf K s) (row.split flag i l) .answer))

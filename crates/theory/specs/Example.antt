@@ -56,7 +56,7 @@ unfolding All
 three p e n a b c = record { long = refl; small = (a, (b, (c, tt))) }
 
 -- every kind of call, two of them with too many line ends
-abbrev calls : List Call
+abbrev pub calls : List Call
 calls = row.insert noEntry (pair 2 0) ∷ row.insert 0 (0 ∷ 5 ∷ 3 ∷ []) ∷ row.split true 0 (pair 1 1) ∷ row.setLengths 1 (4 ∷ 0 ∷ 65535 ∷ []) ∷ row.update 1 (pair 2 0) ∷ row.lookup 0 3
     ∷ row.lookup 2 2 ∷ row.rank 2 1 ∷ row.next 1 ∷ row.compare 0 1 ∷ row.lengths 0 ∷ row.count ∷ row.first
     ∷ row.malformed ∷ row.update 9 (2 ∷ 0 ∷ 65536 ∷ []) ∷ row.reset (1 ∷ 1 ∷ 65536 ∷ []) ∷ row.reset (pair 1 1) ∷ []
@@ -67,7 +67,7 @@ calls′ = row.lookup 1 9 ∷ row.insert noEntry (pair 2 0) ∷ row.insert 0 (0 
     ∷ row.rank 2 1 ∷ row.next 1 ∷ row.compare 0 1 ∷ row.lengths 0 ∷ row.count ∷ row.first ∷ row.malformed
     ∷ row.update 9 (2 ∷ 0 ∷ 65536 ∷ []) ∷ row.reset (1 ∷ 1 ∷ 65536 ∷ []) ∷ row.reset (pair 1 1) ∷ []
 
-in-words : All (InWords base) calls
+pub in-words : All (InWords base) calls
 unfolding All
 in-words = ((omega arith, three 2 0 0 (omega arith) (omega arith) (omega arith)), ((omega arith, three 0 5 3 (omega arith) (omega arith) (omega arith)), ((omega arith, three 1 1 0 (omega arith) (omega arith) (omega arith)), ((omega arith, three 4 0 65535 (omega arith) (omega arith) (omega arith)), ((omega arith, three 2 0 0 (omega arith) (omega arith) (omega arith)), ((omega arith, omega arith), ((omega arith, omega arith), ((omega arith, omega arith), (omega arith, ((omega arith, omega arith), (omega arith, (tt, (tt, (tt, ((omega arith, three 2 0 65536 (omega arith) (omega arith) (omega arith)), (three 1 1 65536 (omega arith) (omega arith) (omega arith), (three 1 1 0 (omega arith) (omega arith) (omega arith), tt)))))))))))))))))
 
@@ -102,7 +102,7 @@ audited-start = audit-exactly base start .1 sound-start
 
 -- 65,535 line ends in a leaf slot are sound, one more is not
 abbrev lined : ℕ → State
-lined n = begun base 4 5 (3 ∷ 3 ∷ n ∷ []) areaWords areaWords (replicate 5 7)
+lined n = begun base 4 5 1 (3 ∷ 3 ∷ n ∷ []) areaWords areaWords (replicate 5 7)
 
 pub audited-lines : (audit base (lined 65535) ≡ verdict.Yes) × (audit base (lined 65536) ≡ verdict.No)
 unfolding begun refusal part putAt sumBy range nodeOf slotsFrom wordsOf emptySlot flatMap check.every check.depth check.isFilled check.isHeld check.isChild check.isInner check.isEntry check.isLeaf check.isSound audit
@@ -112,7 +112,7 @@ audited-lines = (refl, refl)
 abbrev large : Call
 large = row.insert noEntry (4294967293 ∷ 0 ∷ 65535 ∷ [])
 
-stands-start : Stands base start (madeRow 5 (pair 3 3))
+pub stands-start : Stands base start (madeRow 5 (pair 3 3))
 unfolding finally All
 stands-start = let k = whole base (omega arith) 4 5 (pair 3 3) areaWords areaWords (replicate 5 7) first-words made [] tt .1 in record { sound = k .sound; entries = k .entries; limit = k .limit }
 
@@ -137,8 +137,8 @@ unfolding make begun refusal
 cursor-start = cursor-at base (omega arith) start (sound-start .coherent) 0 (omega arith)
 
 -- a root that leads to leaf 1, which is not in use: 9, and no finger is set
-abbrev loose : State
-loose = state (headOf 4 5 0 1 1 1 1 held.Absent) (replicate 19 7 ++ 1 ∷ 0 ∷ 0 ∷ 0 ∷ 3 ∷ 3 ∷ 0 ∷ replicate 12 7) (1 ∷ none ∷ 0 ∷ 1 ∷ 3 ∷ 3 ∷ 0 ∷ replicate 31 7) (replicate 5 0)
+abbrev pub loose : State
+loose = state (headOf 4 5 0 1 1 1 1 1 held.Absent) (replicate 19 7 ++ 1 ∷ 0 ∷ 0 ∷ 0 ∷ 3 ∷ 3 ∷ 0 ∷ replicate 12 7) (1 ∷ none ∷ 0 ∷ 1 ∷ 3 ∷ 3 ∷ 0 ∷ replicate 31 7) (replicate 5 0)
 
 pub not-followed : treeStep base loose (row.lookup 0 0) ≡ moved loose (refused 9)
 unfolding treeMove treeStep locate opening refusal fromRoot descend nodeOf slotsFrom part findFrom

@@ -7,7 +7,7 @@ use lib.Dec.{ltb, leb, eqb}
 use Rattle.model.specs.declared.shape.Kind.{Kind}
 use Rattle.model.specs.Lists.{Cause, refusal}
 use Rattle.model.specs.Node.{Node, half, lengths, start, minus, inserted, childSplit}
-use Rattle.model.specs.State.{State, nodeAt}
+use Rattle.model.specs.State.{State, nextStamp, nodeAt}
 use Rattle.model.specs.Climb.{climbUp, lastDown}
 use Rattle.model.specs.Locate.{servedBy, fromRoot}
 use Rattle.model.specs.Place as place
@@ -129,7 +129,7 @@ module _ (K : Kind) (s : State) where
   reset-fixed : (l : List ℕ) → Fixed s (calls.reset K s l .after)
   unfolding calls.reset calls.begun
   reset-fixed l = unless-fixed s (calls.makeCauses K (s .head .fan) (s .head .limit) l (s .leaves) (s .inners) (s .homes)) outcome.Refused
-      (calls.reply (calls.begun K (s .head .fan) (s .head .limit) l (s .leaves) (s .inners) (s .homes)) outcome.Done) (record { fan = refl; limit = refl })
+      (calls.reply (calls.begun K (s .head .fan) (s .head .limit) (nextStamp (s .head .stamp)) l (s .leaves) (s .inners) (s .homes)) outcome.Done) (record { fan = refl; limit = refl })
 
   end-fixed : (k : Leaf) → Fixed s (calls.endOf K s k .state)
   end-fixed (leaf.At k) = same s
@@ -173,7 +173,7 @@ module _ (K : Kind) (s : State) where
   split-entry-fixed : (c : Cursor) (l : List ℕ) (flag : Bool) → Fixed s (calls.splitEntry K s c l flag .after)
   unfolding calls.splitEntry
   split-entry-fixed c l flag = let r = place.divide (shapeOf K (s .head)) flag s (c .leaf .0) (c .slot) l in
-      let a = calls.dividedAt (s .head .entries) (r .leaf) (r .slot) in
+      let a = calls.dividedAt (s .head .entries) (nextStamp (s .head .stamp)) (r .leaf) (r .slot) in
       unless-fixed s (calls.splitCauses K s c l) divided.Refused (calls.settled s r divided.Refused a)
       (settled-fixed s r divided.Refused a (divide-fixed (shapeOf K (s .head)) flag s (c .leaf .0) (c .slot) l))
 

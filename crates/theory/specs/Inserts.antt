@@ -142,13 +142,13 @@ module _ (K : Kind) (ok : K .effect < K .views) (t : State) (w : Coherent K t) (
   abbrev rowCauses : List Cause
   rowCauses = row.past K (inserted i (newEntry (rowOf K t) l) (entriesOf K t)) ∷ row.full (rowOf K t) ∷ []
 
-  before-step : (c : Seat K t w i) → say (answer (sumBy (len (K .effect)) (front (c .cur)))) ≡ a → Agrees (Mirrors K) (call (target.Before (cursorAt (t .head .entries) (c .leaf) (c .slot)))) (unless (rowOf K t) rowCauses (inserted i (newEntry (rowOf K t) l) (entriesOf K t)) a)
+  before-step : (c : Seat K t w i) → say (answer (sumBy (len (K .effect)) (front (c .cur)))) ≡ a → Agrees (Mirrors K) (call (target.Before (cursorAt (t .head .stamp) (c .leaf) (c .slot)))) (unless (rowOf K t) rowCauses (inserted i (newEntry (rowOf K t) l) (entriesOf K t)) a)
   before-step c right =
-      insert-step K t w i l wl (target.Before (cursorAt (t .head .entries) (c .leaf) (c .slot))) (c .leaf) (c .slot) (front (c .cur)) (c .cur .e ∷ behind (c .cur)) (c .cur .row)
+      insert-step K t w i l wl (target.Before (cursorAt (t .head .stamp) (c .leaf) (c .slot))) (c .leaf) (c .slot) (front (c .cur)) (c .cur .e ∷ behind (c .cur)) (c .cur .row)
       (ap₂ (λ (b : List Entry) (n : ℕ). b ++ entry n l ∷ from i (entriesOf K t)) (before-is K t w i c) (count-is K t w) ∙ ap (λ (b : List Entry). map (entryFrom (K .views)) (front (c .cur)) ++ entry (t .head .entries) l ∷ b) (from-is K t w i c))
       refl
-      (few-lines K l _ lines ∙ ap refusal (append-assoc (opening K t) (atCursor K t (cursorAt (t .head .entries) (c .leaf) (c .slot))) (past K t [] l ∷ refuse′.full t ∷ []))
-      ∙ opens K t w (atCursor K t (cursorAt (t .head .entries) (c .leaf) (c .slot)) ++ past K t [] l ∷ refuse′.full t ∷ []) ∙ fresh-at K t w (c .leaf) (c .slot) (past K t [] l ∷ refuse′.full t ∷ []) (c .leaf-in) (c .slot-in))
+      (few-lines K l _ lines ∙ ap refusal (append-assoc (opening K t) (atCursor K t (cursorAt (t .head .stamp) (c .leaf) (c .slot))) (past K t [] l ∷ refuse′.full t ∷ []))
+      ∙ opens K t w (atCursor K t (cursorAt (t .head .stamp) (c .leaf) (c .slot)) ++ past K t [] l ∷ refuse′.full t ∷ []) ∙ fresh-at K t w (c .leaf) (c .slot) (past K t [] l ∷ refuse′.full t ∷ []) (c .leaf-in) (c .slot-in))
       (λ few tot. placed-is K t w (c .cur .A) (c .leaf) (c .cur .B) (c .cur .body) (c .slot) (let z = c .cur .inside in omega arith) (front (c .cur)) (c .cur .e ∷ behind (c .cur)) (c .cur .made) l wl few tot)
       refuse answer say a says right
 

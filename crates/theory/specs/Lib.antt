@@ -44,6 +44,7 @@ pub mod Fixed
 pub mod Spans
 pub mod Bare
 pub mod Printed
+pub mod Finds
 pub mod Refused
 pub mod Whole
 pub mod Tests
@@ -57,6 +58,11 @@ pub mod Current
 pub mod Cursors
 pub mod ByCursor
 pub mod WholeByCursor
+pub mod Stamps
+pub mod Twins
+pub mod Restamp
+pub mod AcrossReset
 pub mod Example
 pub mod ExampleByCursor
+pub mod ExampleStamps
 pub mod Widths

@@ -14,7 +14,7 @@ use Rattle.model.specs.Kind.{stride, tooManyLines}
 use Rattle.model.specs.declared.shape.Kind.{Kind}
 use Rattle.model.specs.Lists.{All, refusal}
 use Rattle.model.specs.Node.{Node, none, half, newNode}
-use Rattle.model.specs.State.{State, nodesFor, shape, nodeAt, putNode}
+use Rattle.model.specs.State.{State, nextStamp, nodesFor, shape, nodeAt, putNode}
 use Rattle.model.specs.Row as row
 use Rattle.model.specs.Row.{Entry, madeRow, rowMove}
 use Rattle.model.specs.Sound.{Coherent}
@@ -86,7 +86,7 @@ nodes-least fan limit = go (ltb (limit / half fan) 1) refl
     go true e = omega arith
     go false e = ltb-false (limit / half fan) 1 e
 
-module _ (K : Kind) (fan limit : ℕ) (l : List ℕ) (ls xs hs : List ℕ) (z : Sizes K fan limit ls xs hs) (small : Words K l) where
+module _ (K : Kind) (fan limit stamp : ℕ) (l : List ℕ) (ls xs hs : List ℕ) (z : Sizes K fan limit ls xs hs) (small : Words K l) where
   g : Shape
   g = shape (stride K) fan limit
 
@@ -107,7 +107,7 @@ module _ (K : Kind) (fan limit : ℕ) (l : List ℕ) (ls xs hs : List ℕ) (z : 
   lens-small v = rw (add-one v) (each-small 4294967296 l (omega arith) (small .small) v)
 
   abbrev start : State
-  start = begun K fan limit l ls xs hs
+  start = begun K fan limit stamp l ls xs hs
 
   fresh : Fresh (treeOf (stride K) start) (slotOf x) (slotOf x)
   unfolding begun g x
@@ -151,7 +151,7 @@ module _ (K : Kind) (fan limit : ℕ) (l : List ℕ) (ls xs hs : List ℕ) (z : 
   unfolding begun
   start-sound = sound-up (stride K) start (K .effect) neat (record { body = fresh-body (treeOf (stride K) start) (slotOf x) (slotOf x) fresh; finger = tt })
 
-  pub begun-stands : Mirrors K (begun K fan limit l ls xs hs) (madeRow limit l)
+  pub begun-stands : Mirrors K (begun K fan limit stamp l ls xs hs) (madeRow limit l)
   unfolding begun firsts x
   begun-stands = record { coherent = start-sound; entries = entries-are K start start-sound ∙ ap (map (entryFrom (K .views))) (fresh-row (treeOf (stride K) start) (slotOf x) (slotOf x) fresh) ∙ ap (λ (y : Entry). y ∷ []) (entry-is (K .views) x (ap suc (small .long))); limit = refl }
 
@@ -169,5 +169,5 @@ step-reset K t w l small few =
       home-area = w .home-area;
     } in
     subst (λ (r : calls.Reply Outcome). Agrees (Mirrors K) (told r outcomeAnswer) (rowMove K (rowOf K t) (row.reset l)))
-    (sym (passed (makeCauses K (h .fan) (h .limit) l (t .leaves) (t .inners) (t .homes)) (λ n. calls.reply t (outcome.Refused n)) (calls.reply (begun K (h .fan) (h .limit) l (t .leaves) (t .inners) (t .homes)) outcome.Done) (few-lines K l (areaCauses K (h .fan) (h .limit) (t .leaves) (t .inners) (t .homes)) few ∙ good-areas K t w [])))
-    (record { same = refl; kept = begun-stands K (h .fan) (h .limit) l (t .leaves) (t .inners) (t .homes) z small })
+    (sym (passed (makeCauses K (h .fan) (h .limit) l (t .leaves) (t .inners) (t .homes)) (λ n. calls.reply t (outcome.Refused n)) (calls.reply (begun K (h .fan) (h .limit) (nextStamp (h .stamp)) l (t .leaves) (t .inners) (t .homes)) outcome.Done) (few-lines K l (areaCauses K (h .fan) (h .limit) (t .leaves) (t .inners) (t .homes)) few ∙ good-areas K t w [])))
+    (record { same = refl; kept = begun-stands K (h .fan) (h .limit) (nextStamp (h .stamp)) l (t .leaves) (t .inners) (t .homes) z small })

@@ -92,14 +92,14 @@ module _ (K : Kind) (t : State) (w : Coherent K t) where
       )
 
   -- a cursor of now, at a slot in use
-  pub fresh : (k j : ℕ) (cs : List Cause) → k < t .head .leaves → j < leafIn (stride K) t k .len → refusal (stale K t (cursorAt (t .head .entries) k j) ++ cs) ≡ refusal cs
+  pub fresh : (k j : ℕ) (cs : List Cause) → k < t .head .leaves → j < leafIn (stride K) t k .len → refusal (stale K t (cursorAt (t .head .stamp) k j) ++ cs) ≡ refusal cs
   unfolding refusal
-  fresh k j cs lk lj = rw (eq-eqb (t .head .entries) (t .head .entries) refl, lt-leb (t .head .leaves) k lk, lt-leb (leafIn (stride K) t k .len) j lj)
+  fresh k j cs lk lj = rw (eq-eqb (t .head .stamp) (t .head .stamp) refl, lt-leb (t .head .leaves) k lk, lt-leb (leafIn (stride K) t k .len) j lj)
 
   -- nor is its leaf overfull
-  pub fresh-at : (k j : ℕ) (cs : List Cause) → k < t .head .leaves → j < leafIn (stride K) t k .len → refusal (atCursor K t (cursorAt (t .head .entries) k j) ++ cs) ≡ refusal cs
+  pub fresh-at : (k j : ℕ) (cs : List Cause) → k < t .head .leaves → j < leafIn (stride K) t k .len → refusal (atCursor K t (cursorAt (t .head .stamp) k j) ++ cs) ≡ refusal cs
   unfolding refusal
-  fresh-at k j cs lk lj = fresh k j (overfull K t (cursorAt (t .head .entries) k j) ∷ cs) lk lj ∙ rw (le-ltb (t .head .fan) (leafIn (stride K) t k .len) (w .leaf-filled k lk .high))
+  fresh-at k j cs lk lj = fresh k j (overfull K t (cursorAt (t .head .stamp) k j) ∷ cs) lk lj ∙ rw (le-ltb (t .head .fan) (leafIn (stride K) t k .len) (w .leaf-filled k lk .high))
 
   pub known : (i : ℕ) (cs : List Cause) → i < t .head .entries → refusal (noSuchId t i ∷ cs) ≡ refusal cs
   unfolding refusal
@@ -114,7 +114,7 @@ module _ (K : Kind) (t : State) (w : Coherent K t) where
     pub leaf : ℕ
     pub slot : ℕ
     pub cur : Cur (K .effect) (treeOf (stride K) t) i leaf slot
-    pub is : calls.cursor K t i ≡ standing.At (cursorAt (t .head .entries) leaf slot)
+    pub is : calls.cursor K t i ≡ standing.At (cursorAt (t .head .stamp) leaf slot)
     pub leaf-in : leaf < t .head .leaves
     pub slot-in : slot < leafIn (stride K) t leaf .len
 
@@ -124,7 +124,7 @@ module _ (K : Kind) (t : State) (w : Coherent K t) where
       let c : Cur (K .effect) (treeOf (stride K) t) i (getD (t .homes) i 0) (indexOf i (slotsOf (leafIn (stride K) t (getD (t .homes) i 0)))) = cur (K .effect) (treeOf (stride K) t) (sound-of (stride K) t (K .effect) w) i lt in
       (leaf-here (treeOf (stride K) t) (c .A) (getD (t .homes) i 0) (c .B) (above (treeOf (stride K) t)) (c .body), c .inside)
 
-  pub cursor-is : (i : ℕ) → i < t .head .entries → calls.cursor K t i ≡ standing.At (cursorAt (t .head .entries) (getD (t .homes) i 0) (indexOf i (slotsOf (leafIn (stride K) t (getD (t .homes) i 0)))))
+  pub cursor-is : (i : ℕ) → i < t .head .entries → calls.cursor K t i ≡ standing.At (cursorAt (t .head .stamp) (getD (t .homes) i 0) (indexOf i (slotsOf (leafIn (stride K) t (getD (t .homes) i 0)))))
   unfolding calls.cursor refusal
   cursor-is i lt =
       let k : ℕ = getD (t .homes) i 0 in

@@ -68,13 +68,13 @@ behind-all Q A k B h = All-right Q A (k ∷ B) h .1
 
 module _ (K : Kind) (t : State) (w : Coherent K t) where
   -- the id at a slot in use
-  pub id-at : (k j : ℕ) → k < t .head .leaves → j < leafIn (stride K) t k .len → calls.id K t (cursorAt (t .head .entries) k j) ≡ named.Entry (entryId (slotAt (treeOf (stride K) t) k j .child))
+  pub id-at : (k j : ℕ) → k < t .head .leaves → j < leafIn (stride K) t k .len → calls.id K t (cursorAt (t .head .stamp) k j) ≡ named.Entry (entryId (slotAt (treeOf (stride K) t) k j .child))
   unfolding calls.id refusal
   id-at k j lk lj =
       let n : Node = leafIn (stride K) t k in
       let td : Tidy (stride K) (t .head .fan) n = neat-of (stride K) t (K .effect) w .leaf-tidy k lk in
       let lu : j < length (used n) = (let y : length (slotsOf n) ≡ n .len = size-is (stride K) (t .head .fan) n td in let z : length (slotsOf n) ≡ length (used n) = length-map (used n) slotOf in omega arith) in
-      passed (opening K t ++ atCursor K t (cursorAt (t .head .entries) k j)) named.Refused _ (opens K t w (atCursor K t (cursorAt (t .head .entries) k j)) ∙ fresh-at K t w k j [] lk lj)
+      passed (opening K t ++ atCursor K t (cursorAt (t .head .stamp) k j)) named.Refused _ (opens K t w (atCursor K t (cursorAt (t .head .stamp) k j)) ∙ fresh-at K t w k j [] lk lj)
       ∙ ap (λ (x : ℕ). named.Entry (entryId x)) (ap child (slot-used (stride K) (t .head .fan) n td j [] lu) ∙ ap (λ (x : Slot). x .child) (sym (getD-slot (used n) j lu)))
 
   pub step-count : Agrees (Mirrors K) (treeMove K t row.count) (rowMove K (rowOf K t) row.count)
@@ -86,11 +86,11 @@ module _ (K : Kind) (t : State) (w : Coherent K t) where
     kept = own K t w;
   }
 
-  lengths-at : (i : ℕ) (c : Seat K t w i) → calls.lengthsOf K t (cursorAt (t .head .entries) (c .leaf) (c .slot)) ≡ done (row.lengthsOf i (entriesOf K t))
+  lengths-at : (i : ℕ) (c : Seat K t w i) → calls.lengthsOf K t (cursorAt (t .head .stamp) (c .leaf) (c .slot)) ≡ done (row.lengthsOf i (entriesOf K t))
   unfolding calls.lengthsOf refusal firsts
   lengths-at i c =
       let x : List ℕ = getD (leafIn (stride K) t (c .leaf) .slots) (c .slot) [] in
-      let cs : List Cause = atCursor K t (cursorAt (t .head .entries) (c .leaf) (c .slot)) in
+      let cs : List Cause = atCursor K t (cursorAt (t .head .stamp) (c .leaf) (c .slot)) in
       let e : entry (child x) (lengths x) ≡ entryFrom (K .views) (c .cur .e) = sym (entry-is (K .views) x (slot-long K t w i c)) ∙ ap (entryFrom (K .views)) (slot-is K t w i c) in
       passed (opening K t ++ cs) refused _ (opens K t w cs ∙ fresh-at K t w (c .leaf) (c .slot) [] (c .leaf-in) (c .slot-in))
       ∙ ap (λ (y : Entry). done (y .lengths)) e ∙ sym (ap (λ (l : List Entry). done (getD l 0 (entry i []) .lengths)) (from-is K t w i c))
@@ -123,9 +123,9 @@ module _ (K : Kind) (t : State) (w : Coherent K t) where
   step-rank v lv i = by-id K t w i (λ c. moved t (numberAnswer (calls.entryToCharIndex K t v c))) [] (entriesOf K t) (done (row.total v (before i (entriesOf K t)) ∷ []))
       (λ c. rw (row-passed (rowOf K t) [] (entriesOf K t) (done (row.total v (before i (entriesOf K t)) ∷ [])) refl) (record { same = at c; kept = own K t w }))
     where
-      at : (c : Seat K t w i) → numberAnswer (calls.entryToCharIndex K t v (cursorAt (t .head .entries) (c .leaf) (c .slot))) ≡ done (row.total v (before i (entriesOf K t)) ∷ [])
+      at : (c : Seat K t w i) → numberAnswer (calls.entryToCharIndex K t v (cursorAt (t .head .stamp) (c .leaf) (c .slot))) ≡ done (row.total v (before i (entriesOf K t)) ∷ [])
       at c =
-          let cs : List Cause = atCursor K t (cursorAt (t .head .entries) (c .leaf) (c .slot)) in
+          let cs : List Cause = atCursor K t (cursorAt (t .head .stamp) (c .leaf) (c .slot)) in
           let n : ℕ = sumBy (len v) (front (c .cur)) in
           let small : n % 2 ^ 32 ≡ n = (let z : n < 4294967296 = front-small i c v in omega arith) in
           ap numberAnswer (passed (opening K t ++ cs) number.Refused _ (opens K t w cs ∙ fresh-at K t w (c .leaf) (c .slot) [] (c .leaf-in) (c .slot-in)) ∙ ap calls.rankOf (rank-is i c v))
@@ -142,9 +142,9 @@ module _ (K : Kind) (t : State) (w : Coherent K t) where
       lj : 0 < leafIn (stride K) t (firstAt (treeOf (stride K) t .body .inner) (t .head .root .0) (t .head .levels)) .len
       lj = (let q = firstAt (treeOf (stride K) t .body .inner) (t .head .root .0) (t .head .levels) in let z = size-is (stride K) (t .head .fan) (leafIn (stride K) t q) (neat-of (stride K) t (K .effect) w .leaf-tidy q lq) in let y = body-of (stride K) t (K .effect) w .leaf-one q lq in omega arith)
 
-      at : calls.first K t ≡ standing.At (cursorAt (t .head .entries) (firstAt (treeOf (stride K) t .body .inner) (t .head .root .0) (t .head .levels)) 0)
+      at : calls.first K t ≡ standing.At (cursorAt (t .head .stamp) (firstAt (treeOf (stride K) t .body .inner) (t .head .root .0) (t .head .levels)) 0)
       at = passed (opening K t) standing.Refused _ (opens K t w [])
-          ∙ ap (calls.firstOf (t .head .entries)) (first-down (stride K) t (neat-of (stride K) t (K .effect) w) (body-of (stride K) t (K .effect) w) (t .head .levels) 0 (t .head .root .0) (let z : 0 + t .head .levels ≡ t .head .levels = omega arith in z) (record { before = []; after = []; row = refl })
+          ∙ ap (calls.firstOf (t .head .stamp)) (first-down (stride K) t (neat-of (stride K) t (K .effect) w) (body-of (stride K) t (K .effect) w) (t .head .levels) 0 (t .head .root .0) (let z : 0 + t .head .levels ≡ t .head .levels = omega arith in z) (record { before = []; after = []; row = refl })
           ∙ ap (λ (k : ℕ). leaf.At (leafNo k)) (first-top (treeOf (stride K) t .body .inner) (t .head .root .0) (t .head .levels)))
 
       whole : standingAnswer K t (calls.first K t) ≡ done (firstId (entriesOf K t) ∷ [])
@@ -152,10 +152,10 @@ module _ (K : Kind) (t : State) (w : Coherent K t) where
           ∙ ap (λ (n : ℕ). done (n ∷ [])) (first-in (treeOf (stride K) t) (body-of (stride K) t (K .effect) w) ∙ sym (first-entry (K .views) (tree.row (treeOf (stride K) t))) ∙ ap firstId (sym (entries-are K t w)))
 
   -- the entry after a seat
-  next-answer : (i : ℕ) (c : Seat K t w i) → nextAnswer K t (calls.nextAfter K t (cursorAt (t .head .entries) (c .leaf) (c .slot))) ≡ done (nextIn (treeOf (stride K) t) (c .leaf) (c .slot) ∷ [])
+  next-answer : (i : ℕ) (c : Seat K t w i) → nextAnswer K t (calls.nextAfter K t (cursorAt (t .head .stamp) (c .leaf) (c .slot))) ≡ done (nextIn (treeOf (stride K) t) (c .leaf) (c .slot) ∷ [])
   unfolding calls.nextAfter refusal
   next-answer i c =
-      ap (nextAnswer K t) (passed (opening K t ++ atCursor K t (cursorAt (t .head .entries) (c .leaf) (c .slot))) next.Refused _ (opens K t w (atCursor K t (cursorAt (t .head .entries) (c .leaf) (c .slot))) ∙ fresh-at K t w (c .leaf) (c .slot) [] (c .leaf-in) (c .slot-in)))
+      ap (nextAnswer K t) (passed (opening K t ++ atCursor K t (cursorAt (t .head .stamp) (c .leaf) (c .slot))) next.Refused _ (opens K t w (atCursor K t (cursorAt (t .head .stamp) (c .leaf) (c .slot))) ∙ fresh-at K t w (c .leaf) (c .slot) [] (c .leaf-in) (c .slot-in)))
       ∙ go (ltb (suc (c .slot)) (length (slotsOf (leafIn (stride K) t (c .leaf))))) refl
     where
       sz : length (slotsOf (leafIn (stride K) t (c .leaf))) ≡ leafIn (stride K) t (c .leaf) .len
@@ -168,14 +168,14 @@ module _ (K : Kind) (t : State) (w : Coherent K t) where
       leaves : All (λ q. q < t .head .leaves) (c .cur .B)
       leaves = behind-all (λ q. q < t .head .leaves) (c .cur .A) (c .leaf) (c .cur .B) (c .cur .body .leaf-in)
 
-      heads : (B : List ℕ) → All (λ q. q < t .head .leaves) B → nextAnswer K t (calls.nextOf (t .head .entries) (leafHead B)) ≡ done (leafFirst (treeOf (stride K) t) (follow.headOf B) ∷ [])
+      heads : (B : List ℕ) → All (λ q. q < t .head .leaves) B → nextAnswer K t (calls.nextOf (t .head .stamp) (leafHead B)) ≡ done (leafFirst (treeOf (stride K) t) (follow.headOf B) ∷ [])
       heads [] h = refl
       heads (q ∷ B) h =
           let lq : q < t .head .leaves = all-head (λ q. q < t .head .leaves) q B h in
           ap (λ (n : Named). idAnswer n []) (id-at q 0 lq (let z = size-is (stride K) (t .head .fan) (leafIn (stride K) t q) (neat-of (stride K) t (K .effect) w .leaf-tidy q lq) in let y = body-of (stride K) t (K .effect) w .leaf-one q lq in omega arith))
 
       go : (b : Bool) → ltb (suc (c .slot)) (length (slotsOf (leafIn (stride K) t (c .leaf)))) ≡ b
-          → nextAnswer K t (cond (ltb (c .slot + 1) (leafIn (stride K) t (c .leaf) .len)) (next.At (cursorAt (t .head .entries) (c .leaf) (c .slot + 1))) (calls.nextOf (t .head .entries) (nextUp (shapeIn (stride K) t) (t .head .levels) 0 (leafIn (stride K) t (c .leaf) .parent) (leafIn (stride K) t (c .leaf) .at) (t .inners))))
+          → nextAnswer K t (cond (ltb (c .slot + 1) (leafIn (stride K) t (c .leaf) .len)) (next.At (cursorAt (t .head .stamp) (c .leaf) (c .slot + 1))) (calls.nextOf (t .head .stamp) (nextUp (shapeIn (stride K) t) (t .head .levels) 0 (leafIn (stride K) t (c .leaf) .parent) (leafIn (stride K) t (c .leaf) .at) (t .inners))))
           ≡ done (nextIn (treeOf (stride K) t) (c .leaf) (c .slot) ∷ [])
       go true q =
           let lt : suc (c .slot) < leafIn (stride K) t (c .leaf) .len = (let z = ltb-true (suc (c .slot)) (length (slotsOf (leafIn (stride K) t (c .leaf)))) q in omega (arith, sz)) in

@@ -1,20 +1,20 @@
 -- What a call leaves where it is refused (document 01, demand 1), on any words, sound or not: a number other than 0 and 9 leaves the tree,
 -- 9 leaves the head, and every area is as long as it was in any case. Assumes nothing.
 use mathlib.Core.Path.{_≡_, refl, ap, _∙_}
-use mathlib.Core.Bool.{Bool, true, false, cond, _&&_, _||_}
+use mathlib.Core.Bool.{Bool, true, false, cond, _||_}
 use mathlib.Core.List.{List, [], _∷_, _++_}
-use Prim.Native.Nat.{ℕ, _+_, _-_, _*_, _^_, _≤_, _<_}
+use Prim.Native.Nat.{ℕ, _+_, _-_, _*_, _^_, _<_}
 use native.Mathlib.Omega.{arith}
 use lib.Dec.{ltb, leb, eqb}
-use lib.ListN.{length, drop, length-set}
-use borrow.Author.Tests.{ltb-true, ltb-false, leb-true, leb-false, eqb-true, eqb-false, eq-eqb, lt-leb, le-ltb}
+use lib.ListN.{length, length-set}
+use borrow.Author.Tests.{ltb-false, leb-false, eqb-true, eqb-false, eq-eqb, lt-leb, le-ltb}
 use Rattle.model.specs.Kind.{stride, tooManyLines}
 use Rattle.model.specs.declared.shape.Kind.{Kind}
 use Rattle.model.specs.Lists.{Cause, refusal, All}
-use Rattle.model.specs.Node.{none, child, lengths, used, findFrom, newNode, minus, wrap}
-use Rattle.model.specs.State.{State, state, headOf, shape, nodeAt}
+use Rattle.model.specs.Node.{none, child, lengths, newNode, minus, wrap}
+use Rattle.model.specs.State.{State, state, headOf, nextStamp, shape, nodeAt}
 use Rattle.model.specs.Climb.{lastDown}
-use Rattle.model.specs.Locate.{back, movedTo, walked, served, servedBy, descend, setIn, leafOf, fromRoot, effectAt, prepareAt}
+use Rattle.model.specs.Locate.{servedBy, fromRoot, effectAt, prepareAt}
 use Rattle.model.specs.Place as place
 use Rattle.model.specs.Place.{Change}
 use Rattle.model.specs.Grow.{areas}
@@ -28,16 +28,11 @@ use Rattle.model.specs.Calls as calls
 use Rattle.model.specs.Calls.{Reply}
 use Rattle.model.specs.Promise.{Words, InWords, Leaves, Refusals, Made, Demand1}
 use Rattle.model.specs.declared.shape.Shape.{Shape}
-use Rattle.model.specs.declared.shape.Found.{Found}
-use Rattle.model.specs.declared.shape.Found.the-variants.{At, Nothing}
 use Rattle.model.specs.declared.head.Cursor.{Cursor}
 use Rattle.model.specs.declared.head.Finger.{Finger}
-use Rattle.model.specs.declared.head.Held.{Held}
 use Rattle.model.specs.declared.head.Held.the-variants as held
 use Rattle.model.specs.declared.way.Leaf.{Leaf}
 use Rattle.model.specs.declared.way.Leaf.the-variants as leaf
-use Rattle.model.specs.declared.way.Descent.{Descent}
-use Rattle.model.specs.declared.way.Descent.the-variants as descent
 use Rattle.model.specs.declared.way.Search.{Search}
 use Rattle.model.specs.declared.way.Search.the-variants as search
 use Rattle.model.specs.declared.answer.Target.{Target}
@@ -54,8 +49,6 @@ use Rattle.model.specs.declared.answer.Inserted.the-variants as inserted
 use Rattle.model.specs.declared.answer.Divided.{Divided}
 use Rattle.model.specs.declared.answer.Divided.the-variants as divided
 use Rattle.laws.specs.Lists.{length-zip}
-use Rattle.laws.specs.Find.{used-ranged}
-use Rattle.laws.specs.Locate.{back-slot}
 use Rattle.laws.specs.Lens.{by-test, Roomy}
 use Rattle.laws.specs.Formed.{formed-new}
 use Rattle.theory.specs.Open.{passed, clear}
@@ -63,6 +56,7 @@ use Rattle.theory.specs.Make.{Sizes, sizes-of, nodes-least}
 use Rattle.theory.specs.Fixed.{fixes}
 use Rattle.theory.specs.Bare.{bares}
 use Rattle.theory.specs.Printed.{print-leaves}
+use Rattle.theory.specs.Finds.{Seen, Finds, held-finds, root-finds}
 use Rattle.theory.specs.Spans.{Left, Holds, put-leaf, put-inner, place-left, divide-left, replace-left, climb-left, leaf-slot}
 
 unmoved : (n : ℕ) (s : State) → Leaves n s s
@@ -90,10 +84,6 @@ few K l cs e = clear 10 (tooManyLines K l) cs (λ z. omega arith) e .1
 neither : (a b : Bool) → (a || b) ≡ false → (a ≡ false) × (b ≡ false)
 neither true b e = absurd (let z : _≡_ {A = ℕ} 0 1 = cc in omega arith)
 neither false b e = (refl, e)
-
-every : (a b : Bool) → (a && b) ≡ true → (a ≡ true) × (b ≡ true)
-every true b e = (refl, e)
-every false b e = absurd (let z : _≡_ {A = ℕ} 0 1 = cc in omega arith)
 
 module _ (K : Kind) (s : State) where
   abbrev g : Shape
@@ -160,10 +150,10 @@ module _ {A : Type 0} (f : A → Answer) (refuse : ℕ → A) (told : (n : ℕ) 
 -- make, and every call by cursor that leaves a tree: the others only read, and give none back
 module _ (K : Kind) (s : State) where
   -- one leaf and one inner node are written
-  begun-spans : (fan limit : ℕ) (l ls xs hs : List ℕ) → Sizes K fan limit ls xs hs → Words K l
-      → (length (calls.begun K fan limit l ls xs hs .leaves) ≡ length ls) × (length (calls.begun K fan limit l ls xs hs .inners) ≡ length xs) × (length (calls.begun K fan limit l ls xs hs .homes) ≡ length hs)
+  begun-spans : (fan limit stamp : ℕ) (l ls xs hs : List ℕ) → Sizes K fan limit ls xs hs → Words K l
+      → (length (calls.begun K fan limit stamp l ls xs hs .leaves) ≡ length ls) × (length (calls.begun K fan limit stamp l ls xs hs .inners) ≡ length xs) × (length (calls.begun K fan limit stamp l ls xs hs .homes) ≡ length hs)
   unfolding calls.begun All
-  begun-spans fan limit l ls xs hs z w =
+  begun-spans fan limit stamp l ls xs hs z w =
       let r : Roomy (shape (stride K) fan limit) (areas ls xs) = record { words = refl; columns = omega arith; slots = z .fan-low; leaves = z .leaf-area; inners = z .inner-area } in
       let n = nodes-least fan limit in
       let e = w .long in (
@@ -176,9 +166,9 @@ module _ (K : Kind) (s : State) where
   unfolding calls.reset
   reset-leaves l w =
       let h = s .head in
-      unless-leaves outcomeAnswer outcome.Refused (λ n. refl) s (calls.makeCauses K (h .fan) (h .limit) l (s .leaves) (s .inners) (s .homes)) (calls.reply (calls.begun K (h .fan) (h .limit) l (s .leaves) (s .inners) (s .homes)) outcome.Done)
-      (λ e. let b = begun-spans (h .fan) (h .limit) l (s .leaves) (s .inners) (s .homes) (sizes-of K (h .fan) (h .limit) (s .leaves) (s .inners) (s .homes) (few K l _ e)) w in
-      finished 0 s (calls.begun K (h .fan) (h .limit) l (s .leaves) (s .inners) (s .homes)) refl (b .0) (b .1) (b .2))
+      unless-leaves outcomeAnswer outcome.Refused (λ n. refl) s (calls.makeCauses K (h .fan) (h .limit) l (s .leaves) (s .inners) (s .homes)) (calls.reply (calls.begun K (h .fan) (h .limit) (nextStamp (h .stamp)) l (s .leaves) (s .inners) (s .homes)) outcome.Done)
+      (λ e. let b = begun-spans (h .fan) (h .limit) (nextStamp (h .stamp)) l (s .leaves) (s .inners) (s .homes) (sizes-of K (h .fan) (h .limit) (s .leaves) (s .inners) (s .homes) (few K l _ e)) w in
+      finished 0 s (calls.begun K (h .fan) (h .limit) (nextStamp (h .stamp)) l (s .leaves) (s .inners) (s .homes)) refl (b .0) (b .1) (b .2))
 
   end-left : (k : Leaf) → Left s (calls.endOf K s k .number) (calls.endOf K s k .state)
   end-left (leaf.At k) = record { ends = λ z. absurd (z refl); leaves = refl; inners = refl; homes = refl }
@@ -229,7 +219,7 @@ module _ (K : Kind) (s : State) where
   split-leaves : (c : Cursor) (l : List ℕ) (flag : Bool) → Words K l → Leaves (dividedAnswer (calls.splitEntry K s c l flag .answer) .number) s (calls.splitEntry K s c l flag .after)
   unfolding calls.splitEntry opening
   split-leaves c l flag w = let r = place.divide (shapeOf K (s .head)) flag s (c .leaf .0) (c .slot) l in
-      let a = calls.dividedAt (s .head .entries) (r .leaf) (r .slot) in
+      let a = calls.dividedAt (s .head .entries) (nextStamp (s .head .stamp)) (r .leaf) (r .slot) in
       unless-leaves dividedAnswer divided.Refused (λ m. refl) s (calls.splitCauses K s c l) (calls.settled s r divided.Refused a)
       (λ e. settled-leaves dividedAnswer divided.Refused (λ m. refl) s r a refl (divide-left (shapeOf K (s .head)) flag s (c .leaf .0) (c .slot) l (opened K s (atCursor K s c ++ tooMuch K l (lengths (calls.slotAt K s c)) ∷ full s ∷ []) (few K l _ e) .0) (let z = w .long in omega arith)))
 
@@ -278,85 +268,18 @@ module _ (K : Kind) (s : State) where
   id-number (divided.At i a b) = refl
   id-number (divided.Refused n) = refl
 
-  -- a lookup's id ---------------------------------------------------------------------------------------------------------------------------
-
-  -- the finger that a search finds stands at a slot in use of a leaf in use
-  record Seen (f : Finger) : Type 0 where
-    leaf : f .leaf < s .head .leaves
-    filled : nodeAt (shapeOf K (s .head)) (f .leaf) (s .leaves) .len ≤ s .head .fan
-    slot : f .slot < nodeAt (shapeOf K (s .head)) (f .leaf) (s .leaves) .len
-
-  abbrev Finds : Search → Type 0
-  Finds (search.At f offset) = Seen f
-  Finds search.Nothing = Unit {0}
-  Finds search.Broken = Unit {0}
-
-  module _ (v : ℕ) where
-    moved-finds : (f : Finger) (index : ℕ) (r : Found) → f .leaf < s .head .leaves → nodeAt (shapeOf K (s .head)) (f .leaf) (s .leaves) .len ≤ s .head .fan
-        → ((j o t u : ℕ) → r ≡ At j o t u → j < nodeAt (shapeOf K (s .head)) (f .leaf) (s .leaves) .len) → Finds (movedTo v (K .effect) f index r)
-    moved-finds f index (At j o t u) a b c = record { leaf = a; filled = b; slot = c j o t u refl }
-    moved-finds f index Nothing a b c = tt
-
-    walked-finds : (f : Finger) (index : ℕ) → f .leaf < s .head .leaves → nodeAt (shapeOf K (s .head)) (f .leaf) (s .leaves) .len ≤ s .head .fan → f .slot < nodeAt (shapeOf K (s .head)) (f .leaf) (s .leaves) .len
-        → Finds (walked v (K .effect) f index (used (nodeAt (shapeOf K (s .head)) (f .leaf) (s .leaves))))
-    unfolding walked
-    walked-finds f index a b c =
-        let slots = used (nodeAt (shapeOf K (s .head)) (f .leaf) (s .leaves)) in
-        let d = back v (K .effect) slots index (f .slot) (f .within) (f .«effect_within») (f .«prepare_within») in
-        let le : d .slot ≤ f .slot = back-slot v (K .effect) slots index (f .slot) (f .within) (f .«effect_within») (f .«prepare_within») in
-        by-test Finds (ltb index (d .within)) search.Broken (movedTo v (K .effect) f index (findFrom v (K .effect) (d .slot) (index - d .within) (d .effectWithin) (d .prepareWithin) (drop (d .slot) slots))) (λ _. tt)
-        (λ _. moved-finds f index (findFrom v (K .effect) (d .slot) (index - d .within) (d .effectWithin) (d .prepareWithin) (drop (d .slot) slots)) a b
-        (λ j o t u q. let z = used-ranged (shapeOf K (s .head)) v (K .effect) (f .leaf) (d .slot) (index - d .within) (d .effectWithin) (d .prepareWithin) (s .leaves) b (omega arith) .slot j o t u q in omega arith))
-
-    served-finds : (f : Finger) (x : ℕ) → Finds (served v (K .effect) (shapeOf K (s .head)) f (s .head .leaves) x (s .leaves))
-    unfolding served
-    served-finds f x =
-        let m = nodeAt (shapeOf K (s .head)) (f .leaf) (s .leaves) in
-        by-test Finds (eqb (f .view) v && leb (f .start) x) _ search.Nothing
-        (λ _. by-test Finds (ltb (f .leaf) (s .head .leaves) && leb (m .len) (s .head .fan) && ltb (f .slot) (m .len)) (walked v (K .effect) f (x - f .start) (used m)) search.Broken
-        (λ e. let t = every (ltb (f .leaf) (s .head .leaves) && leb (m .len) (s .head .fan)) (ltb (f .slot) (m .len)) e in
-        let u = every (ltb (f .leaf) (s .head .leaves)) (leb (m .len) (s .head .fan)) (t .0) in
-        walked-finds f (x - f .start) (ltb-true (f .leaf) (s .head .leaves) (u .0)) (leb-true (m .len) (s .head .fan) (u .1)) (ltb-true (f .slot) (m .len) (t .1)))
-        (λ _. tt))
-        (λ _. tt)
-
-    held-finds : (h : Held) (x : ℕ) → Finds (servedBy v (K .effect) (shapeOf K (s .head)) h (s .head .leaves) x (s .leaves))
-    held-finds held.Absent x = tt
-    held-finds (held.At f) x = served-finds f x
-
-    set-finds : (k index rest n p : ℕ) (r : Found) → k < s .head .leaves → nodeAt (shapeOf K (s .head)) k (s .leaves) .len ≤ s .head .fan
-        → ((j o t u : ℕ) → r ≡ At j o t u → j < nodeAt (shapeOf K (s .head)) k (s .leaves) .len) → Finds (setIn v (K .effect) (shapeOf K (s .head)) k index rest n p r)
-    set-finds k index rest n p (At j o t u) a b c = record { leaf = a; filled = b; slot = c j o t u refl }
-    set-finds k index rest n p Nothing a b c = tt
-
-    leaf-finds : (x : ℕ) (d : Descent) → Finds (leafOf v (K .effect) (shapeOf K (s .head)) (s .head .leaves) x (s .leaves) d)
-    leaf-finds x (descent.At k rest n p) =
-        let m = nodeAt (shapeOf K (s .head)) (k .0) (s .leaves) in
-        by-test Finds (ltb (k .0) (s .head .leaves) && leb (m .len) (s .head .fan)) (setIn v (K .effect) (shapeOf K (s .head)) (k .0) x rest n p (findFrom v (K .effect) 0 rest 0 0 (used m))) search.Broken
-        (λ e. let t = every (ltb (k .0) (s .head .leaves)) (leb (m .len) (s .head .fan)) e in
-        let b = leb-true (m .len) (s .head .fan) (t .1) in
-        set-finds (k .0) x rest n p (findFrom v (K .effect) 0 rest 0 0 (used m)) (ltb-true (k .0) (s .head .leaves) (t .0)) b
-        (λ j o t u q. let z = used-ranged (shapeOf K (s .head)) v (K .effect) (k .0) 0 rest 0 0 (s .leaves) b (omega arith) .slot j o t u q in omega arith))
-        (λ _. tt)
-    leaf-finds x descent.Nothing = tt
-    leaf-finds x descent.Broken = tt
-
-    root-finds : (x : ℕ) → Finds (fromRoot v (K .effect) (shapeOf K (s .head)) (s .head .levels) (s .head .root .0) (s .head .leaves) x (s .leaves) (s .inners))
-    unfolding fromRoot
-    root-finds x = leaf-finds x (descend v (K .effect) (shapeOf K (s .head)) descent.Nothing (s .head .levels) (s .head .root .0) x 0 0 (s .inners))
-
-  -- so its id is read
-  id-read : (f : Finger) (offset : ℕ) (vs : List ℕ) → refusal (opening K s) ≡ 0 → Seen f
-      → byId.idAnswer (calls.id K (calls.hit s f offset .after) (calls.cursorAt (s .head .entries) (f .leaf) (f .slot))) vs .number ≡ 0
+  -- a finger found stands at a slot in use, so its id is read
+  id-read : (f : Finger) (offset : ℕ) (vs : List ℕ) → refusal (opening K s) ≡ 0 → Seen K s f
+      → byId.idAnswer (calls.id K (calls.hit s f offset .after) (calls.cursorAt (s .head .stamp) (f .leaf) (f .slot))) vs .number ≡ 0
   unfolding calls.id opening refusal
   id-read f offset vs e h =
       let t = calls.hit s f offset .after in
-      let c = calls.cursorAt (s .head .entries) (f .leaf) (f .slot) in
+      let c = calls.cursorAt (s .head .stamp) (f .leaf) (f .slot) in
       let n = nodeAt (shapeOf K (s .head)) (f .leaf) (s .leaves) .len in
-      let at : refusal (atCursor K t c) ≡ 0 = rw (eq-eqb (s .head .entries) (s .head .entries) refl, lt-leb (s .head .leaves) (f .leaf) (h .leaf), lt-leb n (f .slot) (h .slot), le-ltb (s .head .fan) n (h .filled)) in
+      let at : refusal (atCursor K t c) ≡ 0 = rw (eq-eqb (s .head .stamp) (s .head .stamp) refl, lt-leb (s .head .leaves) (f .leaf) (h .leaf), lt-leb n (f .slot) (h .slot), le-ltb (s .head .fan) n (h .filled)) in
       ap (λ (a : Named). byId.idAnswer a vs .number) (passed (opening K t ++ atCursor K t c) named.Refused (named.Entry (calls.entryId (child (calls.slotAt K t c)))) (none-more (opening K t) (atCursor K t c) e at))
 
-  found-leaves : (a b : Search) → refusal (opening K s) ≡ 0 → Finds a → Finds b
+  found-leaves : (a b : Search) → refusal (opening K s) ≡ 0 → Finds K s a → Finds K s b
       → Leaves (byId.locatedAnswer K (calls.byFinger s a b .after) (calls.byFinger s a b .answer) .number) s (calls.byFinger s a b .after)
   found-leaves (search.At f offset) b e h k = finished _ s (calls.hit s f offset .after) (id-read f offset (offset ∷ effectAt f ∷ prepareAt f ∷ []) e h) refl refl refl
   found-leaves search.Nothing (search.At f offset) e h k = finished _ s (calls.hit s f offset .after) (id-read f offset (offset ∷ effectAt f ∷ prepareAt f ∷ []) e k) refl refl refl
@@ -370,7 +293,7 @@ module _ (K : Kind) (s : State) where
       let h = s .head in
       by-test (λ (r : Reply Located). Leaves (byId.locatedAnswer K (r .after) (r .answer) .number) s (r .after)) (eqb (refusal (opening K s)) 0) _ _
       (λ e. found-leaves (servedBy v (K .effect) (shapeOf K h) (h .finger) (h .leaves) x (s .leaves)) (fromRoot v (K .effect) (shapeOf K h) (h .levels) (h .root .0) (h .leaves) x (s .leaves) (s .inners))
-      (eqb-true _ _ e) (held-finds v (h .finger) x) (root-finds v x))
+      (eqb-true _ _ e) (held-finds K s v (h .finger) x) (root-finds K s v x))
       (λ _. unmoved (refusal (opening K s)) s)
 
   move-leaves : (c : Call) → InWords K c → Leaves (treeMove K s c .answer .number) s (treeMove K s c .after)
@@ -415,7 +338,7 @@ make-leaves K fan limit l ls xs hs w = go (eqb (refusal (calls.makeCauses K fan 
   where
     go : (b : Bool) → eqb (refusal (calls.makeCauses K fan limit l ls xs hs)) 0 ≡ b → Made K fan limit l ls xs hs
     go true e =
-        let b = begun-spans K (state (headOf 0 0 0 0 0 0 0 held.Absent) ls xs hs) fan limit l ls xs hs (sizes-of K fan limit ls xs hs (few K l _ (eqb-true _ _ e))) w in
+        let b = begun-spans K (state (headOf 0 0 0 0 0 0 0 0 held.Absent) ls xs hs) fan limit 1 l ls xs hs (sizes-of K fan limit ls xs hs (few K l _ (eqb-true _ _ e))) w in
         record { refused = rw e (λ d. absurd (d refl)); leaves = rw e (b .0); inners = rw e (b .1); homes = rw e (b .2) }
     go false e = record { refused = rw e (λ d. refl); leaves = rw e refl; inners = rw e refl; homes = rw e refl }
 

@@ -239,7 +239,7 @@ module _ (K : Kind) (t : State) (w : Coherent K t) (i : ℕ) (c : Seat K t w i) 
     stands′ = record { coherent = sound′; entries = entries′; limit = refl }
 
   -- the change as the call makes it
-  resized-is : resized K t (cursorAt (t .head .entries) (c .leaf) (c .slot)) l ≡ (change 0 state′ (c .leaf) (c .slot), sumBy (len (K .effect)) (front (c .cur)))
+  resized-is : resized K t (cursorAt (t .head .stamp) (c .leaf) (c .slot)) l ≡ (change 0 state′ (c .leaf) (c .slot), sumBy (len (K .effect)) (front (c .cur)))
   unfolding climb replace state′ leaves′ node′ x delta
   resized-is =
       let g = shapeIn (stride K) t in
@@ -253,41 +253,41 @@ module _ (K : Kind) (t : State) (w : Coherent K t) (i : ℕ) (c : Seat K t w i) 
       ∙ ap (λ (m : ℕ). (change 0 (state (r .state .head) (r .state .leaves) (carried .words) (r .state .homes)) (c .leaf) (c .slot), m)) small
 
   -- the causes of both calls come to the same
-  resize-causes : refusal (resizeCauses K t (cursorAt (t .head .entries) (c .leaf) (c .slot)) l) ≡ refusal (row.past K (changed i l (entriesOf K t)) ∷ [])
+  resize-causes : refusal (resizeCauses K t (cursorAt (t .head .stamp) (c .leaf) (c .slot)) l) ≡ refusal (row.past K (changed i l (entriesOf K t)) ∷ [])
   unfolding refusal x
   resize-causes =
-      few-lines K l (opening K t ++ atCursor K t (cursorAt (t .head .entries) (c .leaf) (c .slot)) ++ past K t (lengths x) l ∷ []) lines
-      ∙ ap refusal (append-assoc (opening K t) (atCursor K t (cursorAt (t .head .entries) (c .leaf) (c .slot))) (past K t (lengths x) l ∷ []))
-      ∙ opens K t w (atCursor K t (cursorAt (t .head .entries) (c .leaf) (c .slot)) ++ past K t (lengths x) l ∷ []) ∙ fresh-at K t w (c .leaf) (c .slot) (past K t (lengths x) l ∷ []) (c .leaf-in) (c .slot-in)
+      few-lines K l (opening K t ++ atCursor K t (cursorAt (t .head .stamp) (c .leaf) (c .slot)) ++ past K t (lengths x) l ∷ []) lines
+      ∙ ap refusal (append-assoc (opening K t) (atCursor K t (cursorAt (t .head .stamp) (c .leaf) (c .slot))) (past K t (lengths x) l ∷ []))
+      ∙ opens K t w (atCursor K t (cursorAt (t .head .stamp) (c .leaf) (c .slot)) ++ past K t (lengths x) l ∷ []) ∙ fresh-at K t w (c .leaf) (c .slot) (past K t (lengths x) l ∷ []) (c .leaf-in) (c .slot-in)
       ∙ ap (λ (b : Bool). cond b 7 0) past-is
 
   -- a call that answers A, where the row answers a
   module _ {A : Type 0} (refuse : ℕ → A) (answer : ℕ → A) (say : A → Answer) (a : Answer) (says : (n : ℕ) → say (refuse n) ≡ refused n) (right : say (answer (sumBy (len (K .effect)) (front (c .cur)))) ≡ a) where
     resize-step : Agrees (Mirrors K)
-        (told (calls.unless (resizeCauses K t (cursorAt (t .head .entries) (c .leaf) (c .slot)) l) (λ n. calls.reply t (refuse n))
-        (calls.settled t (resized K t (cursorAt (t .head .entries) (c .leaf) (c .slot)) l .0) refuse (answer (resized K t (cursorAt (t .head .entries) (c .leaf) (c .slot)) l .1)))) say)
+        (told (calls.unless (resizeCauses K t (cursorAt (t .head .stamp) (c .leaf) (c .slot)) l) (λ n. calls.reply t (refuse n))
+        (calls.settled t (resized K t (cursorAt (t .head .stamp) (c .leaf) (c .slot)) l .0) refuse (answer (resized K t (cursorAt (t .head .stamp) (c .leaf) (c .slot)) l .1)))) say)
         (unless (rowOf K t) (row.past K (changed i l (entriesOf K t)) ∷ []) (changed i l (entriesOf K t)) a)
     unfolding refusal
     resize-step = go (some (λ v. ltb 4294967295 (row.total v (changed i l (entriesOf K t)))) (viewsOf K)) refl
       where
         cs : List Cause
-        cs = resizeCauses K t (cursorAt (t .head .entries) (c .leaf) (c .slot)) l
+        cs = resizeCauses K t (cursorAt (t .head .stamp) (c .leaf) (c .slot)) l
 
         go : (b : Bool) → some (λ v. ltb 4294967295 (row.total v (changed i l (entriesOf K t)))) (viewsOf K) ≡ b → Agrees (Mirrors K)
-            (told (calls.unless (resizeCauses K t (cursorAt (t .head .entries) (c .leaf) (c .slot)) l) (λ n. calls.reply t (refuse n))
-            (calls.settled t (resized K t (cursorAt (t .head .entries) (c .leaf) (c .slot)) l .0) refuse (answer (resized K t (cursorAt (t .head .entries) (c .leaf) (c .slot)) l .1)))) say)
+            (told (calls.unless (resizeCauses K t (cursorAt (t .head .stamp) (c .leaf) (c .slot)) l) (λ n. calls.reply t (refuse n))
+            (calls.settled t (resized K t (cursorAt (t .head .stamp) (c .leaf) (c .slot)) l .0) refuse (answer (resized K t (cursorAt (t .head .stamp) (c .leaf) (c .slot)) l .1)))) say)
             (unless (rowOf K t) (row.past K (changed i l (entriesOf K t)) ∷ []) (changed i l (entriesOf K t)) a)
         go true q =
             let e : refusal (row.past K (changed i l (entriesOf K t)) ∷ []) ≡ 7 = ap (λ (b : Bool). cond b 7 0) q in
             rw (
-              stopped cs (λ n. calls.reply t (refuse n)) (calls.settled t (resized K t (cursorAt (t .head .entries) (c .leaf) (c .slot)) l .0) refuse (answer (resized K t (cursorAt (t .head .entries) (c .leaf) (c .slot)) l .1))) 6 (resize-causes ∙ e),
+              stopped cs (λ n. calls.reply t (refuse n)) (calls.settled t (resized K t (cursorAt (t .head .stamp) (c .leaf) (c .slot)) l .0) refuse (answer (resized K t (cursorAt (t .head .stamp) (c .leaf) (c .slot)) l .1))) 6 (resize-causes ∙ e),
               row-stopped (rowOf K t) (row.past K (changed i l (entriesOf K t)) ∷ []) (changed i l (entriesOf K t)) a 6 e,
             )
             (record { same = says 7; kept = own K t w })
         go false q =
             let e : refusal (row.past K (changed i l (entriesOf K t)) ∷ []) ≡ 0 = ap (λ (b : Bool). cond b 7 0) q in
             rw (
-              passed cs (λ n. calls.reply t (refuse n)) (calls.settled t (resized K t (cursorAt (t .head .entries) (c .leaf) (c .slot)) l .0) refuse (answer (resized K t (cursorAt (t .head .entries) (c .leaf) (c .slot)) l .1))) (resize-causes ∙ e),
+              passed cs (λ n. calls.reply t (refuse n)) (calls.settled t (resized K t (cursorAt (t .head .stamp) (c .leaf) (c .slot)) l .0) refuse (answer (resized K t (cursorAt (t .head .stamp) (c .leaf) (c .slot)) l .1))) (resize-causes ∙ e),
               row-passed (rowOf K t) (row.past K (changed i l (entriesOf K t)) ∷ []) (changed i l (entriesOf K t)) a e,
               resized-is,
             )

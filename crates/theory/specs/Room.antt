@@ -32,7 +32,7 @@ use Rattle.theory.specs.Leaf.{parted-is}
 
 -- a state that differs from t in the nodes and the counts of nodes only
 abbrev pub grownState : State → ℕ → ℕ → ℕ → ℕ → List ℕ → List ℕ → List ℕ → State
-grownState t root levels leaves inners ls xs hs = state (headOf (t .head .fan) (t .head .limit) root levels leaves inners (t .head .entries) (t .head .finger)) ls xs hs
+grownState t root levels leaves inners ls xs hs = state (headOf (t .head .fan) (t .head .limit) root levels leaves inners (t .head .entries) (t .head .stamp) (t .head .finger)) ls xs hs
 
 -- a full leaf is split, and the slot is one of a half
 full-room : (T : Tree) (k i : ℕ) → T .fan ≤ length (leafSlots T k) → makeRoom T k i ≡ (let low : Bool = ltb i (half (T .fan)) in spot (splitFull T k) (cond low k (T .leaves)) (cond low i (i - half (T .fan))))

@@ -14,7 +14,7 @@ use Rattle.model.specs.Kind.{stride, viewsOf, tooManyLines}
 use Rattle.model.specs.declared.shape.Kind.{Kind}
 use Rattle.model.specs.Lists.{sumBy, some, Cause, refusal}
 use Rattle.model.specs.Node.{Node, lengths, lengthIn, used, childSplit}
-use Rattle.model.specs.State.{State}
+use Rattle.model.specs.State.{State, nextStamp}
 use Rattle.model.specs.Locate.{changing}
 use Rattle.model.specs.Place as place
 use Rattle.model.specs.Place.{change, enter}
@@ -68,10 +68,10 @@ two-parts : (flag : Bool) (e : Slot) (u : ℕ → ℕ) (n : ℕ) (S : List Slot)
 two-parts true e u n S = omega arith
 two-parts false e u n S = omega arith
 
--- a sound state in which a divided entry's parts stand in slot j of leaf k and in the slot after it; n is the new id
-pub record TwoParts (K : Kind) (flag : Bool) (i n : ℕ) (s : State) (k j : ℕ) : Type 0 where
+-- a sound state in which a divided entry's parts stand in slot j of leaf k and in the slot after it; n is the new id, m the stamp
+pub record TwoParts (K : Kind) (flag : Bool) (i n m : ℕ) (s : State) (k j : ℕ) : Type 0 where
   pub sound : Coherent K s
-  pub count : s .head .entries ≡ n + 1
+  pub stamp : s .head .stamp ≡ m
   pub leaf-in : k < s .head .leaves
   pub slot-in : j + 1 < leafIn (stride K) s k .len
   pub first : slotAt (treeOf (stride K) s) k j .child ≡ cond flag n i
@@ -196,7 +196,7 @@ module _ (K : Kind) (t : State) (w : Coherent K t) (i : ℕ) (c : Seat K t w i) 
     unfolding t₃ m₂ leafWith x
     slots₃ = ap slotsOf (entered-read (stride K) (omega arith) t₁ (q .neat) (q .leaf) (q .slot) (gp .leaf-in) m₂ td₂ pa at few) ∙ halved-slots (stride K) (t .head .fan) (omega arith) m (gp .tidy) (q .slot) x lj (gp .free) (ap suc wl) le small flag (t .head .entries) new x-is
 
-    parted₃ : TwoParts K flag i (t .head .entries) t₃ (q .leaf) (q .slot)
+    parted₃ : TwoParts K flag i (t .head .entries) (nextStamp (t .head .stamp)) t₃ (q .leaf) (q .slot)
     unfolding t₃ leafWith
     parted₃ =
         let F : List Slot = take (q .slot) (slotsOf m) in
@@ -209,7 +209,7 @@ module _ (K : Kind) (t : State) (w : Coherent K t) (i : ℕ) (c : Seat K t w i) 
         let sz : length (slotsOf (leafIn (stride K) t₃ (q .leaf))) ≡ leafIn (stride K) t₃ (q .leaf) .len = size-is (stride K) (t .head .fan) (leafIn (stride K) t₃ (q .leaf)) (neat-of (stride K) t₃ (K .effect) sound₃ .leaf-tidy (q .leaf) (gp .leaf-in)) in
         record {
           sound = sound₃;
-          count = refl;
+          stamp = refl;
           leaf-in = gp .leaf-in;
           slot-in = (let z = ap length slots₃ ∙ length-append F D in omega (arith, two-parts flag y new (t .head .entries) S));
           first = ap (λ (n : ℕ). slotAt (treeOf (stride K) t₃) (q .leaf) n .child) (sym (add-zero (q .slot))) ∙ ap (λ (z : Slot). z .child) (at 0) ∙ first-part flag y new (t .head .entries) S ∙ ap (cond flag (t .head .entries)) own;
@@ -239,7 +239,7 @@ module _ (K : Kind) (t : State) (w : Coherent K t) (i : ℕ) (c : Seat K t w i) 
       go (no ge) = (let z : getD l v 0 ≡ 0 = List·getD-eq-default l 0 {n = v} (omega arith) in omega arith)
 
   abbrev causes : List Cause
-  causes = splitCauses K t (cursorAt (t .head .entries) (c .leaf) (c .slot)) l
+  causes = splitCauses K t (cursorAt (t .head .stamp) (c .leaf) (c .slot)) l
 
   abbrev rowCauses : List Cause
   rowCauses = row.tooMuch K l (row.lengthsOf i (entriesOf K t)) ∷ row.full (rowOf K t) ∷ []
@@ -247,9 +247,9 @@ module _ (K : Kind) (t : State) (w : Coherent K t) (i : ℕ) (c : Seat K t w i) 
   both-causes : refusal causes ≡ refusal rowCauses
   unfolding refusal
   both-causes =
-      few-lines K l (opening K t ++ atCursor K t (cursorAt (t .head .entries) (c .leaf) (c .slot)) ++ refuse′.tooMuch K l (lengths (getD (leafIn (stride K) t (c .leaf) .slots) (c .slot) [])) ∷ refuse′.full t ∷ []) lines
-      ∙ ap refusal (append-assoc (opening K t) (atCursor K t (cursorAt (t .head .entries) (c .leaf) (c .slot))) (refuse′.tooMuch K l (lengths (getD (leafIn (stride K) t (c .leaf) .slots) (c .slot) [])) ∷ refuse′.full t ∷ []))
-      ∙ opens K t w (atCursor K t (cursorAt (t .head .entries) (c .leaf) (c .slot)) ++ refuse′.tooMuch K l (lengths (getD (leafIn (stride K) t (c .leaf) .slots) (c .slot) [])) ∷ refuse′.full t ∷ [])
+      few-lines K l (opening K t ++ atCursor K t (cursorAt (t .head .stamp) (c .leaf) (c .slot)) ++ refuse′.tooMuch K l (lengths (getD (leafIn (stride K) t (c .leaf) .slots) (c .slot) [])) ∷ refuse′.full t ∷ []) lines
+      ∙ ap refusal (append-assoc (opening K t) (atCursor K t (cursorAt (t .head .stamp) (c .leaf) (c .slot))) (refuse′.tooMuch K l (lengths (getD (leafIn (stride K) t (c .leaf) .slots) (c .slot) [])) ∷ refuse′.full t ∷ []))
+      ∙ opens K t w (atCursor K t (cursorAt (t .head .stamp) (c .leaf) (c .slot)) ++ refuse′.tooMuch K l (lengths (getD (leafIn (stride K) t (c .leaf) .slots) (c .slot) [])) ∷ refuse′.full t ∷ [])
       ∙ fresh-at K t w (c .leaf) (c .slot) (refuse′.tooMuch K l (lengths (getD (leafIn (stride K) t (c .leaf) .slots) (c .slot) [])) ∷ refuse′.full t ∷ []) (c .leaf-in) (c .slot-in)
       ∙ ap₂ (λ (a b : Bool). cond a 6 (cond b 8 0)) short-is (ap (leb (t .head .limit)) (sym (count-is K t w)))
 
@@ -261,15 +261,15 @@ module _ (K : Kind) (t : State) (w : Coherent K t) (i : ℕ) (c : Seat K t w i) 
 
   -- where both stop at the same number, or the entry is parted and the state stands for the row
   pub split-by : (P : calls.Reply Divided → Moved Row → Type 0) → ((n : ℕ) → P (calls.reply t (division.Refused n)) (moved (rowOf K t) (refused n)))
-      → ((s : State) (k j : ℕ) → TwoParts K flag i (t .head .entries) s k j → Mirrors K s (row.row (t .head .limit) entries′)
-      → P (calls.reply s (dividedAt (t .head .entries) k j)) (moved (row.row (t .head .limit) entries′) rowAnswer))
-      → P (calls.splitEntry K t (cursorAt (t .head .entries) (c .leaf) (c .slot)) l flag) (unless (rowOf K t) rowCauses entries′ rowAnswer)
+      → ((s : State) (k j : ℕ) → TwoParts K flag i (t .head .entries) (nextStamp (t .head .stamp)) s k j → Mirrors K s (row.row (t .head .limit) entries′)
+      → P (calls.reply s (dividedAt (t .head .entries) (nextStamp (t .head .stamp)) k j)) (moved (row.row (t .head .limit) entries′) rowAnswer))
+      → P (calls.splitEntry K t (cursorAt (t .head .stamp) (c .leaf) (c .slot)) l flag) (unless (rowOf K t) rowCauses entries′ rowAnswer)
   unfolding refusal calls.splitEntry
   split-by P refusing parting = go short refl (leb (t .head .limit) (length (entriesOf K t))) refl
     where
       answered : calls.Reply Divided
       answered = let r = place.divide (shapeIn (stride K) t) flag t (c .leaf) (c .slot) l in
-          calls.settled t r division.Refused (dividedAt (t .head .entries) (r .leaf) (r .slot))
+          calls.settled t r division.Refused (dividedAt (t .head .entries) (nextStamp (t .head .stamp)) (r .leaf) (r .slot))
 
       refuse : ℕ → calls.Reply Divided
       refuse n = calls.reply t (division.Refused n)

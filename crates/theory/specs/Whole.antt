@@ -117,20 +117,24 @@ module _ (K : Kind) (ok : K .effect < K .views) (fan limit : ℕ) (l : List ℕ)
     where
       go : (n : ℕ) → refusal (makeCauses K fan limit l ls xs hs) ≡ n → refusal (makeCauses K fan limit l ls xs hs) ≡ 0
       go zero e = e
-      go (suc n) e = absurd (let q : outcome.Refused (suc n) ≡ outcome.Done = sym (ap (λ (r : calls.Reply Outcome). r .answer) (stopped (makeCauses K fan limit l ls xs hs) (λ n. calls.reply (state (headOf 0 0 0 0 0 0 0 held.Absent) ls xs hs) (outcome.Refused n)) (calls.reply (begun K fan limit l ls xs hs) outcome.Done) n e)) ∙ given in
+      go (suc n) e = absurd (let q : outcome.Refused (suc n) ≡ outcome.Done = sym (ap (λ (r : calls.Reply Outcome). r .answer) (stopped (makeCauses K fan limit l ls xs hs) (λ n. calls.reply (state (headOf 0 0 0 0 0 0 0 0 held.Absent) ls xs hs) (outcome.Refused n)) _ n e)) ∙ given in
           let z : _≡_ {A = ℕ} 0 1 = cc in omega arith)
 
   passes : (tooManyLines K l ≡ false) × (refusal (areaCauses K fan limit ls xs hs) ≡ 0)
   passes = clear 10 (tooManyLines K l) (areaCauses K fan limit ls xs hs) (λ z. omega arith) not-refused
 
+  pub made-is : make K fan limit l ls xs hs ≡ calls.reply (begun K fan limit 1 l ls xs hs) outcome.Done
+  unfolding make
+  made-is = passed (makeCauses K fan limit l ls xs hs) (λ n. calls.reply (state (headOf 0 0 0 0 0 0 0 0 held.Absent) ls xs hs) (outcome.Refused n)) (calls.reply (begun K fan limit 1 l ls xs hs) outcome.Done) not-refused
+
   pub made : Stands K (make K fan limit l ls xs hs .after) (madeRow limit l)
-  unfolding make All
-  made = subst (λ (r : calls.Reply Outcome). Stands K (r .after) (madeRow limit l)) (sym (passed (makeCauses K fan limit l ls xs hs) (λ n. calls.reply (state (headOf 0 0 0 0 0 0 0 held.Absent) ls xs hs) (outcome.Refused n)) (calls.reply (begun K fan limit l ls xs hs) outcome.Done) not-refused))
-      (stands-of K (begun K fan limit l ls xs hs) (madeRow limit l) (begun-stands K fan limit l ls xs hs (sizes-of K fan limit ls xs hs (passes .1)) small) (passes .0, tt))
+  unfolding All
+  made = subst (λ (r : calls.Reply Outcome). Stands K (r .after) (madeRow limit l)) (sym made-is)
+      (stands-of K (begun K fan limit 1 l ls xs hs) (madeRow limit l) (begun-stands K fan limit 1 l ls xs hs (sizes-of K fan limit ls xs hs (passes .1)) small) (passes .0, tt))
 
   pub fan-made : make K fan limit l ls xs hs .after .head .fan ≡ fan
-  unfolding make begun
-  fan-made = ap (λ (r : calls.Reply Outcome). r .after .head .fan) (passed (makeCauses K fan limit l ls xs hs) (λ n. calls.reply (state (headOf 0 0 0 0 0 0 0 held.Absent) ls xs hs) (outcome.Refused n)) (calls.reply (begun K fan limit l ls xs hs) outcome.Done) not-refused)
+  unfolding begun
+  fan-made = ap (λ (r : calls.Reply Outcome). r .after .head .fan) made-is
 
   -- every list of calls: the answers are the row's, and the state left is kept
   pub whole : (cs : List Call) → All (InWords K) cs

@@ -35,7 +35,7 @@ returns : tie.Need-returns
 returns c views effect e =
     let args = c .before .before .before .before .before .before .before .before .before .before .before .args in
     let pre = c .before .before .before .before .before .before .before .before .before .before .before .pre in
-    begin-words views effect (args .fan) (args .limit) (args .g) e (args .leaves .now) (args .inners .now) (args .homes .now) (args .x .now) _ _ (pre .4) (pre .5) (c .before .before .before .before .before .before .write-first .ensures)
+    begin-words views effect (args .fan) (args .limit) (args .stamp) (args .g) e (args .leaves .now) (args .inners .now) (args .homes .now) (args .x .now) _ _ (pre .4) (pre .5) (c .before .before .before .before .before .before .write-first .ensures)
     (c .before .before .write-first2 .ensures)
 
 pub begin-spec : {M : Type 1} → statement M

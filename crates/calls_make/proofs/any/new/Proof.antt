@@ -45,17 +45,17 @@ returns c effect =
 same-length-4 : tie.Need-same-length-4
 same-length-4 c =
     let the-begin = c .before .before .before .before .before .before .begin in
-    the-begin .kept .1 .1 .1 .1 .0
+    the-begin .kept .1 .1 .1 .1 .1 .0
 
 same-length-5 : tie.Need-same-length-5
 same-length-5 c =
     let the-begin = c .before .before .before .before .before .before .begin in
-    the-begin .kept .1 .1 .1 .1 .1 .0
+    the-begin .kept .1 .1 .1 .1 .1 .1 .0
 
 same-length-6 : tie.Need-same-length-6
 same-length-6 c =
     let the-begin = c .before .before .before .before .before .before .begin in
-    the-begin .kept .1 .1 .1 .1 .1 .1 .0
+    the-begin .kept .1 .1 .1 .1 .1 .1 .1 .0
 
 returns-2 : tie.Need-returns-2
 returns-2 c effect =

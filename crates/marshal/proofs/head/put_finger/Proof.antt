@@ -1,4 +1,4 @@
--- `marshal::head::put_finger`: ten words written to the last ten are those words.
+-- `marshal::head::put_finger`: ten words written from the eighth on are those words, and the others stay.
 use mathlib.Core.Path.{_≡_, refl}
 use mathlib.Core.Bool.{true}
 use mathlib.Core.List.{List, [], _∷_}
@@ -16,9 +16,12 @@ present-of-requires c κs = tt
 finger-of-requires : tie.Need-finger-of-requires
 finger-of-requires c κs = tt
 
--- a place is within the seventeen words, whatever was written to some of them
-inside : (c : tie.After-finger-of) (vs : List ℕ) (j : ℕ) → ltb j 17 ≡ true → j < length (sets (c .before .before .before .args .head .now) 7 vs)
-inside c vs j t = in-head (c .before .before .before .args .head .now) vs 7 j t (c .before .before .before .pre)
+-- a place is within the nineteen words, whatever was written to some of them
+inside : (c : tie.After-finger-of) (vs : List ℕ) (j : ℕ) → ltb j 19 ≡ true → j < length (sets (c .before .before .before .args .head .now) 7 vs)
+inside c vs j t =
+    let args = c .before .before .before .args in
+    let pre = c .before .before .before .pre in
+    in-head (args .head .now) vs 7 j t pre
 
 slice-write-head : tie.Need-slice-write-head
 slice-write-head c = inside c [] 7 refl
@@ -51,7 +54,9 @@ slice-write-head-10 : tie.Need-slice-write-head-10
 slice-write-head-10 c = inside c (_ ∷ _ ∷ _ ∷ _ ∷ _ ∷ _ ∷ _ ∷ _ ∷ _ ∷ []) 16 refl
 
 same-length : tie.Need-same-length
-same-length c = length-sets (c .before .before .before .args .head .now) 7 (_ ∷ _ ∷ _ ∷ _ ∷ _ ∷ _ ∷ _ ∷ _ ∷ _ ∷ _ ∷ [])
+same-length c =
+    let args = c .before .before .before .args in
+    length-sets (args .head .now) 7 (_ ∷ _ ∷ _ ∷ _ ∷ _ ∷ _ ∷ _ ∷ _ ∷ _ ∷ _ ∷ [])
 
 returns : tie.Need-returns
 returns c =

@@ -17,7 +17,7 @@ returns c =
     let pre = c .before .before .before .before .before .before .pre in
     let if1 = c .before .before .before .before .if1 in
     after-done (args .number) (args .h) (args .head .now) _ (if1 .taken)
-    (put-fingered (args .h) (args .head .now) _ (pre .0) (pre .1 (if1 .taken)) (c .before .before .put-finger .ensures))
+    (put-fingered (args .h) (args .head .now) _ (pre .0) (pre .1) (pre .2 (if1 .taken)) (c .before .before .put-finger .ensures))
 
 returns-2 : tie.Need-returns-2
 returns-2 c = after-refused (c .before .before .args .number) (c .before .before .args .h) (c .before .before .args .head .now) (c .if1 .left)

@@ -1,4 +1,4 @@
--- `place::change::entered`: the head takes the three words, the room's leaves, one entry more and what becomes of the finger.
+-- `place::change::entered`: the head takes the three words, the room's leaves, one entry more, the next stamp and what becomes of the finger.
 use native.Mathlib.Omega.{arith}
 use Rattle.place.proofs.change.entered.Statement.{statement}
 use Rattle.place.proofs.change.entered.Tie as tie
@@ -19,11 +19,14 @@ add-t17 c =
     let pre = c .before .before .before .before .before .pre in
     omega (arith, pre .0)
 
+wrapping-add-u64-requires : tie.Need-wrapping-add-u64-requires
+wrapping-add-u64-requires c κs = tt
+
 changing-requires : tie.Need-changing-requires
 changing-requires c κs = tt
 
 returns : tie.Need-returns
-returns c = rw (c .changing .ensures)
+returns c = rw (c .before .wrapping-add-u64 .ensures, c .changing .ensures)
 
 pub entered-spec : {M : Type 1} → statement M
 entered-spec =
@@ -33,5 +36,6 @@ entered-spec =
     element-copy-out-t13
     element-copy-out-t16
     add-t17
+    wrapping-add-u64-requires
     changing-requires
     returns)

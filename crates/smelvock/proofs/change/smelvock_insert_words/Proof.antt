@@ -68,7 +68,7 @@ settle-grown-requires c κs =
     let lengths-from = c .before .before .before .before .before .before .before .before .before .before .before .before .before .before .before .lengths-from in (
       good-flag _ _ (sym (bad-flag .ensures) ∙ if1 .left),
       λ _. sizes-kept (args .head .now) (head-from .result) _ (args .leaves .now) (args .inners .now) (args .homes .now) _ _ _ _ _
-          (head-from .ensures) (insert .ensures)
+          (head-from .ensures .0) (insert .ensures)
           (fixes base (state (head-from .result) (args .leaves .now) (args .inners .now) (args .homes .now)) .insert (target-from .result) (listOf (lengths-from .result))),
     )
 
@@ -99,7 +99,7 @@ returns-2 c =
     reply-settled insertedOf insertedAnswer (λ (q : FlatInserted). q .number) (λ x. refl) _ (given (args .head .now) (args .leaves .now) (args .inners .now) (args .homes .now)) _ _ _ _ _ _ _ _
     (sym (bad-flag .ensures) ∙ if1 .left) (inserted-of .ensures) (c .before .before .settle-grown .ensures)
     (insert .ensures ∙ ap₃ (λ (h : Head) (t : Target) (l : Lengths). calls.insert base (state h (args .leaves .now) (args .inners .now) (args .homes .now)) t (listOf l))
-    (head-from .ensures) (target-from .ensures ∙ ap (targetFrom (args .end)) (cursor-from .ensures)) (lengths-from .ensures))
+    (head-from .ensures .0) (target-from .ensures ∙ ap (targetFrom (args .end)) (cursor-from .ensures)) (lengths-from .ensures))
 
 pub smelvock-insert-words-spec : {M : Type 1} → statement M
 smelvock-insert-words-spec =

@@ -64,8 +64,9 @@ settle-finger-requires c κs =
     let cursor-from = c .before .before .before .before .before .before .before .before .before .before .before .before .before .cursor-from in
     let lengths-from = c .before .before .before .before .before .before .before .before .before .before .before .before .lengths-from in (
       good-flag _ _ (sym (bad-flag .ensures) ∙ if1 .left),
+      head-from .ensures .1,
       λ _. finger-alone (args .head .now) (head-from .result) _ (args .leaves .now) (args .inners .now) (args .homes .now) _ _ _ _ _
-          (head-from .ensures) (resize .ensures)
+          (head-from .ensures .0) (resize .ensures)
           (resize-fingered base (state (head-from .result) (args .leaves .now) (args .inners .now) (args .homes .now)) (eqb (args .summed) 1) (cursor-from .result) (listOf (lengths-from .result))),
     )
 
@@ -93,7 +94,7 @@ returns-2 c =
     (sym (bad-flag .ensures) ∙ if1 .left) (number-of .ensures) (c .before .before .settle-finger .ensures)
     (resize .ensures
     ∙ ap₃ (λ (h : Head) (k : Cursor) (l : Lengths). size.resize base (eqb (args .summed) 1) (state h (args .leaves .now) (args .inners .now) (args .homes .now)) k (listOf l))
-    (head-from .ensures) (cursor-from .ensures) (lengths-from .ensures))
+    (head-from .ensures .0) (cursor-from .ensures) (lengths-from .ensures))
     ∙ resize-flat g (cursorFrom (args .leaf) (args .slot) (args .stamp)) (lengthsFrom (args .prepare) (args .effect) (args .lines)) (args .summed)
 
 pub smelvock-resize-spec : {M : Type 1} → statement M

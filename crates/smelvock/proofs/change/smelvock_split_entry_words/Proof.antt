@@ -66,7 +66,7 @@ settle-grown-requires c κs =
     let lengths-from = c .before .before .before .before .before .before .before .before .before .before .before .before .before .before .before .lengths-from in (
       good-flag _ _ (sym (bad-flag .ensures) ∙ if1 .left),
       λ _. sizes-kept (args .head .now) (head-from .result) _ (args .leaves .now) (args .inners .now) (args .homes .now) _ _ _ _ _
-          (head-from .ensures) (split-entry .ensures)
+          (head-from .ensures .0) (split-entry .ensures)
           (fixes base (state (head-from .result) (args .leaves .now) (args .inners .now) (args .homes .now)) .split (cursor-from .result) (listOf (lengths-from .result)) (eqb (args .before) 1)),
     )
 
@@ -96,7 +96,7 @@ returns-2 c =
     reply-settled dividedOf dividedAnswer (λ (q : FlatDivided). q .number) (λ x. refl) _ (given (args .head .now) (args .leaves .now) (args .inners .now) (args .homes .now)) _ _ _ _ _ _ _ _
     (sym (bad-flag .ensures) ∙ if1 .left) (divided-of .ensures) (c .before .before .settle-grown .ensures)
     (split-entry .ensures ∙ ap₃ (λ (h : Head) (k : Cursor) (l : Lengths). calls.splitEntry base (state h (args .leaves .now) (args .inners .now) (args .homes .now)) k (listOf l) (eqb (args .before) 1))
-    (head-from .ensures) (cursor-from .ensures) (lengths-from .ensures))
+    (head-from .ensures .0) (cursor-from .ensures) (lengths-from .ensures))
 
 pub smelvock-split-entry-words-spec : {M : Type 1} → statement M
 smelvock-split-entry-words-spec =

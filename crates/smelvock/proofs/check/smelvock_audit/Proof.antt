@@ -37,7 +37,7 @@ unfolding flat.audit
 returns-2 c =
     let a = c .before .before .before .before .before .before .before .before .before .args in
     answer-good numberOf _ _ _ _ (sym (c .before .before .before .before .bad-head .ensures) ∙ c .before .before .before .if1 .left) (c .number-of-verdict .ensures)
-    (ap verdictAnswer (c .before .audit .ensures ∙ ap (λ (h : Head). checks.audit base (state h (a .leaves .now) (a .inners .now) (a .homes .now))) (c .before .before .head-from .ensures)))
+    (ap verdictAnswer (c .before .audit .ensures ∙ ap (λ (h : Head). checks.audit base (state h (a .leaves .now) (a .inners .now) (a .homes .now))) (c .before .before .head-from .ensures .0)))
 
 pub smelvock-audit-spec : {M : Type 1} → statement M
 smelvock-audit-spec =

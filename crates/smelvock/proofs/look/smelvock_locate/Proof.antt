@@ -55,8 +55,9 @@ settle-finger-requires c κs =
     let locate = c .before .before .before .locate in
     let view-from = c .before .before .before .before .view-from in (
       good-flag _ _ (sym (bad-view .ensures) ∙ if1 .left),
+      head-from .ensures .1,
       λ _. finger-alone (args .head .now) (head-from .result) _ (args .leaves .now) (args .inners .now) (args .homes .now) _ _ _ _ _
-          (head-from .ensures) (locate .ensures)
+          (head-from .ensures .0) (locate .ensures)
           (locate-fingered base (state (head-from .result) (args .leaves .now) (args .inners .now) (args .homes .now)) (viewNumber (view-from .result)) (args .index)),
     )
 
@@ -78,7 +79,7 @@ returns-2 c =
     ∙ if1 .left) (located-of .ensures)
     (c .before .before .settle-finger .ensures) (locate .ensures
     ∙ ap₂ (λ (h : Head) (v : View). calls.locate base (state h (args .leaves .now) (args .inners .now) (args .homes .now)) (viewNumber v) (args .index))
-    (head-from .ensures) (view-from .ensures))
+    (head-from .ensures .0) (view-from .ensures))
 
 pub smelvock-locate-spec : {M : Type 1} → statement M
 smelvock-locate-spec =

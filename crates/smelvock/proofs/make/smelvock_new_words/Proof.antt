@@ -1,4 +1,4 @@
--- `smelvock::make::smelvock_new_words`: 10 where the head is not seventeen words, else the call's head and answer in words.
+-- `smelvock::make::smelvock_new_words`: 10 where the head is not nineteen words, else the call's head and answer in words.
 use borrow.Author.Needs.{needs}
 use mathlib.Core.Path.{refl, ap, _∙_}
 use mathlib.Core.Bool.{not}
@@ -25,7 +25,7 @@ unfolding flat.make
 returns c =
     let args = c .before .before .before .before .before .args in
     reply-refused numberAlone outcomeAnswer (λ (n : ℕ) (h : Head) (w : List ℕ). headWords h) _ (given (args .head .now) (args .leaves .now) (args .inners .now) (args .homes .now)) _ _
-    (ap not (ne-eqb (length (args .head .now)) 17 (c .if1 .taken))) refl
+    (ap not (ne-eqb (length (args .head .now)) 19 (c .if1 .taken))) refl
 
 lengths-from-requires : tie.Need-lengths-from-requires
 lengths-from-requires c κs = search needs
@@ -60,7 +60,7 @@ returns-2 c =
     let new = c .before .before .before .before .before .before .before .before .before .before .before .before .new in
     let lengths-from = c .before .before .before .before .before .before .before .before .before .before .before .before .before .before .before .before .lengths-from in
     reply-good numberAlone outcomeAnswer (λ (n : ℕ) (h : Head) (w : List ℕ). headWords h) _ (given (args .head .now) (args .leaves .now) (args .inners .now) (args .homes .now)) _ _ _ _ _ _ _ _
-    (ap not (eq-eqb (length (args .head .now)) 17
+    (ap not (eq-eqb (length (args .head .now)) 19
     (if1 .left)))
     (c .outcome-of .ensures) (put-head .ensures)
     (new .ensures

@@ -73,7 +73,7 @@ returns-2 c =
     let head-from = c .before .before .before .before .before .before .before .before .before .before .before .before .before .before .before .before .before .head-from in
     let lengths-from = c .before .before .before .before .before .before .before .before .before .before .before .before .before .before .before .before .lengths-from in
     reply-settled numberAlone outcomeAnswer (λ (q : ℕ). q) (λ x. refl) _ (given (args .head .now) (args .leaves .now) (args .inners .now) (args .homes .now)) _ _ _ _ _ _ _ _
-    (sym (bad-head .ensures) ∙ if1 .left) (outcome-of .ensures) (c .before .before .settle .ensures) (reset .ensures ∙ ap₂ (λ (h : Head) (l : Lengths). calls.reset base (state h (args .leaves .now) (args .inners .now) (args .homes .now)) (listOf l)) (head-from .ensures) (lengths-from .ensures))
+    (sym (bad-head .ensures) ∙ if1 .left) (outcome-of .ensures) (c .before .before .settle .ensures) (reset .ensures ∙ ap₂ (λ (h : Head) (l : Lengths). calls.reset base (state h (args .leaves .now) (args .inners .now) (args .homes .now)) (listOf l)) (head-from .ensures .0) (lengths-from .ensures))
 
 pub smelvock-reset-words-spec : {M : Type 1} → statement M
 smelvock-reset-words-spec =

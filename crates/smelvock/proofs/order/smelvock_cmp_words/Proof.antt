@@ -50,7 +50,7 @@ returns-2 c =
     answer-good numberOf _ _ _ _ (sym (bad-head .ensures) ∙ if1 .left)
     (c .number-of-compared .ensures) (ap comparedAnswer
     (c .before .cmp .ensures ∙ ap₃ (λ (h : Head) (j : Cursor) (k : Cursor). calls.cmp base (state h (args .leaves .now) (args .inners .now) (args .homes .now)) j k)
-    (head-from .ensures) (cursor-from .ensures) (c .before .before .cursor-from2 .ensures)))
+    (head-from .ensures .0) (cursor-from .ensures) (c .before .before .cursor-from2 .ensures)))
 
 pub smelvock-cmp-words-spec : {M : Type 1} → statement M
 smelvock-cmp-words-spec =

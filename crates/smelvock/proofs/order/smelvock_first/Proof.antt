@@ -39,7 +39,7 @@ returns-2 c =
     let if1 = c .before .before .before .if1 in
     let args = c .before .before .before .before .before .before .before .before .before .args in
     answer-good standingOf _ _ _ _ (sym (bad-head .ensures) ∙ if1 .left) (c .standing-of .ensures)
-    (ap standingAnswer (c .before .first .ensures ∙ ap (λ (h : Head). calls.first base (state h (args .leaves .now) (args .inners .now) (args .homes .now))) (c .before .before .head-from .ensures)))
+    (ap standingAnswer (c .before .first .ensures ∙ ap (λ (h : Head). calls.first base (state h (args .leaves .now) (args .inners .now) (args .homes .now))) (c .before .before .head-from .ensures .0)))
 
 pub smelvock-first-spec : {M : Type 1} → statement M
 smelvock-first-spec =

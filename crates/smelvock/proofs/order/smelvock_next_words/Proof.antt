@@ -46,7 +46,7 @@ returns-2 c =
     answer-good standingOf _ _ _ _ (sym (bad-head .ensures) ∙ if1 .left)
     (c .standing-of-next .ensures) (ap nextAnswer
     (c .before .next .ensures ∙ ap₂ (λ (h : Head) (k : Cursor). calls.nextAfter base (state h (args .leaves .now) (args .inners .now) (args .homes .now)) k)
-    (head-from .ensures) (c .before .before .cursor-from .ensures)))
+    (head-from .ensures .0) (c .before .before .cursor-from .ensures)))
 
 pub smelvock-next-words-spec : {M : Type 1} → statement M
 smelvock-next-words-spec =

@@ -39,7 +39,7 @@ returns-2 c =
     let a = c .before .before .before .before .before .before .before .before .before .before .before .before .before .args in
     print-good _ _ _ _ _ _ (sym (c .before .before .before .before .before .before .before .bad-head .ensures) ∙ c .before .before .before .before .before .before .if1 .left) (c .number-of .ensures)
     (c .before .before .before .print .ensures
-    ∙ ap (λ (h : Head). calls.print base (state h (a .leaves .now) (a .inners .now) (a .homes .now)) (a .page .now)) (c .before .before .before .before .before .head-from .ensures))
+    ∙ ap (λ (h : Head). calls.print base (state h (a .leaves .now) (a .inners .now) (a .homes .now)) (a .page .now)) (c .before .before .before .before .before .head-from .ensures .0))
 
 pub smelvock-print-spec : {M : Type 1} → statement M
 smelvock-print-spec =

@@ -52,7 +52,7 @@ returns-2 c =
     answer-good numberOf _ _ _ _ (sym (bad-view .ensures) ∙ if1 .left)
     (c .number-of .ensures) (ap numberAnswer (c .before .entry-to-char-index .ensures
     ∙ ap₃ (λ (h : Head) (v : View) (k : Cursor). calls.entryToCharIndex base (state h (args .leaves .now) (args .inners .now) (args .homes .now)) (viewNumber v) k)
-    (head-from .ensures) (view-from .ensures) (c .before .before .cursor-from .ensures)))
+    (head-from .ensures .0) (view-from .ensures) (c .before .before .cursor-from .ensures)))
 
 pub smelvock-entry-to-char-index-words-spec : {M : Type 1} → statement M
 smelvock-entry-to-char-index-words-spec =

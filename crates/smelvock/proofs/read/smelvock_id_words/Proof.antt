@@ -45,7 +45,7 @@ returns-2 c =
     let head-from = c .before .before .before .head-from in
     answer-good numberOf _ _ _ _ (sym (bad-head .ensures) ∙ if1 .left) (c .number-of-named .ensures)
     (ap namedAnswer (c .before .id .ensures ∙ ap₂ (λ (h : Head) (k : Cursor). calls.id base (state h (args .leaves .now) (args .inners .now) (args .homes .now)) k)
-    (head-from .ensures) (c .before .before .cursor-from .ensures)))
+    (head-from .ensures .0) (c .before .before .cursor-from .ensures)))
 
 pub smelvock-id-words-spec : {M : Type 1} → statement M
 smelvock-id-words-spec =

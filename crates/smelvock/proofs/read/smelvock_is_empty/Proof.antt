@@ -37,7 +37,7 @@ returns-2 c =
     let bad-head = the-bad-head in
     let if1 = the-if1 in
     answer-good numberOf _ _ _ _ (sym (bad-head .ensures) ∙ if1 .left) (c .number-of-verdict .ensures)
-    (ap verdictAnswer (c .before .is-empty .ensures ∙ ap calls.isEmpty (c .before .before .head-from .ensures)))
+    (ap verdictAnswer (c .before .is-empty .ensures ∙ ap calls.isEmpty (c .before .before .head-from .ensures .0)))
 
 pub smelvock-is-empty-spec : {M : Type 1} → statement M
 smelvock-is-empty-spec =

@@ -36,7 +36,7 @@ returns-2 c =
     let the-if1 = c .before .before .before .if1 in
     let bad-head = the-bad-head in
     let if1 = the-if1 in
-    answer-good numberOf _ _ _ _ (sym (bad-head .ensures) ∙ if1 .left) (c .number-of .ensures) (ap numberAnswer (c .before .len .ensures ∙ ap calls.len (c .before .before .head-from .ensures)))
+    answer-good numberOf _ _ _ _ (sym (bad-head .ensures) ∙ if1 .left) (c .number-of .ensures) (ap numberAnswer (c .before .len .ensures ∙ ap calls.len (c .before .before .head-from .ensures .0)))
 
 pub smelvock-len-spec : {M : Type 1} → statement M
 smelvock-len-spec =
