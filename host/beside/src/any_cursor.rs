@@ -1,6 +1,6 @@
 //! The port beside lib.rs on calls with any cursors, one by one or in lists that keep old and mangled ones in play.
 
-use crate::cursors::{answer, entry_at, issued, wanted};
+use crate::cursors::{answer, entry_at, issued, tested, wanted, GIVING};
 use crate::exports::{Answer, Export, Given};
 use crate::met::Met;
 use crate::plays::Plays;
@@ -24,7 +24,13 @@ pub struct Beside<const N: usize, P> {
 impl<const N: usize, P: Plays> Beside<N, P> {
     /// The port has just been made with that limit and one entry of those lengths.
     pub fn new(port: P, limit: u32, lengths: [u32; 3]) -> Self {
-        let rust = Lined::make(limit, lengths);
+        Self::stamped(port, limit, lengths, 1)
+    }
+
+    /// The same with that stamp in the port's head in place of 1.
+    pub fn stamped(port: P, limit: u32, lengths: [u32; 3], stamp: u64) -> Self {
+        let mut rust = Lined::make(limit, lengths);
+        rust.made = stamp;
         let (state, words) = (Rc::new(rust.state()), port.words());
         Beside { rust, port, state, words }
     }
@@ -73,11 +79,21 @@ impl<const N: usize, P: Plays> Beside<N, P> {
     }
 }
 
-/// A cursor of a list, and the entry for which it was issued; nothing where a word of it was changed since.
+/// A cursor of a list, and where it was issued; nothing where a word of it was changed since.
 #[derive(Clone, Copy, PartialEq, Eq, Debug)]
 pub struct Drawn {
     pub at: Cursor,
-    pub entry: Option<u32>,
+    pub issued: Option<Issued>,
+}
+
+/// Where a cursor was issued: for which entry, in a sheet of how many, and by the list's own counts after how many entries and how many
+/// resets.
+#[derive(Clone, Copy, PartialEq, Eq, Debug)]
+pub struct Issued {
+    pub entry: u32,
+    pub entries: u32,
+    pub made: u64,
+    pub resets: u64,
 }
 
 /// What a list is like.
@@ -118,28 +134,66 @@ pub struct List<const N: usize, P> {
     random: Random,
     /// Cursors that calls have answered, old ones and such from before a reset among them.
     kept: Vec<Drawn>,
+    /// The entries made and the resets, counted here by the calls that were not refused.
+    made: u64,
+    resets: u64,
     pub met: Met,
 }
 
 impl<const N: usize, P: Plays> List<N, P> {
-    pub fn new(beside: Beside<N, P>, style: Style, seed: u64) -> Self {
-        List { beside, style, random: Random::new(seed), kept: Vec::new(), met: Met::default() }
+    /// `made` entries were made so far.
+    pub fn new(beside: Beside<N, P>, style: Style, seed: u64, made: u64) -> Self {
+        List { beside, style, random: Random::new(seed), kept: Vec::new(), made, resets: 0, met: Met::default() }
     }
 
-    /// Draws so many calls and plays each.
+    /// The entries made, by the list's own count.
+    pub fn made(&self) -> u64 {
+        self.made
+    }
+
+    /// Draws so many calls and plays each. The middle one is a reset whatever is drawn.
     pub fn play(&mut self, calls: u64) -> Result<(), Parted> {
-        (0..calls).try_for_each(|_| self.step())
+        (0..calls).try_for_each(|call| self.step(call == calls / 2))
     }
 
-    fn step(&mut self) -> Result<(), Parted> {
+    fn step(&mut self, reset: bool) -> Result<(), Parted> {
         let state = self.beside.state();
-        let export = self.export();
+        let export = if reset { Export::Reset } else { self.export() };
         let drawn = [self.cursor(&state), self.cursor(&state)];
-        let given = self.given(&state, drawn.map(|drawn| drawn.at));
+        let mut given = self.given(&state, drawn.map(|drawn| drawn.at));
+        if reset {
+            given.lengths.lines = 0;
+        }
         let Answer { number, values } = self.beside.play(export, &given)?;
-        self.met.note(&state, export, &given, drawn, number);
+        self.by_count(export, &given, drawn, number)?;
+        self.met.note(&state, export, &given, drawn, self.resets, number);
         if number == 0 {
+            let makes = [Export::Reset, Export::Insert, Export::SplitEntry].contains(&export);
+            self.made = self.made.wrapping_add(makes as u64);
+            self.resets += (export == Export::Reset) as u64;
             issued(export, &values).into_iter().for_each(|at| self.keep(at));
+        }
+        Ok(())
+    }
+
+    /// A cursor that is as it was issued is current exactly where no entry was made since, and else refused by 3. One that was changed
+    /// may be anything.
+    fn by_count(&self, export: Export, given: &Given, drawn: [Drawn; 2], number: u32) -> Result<(), Parted> {
+        let cursors = tested(export, given).len();
+        if cursors == 0 || GIVING.contains(&export) && given.lengths.lines > MOST_LINES {
+            return Ok(());
+        }
+        let parted = |what| Err(format!("N {N}, {export:?} {given:?}: {what} after {} entries: {number}", self.made));
+        for issued in drawn.into_iter().take(cursors).map(|drawn| drawn.issued) {
+            match issued {
+                None => return Ok(()),
+                Some(issued) if issued.made == self.made => {}
+                Some(_) if number == 3 => return Ok(()),
+                Some(issued) => return parted(format!("{issued:?}")),
+            }
+        }
+        if [3, 13, 14].contains(&number) {
+            return parted("a current cursor".into());
         }
         Ok(())
     }
@@ -159,11 +213,20 @@ impl<const N: usize, P: Plays> List<N, P> {
     }
 
     fn keep(&mut self, at: Cursor) {
-        let drawn = Drawn { at, entry: entry_at(&self.beside.state, at) };
+        let drawn = self.drawn(&self.beside.state, at);
         if self.kept.len() < KEPT {
             self.kept.push(drawn);
         } else {
             self.kept[self.random.below(KEPT as u64) as usize] = drawn;
+        }
+    }
+
+    /// A cursor that is issued now.
+    fn drawn(&self, state: &State, at: Cursor) -> Drawn {
+        let List { made, resets, .. } = *self;
+        Drawn {
+            at,
+            issued: entry_at(state, at).map(|entry| Issued { entry, entries: state.head.entry_count, made, resets }),
         }
     }
 
@@ -172,48 +235,48 @@ impl<const N: usize, P: Plays> List<N, P> {
         let drawn = if self.kept.is_empty() || self.random.percent(60) {
             let leaf = self.below(state.head.leaf_count);
             let slot = self.below(state.leaf(leaf).len());
-            let at = Cursor { leaf, slot, stamp: state.head.entry_count };
-            Drawn { at, entry: entry_at(state, at) }
+            self.drawn(state, Cursor { leaf, slot, stamp: self.made })
         } else {
             self.kept[self.random.below(self.kept.len() as u64) as usize]
         };
         if self.random.percent(40) {
             return drawn;
         }
-        Drawn { at: self.mangled(drawn.at, state), entry: None }
+        Drawn { at: self.mangled(drawn.at, state), issued: None }
     }
 
     /// The cursor with another stamp, often the present one, another leaf or slot, or several of them.
     fn mangled(&mut self, at: Cursor, state: &State) -> Cursor {
         let mut now = at;
         while now == at {
-            let present = state.head.entry_count;
             now.stamp = match self.random.below(4) {
-                0 => self.near(at.stamp, present),
+                0 => self.near(at.stamp, self.made),
                 1 => at.stamp,
-                _ => present,
+                _ => self.made,
             };
             if self.random.percent(40) {
-                now.leaf = self.near(at.leaf, state.head.leaf_count);
+                now.leaf = self.near(at.leaf as u64, state.head.leaf_count as u64) as u32;
             }
             if self.random.percent(40) {
                 let in_use = now.leaf < state.head.leaf_count;
-                now.slot = self.near(at.slot, if in_use { state.leaf(now.leaf).len() } else { state.head.fan });
+                let end = if in_use { state.leaf(now.leaf).len() } else { state.head.fan };
+                now.slot = self.near(at.slot as u64, end as u64) as u32;
             }
         }
         now
     }
 
-    /// A number beside the cursor's own, around the first that is too much, or any.
-    fn near(&mut self, own: u32, end: u32) -> u32 {
-        match self.random.below(8) {
+    /// A number beside the cursor's own, one bit off the first that is too much, around that one, below it, or any.
+    fn near(&mut self, own: u64, end: u64) -> u64 {
+        match self.random.below(9) {
             0 => own.wrapping_add(1),
             1 => own.wrapping_sub(1),
-            2 => end,
-            3 => end - 1,
-            4 => end + 1,
-            5 | 6 => self.below(end),
-            _ => [0, u32::MAX, self.random.word() as u32][self.random.below(3) as usize],
+            2 => end ^ 1 << self.random.below(64),
+            3 => end,
+            4 => end.wrapping_sub(1),
+            5 => end.wrapping_add(1),
+            6 | 7 => self.random.below(end.max(1)),
+            _ => [0, u64::MAX, self.random.word()][self.random.below(3) as usize],
         }
     }
 

@@ -2,6 +2,7 @@
 //! that is 0. Line ends are the row's.
 
 use crate::exports::{Export, Given};
+use crate::words::{self, cursor_of};
 use oracle::calls::Calls;
 use oracle::lined::Lined;
 use oracle::rust::Place;
@@ -49,10 +50,10 @@ pub fn tested(export: Export, given: &Given) -> Vec<Cursor> {
     }
 }
 
-/// The number by which a cursor fails: 3, its stamp is not the entry count; 13, its leaf is not in use; 14, its slot is at or past
+/// The number by which a cursor fails: 3, its stamp is not the count of the entries made; 13, its leaf is not in use; 14, its slot is at or past
 /// the leaf's len. The first that holds, or 0.
 pub fn fault(state: &State, at: Cursor) -> u32 {
-    if at.stamp != state.head.entry_count {
+    if at.stamp != state.head.stamp {
         3
     } else if at.leaf >= state.head.leaf_count {
         13
@@ -105,10 +106,10 @@ fn lengths(given: &Given) -> [u32; 3] {
     [prepare, effect, lines]
 }
 
-/// Leaf and slot as lib.rs prints them, and the stamp: the entry count at issue.
+/// Leaf and slot as lib.rs prints them, and the stamp: the count of the entries made.
 fn standing<const N: usize>(tree: &Lined<N>, at: tree::Cursor) -> Vec<u32> {
     let Place { leaf, slot } = Place::of(at);
-    vec![leaf, slot, tree.len() as u32]
+    words::standing(Cursor { leaf, slot, stamp: tree.made }).to_vec()
 }
 
 /// What lib.rs answers, in the order of the export's values.
@@ -140,7 +141,7 @@ fn question<const N: usize>(tree: &mut Lined<N>, export: Export, given: &Given) 
         Export::Len => vec![tree.len() as u32],
         Export::IsEmpty => vec![tree.is_empty() as u32],
         Export::First => standing(tree, tree.first()),
-        Export::Next => tree.next(at).map_or(vec![NONE, 0, 0], |next| standing(tree, next)),
+        Export::Next => tree.next(at).map_or(vec![NONE, 0, 0, 0], |next| standing(tree, next)),
         Export::Id => vec![tree.id(at)],
         Export::Lengths => tree.lengths(at).to_vec(),
         Export::Cursor => standing(tree, tree.cursor(given.id)),
@@ -162,10 +163,9 @@ fn question<const N: usize>(tree: &mut Lined<N>, export: Export, given: &Given) 
 /// The cursors among an answer's values.
 pub fn issued(export: Export, values: &[u32]) -> Vec<Cursor> {
     let cursors = match export {
-        Export::First | Export::Next | Export::Cursor | Export::Locate | Export::CharIndexToEntry => &values[..3],
+        Export::First | Export::Next | Export::Cursor | Export::Locate | Export::CharIndexToEntry => &values[..4],
         Export::SplitEntry => &values[1..],
         _ => &[],
     };
-    let at = |at: &[u32]| Cursor { leaf: at[0], slot: at[1], stamp: at[2] };
-    cursors.chunks_exact(3).map(at).filter(|at| at.leaf != NONE).collect()
+    cursors.as_chunks().0.iter().map(|&at| cursor_of(at)).filter(|at| at.leaf != NONE).collect()
 }

@@ -1,5 +1,6 @@
 //! Every export on words that may be any, in a head, areas and a buffer with guards around them.
 
+use crate::words::{joined, parted, standing};
 use smelvock::raw::{self, word, Areas, AreasMut, Cursor, Lengths};
 use smelvock::{PAGE_BYTES, PAGE_LINES};
 
@@ -79,6 +80,17 @@ impl Tree {
         let mut tree = self.clone();
         tree.head.words_mut()[word] = value;
         tree
+    }
+
+    /// The stamp in the head.
+    pub fn stamp(&self) -> u64 {
+        joined([word::STAMP, word::STAMP + 1].map(|at| self.word(at)))
+    }
+
+    /// The tree with another stamp in its head.
+    pub fn stamped(&self, stamp: u64) -> Tree {
+        let [low, high] = parted(stamp);
+        self.with(word::STAMP, low).with(word::STAMP + 1, high)
     }
 
     fn areas(&self) -> Areas<'_> {
@@ -169,7 +181,7 @@ pub const EXPORTS: [Export; 19] = [
     Export::Audit,
 ];
 
-/// The number and the values of an answer.
+/// The number and the values of an answer; a cursor is four of them, leaf, slot, and the stamp's words.
 #[derive(Clone, PartialEq, Eq, Debug)]
 pub struct Answer {
     pub number: u32,
@@ -200,10 +212,10 @@ impl Export {
         let (head, areas) = tree.looked();
         if self == Export::Locate {
             let r = raw::locate(head, areas, given.view, given.index);
-            return answer(r.number, &[r.at.leaf, r.at.slot, r.at.stamp, r.offset, r.position, r.prepare]);
+            return answer(r.number, &[&standing(r.at)[..], &[r.offset, r.position, r.prepare]].concat());
         }
         let r = raw::char_index_to_entry(head, areas, given.view, given.index);
-        answer(r.number, &[r.at.leaf, r.at.slot, r.at.stamp, r.offset])
+        answer(r.number, &[&standing(r.at)[..], &[r.offset]].concat())
     }
 
     fn change(self, tree: &mut Tree, given: &Given) -> Option<Answer> {
@@ -221,8 +233,7 @@ impl Export {
             }
             Export::SplitEntry => {
                 let r = raw::split_entry(head, areas, at, lengths, before);
-                let [a, b] = [r.first, r.second];
-                answer(r.number, &[r.id, a.leaf, a.slot, a.stamp, b.leaf, b.slot, b.stamp])
+                answer(r.number, &[&[r.id][..], &standing(r.first), &standing(r.second)].concat())
             }
             _ => return None,
         })
@@ -230,7 +241,7 @@ impl Export {
 
     fn read(self, tree: &Tree, given: &Given) -> Answer {
         let (head, areas) = (tree.head.words(), tree.areas());
-        let standing = |r: raw::Standing| answer(r.number, &[r.at.leaf, r.at.slot, r.at.stamp]);
+        let standing = |r: raw::Standing| answer(r.number, &standing(r.at));
         let number = |r: raw::Number| answer(r.number, &[r.value]);
         match self {
             Export::Len => number(raw::len(head)),

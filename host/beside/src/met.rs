@@ -19,8 +19,11 @@ pub enum Odd {
     StampFirst,
     /// Changed since it was issued, and yet current.
     RightByChance,
+    /// Refused by 3, unchanged, from before a reset: its slot is in use, and the sheet has as many entries as the one of its issue had.
+    LastSheet,
 }
 
+/// Those that every list of some length meets.
 const ODD: [Odd; 3] = [Odd::OldButRight, Odd::StampFirst, Odd::RightByChance];
 
 /// Something that a list can meet.
@@ -42,12 +45,14 @@ pub enum Thing {
 pub struct Met {
     pub calls: u64,
     pub most_levels: u32,
+    /// How many cursors from before a reset were tested, as they were issued.
+    pub before_reset: u64,
     pub things: BTreeMap<Thing, u64>,
 }
 
 impl Met {
-    /// Notes a call with lib.rs's state before it.
-    pub fn note(&mut self, state: &State, export: Export, given: &Given, drawn: [Drawn; 2], number: u32) {
+    /// Notes a call with lib.rs's state before it, after so many resets.
+    pub fn note(&mut self, state: &State, export: Export, given: &Given, drawn: [Drawn; 2], resets: u64, number: u32) {
         self.calls += 1;
         self.most_levels = self.most_levels.max(state.head.levels);
         let cursors = tested(export, given);
@@ -59,7 +64,8 @@ impl Met {
             self.count(Thing::Viewed(export, given.view));
         }
         for (place, drawn) in drawn.into_iter().enumerate().take(cursors.len()) {
-            if let Some(odd) = odd(state, drawn) {
+            self.before_reset += drawn.issued.is_some_and(|issued| issued.resets < resets) as u64;
+            if let Some(odd) = odd(state, drawn, resets) {
                 self.count(Thing::Odd(export, place, odd));
             }
         }
@@ -80,14 +86,23 @@ impl Met {
     }
 }
 
-fn odd(state: &State, Drawn { at, entry }: Drawn) -> Option<Odd> {
+fn odd(state: &State, Drawn { at, issued }: Drawn, resets: u64) -> Option<Odd> {
     let there = entry_at(state, at);
+    let last_sheet = issued.is_some_and(|at| at.resets < resets && at.entries == state.head.entry_count);
     match fault(state, at) {
         3 if there.is_none() => Some(Odd::StampFirst),
-        3 if there == entry => Some(Odd::OldButRight),
-        0 if entry.is_none() => Some(Odd::RightByChance),
+        3 if last_sheet => Some(Odd::LastSheet),
+        3 if there == issued.map(|at| at.entry) => Some(Odd::OldButRight),
+        0 if issued.is_none() => Some(Odd::RightByChance),
         _ => None,
     }
+}
+
+/// Every call that takes cursors with one from the last sheet in every place, which lists of small sheets meet.
+pub fn across_resets() -> Vec<Thing> {
+    let places = |export| if export == Export::Cmp { 2 } else { 1 };
+    let odd = |export| (0..places(export)).map(move |place| Thing::Odd(export, place, Odd::LastSheet));
+    TAKING.into_iter().flat_map(odd).collect()
 }
 
 /// Every call that takes cursors with every number of a cursor and with every odd cursor in every place; comparisons of every two
@@ -112,6 +127,7 @@ impl std::ops::AddAssign<&Met> for Met {
     fn add_assign(&mut self, other: &Met) {
         self.calls += other.calls;
         self.most_levels = self.most_levels.max(other.most_levels);
+        self.before_reset += other.before_reset;
         for (&thing, count) in &other.things {
             *self.things.entry(thing).or_default() += count;
         }
@@ -122,7 +138,8 @@ impl std::ops::AddAssign<&Met> for Met {
 /// for the views, and one for the pairs of numbers that comparisons met.
 impl fmt::Display for Met {
     fn fmt(&self, f: &mut fmt::Formatter<'_>) -> fmt::Result {
-        writeln!(f, "{} calls, up to {} levels", self.calls, self.most_levels)?;
+        let Met { calls, most_levels, before_reset, .. } = self;
+        writeln!(f, "{calls} calls, up to {most_levels} levels, {before_reset} cursors from before a reset")?;
         for export in TAKING {
             write!(f, "  {export:?}:")?;
             for (thing, count) in &self.things {

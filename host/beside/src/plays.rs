@@ -3,7 +3,8 @@
 
 use crate::exports::{Answer, Export, Given, Tree};
 use crate::port::side;
-use smelvock::raw::{self, NONE};
+use crate::words;
+use smelvock::raw::NONE;
 use smelvock::{Cursor, PrepareEffectTree, Refusal};
 
 pub trait Plays {
@@ -46,8 +47,7 @@ impl<const N: usize> Plays for PrepareEffectTree<N> {
 type Done = Result<Vec<u32>, Refusal>;
 
 fn standing(at: Cursor) -> Vec<u32> {
-    let raw::Cursor { leaf, slot, stamp } = at.into();
-    vec![leaf, slot, stamp]
+    words::standing(at.into()).to_vec()
 }
 
 fn change<const N: usize>(tree: &mut PrepareEffectTree<N>, export: Export, given: &Given) -> Done {
@@ -72,7 +72,7 @@ fn ask<const N: usize>(tree: &mut PrepareEffectTree<N>, export: Export, given: &
         Export::Len => tree.len().map(|entries| vec![entries as u32]),
         Export::IsEmpty => tree.is_empty().map(|empty| vec![empty as u32]),
         Export::First => tree.first().map(standing),
-        Export::Next => tree.next(at).map(|next| next.map_or(vec![NONE, 0, 0], standing)),
+        Export::Next => tree.next(at).map(|next| next.map_or(vec![NONE, 0, 0, 0], standing)),
         Export::Id => tree.id(at).map(|id| vec![id]),
         Export::Lengths => tree.lengths(at).map(|of| vec![of.prepare, of.effect, of.lines]),
         Export::Cursor => tree.cursor(given.id).map(standing),

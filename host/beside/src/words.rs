@@ -3,24 +3,46 @@
 use oracle::state::{node_words, Finger, Head, State};
 use smelvock::{raw, PrepareEffectTree};
 
+/// A stamp's two words, the low one first.
+pub fn parted(stamp: u64) -> [u32; 2] {
+    [stamp as u32, (stamp >> 32) as u32]
+}
+
+/// The stamp of two words.
+pub fn joined([low, high]: [u32; 2]) -> u64 {
+    (high as u64) << 32 | low as u64
+}
+
+/// A cursor's four words.
+pub fn standing(at: raw::Cursor) -> [u32; 4] {
+    let [low, high] = parted(at.stamp);
+    [at.leaf, at.slot, low, high]
+}
+
+/// The cursor of four words.
+pub fn cursor_of([leaf, slot, low, high]: [u32; 4]) -> raw::Cursor {
+    raw::Cursor { leaf, slot, stamp: joined([low, high]) }
+}
+
 /// The head as the oracle has it; a finger is there unless `present` is 0.
 pub fn head_of(head: raw::Head) -> Head {
-    let [fan, limit, root, levels, leaf_count, inner_count, entry_count, present, finger @ ..] = head;
-    let [view, leaf, start, effect, slot, within, effect_within, prepare, prepare_within] = finger;
+    let [fan, limit, root, levels, leaf_count, inner_count, entry_count, present, rest @ ..] = head;
+    let [view, leaf, start, effect, slot, within, effect_within, prepare, prepare_within, low, high] = rest;
     let finger = Finger { view, leaf, start, effect, slot, within, effect_within, prepare, prepare_within };
     let finger = (present != 0).then_some(finger);
-    Head { fan, limit, root, levels, entry_count, leaf_count, inner_count, finger }
+    Head { fan, limit, root, levels, entry_count, leaf_count, inner_count, stamp: joined([low, high]), finger }
 }
 
 /// The head as the port has it, the words of an absent finger 0.
 pub fn raw_of(head: Head) -> raw::Head {
-    let Head { fan, limit, root, levels, entry_count, leaf_count, inner_count, finger } = head;
+    let Head { fan, limit, root, levels, entry_count, leaf_count, inner_count, stamp, finger } = head;
     let counts = [fan, limit, root, levels, leaf_count, inner_count, entry_count];
     let finger = finger.map_or([0; 10], |finger| {
         let Finger { view, leaf, start, effect, slot, within, effect_within, prepare, prepare_within } = finger;
         [1, view, leaf, start, effect, slot, within, effect_within, prepare, prepare_within]
     });
-    std::array::from_fn(|word| if word < 7 { counts[word] } else { finger[word - 7] })
+    let words = counts.into_iter().chain(finger).chain(parted(stamp)).collect::<Vec<_>>();
+    words.try_into().expect("nineteen words")
 }
 
 /// The port's tree with the words of a state.
@@ -32,7 +54,7 @@ pub fn tree_of<const N: usize>(state: State) -> PrepareEffectTree<N> {
 pub fn on_zeros<const N: usize>(limit: u32, [prepare, effect, lines]: [u32; 3]) -> PrepareEffectTree<N> {
     let nodes = (limit as usize / (N / 2)).max(1) * node_words(N as u32);
     let (mut head, mut leaves, mut inners, mut homes) =
-        ([0; 17], vec![0; nodes], vec![0; nodes], vec![0; limit as usize]);
+        ([0; 19], vec![0; nodes], vec![0; nodes], vec![0; limit as usize]);
     let areas = raw::AreasMut { leaves: &mut leaves, inners: &mut inners, homes: &mut homes };
     let number = raw::new(N as u32, limit, raw::Lengths { prepare, effect, lines }, &mut head, areas);
     assert_eq!(number, 0, "fan and limit are good");

@@ -77,12 +77,25 @@ fn slot_before_stamp(tree: &mut Tree, export: Export, given: &Given) -> Answer {
 }
 
 fn stamped(tree: &Tree, at: Cursor) -> Cursor {
-    Cursor { stamp: tree.word(ENTRIES), ..at }
+    Cursor { stamp: tree.stamp(), ..at }
 }
 
 fn stamp_not_tested(tree: &mut Tree, export: Export, given: &Given) -> Answer {
     let at = stamped(tree, given.at);
     right(tree, export, &Given { at, ..*given })
+}
+
+/// A stamp of 32 bits.
+fn low_word_alone(tree: &mut Tree, export: Export, given: &Given) -> Answer {
+    let alike = given.at.stamp as u32 == tree.stamp() as u32;
+    let answered: Wrong = if alike { stamp_not_tested } else { right };
+    answered(tree, export, given)
+}
+
+fn high_word_alone(tree: &mut Tree, export: Export, given: &Given) -> Answer {
+    let alike = given.at.stamp >> 32 == tree.stamp() >> 32;
+    let answered: Wrong = if alike { stamp_not_tested } else { right };
+    answered(tree, export, given)
 }
 
 /// A wrong stamp is let pass where a leaf in use has such a slot.
@@ -126,7 +139,7 @@ fn word_written(tree: &mut Tree, export: Export, given: &Given) -> Answer {
 }
 
 /// What stands in for each call that takes cursors.
-const WRONG: [(&str, Wrong); 12] = [
+const WRONG: [(&str, Wrong); 14] = [
     ("3 for 13", three_for_thirteen),
     ("3 for 14", three_for_fourteen),
     ("14 for 13", fourteen_for_thirteen),
@@ -134,6 +147,8 @@ const WRONG: [(&str, Wrong); 12] = [
     ("the leaf before the stamp", leaf_before_stamp),
     ("the slot before the stamp", slot_before_stamp),
     ("the stamp not tested", stamp_not_tested),
+    ("the stamp's low word alone tested", low_word_alone),
+    ("the stamp's high word alone tested", high_word_alone),
     ("an old cursor taken where its slot is in use", old_cursor_taken_where_its_slot_is_in_use),
     ("a slot at the len taken", slot_at_len_taken),
     ("the last slot refused", last_slot_refused),
@@ -175,12 +190,43 @@ fn second_by_three(tree: &mut Tree, export: Export, given: &Given) -> Answer {
     }
 }
 
-/// A split's second cursor bears the count from before.
+/// A split's second cursor bears the stamp from before.
 fn split_stamped_late(tree: &mut Tree, export: Export, given: &Given) -> Answer {
     let mut answer = right(tree, export, given);
     if answer.number == 0 {
-        answer.values[6] -= 1;
+        answer.values[7] -= 1;
     }
+    answer
+}
+
+/// The entry that a call makes isn't counted.
+fn not_counted(tree: &mut Tree, export: Export, given: &Given) -> Answer {
+    let stamp = tree.stamp();
+    let answer = right(tree, export, given);
+    *tree = tree.stamped(stamp);
+    answer
+}
+
+/// A reset begins to count anew, as make does.
+fn counted_anew(tree: &mut Tree, export: Export, given: &Given) -> Answer {
+    let answer = right(tree, export, given);
+    if answer.number == 0 {
+        *tree = tree.stamped(1);
+    }
+    answer
+}
+
+/// The stamp is the number of entries, as it was before CR 8.
+fn entries_counted(tree: &mut Tree, export: Export, given: &Given) -> Answer {
+    let answer = right(tree, export, given);
+    *tree = tree.stamped(tree.word(ENTRIES) as u64);
+    answer
+}
+
+fn counted_twice(tree: &mut Tree, export: Export, given: &Given) -> Answer {
+    let stamp = tree.stamp();
+    let answer = right(tree, export, given);
+    *tree = tree.stamped(tree.stamp() + (tree.stamp() - stamp));
     answer
 }
 
@@ -234,12 +280,18 @@ const WRONG_GIVING: [(&str, Wrong); 3] = [
 ];
 
 /// What stands in for one call alone.
-const WRONG_IN: [(Export, &str, Wrong); 10] = [
+const WRONG_IN: [(Export, &str, Wrong); 16] = [
     (Export::Cmp, "the second cursor first", second_first),
     (Export::Cmp, "both stamps, both leaves, both slots", part_by_part),
     (Export::Cmp, "the second cursor not tested", second_not_tested),
     (Export::Cmp, "the second cursor by 3 whatever it lacks", second_by_three),
     (Export::SplitEntry, "an old stamp in the second cursor", split_stamped_late),
+    (Export::SplitEntry, "a split that isn't counted", not_counted),
+    (Export::Insert, "an insertion that isn't counted", not_counted),
+    (Export::Insert, "an insertion that is counted twice", counted_twice),
+    (Export::Reset, "a reset that isn't counted", not_counted),
+    (Export::Reset, "a reset that counts anew", counted_anew),
+    (Export::Locate, "a lookup that puts the number of entries for the stamp", entries_counted),
     (Export::SplitEntry, "6 blind to line ends", six_blind_to_line_ends),
     (Export::Lengths, "no line ends", no_line_ends),
     (Export::EntryToCharIndex, "lines by the effect view", lines_by_the_effect_view),
@@ -253,7 +305,7 @@ const STYLE: Style = Style { name: "can fail", limit: 120, reset_every: 1_000 };
 fn play(wrong: Wrong, only: Export) -> Result<Met, Parted> {
     let tree = Tree::of(&on_zeros::<4>(STYLE.limit, [2, 1, 1]));
     let beside = Beside::<4, _>::new(StandIn { tree, wrong, only }, STYLE.limit, [2, 1, 1]);
-    let mut list = List::new(beside, STYLE, 5);
+    let mut list = List::new(beside, STYLE, 5, 1);
     list.play(6_000).map(|()| list.met)
 }
 

@@ -3,7 +3,7 @@
 
 use beside::exports::{unprinted, Area, Export, Given, Tree, EXPORTS, UNPRINTED};
 use beside::port::three;
-use beside::words::{head_of, on_zeros};
+use beside::words::{head_of, on_zeros, parted};
 use oracle::at_fan;
 use oracle::audit::{audit, Verdict};
 use oracle::fans::FANS;
@@ -39,7 +39,7 @@ fn sound<const N: usize>(entries: u32) -> Tree {
 fn audited(tree: &Tree, given: &Given, met: &mut Met) {
     let answer = Export::Audit.play(&mut tree.clone(), given);
     let [leaves, inners, homes] = [&tree.leaves, &tree.inners, &tree.homes].map(|area| area.words().to_vec());
-    let head = tree.head.words().try_into().expect("seventeen words");
+    let head = tree.head.words().try_into().expect("nineteen words");
     let wanted = match audit(&State { head: head_of(head), leaves, inners, homes }) {
         _ if tree.word(PRESENT) > 1 => [10, 0],
         Verdict::Refused(number) => [number as u32, 0],
@@ -93,7 +93,7 @@ fn given(tree: &Tree, random: &mut Random) -> Given {
     let mut at = || Cursor {
         leaf: small(tree.word(LEAVES)),
         slot: small(tree.word(FAN) / 2),
-        stamp: tree.word(ENTRIES) ^ (small(15) == 0) as u32,
+        stamp: tree.stamp() ^ (small(15) == 0) as u64,
     };
     let [at, other] = [at(), at()];
     Given {
@@ -121,7 +121,7 @@ fn flip_every_word(mut tree: Tree, met: &mut Met) {
     let mut random = Random::new(3);
     let mut flips = 0;
     let areas = [tree.leaves.words().len(), tree.inners.words().len(), tree.homes.words().len()];
-    let places = (0..17).map(|at| (3, at)).chain((0..3).flat_map(|area| (0..areas[area]).map(move |at| (area, at))));
+    let places = (0..19).map(|at| (3, at)).chain((0..3).flat_map(|area| (0..areas[area]).map(move |at| (area, at))));
     for (area, at) in places {
         let word = *word(&mut tree, area, at);
         for other in others(word) {
@@ -212,7 +212,7 @@ fn chains_of_calls_on_damaged_trees() {
         let mut tree = trees[random.below(trees.len() as u64) as usize].clone();
         for _ in 0..1 + random.below(6) {
             let area = random.below(4) as usize;
-            let length = [tree.leaves.words().len(), tree.inners.words().len(), tree.homes.words().len(), 17][area];
+            let length = [tree.leaves.words().len(), tree.inners.words().len(), tree.homes.words().len(), 19][area];
             let at = random.below(length as u64) as usize;
             let value = [0, 1, 2, 4, 19, u32::MAX, random.word() as u32][random.below(7) as usize];
             *word(&mut tree, area, at) = value;
@@ -252,7 +252,7 @@ fn random_words() {
         let (levels, entries) = (random.below(6) as u32, random.below(limit as u64 + 2) as u32);
         let (present, view) = (random.below(2) as u32, random.below(4) as u32);
         let counts = [fan, limit, root, levels, used, inners_used, entries, present, view];
-        let head = Area::new(&[&counts[..], &finger].concat());
+        let head = Area::new(&[&counts[..], &finger, &parted(random.word())].concat());
         let page = unprinted(random.below(3) as usize * PAGE_BYTES);
         every_export(&Tree { head, leaves, inners, homes, page }, &mut random, &mut met);
     }

@@ -3,7 +3,7 @@
 
 use beside::exports::{unprinted, Area, Export, Given, Tree, EXPORTS};
 use beside::port::three;
-use beside::words::on_zeros;
+use beside::words::{cursor_of, on_zeros};
 use oracle::at_fan;
 use oracle::fans::FANS;
 use oracle::state::{node_words, MOST_LINES};
@@ -57,14 +57,14 @@ fn totals(tree: &Tree) -> [u32; 3] {
     [1, 2, 3].map(|view| root[3..].chunks_exact(4).take(root[0] as usize).map(|slot| slot[view]).sum())
 }
 
-/// The export is refused by that number; nothing changes. A refused make gives a head of zeros instead, if it is one of seventeen words.
+/// The export is refused by that number; nothing changes. A refused make gives a head of zeros instead, if it is one of nineteen words.
 fn refused(number: u32, export: Export, tree: &Tree, given: &Given) {
     let mut after = tree.clone();
     let answer = export.play(&mut after, given);
     assert_eq!(answer.number, number, "{export:?} {given:?} on {:?}", tree.head);
     assert!(answer.values.iter().all(|&value| value == 0), "{export:?} {answer:?}");
-    let made = export == New && tree.head.words().len() == 17;
-    let head = if made { Area::new(&[0; 17]) } else { tree.head.clone() };
+    let made = export == New && tree.head.words().len() == 19;
+    let head = if made { Area::new(&[0; 19]) } else { tree.head.clone() };
     assert_eq!(after, Tree { head, ..tree.clone() }, "{export:?}");
     PLAYED.fetch_add(1, Ordering::Relaxed);
 }
@@ -125,7 +125,7 @@ fn a_cursor_that_is_not_current_is_3_13_or_14() {
         let leaves = [tree.word(LEAVES), tree.word(LEAVES) + 1, u32::MAX];
         let slots = [len, len + 1, tree.word(FAN), u32::MAX];
         let mut bad = Vec::new();
-        for stamp in [0, 1, 29, 31, u32::MAX] {
+        for stamp in [0, 1, 29, 31, u32::MAX as u64, 30 + (1 << 32), 30 << 32, u64::MAX] {
             bad.push((3, Cursor { stamp, ..good }));
             bad.push((3, Cursor { stamp, leaf: leaves[0], slot: slots[0] }));
         }
@@ -215,11 +215,8 @@ fn a_split_moves_line_ends() {
             let lengths = Lengths { prepare: 0, effect: 0, lines };
             let answer = SplitEntry.play(&mut tree, &Given { lengths, before, ..given });
             assert_eq!(answer.number, 0);
-            let parts = [&answer.values[1..4], &answer.values[4..7]].map(|at| Given {
-                at: Cursor { leaf: at[0], slot: at[1], stamp: at[2] },
-                view: 2,
-                ..given
-            });
+            let cursors = answer.values[1..].as_chunks().0;
+            let parts = [0, 1].map(|part| Given { at: cursor_of(cursors[part]), view: 2, ..given });
             let lines_of = parts.map(|part| Export::Lengths.play(&mut tree, &part).values[2]);
             let wanted = if before == 1 { [lines, own - lines] } else { [own - lines, lines] };
             assert_eq!((lines_of, totals(&tree)[2]), (wanted, total));
@@ -296,7 +293,7 @@ fn more_than_65535_line_ends_are_10() {
         assert_eq!(Insert.play(&mut full, &given).number, 0);
         let bad_fan = Tree { homes: Area::new(&[]), ..tree.with(FAN, 3) };
         let short = Tree { leaves: Area::new(&[]), ..tree.clone() };
-        let astray = Cursor { leaf: u32::MAX, slot: u32::MAX, stamp: u32::MAX };
+        let astray = Cursor { leaf: u32::MAX, slot: u32::MAX, stamp: u64::MAX };
         for export in LENGTHS {
             for lines in [MOST_LINES + 1, MOST_LINES + 2, 1 << 17, 1 << 31, u32::MAX] {
                 refused(10, export, &tree, &lined(lines));
@@ -315,9 +312,9 @@ fn more_than_65535_line_ends_are_10() {
 
 /// A head of fewer words, of more, and of none.
 #[test]
-fn a_head_that_is_not_seventeen_words_is_10() {
+fn a_head_that_is_not_nineteen_words_is_10() {
     at_each_fan(|tree, given| {
-        for words in [0, 1, 7, 8, 15, 16, 18, 34] {
+        for words in [0, 1, 7, 8, 17, 18, 20, 38] {
             let head = tree.head.words().iter().copied().cycle().take(words).collect::<Vec<_>>();
             let tree = Tree { head: Area::new(&head), ..tree.clone() };
             EXPORTS.iter().for_each(|&export| refused(10, export, &tree, &given));

@@ -1,4 +1,5 @@
-//! lib.rs with line ends: it is played without them, and the plain row settles them.
+//! lib.rs with line ends: it is played without them, and the plain row settles them. The entries made are counted, for the port's
+//! stamp.
 
 use crate::calls::Calls;
 use crate::record::Call;
@@ -12,6 +13,8 @@ use std::cmp::Ordering;
 pub struct Lined<const N: usize> {
     pub rust: PrepareEffectTree<N>,
     pub row: Row,
+    /// How many entries were made, over every reset; it goes round.
+    pub made: u64,
     /// Whether the last lookup was in view 2. lib.rs's finger then stands at the entry found in the prepare view, and goes the way of
     /// every finger when something changes.
     by_line: bool,
@@ -19,12 +22,12 @@ pub struct Lined<const N: usize> {
 
 impl<const N: usize> Lined<N> {
     pub fn make(limit: u32, lengths: [u32; 3]) -> Self {
-        Lined { rust: PrepareEffectTree::new(pair(lengths)), row: Row::make(limit, lengths), by_line: false }
+        Lined { rust: PrepareEffectTree::new(pair(lengths)), row: Row::make(limit, lengths), made: 1, by_line: false }
     }
 
-    /// The head that the port holds for this tree: lib.rs's, but for the sums of a finger in view 2.
+    /// The head that the port holds for this tree: lib.rs's, but for the stamp and the sums of a finger in view 2.
     pub fn head(&self) -> Head {
-        let mut head = self.rust.head(self.row.limit);
+        let mut head = Head { stamp: self.made, ..self.rust.head(self.row.limit) };
         if let Some(finger) = head.finger.as_mut().filter(|_| self.by_line) {
             let rank = |slot: u32| self.rank(LINES, Cursor::standing(finger.leaf, slot));
             let (start, found) = (rank(0), rank(finger.slot));
@@ -50,10 +53,13 @@ impl<const N: usize> Lined<N> {
         lines
     }
 
-    /// What the row answers to a call that it doesn't refuse.
+    /// What the row answers to a call that it doesn't refuse. Each entry made is counted, the first one after a reset too.
     fn settled(&mut self, call: Call) -> [u32; 4] {
         let answer = self.row.answer(Some(call));
         assert_eq!(answer.number, 0, "the row refuses {call:?}");
+        if matches!(call, Call::Reset { .. } | Call::Insert { .. } | Call::Split { .. }) {
+            self.made = self.made.wrapping_add(1);
+        }
         answer.fields
     }
 

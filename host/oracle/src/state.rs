@@ -40,6 +40,8 @@ pub struct Head {
     pub entry_count: u32,
     pub leaf_count: u32,
     pub inner_count: u32,
+    /// How many entries were made since make, over every reset; it goes round.
+    pub stamp: u64,
     pub finger: Option<Finger>,
 }
 

@@ -63,7 +63,8 @@ impl<const N: usize> PrepareEffectTree<N> {
         node.write(&mut inners[number as usize * words..][..words], lines)
     }
 
-    /// The head that the port holds for this tree; the limit is ours.
+    /// The head that the port holds for this tree, had it made no entries but those that it has; the limit is ours, and so is the
+    /// stamp.
     pub fn head(&self, limit: u32) -> state::Head {
         state::Head {
             fan: N as u32,
@@ -73,6 +74,7 @@ impl<const N: usize> PrepareEffectTree<N> {
             entry_count: self.leaf_of_entry.len() as u32,
             leaf_count: self.leaves.len() as u32,
             inner_count: self.nodes.len() as u32,
+            stamp: self.leaf_of_entry.len() as u64,
             finger: self.finger.map(|finger| self.finger_words(finger)),
         }
     }

@@ -116,6 +116,16 @@ fn every_flip_of_a_word_in_use_is_caught() {
     assert_eq!(met.len(), 12);
 }
 
+/// The stamp of a head is of no account.
+#[test]
+fn any_stamp_is_sound() {
+    let mut state = sound::<4>(60, PREPARE);
+    for stamp in [0, 1, 59, 61, 1 << 32, u64::MAX] {
+        state.head.stamp = stamp;
+        assert_eq!(audit(&state), Verdict::Yes, "{stamp}");
+    }
+}
+
 /// One line end more than an entry may have is unsound, although every sum above it is right; 65,535 isn't.
 #[test]
 fn more_than_65535_line_ends_in_a_leaf_slot_are_unsound() {

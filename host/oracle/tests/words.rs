@@ -27,6 +27,7 @@ fn the_words_of_the_sheet_of_five_entries() {
     let head = state.head;
     assert_eq!([head.fan, head.limit, head.root, head.levels], [4, 6, 0, 1]);
     assert_eq!([head.entry_count, head.leaf_count, head.inner_count], [5, 2, 1]);
+    assert_eq!(head.stamp, 5);
     let sums = Finger {
         view: 0,
         leaf: 1,

@@ -1,6 +1,6 @@
 /* PrepareEffectTree through C linkage: libsmelvock.a, which `rt staticlib smelvock` writes, for x86-64 Linux.
  *
- * The caller lends a head of seventeen words and three areas of words, each as a pointer and its count. Fan 4 to 32, limit 1 to
+ * The caller lends a head of nineteen words and three areas of words, each as a pointer and its count. Fan 4 to 32, limit 1 to
  * 65,536. The leaf area and the inner area each need max(1, limit / (fan / 2)) nodes of 3 + 4 * fan words, homes needs limit
  * words. A buffer to print in needs 2,750 bytes a page, a page for every 50 entries. Head, areas and buffer may not overlap. A
  * tree's head is made by smelvock_new or smelvock_reset and written by the calls. The two calls on files of edits, at the end, take
@@ -11,7 +11,7 @@
  *    2  an area is too short                  8  the tree holds its limit
  *    3  the cursor's stamp is wrong           9  a link of an unsound tree leads outside
  *    4  no such entry or edit                10  more than 65,535 line ends, a view above 2, a flag above 1, or a
- *    5  position at or past the total            head that is not seventeen words
+ *    5  position at or past the total            head that is not nineteen words
  *    6  a split moves more than the entry    12  the buffer is below 2,750 bytes a page
  *       has                                  13  the cursor's leaf is not in use
  *                                            14  the cursor's slot is at or past its leaf's len
@@ -42,15 +42,17 @@ extern "C" {
 #define SMELVOCK_LINE_ENDS 65535u
 
 /* The words of a head. The finger (present 0 or 1, then nine words) is a tree's memory of its last lookup; its words are of no
- * account where absent. */
+ * account where absent. The stamp, two words, the low one first, counts the entries made since smelvock_new, over every reset; it
+ * goes round. */
 enum {
     SMELVOCK_FAN, SMELVOCK_LIMIT, SMELVOCK_ROOT, SMELVOCK_LEVELS, SMELVOCK_LEAVES, SMELVOCK_INNERS, SMELVOCK_ENTRIES,
-    SMELVOCK_PRESENT, SMELVOCK_FINGER, SMELVOCK_HEAD_WORDS = 17
+    SMELVOCK_PRESENT, SMELVOCK_FINGER, SMELVOCK_STAMP = 17, SMELVOCK_HEAD_WORDS = 19
 };
 
-/* An entry's place, current until the next insertion or split; the stamp is the number of entries at issue. */
+/* An entry's place, current until the next insertion, split or reset; the stamp is that of the head at issue. */
 typedef struct {
-    uint32_t leaf, slot, stamp;
+    uint32_t leaf, slot;
+    uint64_t stamp;
 } smelvock_cursor_at;
 
 /* An entry's visible characters in either version, and its visible line ends. */
@@ -101,10 +103,10 @@ typedef struct {
     uint32_t *leaves, size_t leaf_words, uint32_t *inners, size_t inner_words, uint32_t *homes, size_t home_words
 
 #define SMELVOCK_GIVEN head, head_words, leaves, leaf_words, inners, inner_words, homes, home_words
-#define SMELVOCK_CURSOR uint32_t leaf, uint32_t slot, uint32_t stamp
+#define SMELVOCK_CURSOR uint32_t leaf, uint32_t slot, uint64_t stamp
 #define SMELVOCK_LENGTHS uint32_t prepare, uint32_t effect, uint32_t lines
 
-/* The library's calls. Those whose names end in _words take cursors and lengths word by word, for a struct that is handed over by
+/* The library's calls. Those whose names end in _words take cursors and lengths number by number, for a struct that is handed over by
  * value goes through memory, which costs time; below, each has a function with structs. */
 uint32_t smelvock_new_words(uint32_t fan, uint32_t limit, SMELVOCK_LENGTHS, SMELVOCK_HEAD_WRITTEN, SMELVOCK_AREAS_WRITTEN);
 uint32_t smelvock_reset_words(SMELVOCK_HEAD_WRITTEN, SMELVOCK_AREAS_WRITTEN, SMELVOCK_LENGTHS);
@@ -112,13 +114,13 @@ smelvock_number smelvock_id_words(SMELVOCK_HEAD, SMELVOCK_AREAS, SMELVOCK_CURSOR
 smelvock_measured smelvock_lengths_words(SMELVOCK_HEAD, SMELVOCK_AREAS, SMELVOCK_CURSOR);
 smelvock_number smelvock_entry_to_char_index_words(SMELVOCK_HEAD, SMELVOCK_AREAS, uint32_t view, SMELVOCK_CURSOR);
 smelvock_standing smelvock_next_words(SMELVOCK_HEAD, SMELVOCK_AREAS, SMELVOCK_CURSOR);
-smelvock_number smelvock_cmp_words(SMELVOCK_HEAD, SMELVOCK_AREAS, SMELVOCK_CURSOR, uint32_t other_leaf, uint32_t other_slot, uint32_t other_stamp);
+smelvock_number smelvock_cmp_words(SMELVOCK_HEAD, SMELVOCK_AREAS, SMELVOCK_CURSOR, uint32_t other_leaf, uint32_t other_slot, uint64_t other_stamp);
 smelvock_inserted smelvock_insert_words(SMELVOCK_HEAD_WRITTEN, SMELVOCK_AREAS_WRITTEN, uint32_t end, SMELVOCK_CURSOR, SMELVOCK_LENGTHS);
 smelvock_divided smelvock_split_entry_words(SMELVOCK_HEAD_WRITTEN, SMELVOCK_AREAS_WRITTEN, SMELVOCK_CURSOR, SMELVOCK_LENGTHS, uint32_t before);
 /* update where summed is 1; where it is 0, set_lengths, with 0 for the position. */
 smelvock_number smelvock_resize(SMELVOCK_HEAD_WRITTEN, SMELVOCK_AREAS_WRITTEN, SMELVOCK_CURSOR, SMELVOCK_LENGTHS, uint32_t summed);
 
-/* A tree of one entry, id 0; what the head holds before is of no account to new. A refused new leaves zeros in a head of seventeen
+/* A tree of one entry, id 0; what the head holds before is of no account to new. A refused new leaves zeros in a head of nineteen
  * words. */
 static inline uint32_t smelvock_new(uint32_t fan, uint32_t limit, smelvock_length lengths, SMELVOCK_HEAD_WRITTEN, SMELVOCK_AREAS_WRITTEN) {
     return smelvock_new_words(fan, limit, lengths.prepare, lengths.effect, lengths.lines, SMELVOCK_GIVEN);

@@ -33,13 +33,13 @@ pub struct Lengths {
     pub lines: u32,
 }
 
-/// An entry's place in the tree, current until the next insertion or split.
+/// An entry's place in the tree, current until the next insertion, split or reset.
 #[derive(Clone, Copy, PartialEq, Eq, Debug)]
 pub struct Cursor {
     leaf: u32,
     slot: u32,
-    /// The number of entries when the cursor was issued.
-    stamp: u32,
+    /// How many entries the tree had made when the cursor was issued, from `new` on and over every reset. It goes round at 2^64.
+    stamp: u64,
 }
 
 /// The most entries of a tree that [`new`](PrepareEffectTree::new) makes.
@@ -85,7 +85,7 @@ impl<const N: usize> PrepareEffectTree<N> {
         let fan = u32::try_from(N).unwrap_or(0);
         let [nodes, homes] = words(fan, limit);
         let mut tree = PrepareEffectTree {
-            head: [0; 17],
+            head: [0; 19],
             leaves: Area::unwritten(nodes),
             inners: Area::unwritten(nodes),
             homes: Area::unwritten(homes),
@@ -128,7 +128,7 @@ impl<const N: usize> PrepareEffectTree<N> {
         (head, AreasMut { leaves: &mut leaves.words, inners: &mut inners.words, homes: &mut homes.words })
     }
 
-    /// Makes this a tree of one entry again, reusing its memory.
+    /// Makes this a tree of one entry again, reusing its memory. No cursor from before is current.
     pub fn reset(&mut self, lengths: Lengths) -> Result<(), Refusal> {
         let (head, areas) = self.parts();
         let number = raw::reset(head, areas, lengths.into());

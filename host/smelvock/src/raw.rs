@@ -4,8 +4,8 @@
 use crate::area::Word;
 
 /// What a tree keeps beside its areas, as the words that the exports are lent: fan, limit, root, levels, the counts of leaves, inner
-/// nodes and entries in use, 1 or 0 for a finger or none, and the finger's nine words.
-pub type Head = [u32; 17];
+/// nodes and entries in use, 1 or 0 for a finger or none, the finger's nine words, and the stamp's two, the low one first.
+pub type Head = [u32; 19];
 
 /// Where a head has its fan, limit, root and so on.
 pub mod word {
@@ -17,6 +17,8 @@ pub mod word {
     pub const INNERS: usize = 5;
     pub const ENTRIES: usize = 6;
     pub const PRESENT: usize = 7;
+    /// The low word; the high one is the head's last.
+    pub const STAMP: usize = 17;
 }
 
 #[repr(C)]
@@ -24,7 +26,7 @@ pub mod word {
 pub struct Cursor {
     pub leaf: u32,
     pub slot: u32,
-    pub stamp: u32,
+    pub stamp: u64,
 }
 
 #[repr(C)]
@@ -148,13 +150,13 @@ macro_rules! exports {
 
 exports! {
     reading: Areas, &[u32], as_ptr, *const u32, as_ptr, *const u32;
-    id_words as smelvock_id_words(; leaf: u32, slot: u32, stamp: u32) -> Number;
-    lengths_words as smelvock_lengths_words(; leaf: u32, slot: u32, stamp: u32) -> Measured;
+    id_words as smelvock_id_words(; leaf: u32, slot: u32, stamp: u64) -> Number;
+    lengths_words as smelvock_lengths_words(; leaf: u32, slot: u32, stamp: u64) -> Measured;
     cursor as smelvock_cursor(; id: u32) -> Standing;
-    entry_to_char_index_words as smelvock_entry_to_char_index_words(; view: u32, leaf: u32, slot: u32, stamp: u32) -> Number;
+    entry_to_char_index_words as smelvock_entry_to_char_index_words(; view: u32, leaf: u32, slot: u32, stamp: u64) -> Number;
     first as smelvock_first(;) -> Standing;
-    next_words as smelvock_next_words(; leaf: u32, slot: u32, stamp: u32) -> Standing;
-    cmp_words as smelvock_cmp_words(; leaf: u32, slot: u32, stamp: u32, other_leaf: u32, other_slot: u32, other_stamp: u32) -> Number;
+    next_words as smelvock_next_words(; leaf: u32, slot: u32, stamp: u64) -> Standing;
+    cmp_words as smelvock_cmp_words(; leaf: u32, slot: u32, stamp: u64, other_leaf: u32, other_slot: u32, other_stamp: u64) -> Number;
     audit as smelvock_audit(;) -> Number;
 }
 
@@ -167,12 +169,12 @@ exports! {
     changing: AreasMut, &mut [u32], as_mut_ptr, *mut u32, as_mut_ptr, *mut u32;
     new_words as smelvock_new_words(fan: u32, limit: u32, prepare: u32, effect: u32, lines: u32;) -> u32;
     reset_words as smelvock_reset_words(; prepare: u32, effect: u32, lines: u32) -> u32;
-    insert_words as smelvock_insert_words(; end: u32, leaf: u32, slot: u32, stamp: u32, prepare: u32, effect: u32, lines: u32) -> Inserted;
-    split_entry_words as smelvock_split_entry_words(; leaf: u32, slot: u32, stamp: u32, prepare: u32, effect: u32, lines: u32, before: u32) -> Divided;
-    resize as smelvock_resize(; leaf: u32, slot: u32, stamp: u32, prepare: u32, effect: u32, lines: u32, summed: u32) -> Number;
+    insert_words as smelvock_insert_words(; end: u32, leaf: u32, slot: u32, stamp: u64, prepare: u32, effect: u32, lines: u32) -> Inserted;
+    split_entry_words as smelvock_split_entry_words(; leaf: u32, slot: u32, stamp: u64, prepare: u32, effect: u32, lines: u32, before: u32) -> Divided;
+    resize as smelvock_resize(; leaf: u32, slot: u32, stamp: u64, prepare: u32, effect: u32, lines: u32, summed: u32) -> Number;
 }
 
-/// A tree's calls with cursors and lengths as structs, as the header has them: the exports take their words one by one, since a
+/// A tree's calls with cursors and lengths as structs, as the header has them: the exports take their numbers one by one, since a
 /// struct that is handed over by value goes through memory.
 macro_rules! calls {
     ($($name:ident($head:ty, $areas:ident; $($given:ident: $kind:ty),*) -> $reply:ty = $export:ident($($word:expr),*);)*) => {

@@ -34,7 +34,7 @@ refusals! {
     TOTAL = 7: "a total would pass 4,294,967,295";
     FULL = 8: "the tree holds its limit";
     LINK = 9: "a link of the tree leads outside";
-    FIELD = 10: "more than 65,535 line ends, a head that is not seventeen words, a view above 2, a flag above 1, or an edit whose rest is not zero";
+    FIELD = 10: "more than 65,535 line ends, a head that is not nineteen words, a view above 2, a flag above 1, or an edit whose rest is not zero";
     RECORDS = 11: "records and output are unequally long, or a length is not a multiple of 16";
     BUFFER = 12: "the buffer is below 2,750 bytes a page, or the list area below 512 words";
     LEAF = 13: "the cursor's leaf is not in use";

@@ -48,13 +48,17 @@ cmp of bad cursors: 14 3 13
 view 3: 10
 flag 2: 10
 65536 line ends: 10 10 10 10 10 10, then 0
-16 words: 10
+18 words: 10
 short: 2
 reset 0 1 0
 insert 0 1 0
 split_entry 0 2 0 0 0 1
 lengths 0 0 0 35
 lengths 0 1 0 65500
+insert 0 3 1
+insert 0 4 2
+stamp 10 0: 3
+stamp 1: 0 0, then 0 0: 3 0
 edits_check 0 11
 511 words: 12 0 0
 edits_difference 0 2: 1 2, then 7

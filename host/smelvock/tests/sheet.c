@@ -63,6 +63,19 @@ static void print(void) {
     printf("%.*sblank %u, then %c\n", (int)(LIMIT * line), (const char *)page, blank / line, page[SMELVOCK_PAGE_BYTES]);
 }
 
+/* A cursor from before a reset, in a sheet of as many entries; then the stamp goes round. */
+static void stamps(smelvock_cursor_at before) {
+    for (uint32_t i = 0; i < 2; i++)
+        insert(1, nowhere, (smelvock_length){1, 1, 0});
+    printf("stamp %u %u: %u\n", head[SMELVOCK_STAMP], head[SMELVOCK_STAMP + 1], smelvock_id(HEAD, AREAS, before).number);
+    head[SMELVOCK_STAMP] = head[SMELVOCK_STAMP + 1] = UINT32_MAX;
+    smelvock_cursor_at last = at(0);
+    printf("stamp %u: %u", last.stamp == UINT64_MAX, smelvock_id(HEAD, AREAS, last).number);
+    printf(" %u", smelvock_reset(HEAD, AREAS, (smelvock_length){1, 0, 0}));
+    printf(", then %u %u: %u %u\n", head[SMELVOCK_STAMP], head[SMELVOCK_STAMP + 1], smelvock_id(HEAD, AREAS, last).number,
+           smelvock_id(HEAD, AREAS, at(0)).number);
+}
+
 /* Edit 1 rests on 0, 2 on 0 and 1, 3 on nothing else. */
 static void edits(void) {
     static const uint32_t parents[4][2] = {{SMELVOCK_NONE, SMELVOCK_NONE}, {0, SMELVOCK_NONE}, {1, 1}, {SMELVOCK_NONE, SMELVOCK_NONE}};
@@ -134,7 +147,7 @@ int main(void) {
     printf("view 3: %u\n", smelvock_locate(HEAD, AREAS, 3, 0).number);
     printf("flag 2: %u\n", smelvock_split_entry(HEAD, AREAS, good, (smelvock_length){0, 0, 0}, 2).number);
     overlong(old);
-    printf("16 words: %u\n", smelvock_len(head, SMELVOCK_HEAD_WORDS - 1).number);
+    printf("18 words: %u\n", smelvock_len(head, SMELVOCK_HEAD_WORDS - 1).number);
     printf("short: %u\n", smelvock_first(HEAD, leaves, WORDS - 1, inners, WORDS, homes, LIMIT).number);
     uint32_t reset = smelvock_reset(HEAD, AREAS, (smelvock_length){1, 0, SMELVOCK_LINE_ENDS});
     printf("reset %u %u %u\n", reset, head[SMELVOCK_ENTRIES], head[SMELVOCK_PRESENT]);
@@ -142,6 +155,7 @@ int main(void) {
     split(0, (smelvock_length){0, 0, 35});
     lengths(2);
     lengths(0);
+    stamps(good);
     edits();
     return 0;
 }
