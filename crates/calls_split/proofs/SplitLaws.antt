@@ -6,13 +6,13 @@ use Prim.Native.Nat.{ℕ, _-_, _<_, _≤_}
 use native.Mathlib.Omega.{arith}
 use lib.ListN.{getD}
 use borrow.Author.Tests.{eq-eqb, ne-eqb, leb-false}
-use Rattle.model.specs.Lists.{All}
+use Rattle.model.specs.Lists.{All, Cause}
 use Rattle.model.specs.Kind.{tooManyLines}
 use Rattle.model.specs.Length.{lengthsIn}
 use Rattle.model.specs.Node.{lengths, childSplit}
 use Rattle.model.specs.State.{State, state, nextStamp, nodeAt}
 use Rattle.model.specs.Place.{Change, change, divide}
-use Rattle.model.specs.Refuse.{shapeOf, opening, atCursor, tooMuch, full}
+use Rattle.model.specs.Refuse.{shapeOf, opening, atCursor, tooMuch, hollowPart, full}
 use Rattle.model.specs.Calls.{Reply, reply, settled, slotAt, dividedAt, splitCauses, splitEntry}
 use Rattle.model.specs.declared.shape.Kind.{Kind}
 use Rattle.model.specs.declared.shape.Shape.{Shape}
@@ -25,8 +25,8 @@ use Rattle.place.proofs.LevelLaws.{entered-in}
 use Rattle.place.proofs.CallLaws.{settled-head, settled-again}
 use Rattle.open.proofs.Causes.{opened-first, opened-next, opened-none, opened-stop, opened-more, good-shape, good-front, good-tail, good-rest, call-refused, call-good}
 use Rattle.open.proofs.CursorLaws.{at-numbered, stands, own-lengths}
-use Rattle.open.proofs.WidthLaws.{own-shape, own-views, more-same}
-use Rattle.open.specs.Lengths.{moreIn}
+use Rattle.open.proofs.WidthLaws.{own-shape, own-views, more-same, hollow-same}
+use Rattle.open.specs.Lengths.{moreIn, hollowIn}
 use Rattle.open.specs.Open.{openedBy}
 use Rattle.open.specs.Ready.{Stands}
 use Rattle.open.specs.declared.open.Opened.{Opened}
@@ -43,7 +43,7 @@ module _ (K : Kind) (s : State) (c : Cursor) (x : List ℕ) (m : Bool) (em : m �
   given = lengthsIn (K .views) x
 
   behind : openedBy (splitCauses K s c given) (shapeOf K (s .head))
-      ≡ openedBy (opening K s ++ atCursor K s c ++ tooMuch K given (lengths (slotAt K s c)) ∷ full s ∷ []) (shapeOf K (s .head))
+      ≡ openedBy (opening K s ++ atCursor K s c ++ tooMuch K given (lengths (slotAt K s c)) ∷ hollowPart K given (lengths (slotAt K s c)) ∷ full s ∷ []) (shapeOf K (s .head))
   behind = opened-next 10 _ _ _ (sym em ∙ few)
 
   pub split-refused : (n : ℕ) → o ≡ Refused n → Refused n ≡ openedBy (splitCauses K s c given) (shapeOf K (s .head))
@@ -55,33 +55,46 @@ module _ (K : Kind) (s : State) (c : Cursor) (x : List ℕ) (m : Bool) (em : m �
     same : shapeOf K (s .head) ≡ g
     same = good-shape (opening K s ++ atCursor K s c) _ g (sym e ∙ d)
 
-    here : t ≡ tooMuch K given (lengths (slotAt K s c)) .applies
-    here =
-        et
-        ∙ more-same K (s .head) g (sym same) (lengthsIn (g .stride - 1) x) (lengthsIn (g .stride - 1) y)
-        ∙ ap₂ (λ (u v : List ℕ). tooMuch K u v .applies) (ap (λ (n : ℕ). lengthsIn n x) (own-views K (s .head) g (sym same)))
+    -- a test of what leaves and of what the entry has
+    by-views : (f : List ℕ → List ℕ → Cause) → f (lengthsIn (g .stride - 1) x) (lengthsIn (g .stride - 1) y) .applies ≡ f given (lengths (slotAt K s c)) .applies
+    by-views f =
+        ap₂ (λ (u v : List ℕ). f u v .applies) (ap (λ (n : ℕ). lengthsIn n x) (own-views K (s .head) g (sym same)))
         (own-lengths K s c g (lengthsIn (g .stride - 1) y) same ey)
 
-    rest : openedBy (splitCauses K s c given) (shapeOf K (s .head)) ≡ openedBy (tooMuch K given (lengths (slotAt K s c)) ∷ full s ∷ []) (shapeOf K (s .head))
+    here : t ≡ tooMuch K given (lengths (slotAt K s c)) .applies
+    here = et ∙ more-same K (s .head) g (sym same) (lengthsIn (g .stride - 1) x) (lengthsIn (g .stride - 1) y) ∙ by-views (tooMuch K)
+
+    rest : openedBy (splitCauses K s c given) (shapeOf K (s .head))
+        ≡ openedBy (tooMuch K given (lengths (slotAt K s c)) ∷ hollowPart K given (lengths (slotAt K s c)) ∷ full s ∷ []) (shapeOf K (s .head))
     rest = behind ∙ opened-more (opening K s ++ atCursor K s c) _ _ g (at-numbered K s c) (sym e ∙ d)
 
     pub split-much : t ≡ true → Refused 6 ≡ openedBy (splitCauses K s c given) (shapeOf K (s .head))
     split-much h = sym (rest ∙ opened-first 5 _ _ _ (sym here ∙ h))
 
-    module _ (h : t ≡ false) (u : Bool) (eu : u ≡ full s .applies) where
-      last : openedBy (splitCauses K s c given) (shapeOf K (s .head)) ≡ openedBy (full s ∷ []) (shapeOf K (s .head))
-      last = rest ∙ opened-next 6 _ _ _ (sym here ∙ h)
+    module _ (h : t ≡ false) (p : Bool) (ep : p ≡ hollowIn (g .stride - 1) (lengthsIn (g .stride - 1) x) (lengthsIn (g .stride - 1) y)) where
+      parts : p ≡ hollowPart K given (lengths (slotAt K s c)) .applies
+      parts = ep ∙ hollow-same K (s .head) g (sym same) (lengthsIn (g .stride - 1) x) (lengthsIn (g .stride - 1) y) ∙ by-views (hollowPart K)
 
-      pub split-full : u ≡ true → Refused 8 ≡ openedBy (splitCauses K s c given) (shapeOf K (s .head))
-      split-full q = sym (last ∙ opened-first 7 _ [] _ (sym eu ∙ q))
+      next : openedBy (splitCauses K s c given) (shapeOf K (s .head)) ≡ openedBy (hollowPart K given (lengths (slotAt K s c)) ∷ full s ∷ []) (shapeOf K (s .head))
+      next = rest ∙ opened-next 6 _ _ _ (sym here ∙ h)
 
-      pub split-good : u ≡ false → Good g ≡ openedBy (splitCauses K s c given) (shapeOf K (s .head))
-      split-good q = sym (last ∙ opened-next 8 _ [] _ (sym eu ∙ q) ∙ opened-none _ ∙ ap Good same)
+      pub split-hollow : p ≡ true → Refused 17 ≡ openedBy (splitCauses K s c given) (shapeOf K (s .head))
+      split-hollow q = sym (next ∙ opened-first 16 _ _ _ (sym parts ∙ q))
+
+      module _ (k : p ≡ false) (u : Bool) (eu : u ≡ full s .applies) where
+        last : openedBy (splitCauses K s c given) (shapeOf K (s .head)) ≡ openedBy (full s ∷ []) (shapeOf K (s .head))
+        last = next ∙ opened-next 17 _ _ _ (sym parts ∙ k)
+
+        pub split-full : u ≡ true → Refused 8 ≡ openedBy (splitCauses K s c given) (shapeOf K (s .head))
+        split-full q = sym (last ∙ opened-first 7 _ [] _ (sym eu ∙ q))
+
+        pub split-good : u ≡ false → Good g ≡ openedBy (splitCauses K s c given) (shapeOf K (s .head))
+        split-good q = sym (last ∙ opened-next 8 _ [] _ (sym eu ∙ q) ∙ opened-none _ ∙ ap Good same)
 
 -- what is known where `open_split` gives no number
 module _ (K : Kind) (w : (1 ≤ K .views) × (K .views ≤ 3)) (s : State) (c : Cursor) (l : List ℕ) (g : Shape) (o : Opened)
     (e : o ≡ openedBy (splitCauses K s c l) (shapeOf K (s .head))) (d : o ≡ Good g) where
-  behind-lines : openedBy (opening K s ++ atCursor K s c ++ tooMuch K l (lengths (slotAt K s c)) ∷ full s ∷ []) (shapeOf K (s .head)) ≡ Good g
+  behind-lines : openedBy (opening K s ++ atCursor K s c ++ tooMuch K l (lengths (slotAt K s c)) ∷ hollowPart K l (lengths (slotAt K s c)) ∷ full s ∷ []) (shapeOf K (s .head)) ≡ Good g
   behind-lines = good-tail 9 (tooManyLines K l) _ (shapeOf K (s .head)) g (sym e ∙ d)
 
   split-stands : Stands K s c g
@@ -91,8 +104,8 @@ module _ (K : Kind) (w : (1 ≤ K .views) × (K .views ≤ 3)) (s : State) (c : 
   unfolding All
   below-limit =
       leb-false _ _
-      (good-rest (opening K s ++ atCursor K s c) (tooMuch K l (lengths (slotAt K s c)) ∷ full s ∷ []) (shapeOf K (s .head)) g behind-lines (at-numbered K s c)
-      (omega arith, (omega arith, tt)) .1 .0)
+      (good-rest (opening K s ++ atCursor K s c) (tooMuch K l (lengths (slotAt K s c)) ∷ hollowPart K l (lengths (slotAt K s c)) ∷ full s ∷ []) (shapeOf K (s .head)) g behind-lines
+      (at-numbered K s c) (omega arith, (omega arith, (omega arith, tt))) .1 .1 .0)
 
   few-entries : s .head .entries < 65536
   few-entries = omega (arith, below-limit, split-stands .ready .limit-most)

@@ -5,6 +5,7 @@ use model::head::Cursor;
 use model::head::Head;
 use model::number::EntryId;
 use model::number::LeafNo;
+use open::lengths::hollow_part;
 use open::lengths::lengths_at;
 use open::lengths::too_many_lines;
 use open::lengths::too_much;
@@ -46,6 +47,9 @@ fn open_split(
             lengths_at(leaves, g, at.leaf, at.slot, &mut own);
             if too_much(g, x, &own) {
                 return Opened::Refused(6);
+            }
+            if hollow_part(g, x, &own) {
+                return Opened::Refused(17);
             }
             if full(head) {
                 return Opened::Refused(8);

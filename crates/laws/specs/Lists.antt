@@ -1,6 +1,7 @@
--- Lists: `All`, a list that is dropped whole, `zipWith` one element further, and products of a count and a width. Assumes nothing.
-use mathlib.Core.Path.{_≡_, refl, sym, ap, _∙_}
-use mathlib.Core.Bool.{Bool, true, false, _&&_}
+-- Lists: `All`, a list that is dropped whole, `zipWith` one element further, tests of numbers in a row, and products of a count and a width. Assumes
+-- nothing.
+use mathlib.Core.Path.{_≡_, refl, sym, ap, ap₂, _∙_}
+use mathlib.Core.Bool.{Bool, true, false, _&&_, _||_}
 use mathlib.Core.List.{List, [], _∷_, _++_, zipWith}
 use Prim.Native.Nat.{ℕ, zero, suc, _+_, _-_, _*_, _<_, _≤_}
 use native.Mathlib.Omega.{arith}
@@ -8,7 +9,7 @@ use native.Mathlib.Nat.{zero-add, add-assoc, suc-mul, add-mul, mul-le-mul-right}
 use native.Mathlib.Numerals.{add-one}
 use lib.ListN.{length, getD, take, drop, set, replicate}
 use lib.Seq.{drop-append-add}
-use Rattle.model.specs.Lists.{All, sumBy}
+use Rattle.model.specs.Lists.{All, sumBy, some, range}
 
 pub and-true : (a b : Bool) → (a && b) ≡ true → (a ≡ true) × (b ≡ true)
 and-true true b e = (refl, e)
@@ -65,6 +66,23 @@ unfolding zipWith
 length-zip f [] ys e = refl
 length-zip f (x ∷ xs) [] e = absurd (omega arith)
 length-zip f (x ∷ xs) (y ∷ ys) e = ap suc (length-zip f xs ys (omega arith))
+
+-- tests of the numbers below n: two that agree, and one that holds of none
+some-same : (q q′ : ℕ → Bool) (i n : ℕ) → ((v : ℕ) → i ≤ v → v < i + n → q v ≡ q′ v) → some q (range i n) ≡ some q′ (range i n)
+unfolding some range
+some-same q q′ i zero h = refl
+some-same q q′ i (suc n) h = ap₂ _||_ (h i (omega arith) (omega arith)) (some-same q q′ (suc i) n (λ v lo hi. h v (omega arith) (omega arith)))
+
+pub some-views : (n : ℕ) (q q′ : ℕ → Bool) → ((v : ℕ) → v < n → q v ≡ q′ v) → some q (range 0 n) ≡ some q′ (range 0 n)
+some-views n q q′ h = some-same q q′ 0 n (λ v lo hi. h v (omega arith))
+
+none-from : (i n : ℕ) → some (λ v. false) (range i n) ≡ false
+unfolding some range
+none-from i zero = refl
+none-from i (suc n) = none-from (suc i) n
+
+pub none-views : (n : ℕ) (q : ℕ → Bool) → ((v : ℕ) → v < n → q v ≡ false) → some q (range 0 n) ≡ false
+none-views n q h = some-views n q (λ v. false) h ∙ none-from 0 n
 
 -- n rows of s words: fewer rows, one row more, the rows between two, and a place in a row
 pub rows-le : (i n s : ℕ) → i ≤ n → i * s ≤ n * s

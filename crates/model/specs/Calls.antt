@@ -14,7 +14,7 @@ use Rattle.model.specs.State.{State, state, headOf, nextStamp, shape, no
 use Rattle.model.specs.Climb.{leafNo, rankUp, stepsUp, firstDown, lastDown, nextUp}
 use Rattle.model.specs.Locate.{servedBy, fromRoot, effectAt, prepareAt}
 use Rattle.model.specs.Place.{Change, change, withFinger, place, divide, replace, climb}
-use Rattle.model.specs.Refuse.{shapeOf, manyLines, badSize, tooShort, opening, stale, atCursor, noSuchId, tooMuch, past, full}
+use Rattle.model.specs.Refuse.{shapeOf, manyLines, badSize, tooShort, opening, stale, atCursor, noSuchId, tooMuch, hollowPart, past, full}
 use Rattle.model.specs.declared.shape.Place.{Place}
 use Rattle.model.specs.declared.shape.Place.the-variants as slot
 use Rattle.model.specs.declared.number.EntryId.{EntryId}
@@ -282,7 +282,7 @@ abbrev pub dividedAt : ℕ → ℕ → ℕ → ℕ → Divided
 dividedAt n stamp k i = divided.At (entryId n) (cursorAt stamp k i) (cursorAt stamp k (i + 1))
 
 abbrev pub splitCauses : Kind → State → Cursor → List ℕ → List Cause
-splitCauses K s c l = manyLines K l ∷ (opening K s ++ atCursor K s c ++ tooMuch K l (lengths (slotAt K s c)) ∷ full s ∷ [])
+splitCauses K s c l = manyLines K l ∷ (opening K s ++ atCursor K s c ++ tooMuch K l (lengths (slotAt K s c)) ∷ hollowPart K l (lengths (slotAt K s c)) ∷ full s ∷ [])
 
 unfoldable pub splitEntry : Kind → State → Cursor → List ℕ → Bool → Reply Divided
 splitEntry K s c l flag =

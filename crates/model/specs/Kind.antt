@@ -1,10 +1,10 @@
 -- The kind of a tree: a slot is a child and as many lengths as the kind has views. Assumes nothing.
 use Prim.Native.Nat.{ℕ, suc}
-use mathlib.Core.Bool.{Bool, _&&_}
+use mathlib.Core.Bool.{Bool, _&&_, not}
 use mathlib.Core.List.{List}
 use lib.Dec.{ltb}
 use lib.ListN.{getD}
-use Rattle.model.specs.Lists.{range}
+use Rattle.model.specs.Lists.{some, range}
 use Rattle.model.specs.declared.shape.Kind.{Kind}
 
 -- the words of a slot
@@ -29,3 +29,7 @@ base = kind 3 1
 -- more line ends than the 65,535 that an entry may have; a kind without a third view has none
 abbrev pub tooManyLines : Kind → List ℕ → Bool
 tooManyLines K l = ltb 2 (K .views) && ltb 65535 (getD l 2 0)
+
+-- zero in every length
+abbrev pub hollow : Kind → List ℕ → Bool
+hollow K l = not (some (λ v. ltb 0 (getD l v 0)) (viewsOf K))

@@ -1,11 +1,11 @@
 -- What is promised of all calls together (document 01, demands 1 and 3): what a refused call leaves, and what every list of calls answers.
 -- The theorems are theory's. Assumes nothing.
 use mathlib.Core.Path.{_≡_}
-use mathlib.Core.Logic.{_≢_}
+use mathlib.Core.Logic.{_≢_, _⊎_}
 use mathlib.Core.Bool.{Bool, true, false, cond}
-use mathlib.Core.List.{List, [], _∷_}
-use Prim.Native.Nat.{ℕ, _*_, _^_, _≤_, _<_}
-use lib.ListN.{length}
+use mathlib.Core.List.{List, [], _∷_, zipWith}
+use Prim.Native.Nat.{ℕ, _-_, _*_, _^_, _≤_, _<_}
+use lib.ListN.{length, getD}
 use Rattle.model.specs.Kind.{tooManyLines}
 use Rattle.model.specs.Lists.{All, cause, refusal}
 use Rattle.model.specs.declared.shape.Kind.{Kind}
@@ -205,7 +205,7 @@ Adds row.malformed = ⊥
 -- the row's refusal before the limit is asked: 0 where the earlier checks are passed
 abbrev pub earlier : Kind → Row → Call → ℕ
 earlier K r (row.insert i l) = refusal (cause 10 (tooManyLines K l) ∷ row.noSuchPlace r i ∷ row.past K (row.inserted i (row.newEntry r l) (r .entries)) ∷ [])
-earlier K r (row.split flag i l) = refusal (cause 10 (tooManyLines K l) ∷ row.noSuchId r i ∷ row.tooMuch K l (row.lengthsOf i (r .entries)) ∷ [])
+earlier K r (row.split flag i l) = refusal (cause 10 (tooManyLines K l) ∷ row.noSuchId r i ∷ row.tooMuch K l (row.lengthsOf i (r .entries)) ∷ row.hollowPart K l (row.lengthsOf i (r .entries)) ∷ [])
 earlier K r (row.reset l) = 0
 earlier K r (row.setLengths i l) = 0
 earlier K r (row.update i l) = 0
@@ -226,6 +226,28 @@ pub record Numbers (K : Kind) (s : State) (r : Row) (c : Call) : Type 0 where
   pub always : Adds c → r .limit ≤ length (r .entries) → treeStep K s c .answer .number ≢ 0
   pub nine : treeStep K s c .answer .number ≢ 9
 
+-- zero in every length, and above zero in some
+abbrev pub Hollow : Kind → List ℕ → Type 0
+Hollow K l = (v : ℕ) → v < K .views → getD l v 0 ≡ 0
+
+abbrev pub Filled : Kind → List ℕ → Type 0
+Filled K l = (v : ℕ) × (v < K .views) × (0 < getD l v 0)
+
+-- the row's refusal of a split up to 6, and the hollow parts that 17 is for
+abbrev pub upToSix : Kind → Row → ℕ → List ℕ → ℕ
+upToSix K r i l = refusal (cause 10 (tooManyLines K l) ∷ row.noSuchId r i ∷ row.tooMuch K l (row.lengthsOf i (r .entries)) ∷ [])
+
+abbrev pub HollowPart : Kind → Row → ℕ → List ℕ → Type 0
+HollowPart K r i l = Hollow K l ⊎ Hollow K (zipWith _-_ (row.lengthsOf i (r .entries)) l)
+
+-- the splits of a row: 17 comes exactly where a part is hollow and nothing up to 6 is refused, also where the row holds its limit; and where a split is
+-- answered, neither the new entry nor the one that it was taken from is hollow in the row that it leaves
+pub record Parts (K : Kind) (r : Row) (flag : Bool) (i : ℕ) (l : List ℕ) : Type 0 where
+  pub only : rowStep K r (row.split flag i l) .answer .number ≡ 17 → (upToSix K r i l ≡ 0) × HollowPart K r i l
+  pub exactly : upToSix K r i l ≡ 0 → HollowPart K r i l → rowStep K r (row.split flag i l) .answer .number ≡ 17
+  pub made : rowStep K r (row.split flag i l) .answer .number ≡ 0 → Filled K (row.lengthsOf (length (r .entries)) (rowStep K r (row.split flag i l) .after .entries))
+  pub left : rowStep K r (row.split flag i l) .answer .number ≡ 0 → Filled K (row.lengthsOf i (rowStep K r (row.split flag i l) .after .entries))
+
 -- what holds of a state of that fan that stands for the row r
 pub record Kept (K : Kind) (fan : ℕ) (s : State) (r : Row) : Type 0 where
   pub sound : Sound K s
@@ -237,6 +259,7 @@ pub record Kept (K : Kind) (fan : ℕ) (s : State) (r : Row) : Type 0 where
   pub levels : s .head .levels ≤ 15
   pub floor : 2 ≤ s .head .levels → 2 * half fan ^ s .head .levels ≤ length (r .entries)
   pub numbers : (c : Call) → InWords K c → Numbers K s r c
+  pub parts : (flag : Bool) (i : ℕ) (l : List ℕ) → Parts K r flag i l
 
 -- each call of a list gets the row's answer, and the state before it and after the last one is kept
 unfoldable pub Along : Kind → ℕ → State → Row → List Call → Type 0

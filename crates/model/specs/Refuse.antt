@@ -1,11 +1,11 @@
 -- The causes of a refusal on a tree (document 01, "When a call cannot be done"), in the order in which a call tests them. Assumes nothing.
 use mathlib.Core.Bool.{Bool, _&&_, _||_, not}
-use mathlib.Core.List.{List, [], _∷_, _++_}
-use Prim.Native.Nat.{ℕ, _+_, _*_}
+use mathlib.Core.List.{List, [], _∷_, _++_, zipWith}
+use Prim.Native.Nat.{ℕ, _+_, _-_, _*_}
 use lib.ListN.{length, getD}
 use lib.Dec.{ltb, leb, eqb}
 use Rattle.model.specs.Lists.{Cause, cause, some}
-use Rattle.model.specs.Kind.{stride, viewsOf, tooManyLines}
+use Rattle.model.specs.Kind.{stride, viewsOf, tooManyLines, hollow}
 use Rattle.model.specs.declared.shape.Kind.{Kind}
 use Rattle.model.specs.Node.{total, used}
 use Rattle.model.specs.State.{State, shape, nodeAt}
@@ -64,6 +64,10 @@ noSuchId s i = cause 4 (leb (s .head .entries) i)
 -- 6: split moves more than the entry has, in any view
 abbrev pub tooMuch : Kind → List ℕ → List ℕ → Cause
 tooMuch K given ls = cause 6 (some (λ v. ltb (getD ls v 0) (getD given v 0)) (viewsOf K))
+
+-- 17: the moved part, or the part left behind, has zero in every length
+abbrev pub hollowPart : Kind → List ℕ → List ℕ → Cause
+hollowPart K given ls = cause 17 (hollow K given || hollow K (zipWith _-_ ls given))
 
 -- the total in view v, as the root's slots have it
 abbrev pub totalOf : Kind → State → ℕ → ℕ

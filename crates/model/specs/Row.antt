@@ -1,11 +1,11 @@
 -- The plain row (document 01, "The plain row"): what every list of calls must answer. Assumes nothing.
-use mathlib.Core.Bool.{Bool, false, cond, _&&_, not}
+use mathlib.Core.Bool.{Bool, false, cond, _&&_, _||_, not}
 use mathlib.Core.List.{List, [], _∷_, _++_, zipWith}
 use Prim.Native.Nat.{ℕ, _+_, _-_}
 use lib.ListN.{length, getD, drop}
 use lib.Dec.{ltb, leb, eqb}
 use Rattle.model.specs.Lists.{sumBy, some, Cause, cause, refusal}
-use Rattle.model.specs.Kind.{viewsOf, prepare, tooManyLines}
+use Rattle.model.specs.Kind.{viewsOf, prepare, tooManyLines, hollow}
 use Rattle.model.specs.declared.shape.Kind.{Kind}
 
 -- an entry: its id and a length in each view
@@ -129,6 +129,10 @@ noSuchPosition r v index = cause 5 (leb (total v (r .entries)) index)
 abbrev pub tooMuch : Kind → List ℕ → List ℕ → Cause
 tooMuch K given ls = cause 6 (some (λ v. ltb (getD ls v 0) (getD given v 0)) (viewsOf K))
 
+-- 17: the moved part, or the part left behind, has zero in every length
+abbrev pub hollowPart : Kind → List ℕ → List ℕ → Cause
+hollowPart K given ls = cause 17 (hollow K given || hollow K (zipWith _-_ ls given))
+
 abbrev pub past : Kind → List Entry → Cause
 past K es = cause 7 (some (λ v. ltb 4294967295 (total v es)) (viewsOf K))
 
@@ -170,7 +174,7 @@ rowMove K r (insert i l) =
     let es = inserted i (newEntry r l) (r .entries) in
     unless r (noSuchPlace r i ∷ past K es ∷ full r ∷ []) es (done (length (r .entries) ∷ total (K .effect) (before i (r .entries)) ∷ []))
 rowMove K r (split flag i l) =
-    unless r (noSuchId r i ∷ tooMuch K l (lengthsOf i (r .entries)) ∷ full r ∷ []) (divided flag i (newEntry r l) (r .entries)) (done (length (r .entries) ∷ []))
+    unless r (noSuchId r i ∷ tooMuch K l (lengthsOf i (r .entries)) ∷ hollowPart K l (lengthsOf i (r .entries)) ∷ full r ∷ []) (divided flag i (newEntry r l) (r .entries)) (done (length (r .entries) ∷ []))
 rowMove K r (setLengths i l) =
     let es = changed i l (r .entries) in
     unless r (noSuchId r i ∷ past K es ∷ []) es (done [])

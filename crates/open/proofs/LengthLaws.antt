@@ -1,10 +1,10 @@
 -- The lengths of a slot, and a test of each of them in the views that a slot has. Assumes nothing.
 use mathlib.Core.Path.{_≡_, refl, sym, ap, _∙_}
-use mathlib.Core.Bool.{Bool, true, false, cond, _||_}
-use mathlib.Core.List.{List, [], _∷_}
+use mathlib.Core.Bool.{Bool, true, false, cond, _||_, not}
+use mathlib.Core.List.{List, [], _∷_, zipWith}
 use Prim.Native.Nat.{ℕ, zero, suc, _+_, _-_, _*_, _<_, _≤_}
 use native.Mathlib.Omega.{arith}
-use lib.ListN.{length, getD, set, take}
+use lib.ListN.{length, getD, set, take, replicate, getD-replicate}
 use lib.Seq.{take-all}
 use lib.Dec.{ltb}
 use borrow.Author.Tests.{ltb-true, ltb-false, lt-ltb, le-ltb}
@@ -14,13 +14,14 @@ use Rattle.model.specs.Length.{lengthsIn}
 use Rattle.model.specs.Node.{slotsFrom, nodeOf, lengths, lengthIn, used}
 use Rattle.model.specs.State.{nodeAt}
 use Rattle.model.specs.declared.shape.Shape.{Shape}
-use Rattle.laws.specs.Lists.{row-end}
+use Rattle.laws.specs.Lists.{row-end, some-views}
 use Rattle.laws.specs.Words.{length-part, getD-part}
 use Rattle.laws.specs.Lens.{by-test}
 use Rattle.laws.specs.Slots.{slots-at, slots-length, slots-take}
 use Rattle.laws.specs.Areas.{length-node}
 use Rattle.laws.specs.AreaRead.{node-end}
 use Rattle.area.specs.Area.{Area}
+use Rattle.open.specs.Lengths.{moreIn, hollowIn}
 
 -- the lengths of a slot of two, three, four words
 behind-one : (x : List ℕ) → length x ≡ 2 → lengths x ≡ getD x 1 0 ∷ []
@@ -130,6 +131,49 @@ module _ (t : ℕ → ℕ → ℕ → Bool) (a b : List ℕ) where
           go : (c : Bool) → ltb 2 s ≡ c → (cond c (testAt 1) false || false) ≡ false
           go true e = rw (f (ltb-true 2 s e))
           go false e = refl
+
+-- the parts of a divided entry, whose lengths are lent as four words: what is moved is hollow where it isn't more than nothing, what is left where the
+-- entry hasn't more than what is moved
+less-above : (a b : ℕ) → ltb a b ≡ ltb 0 (b - a)
+less-above a b = go (ltb a b) refl
+  where
+    go : (c : Bool) → ltb a b ≡ c → c ≡ ltb 0 (b - a)
+    go true e = sym (lt-ltb 0 (b - a) (omega (arith, ltb-true a b e)))
+    go false e = sym (le-ltb 0 (b - a) (omega (arith, ltb-false a b e)))
+
+less-at : (xs ys : List ℕ) (v : ℕ) → v < length ys → getD (zipWith _-_ xs ys) v 0 ≡ getD xs v 0 - getD ys v 0
+unfolding zipWith
+less-at [] ys v h = omega arith
+less-at (x ∷ xs) [] v h = absurd (omega arith)
+less-at (x ∷ xs) (y ∷ ys) zero h = refl
+less-at (x ∷ xs) (y ∷ ys) (suc v) h = less-at xs ys v (omega arith)
+
+module _ (n : ℕ) (few : n ≤ 3) (given own : List ℕ) (four : length given ≡ 4) (m : Bool) (em : m ≡ moreIn n (lengthsIn n given) (lengthsIn n (replicate 4 0))) where
+  abbrev moved : List ℕ
+  moved = lengthsIn n given
+
+  abbrev whole : List ℕ
+  whole = lengthsIn n own
+
+  moves : some (λ v. ltb 0 (getD moved v 0)) (range 0 n) ≡ m
+  unfolding part
+  moves =
+      sym
+      (em
+      ∙ some-views n (λ v. ltb (getD (lengthsIn n (replicate 4 0)) v 0) (getD moved v 0)) (λ v. ltb 0 (getD moved v 0))
+      (λ v l. ap (λ (k : ℕ). ltb k (getD moved v 0)) (getD-part 1 n v (replicate 4 0) l ∙ getD-replicate 4 (1 + v) 0 0 (omega arith))))
+
+  pub hollow-moved : m ≡ false → true ≡ hollowIn n moved whole
+  hollow-moved e = sym (rw (moves ∙ e))
+
+  leaves : some (λ v. ltb 0 (getD (zipWith _-_ whole moved) v 0)) (range 0 n) ≡ moreIn n whole moved
+  unfolding part
+  leaves =
+      sym (some-views n (λ v. ltb (getD moved v 0) (getD whole v 0)) (λ v. ltb 0 (getD (zipWith _-_ whole moved) v 0))
+      (λ v l. less-above (getD moved v 0) (getD whole v 0) ∙ ap (ltb 0) (sym (less-at whole moved v (omega (arith, length-part 1 n given (omega arith)))))))
+
+  pub hollow-left : m ≡ true → (r : Bool) → r ≡ moreIn n whole moved → not r ≡ hollowIn n moved whole
+  hollow-left e r er = sym (rw (moves ∙ e, leaves, ← er))
 
 -- the slots in use are the first k, which are as many as len or, where that is past the fan, as the fan
 pub in-use : (s fan n k : ℕ) (ws : List ℕ) → n ≡ cond (ltb (getD ws 0 0) fan) (getD ws 0 0) fan → k ≤ n → n ≤ k → slotsFrom s k 3 ws ≡ used (nodeOf s fan ws)

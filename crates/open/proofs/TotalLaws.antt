@@ -9,11 +9,12 @@ use lib.Bits.{bitOr, or-add-and, and-le-l, and-le-r}
 use lib.ListN.{length, getD, take, drop, length-take, length-drop}
 use lib.Dec.{ltb}
 use borrow.Author.Tests.{ltb-true, ltb-false, lt-ltb, le-ltb}
-use Rattle.model.specs.Lists.{some, part, range, sumBy}
+use Rattle.model.specs.Lists.{part, sumBy}
 use Rattle.model.specs.Length.{lengthsIn}
 use Rattle.model.specs.Node.{slotsFrom, nodeOf, total, used}
 use Rattle.model.specs.State.{shapeFor, nodeAt}
 use Rattle.model.specs.declared.shape.Shape.{Shape}
+use Rattle.laws.specs.Lists.{none-views}
 use Rattle.laws.specs.Words.{getD-part, lent}
 use Rattle.laws.specs.AreaRead.{node-length}
 use Rattle.laws.specs.Read.{total-none, total-more}
@@ -151,11 +152,6 @@ sum-more s n v q c sum sum′ ws ec eq e f g = go (ltb c s) refl
     go false t = rw t (g (ltb-false c s t) ∙ (rw t at e))
 
 -- no view's total passes u32 where all words are low
-none-of : (q : ℕ → Bool) (i n : ℕ) → ((v : ℕ) → v < i + n → q v ≡ false) → some q (range i n) ≡ false
-unfolding some range
-none-of q i zero f = refl
-none-of q i (suc n) f = rw (f i (omega arith)) (none-of q (suc i) n (λ v l. f v (omega arith)))
-
 pub past-none : (g : Shape) (root : ℕ) (xs old new : List ℕ) → Shaped g → length new ≡ 4 → below 2147483648 (lengthsIn (g .stride - 1) new)
     → ((v : ℕ) → v + 1 < g .stride → total v (used (nodeAt g root xs)) ≤ 2147483648)
     → false ≡ pastIn g root xs (lengthsIn (g .stride - 1) old) (lengthsIn (g .stride - 1) new)
@@ -163,7 +159,7 @@ past-none g root xs old new h four low totals =
     let a : List ℕ = lengthsIn (g .stride - 1) old in
     let b : List ℕ = lengthsIn (g .stride - 1) new in
     sym
-    (none-of (λ v. ltb (4294967295 + getD a v 0) (total v (used (nodeAt g root xs)) + getD b v 0)) 0 (g .stride - 1)
+    (none-views (g .stride - 1) (λ v. ltb (4294967295 + getD a v 0) (total v (used (nodeAt g root xs)) + getD b v 0))
     (λ v l. le-ltb (4294967295 + getD a v 0) (total v (used (nodeAt g root xs)) + getD b v 0)
     (omega (arith, totals v (omega arith), low v (omega (arith, h .narrow, h .columns, length-take (g .stride - 1) (drop 1 new), length-drop 1 new))))))
 

@@ -5,14 +5,14 @@ use Prim.Native.Nat.{ℕ, suc, _-_, _<_}
 use native.Mathlib.Omega.{arith}
 use lib.ListN.{length}
 use Rattle.model.specs.State.{State, shapeFor}
-use Rattle.model.specs.Refuse.{shapeOf, tooMuch, past}
+use Rattle.model.specs.Refuse.{shapeOf, tooMuch, hollowPart, past}
 use Rattle.model.specs.declared.shape.Kind.{Kind}
 use Rattle.model.specs.declared.shape.Shape.{Shape}
 use Rattle.model.specs.declared.head.Head.{Head}
 use Rattle.area.specs.Area.{Area}
 use Rattle.open.proofs.ReadyLaws.{inner-area}
 use Rattle.open.specs.Ready.{Ready}
-use Rattle.open.specs.Lengths.{moreIn, pastIn}
+use Rattle.open.specs.Lengths.{moreIn, hollowIn, pastIn}
 
 one-less : (n : ℕ) → suc n - 1 ≡ n
 one-less n = omega arith
@@ -29,6 +29,9 @@ module _ (K : Kind) (h : Head) (g : Shape) (e : g ≡ shapeOf K h) where
 -- the tests of lengths over a tree's sizes are those of its kind
 pub more-same : (K : Kind) (h : Head) (g : Shape) → g ≡ shapeOf K h → (given own : List ℕ) → moreIn (g .stride - 1) given own ≡ tooMuch K given own .applies
 more-same K h g e given own = rw (own-views K h g e) refl
+
+pub hollow-same : (K : Kind) (h : Head) (g : Shape) → g ≡ shapeOf K h → (given own : List ℕ) → hollowIn (g .stride - 1) given own ≡ hollowPart K given own .applies
+hollow-same K h g e given own = rw (own-views K h g e) refl
 
 pub past-same : (K : Kind) (s : State) (g : Shape) → g ≡ shapeOf K (s .head) → (old new : List ℕ)
     → pastIn (shapeFor (K .views) (g .fan) (g .nodes)) (s .head .root .0) (s .inners) old new ≡ past K s old new .applies

@@ -6,13 +6,19 @@ use Prim.Native.Nat.{ℕ, _+_, _-_, _<_, _≤_}
 use lib.Dec.{ltb}
 use lib.ListN.{length, getD}
 use Rattle.model.specs.Lists.{some, range}
+use Rattle.model.specs.Kind.{kind}
 use Rattle.model.specs.Node.{Node, total, used}
 use Rattle.model.specs.State.{nodeAt}
+use Rattle.model.specs.Refuse.{hollowPart}
 use Rattle.model.specs.declared.shape.Shape.{Shape}
 
 -- `tooMuch` of a tree with so many views
 abbrev pub moreIn : ℕ → List ℕ → List ℕ → Bool
 moreIn views given own = some (λ v. ltb (getD own v 0) (getD given v 0)) (range 0 views)
+
+-- `hollowPart` of a tree with so many views
+abbrev pub hollowIn : ℕ → List ℕ → List ℕ → Bool
+hollowIn views given own = hollowPart (kind views 0) given own .applies
 
 -- `past` of a tree of these sizes and this root
 abbrev pub pastIn : Shape → ℕ → List ℕ → List ℕ → List ℕ → Bool

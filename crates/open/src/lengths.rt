@@ -17,7 +17,7 @@ ghost use Rattle.model.specs.Node.{nodeOf, lengths, total, used};
 ghost use Rattle.model.specs.State.{shapeFor, nodeAt};
 ghost use Rattle.node.specs.Shaped.{Shaped};
 ghost use Rattle.area.specs.Area.{Area};
-ghost use Rattle.open.specs.Lengths.{moreIn, pastIn, below, Low, TotalsIn};
+ghost use Rattle.open.specs.Lengths.{moreIn, hollowIn, pastIn, below, Low, TotalsIn};
 
 // The lengths in slot i of leaf k; those that a slot doesn't have stay as they are.
 pub fn lengths_at(leaves: &[u32], g: Shape, k: LeafNo, i: u32, x: &mut [u32; 4])
@@ -64,6 +64,19 @@ pub fn too_much(g: Shape, given: &[u32; 4], own: &[u32; 4]) -> bool
         return own[3] < given[3];
     }
     false
+}
+
+// Whether the moved part, or the part left behind, has zero in every length: what is moved isn't more than nothing, or the entry hasn't
+// more than what is moved.
+pub fn hollow_part(g: Shape, given: &[u32; 4], own: &[u32; 4]) -> bool
+    requires { ⌜ Shaped g × (length (now given) ≡ 4) × (length (now own) ≡ 4) ⌝ }
+    ensures { λ r. ⌜ r ≡ hollowIn (g .stride - 1) (lengthsIn (g .stride - 1) (now (given .entry))) (lengthsIn (g .stride - 1) (now (own .entry))) ⌝ }
+{
+    let nothing: [u32; 4] = [0; 4];
+    if too_much(g, given, &nothing) {
+        return !too_much(g, own, given);
+    }
+    true
 }
 
 // How many of a node's slots are in use: all where its len is past the fan.

@@ -1,5 +1,5 @@
 -- A tree's call and the row's: the same answer, and what each leaves belongs together again. A sound state's row, and the row at a seat.
-use mathlib.Core.Path.{_≡_, refl, sym, ap, _∙_}
+use mathlib.Core.Path.{_≡_, refl, sym, ap, _∙_, subst}
 use mathlib.Core.List.{List, [], _∷_, _++_, map}
 use Prim.Native.Nat.{ℕ, suc, _≤_, _<_}
 use native.Mathlib.Decide.{decLt}
@@ -8,19 +8,21 @@ use lib.ListN.{length, getD, length-map}
 use borrow.Author.Tests.{ne-eqb, le-leb, lt-leb}
 use Rattle.model.specs.Kind.{stride}
 use Rattle.model.specs.declared.shape.Kind.{Kind}
-use Rattle.model.specs.Lists.{sumBy, Cause, refusal}
-use Rattle.model.specs.Node.{Node, used}
+use Rattle.model.specs.Lists.{sumBy, All, Cause, refusal}
+use Rattle.model.specs.Node.{Node, lengths, used}
 use Rattle.model.specs.State.{State}
 use Rattle.model.specs.Row as row
-use Rattle.model.specs.Row.{Row, Entry, Answer, refused, Moved, moved, noSuchId, unless, before, from}
+use Rattle.model.specs.Row.{Row, Entry, entry, Answer, refused, Moved, moved, noSuchId, unless, before, from}
 use Rattle.model.specs.Sound.{leafIn, Coherent, entriesOf}
 use Rattle.model.specs.Calls as calls
 use Rattle.model.specs.ById.{withCursor}
 use Rattle.model.specs.declared.head.Cursor.{Cursor}
 use Rattle.laws.specs.Lists.{All-at}
-use Rattle.abstract_tree.specs.Lists.{cat}
-use Rattle.abstract_tree.specs.Levels.{len}
+use Rattle.abstract_tree.specs.Lists.{cat, All-map, All-cat}
+use Rattle.abstract_tree.specs.Levels.{Slot, len}
 use Rattle.abstract_tree.specs.Tree as tree
+use Rattle.abstract_tree.specs.Tree.{order}
+use Rattle.abstract_tree.specs.Edit.{All-mapped}
 use Rattle.abstract_tree.specs.Row.{before-at, from-at}
 use Rattle.abstract_tree.specs.Place.{front, behind}
 use Rattle.theory.specs.Tidy.{Tidy, slot-used}
@@ -28,7 +30,7 @@ use Rattle.theory.specs.Tree.{slotOf, slotsOf, treeOf}
 use Rattle.theory.specs.Marked.{getD-slot}
 use Rattle.theory.specs.Neat.{neat-of}
 use Rattle.theory.specs.Down.{body-of}
-use Rattle.theory.specs.Entries.{entryFrom, entries-row, total-entries, without-entries, split-entries}
+use Rattle.theory.specs.Entries.{entryFrom, entry-is, entries-row, total-entries, without-entries, split-entries}
 use Rattle.theory.specs.Open.{Seat, seat, no-seat}
 
 -- a coherent state and the row whose entries and limit it has: what Stands says without the bound on line ends
@@ -62,6 +64,15 @@ module _ (K : Kind) (t : State) (w : Coherent K t) where
 
   pub count-is : length (entriesOf K t) ≡ t .head .entries
   count-is = ap length entries-are ∙ length-map (tree.row (treeOf (stride K) t)) (entryFrom (K .views)) ∙ body-of (stride K) t (K .effect) w .count
+
+  -- every id is below the count
+  pub below : All (λ (x : Slot). x .child < t .head .entries) (tree.row (treeOf (stride K) t))
+  below = All-cat (λ (x : Slot). x .child < t .head .entries) (treeOf (stride K) t .body .leaf .slots) (order (treeOf (stride K) t))
+      (All-map (λ k. k < t .head .leaves) (λ k. All (λ (x : Slot). x .child < t .head .entries) (slotsOf (leafIn (stride K) t k))) (λ k lt. body-of (stride K) t (K .effect) w .below k lt) (order (treeOf (stride K) t)) (body-of (stride K) t (K .effect) w .leaf-in))
+
+  pub ids-below : All (λ (e : Entry). e .id < length (entriesOf K t)) (entriesOf K t)
+  ids-below = subst (λ (n : ℕ). All (λ (e : Entry). e .id < n) (entriesOf K t)) (sym count-is)
+      (subst (All (λ (e : Entry). e .id < t .head .entries)) (sym entries-are) (All-mapped (λ (e : Entry). e .id < t .head .entries) (entryFrom (K .views)) (tree.row (treeOf (stride K) t)) below))
 
   -- both refuse an id that is not below the count
   pub row-known : (i : ℕ) (cs : List Cause) → i < t .head .entries → refusal (noSuchId (rowOf K t) i ∷ cs) ≡ refusal cs
@@ -108,6 +119,12 @@ module _ (K : Kind) (t : State) (w : Coherent K t) where
         let td : Tidy (stride K) (t .head .fan) n = neat-of (stride K) t (K .effect) w .leaf-tidy (c .leaf) (c .leaf-in) in
         let lu : c .slot < length (used n) = (let z : length (slotsOf n) ≡ length (used n) = length-map (used n) slotOf in omega (arith, c .cur .inside)) in
         ap length (slot-used (stride K) (t .head .fan) n td (c .slot) [] lu) ∙ All-at (λ y. length y ≡ stride K) (c .slot) [] (used n) lu (td .wide)
+
+    -- and these are the row's
+    pub slot-lengths : lengths (getD (leafIn (stride K) t (c .leaf) .slots) (c .slot) []) ≡ row.lengthsOf i (entriesOf K t)
+    slot-lengths =
+        let x : List ℕ = getD (leafIn (stride K) t (c .leaf) .slots) (c .slot) [] in
+        ap (λ (e : Entry). e .lengths) (sym (entry-is (K .views) x slot-long) ∙ ap (entryFrom (K .views)) slot-is) ∙ sym (ap (λ (es : List Entry). getD es 0 (entry i []) .lengths) from-is)
 
     pub total-before : (v : ℕ) → v < K .views → row.total v (before i (entriesOf K t)) ≡ sumBy (len v) (front (c .cur))
     total-before v lv = ap (row.total v) before-is ∙ total-entries (K .views) v (front (c .cur)) lv

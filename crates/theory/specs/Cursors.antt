@@ -37,11 +37,11 @@ use Rattle.abstract_tree.specs.Levels.{Slot}
 use Rattle.abstract_tree.specs.Calls as tree
 use Rattle.theory.specs.Tree.{treeOf}
 use Rattle.theory.specs.Open.{passed, stopped, many-lines, opens, fresh-at, seat}
-use Rattle.theory.specs.Numbers.{number-is, one-cause}
+use Rattle.theory.specs.Numbers.{number-is}
 use Rattle.theory.specs.Agree.{rowOf, row-known, row-passed, count-is}
 use Rattle.theory.specs.Read.{id-at, step-first, step-next}
 use Rattle.theory.specs.Looks.{step-lookup}
-use Rattle.theory.specs.Splits.{TwoParts, split-by}
+use Rattle.theory.specs.Splits.{behindId, TwoParts, split-by}
 use Rattle.theory.specs.Current.{Fails, which, fails-not, blocked, current-is, is-current}
 
 -- the cursor of an answer, and the first of an answer's values
@@ -155,7 +155,7 @@ module _ (K : Kind) (ok : K .effect < K .views) (s : State) (w : Coherent K s) w
       let e = seat K s w i (o .0) in
       let here : cursorAt (s .head .stamp) (e .leaf) (e .slot) ≡ c = ap (cursorOf c) (sym (e .is) ∙ o .1) in
       subst (λ (d : Cursor). let r = calls.splitEntry K s d l flag in DividedAt K flag i (s .head .entries) (r .after) (r .answer) (rowMove K (rowOf K s) (row.split flag i l) .answer)) here
-      (rw (row-known K s w i (row.tooMuch K l (row.lengthsOf i (entriesOf K s)) ∷ row.full (rowOf K s) ∷ []) (o .0))
+      (rw (row-known K s w i (behindId K (rowOf K s) i l) (o .0))
       (split-by K s w i e l wl lines flag (λ m n. DividedAt K flag i (s .head .entries) (m .after) (m .answer) (n .answer)) (λ n. refl) (λ t k j p g. (ap (λ (n : ℕ). done (n ∷ [])) (count-is K s w), refl, first-part t k j p, second-part t k j p))))
     where
       first-part : (t : State) (k j : ℕ) → TwoParts K flag i (s .head .entries) (nextStamp (s .head .stamp)) t k j → At K t (cursorAt (nextStamp (s .head .stamp)) k j) (cond flag (s .head .entries) i)

@@ -1,8 +1,9 @@
 -- The premises of the theorems are met: a make of fan 4 and limit 5 that isn't refused, a list of calls in words with every kind in it,
--- two lists alike but for lookups, and a cursor at an entry; and a lookup on a tree that is not sound.
+-- two lists alike but for lookups, a split that is answered, and a cursor at an entry; and a lookup on a tree that is not sound.
 use mathlib.Core.Path.{_≡_, refl, ap}
+use mathlib.Core.Logic.{inr}
 use mathlib.Core.Bool.{true}
-use mathlib.Core.List.{List, [], _∷_, _++_, flatMap}
+use mathlib.Core.List.{List, [], _∷_, _++_, flatMap, zipWith}
 use Prim.Native.Nat.{ℕ, _+_, _*_, _≤_, _<_}
 use native.Mathlib.Omega.{arith}
 use lib.ListN.{replicate}
@@ -11,7 +12,7 @@ use Rattle.model.specs.Lists.{part, putAt, sumBy, some, range, All, refusal}
 use Rattle.model.specs.Node.{none, nodeOf, wordsOf, emptySlot, slotsFrom, findFrom}
 use Rattle.model.specs.State.{State, state, headOf}
 use Rattle.model.specs.Row as row
-use Rattle.model.specs.Row.{Call, Answer, refused, moved, noEntry, madeRow, rowStep}
+use Rattle.model.specs.Row.{Row, Call, Answer, refused, moved, noEntry, madeRow, rowStep}
 use Rattle.model.specs.Locate.{descend, fromRoot}
 use Rattle.model.specs.Refuse.{opening}
 use Rattle.model.specs.ById.{treeMove, treeStep}
@@ -20,12 +21,13 @@ use Rattle.model.specs.Calls.{begun, make, cursor, locate}
 use Rattle.model.specs.Audit as check
 use Rattle.model.specs.Audit.{audit}
 use Rattle.model.specs.Print.{PrintsRow}
-use Rattle.model.specs.Promise.{Words, InWords, Stands, answers, finally, others, otherAnswers, StandsAt}
+use Rattle.model.specs.Promise.{Words, InWords, Stands, Filled, Parts, answers, finally, others, otherAnswers, StandsAt}
 use Rattle.model.specs.declared.head.Held.the-variants as held
 use Rattle.model.specs.declared.answer.Outcome.the-variants as outcome
 use Rattle.model.specs.declared.answer.Verdict.the-variants as verdict
 use Rattle.theory.specs.Step.{step}
 use Rattle.theory.specs.Seven.{Passes, wanted, seven}
+use Rattle.theory.specs.Hollow.{hollow-yes}
 use Rattle.theory.specs.Whole.{whole, alike}
 use Rattle.theory.specs.Printed.{prints-row}
 use Rattle.theory.specs.Audited.{audit-exactly}
@@ -125,6 +127,22 @@ large-refused = ap (λ (a : Answer). a .number) (step base (omega arith) start (
 
 pub large-passes : Passes (wanted (madeRow 5 (pair 3 3)) large)
 large-passes = seven start (madeRow 5 (pair 3 3)) stands-start large large-in large-refused
+
+-- P9's split is answered on the row that make leaves, and neither part is hollow; the same with all that the entry has is refused by 17
+abbrev madeHere : Row
+madeHere = madeRow 5 (pair 3 3)
+
+pub parts-start : (l : List ℕ) → Parts base madeHere true 0 l
+unfolding finally All
+parts-start = whole base (omega arith) 4 5 (pair 3 3) areaWords areaWords (replicate 5 7) first-words made [] tt .1 .parts true 0
+
+pub parts-filled : (let es = rowStep base madeHere (row.split true 0 (pair 1 1)) .after .entries in Filled base (row.lengthsOf 1 es) × Filled base (row.lengthsOf 0 es))
+unfolding row.rowMove rowStep row.from row.unless some range refusal zipWith
+parts-filled = (parts-start (pair 1 1) .made refl, parts-start (pair 1 1) .left refl)
+
+pub all-hollow : rowStep base madeHere (row.split true 0 (pair 3 3)) .answer .number ≡ 17
+unfolding row.from some range refusal zipWith
+all-hollow = parts-start (pair 3 3) .exactly refl (inr (hollow-yes base (pair 0 0) refl))
 
 -- one leaf, one inner node, fan 4 and one level
 pub steps-start : steps base start ≤ 23 * (2 * 4 * 1) + 3 * 4

@@ -1,9 +1,9 @@
 -- Insert on a sound state does what it does on the row.
 use mathlib.Core.Path.{_≡_, refl, sym, ap, ap₂, _∙_, subst}
 use mathlib.Core.Logic.{_≢_}
-use mathlib.Core.Bool.{Bool, true, false, cond, _&&_, _||_, not}
+use mathlib.Core.Bool.{Bool, true, false, cond, _&&_, not}
 use mathlib.Core.List.{List, [], _∷_, _++_, map, append-nil, append-assoc}
-use Prim.Native.Nat.{ℕ, zero, suc, _+_, _<_}
+use Prim.Native.Nat.{ℕ, _+_, _<_}
 use native.Mathlib.Decide.{decLt}
 use native.Mathlib.Omega.{arith}
 use lib.Dec.{ltb, leb, eqb}
@@ -11,7 +11,7 @@ use lib.ListN.{length, getD, List·getD-eq-default}
 use borrow.Author.Tests.{eqb-true, ltb-false, leb-false}
 use Rattle.model.specs.Kind.{stride, viewsOf, tooManyLines}
 use Rattle.model.specs.declared.shape.Kind.{Kind}
-use Rattle.model.specs.Lists.{All, sumBy, some, Cause, refusal}
+use Rattle.model.specs.Lists.{sumBy, some, Cause, refusal}
 use Rattle.model.specs.Node.{used}
 use Rattle.model.specs.State.{State}
 use Rattle.model.specs.Climb.{leafNo}
@@ -30,7 +30,8 @@ use Rattle.model.specs.declared.answer.Target.{Target}
 use Rattle.model.specs.declared.answer.Target.the-variants as target
 use Rattle.model.specs.declared.answer.Inserted.the-variants as insertion
 use Rattle.model.specs.declared.way.Leaf.the-variants as leaf
-use Rattle.abstract_tree.specs.Lists.{sumBy-append, All-map, All-cat}
+use Rattle.laws.specs.Lists.{some-views}
+use Rattle.abstract_tree.specs.Lists.{sumBy-append, All-map}
 use Rattle.abstract_tree.specs.Levels.{Slot, len}
 use Rattle.abstract_tree.specs.Insert as insert
 use Rattle.abstract_tree.specs.Tree as tree
@@ -40,7 +41,7 @@ use Rattle.abstract_tree.specs.Row.{before-end, from-end}
 use Rattle.abstract_tree.specs.Edit.{leaf-here}
 use Rattle.abstract_tree.specs.Cursor.{last-of}
 use Rattle.abstract_tree.specs.Place.{front, behind, full, lastLeaf, end-made, total-is}
-use Rattle.theory.specs.Views.{none-in, some-views, firsts-of}
+use Rattle.theory.specs.Views.{none-in}
 use Rattle.theory.specs.Tree.{slotOf, slotsOf, treeOf, sum-slots}
 use Rattle.theory.specs.Neat.{size-is, neat-of}
 use Rattle.theory.specs.Down.{body-of, sound-of}
@@ -49,7 +50,7 @@ use Rattle.theory.specs.Open.{passed, stopped, few-lines, opens, fresh-a
 use Rattle.theory.specs.Edge.{last-top, last-down}
 use Rattle.theory.specs.Resize.{ltb-same}
 use Rattle.theory.specs.Placed.{Placed, placed-is}
-use Rattle.theory.specs.Agree.{Agrees, Mirrors, rowOf, row-passed, row-stopped, own, entries-are, count-is, by-id, before-is, from-is, total-before}
+use Rattle.theory.specs.Agree.{Agrees, Mirrors, rowOf, row-passed, row-stopped, own, entries-are, count-is, below, by-id, before-is, from-is, total-before}
 
 -- an insertion at a place between R₁ and R₂ of the row, by a call that answers X where the row answers a
 module _ (K : Kind) (t : State) (w : Coherent K t) (i : ℕ) (l : List ℕ) (wl : length l ≡ K .views) (tg : Target) (k j : ℕ) (R₁ R₂ : List Slot)
@@ -173,11 +174,7 @@ module _ (K : Kind) (ok : K .effect < K .views) (t : State) (w : Coherent K t) (
 
   without : i ≡ noEntry → plain.Without i (entriesOf K t)
   without e = subst (plain.Without i) (sym (entries-are K t w)) (without-entries (K .views) i (tree.row (treeOf (stride K) t))
-      (All-map (λ (x : Slot). x .child < t .head .entries) (λ (x : Slot). x .child ≢ i) (λ x lt q. let z = w .entry-count in let y = w .limit-most in omega arith) (tree.row (treeOf (stride K) t)) below))
-    where
-      below : All (λ (x : Slot). x .child < t .head .entries) (tree.row (treeOf (stride K) t))
-      below = All-cat (λ (x : Slot). x .child < t .head .entries) (treeOf (stride K) t .body .leaf .slots) (order (treeOf (stride K) t))
-          (All-map (λ k. k < t .head .leaves) (λ k. All (λ (x : Slot). x .child < t .head .entries) (slotsOf (leafIn (stride K) t k))) (λ k lt. body-of (stride K) t (K .effect) w .below k lt) (order (treeOf (stride K) t)) (body-of (stride K) t (K .effect) w .leaf-in))
+      (All-map (λ (x : Slot). x .child < t .head .entries) (λ (x : Slot). x .child ≢ i) (λ x lt q. let z = w .entry-count in let y = w .limit-most in omega arith) (tree.row (treeOf (stride K) t)) (below K t w)))
 
   end-step : i ≡ noEntry → say (answer (sumBy (len (K .effect)) (tree.row (treeOf (stride K) t)))) ≡ a → Agrees (Mirrors K) (call target.End) (unless (rowOf K t) rowCauses (inserted i (newEntry (rowOf K t) l) (entriesOf K t)) a)
   unfolding refusal

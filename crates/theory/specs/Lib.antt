@@ -39,6 +39,7 @@ pub mod Splits
 pub mod Lines
 pub mod Step
 pub mod Numbers
+pub mod Hollow
 pub mod Seven
 pub mod Fixed
 pub mod Spans

@@ -43,16 +43,16 @@ fewer K l m le = go (ltb 2 (K .views))
 
 -- the row -----------------------------------------------------------------------------------------------------------------------------------
 
-module _ (K : Kind) where
-  before-few : (i : ℕ) (es : List Entry) → FewLines K es → FewLines K (before i es)
-  unfolding All before
-  before-few i [] h = h
-  before-few i (e ∷ es) h = go (eqb (e .id) i) (before-few i es (h .1))
-    where
-      go : (b : Bool) → FewLines K (before i es) → FewLines K (cond b [] (e ∷ before i es))
-      go true k = tt
-      go false k = (h .0, k)
+pub before-all : (Q : Entry → Type 0) (i : ℕ) (es : List Entry) → All Q es → All Q (before i es)
+unfolding All before
+before-all Q i [] h = h
+before-all Q i (e ∷ es) h = go (eqb (e .id) i) (before-all Q i es (h .1))
+  where
+    go : (b : Bool) → All Q (before i es) → All Q (cond b [] (e ∷ before i es))
+    go true k = tt
+    go false k = (h .0, k)
 
+module _ (K : Kind) where
   from-few : (i : ℕ) (es : List Entry) → FewLines K es → FewLines K (from i es)
   unfolding All from
   from-few i [] h = h
@@ -80,15 +80,15 @@ module _ (K : Kind) where
 
   pub inserted-few : (i : ℕ) (e : Entry) (es : List Entry) → FewIn K e → FewLines K es → FewLines K (row.inserted i e es)
   unfolding All
-  inserted-few i e es f h = All-append (FewIn K) (before i es) (e ∷ from i es) (before-few i es h) (f, from-few i es h)
+  inserted-few i e es f h = All-append (FewIn K) (before i es) (e ∷ from i es) (before-all (FewIn K) i es h) (f, from-few i es h)
 
   pub changed-few : (i : ℕ) (l : List ℕ) (es : List Entry) → tooManyLines K l ≡ false → FewLines K es → FewLines K (row.changed i l es)
   unfolding All
-  changed-few i l es f h = All-append (FewIn K) (before i es) (entry i l ∷ after i es) (before-few i es h) (f, after-few i es h)
+  changed-few i l es f h = All-append (FewIn K) (before i es) (entry i l ∷ after i es) (before-all (FewIn K) i es h) (f, after-few i es h)
 
   divided-few : (flag : Bool) (i : ℕ) (e : Entry) (es : List Entry) → FewIn K e → FewLines K es → FewLines K (divided flag i e es)
   unfolding All divided
-  divided-few flag i e es f h = All-append (FewIn K) (before i es) (cond flag (e ∷ rest ∷ after i es) (rest ∷ e ∷ after i es)) (before-few i es h) (go flag)
+  divided-few flag i e es f h = All-append (FewIn K) (before i es) (cond flag (e ∷ rest ∷ after i es) (rest ∷ e ∷ after i es)) (before-all (FewIn K) i es h) (go flag)
     where
       rest : Entry
       rest = entry i (zipWith _-_ (row.lengthsOf i es) (e .lengths))

@@ -1,17 +1,17 @@
 -- Numbers 8 and 9: on a state that stands for a row, no call answers 9, one answers 8 only where the row holds its limit, and there no call adds an entry.
 use mathlib.Core.Path.{_≡_, refl, sym, ap, _∙_}
 use mathlib.Core.Logic.{_≢_}
-use mathlib.Core.Bool.{Bool, true, false, cond, _&&_}
-use mathlib.Core.List.{List, [], _∷_}
+use mathlib.Core.Bool.{Bool, true, false, cond}
+use mathlib.Core.List.{List, [], _∷_, _++_}
 use Prim.Native.Nat.{ℕ, _+_, _≤_, _<_}
 use native.Mathlib.Decide.{ℕ-discrete}
 use native.Mathlib.Omega.{arith}
-use lib.Dec.{eqb, leb, ltb}
+use lib.Dec.{eqb, leb}
 use lib.ListN.{length}
-use borrow.Author.Tests.{eq-eqb, ne-eqb, leb-true, le-leb, ltb-false}
+use borrow.Author.Tests.{eq-eqb, ne-eqb, leb-true, le-leb}
 use Rattle.model.specs.Kind.{tooManyLines}
 use Rattle.model.specs.declared.shape.Kind.{Kind}
-use Rattle.model.specs.Lists.{Cause, cause, refusal}
+use Rattle.model.specs.Lists.{All, Cause, cause, refusal}
 use Rattle.model.specs.State.{State}
 use Rattle.model.specs.Row as row
 use Rattle.model.specs.Row.{Row, Call, Entry, Answer, done, unless, overlong, rowMove, rowStep}
@@ -28,84 +28,90 @@ number-is r cs es vs = go (ℕ-discrete (refusal cs) 0)
     go (yes e) = rw (eq-eqb (refusal cs) 0 e) (sym e)
     go (no ne) = rw (ne-eqb (refusal cs) 0 ne)
 
--- three causes, the last of them 8
-eight-last : (m n : ℕ) (a b c : Bool) → m ≢ 8 → n ≢ 8 → refusal (cause m a ∷ cause n b ∷ cause 8 c ∷ []) ≡ 8 → c ≡ true
-unfolding refusal
-eight-last m n true b c p q e = absurd (p e)
-eight-last m n false true c p q e = absurd (q e)
-eight-last m n false false true p q e = refl
-eight-last m n false false false p q e = absurd (omega arith)
-
-eight-then : (m n : ℕ) (a b c : Bool) → m ≢ 0 → n ≢ 0 → c ≡ true → refusal (cause m a ∷ cause n b ∷ []) ≡ 0 → refusal (cause m a ∷ cause n b ∷ cause 8 c ∷ []) ≡ 8
-unfolding refusal
-eight-then m n true b c p q e z = absurd (p z)
-eight-then m n false true c p q e z = absurd (q z)
-eight-then m n false false true p q e z = refl
-eight-then m n false false false p q e z = absurd (let u : _≡_ {A = ℕ} 0 1 = cc in omega arith)
-
-never-done : (m n : ℕ) (a b c : Bool) → m ≢ 0 → n ≢ 0 → c ≡ true → refusal (cause m a ∷ cause n b ∷ cause 8 c ∷ []) ≢ 0
-unfolding refusal
-never-done m n true b c p q e z = p z
-never-done m n false true c p q e z = q z
-never-done m n false false true p q e z = absurd (omega arith)
-never-done m n false false false p q e z = absurd (let u : _≡_ {A = ℕ} 0 1 = cc in omega arith)
-
 -- a number that is none of the causes' and not 0
-pub one-cause : (x m : ℕ) (a : Bool) → x ≢ 0 → m ≢ x → refusal (cause m a ∷ []) ≢ x
-unfolding refusal
-one-cause x m true o p e = p e
-one-cause x m false o p e = o (sym e)
+pub no-cause : (x : ℕ) (cs : List Cause) → x ≢ 0 → All (λ c. c .number ≢ x) cs → refusal cs ≢ x
+unfolding refusal All
+no-cause x [] o h e = o (sym e)
+no-cause x (c ∷ cs) o h e = go (c .applies) (no-cause x cs o (h .1)) e
+  where
+    go : (a : Bool) → refusal cs ≢ x → cond a (c .number) (refusal cs) ≢ x
+    go true ih z = h .0 z
+    go false ih z = ih z
 
-pub two-causes : (x m n : ℕ) (a b : Bool) → x ≢ 0 → m ≢ x → n ≢ x → refusal (cause m a ∷ cause n b ∷ []) ≢ x
-unfolding refusal
-two-causes x m n true b o p q e = p e
-two-causes x m n false true o p q e = q e
-two-causes x m n false false o p q e = o (sym e)
+-- a cause between others: it gives the number only where none before it applies, and then always
+pub comes-only : (x : ℕ) (cs ds : List Cause) (b : Bool) → x ≢ 0 → All (λ c. c .number ≢ x) cs → All (λ c. c .number ≢ x) ds → refusal (cs ++ cause x b ∷ ds) ≡ x → (refusal cs ≡ 0) × (b ≡ true)
+unfolding refusal All
+comes-only x [] ds true o h k e = (refl, refl)
+comes-only x [] ds false o h k e = absurd (no-cause x ds o k e)
+comes-only x (c ∷ cs) ds b o h k e = go (c .applies) (comes-only x cs ds b o (h .1) k) e
+  where
+    go : (a : Bool) → (refusal (cs ++ cause x b ∷ ds) ≡ x → (refusal cs ≡ 0) × (b ≡ true)) → cond a (c .number) (refusal (cs ++ cause x b ∷ ds)) ≡ x → (cond a (c .number) (refusal cs) ≡ 0) × (b ≡ true)
+    go true ih z = absurd (h .0 z)
+    go false ih z = ih z
 
-pub three-causes : (x m n k : ℕ) (a b c : Bool) → x ≢ 0 → m ≢ x → n ≢ x → k ≢ x → refusal (cause m a ∷ cause n b ∷ cause k c ∷ []) ≢ x
-unfolding refusal
-three-causes x m n k true b c o p q r e = p e
-three-causes x m n k false true c o p q r e = q e
-three-causes x m n k false false true o p q r e = r e
-three-causes x m n k false false false o p q r e = o (sym e)
+pub comes-then : (x : ℕ) (cs ds : List Cause) (b : Bool) → All (λ c. c .number ≢ 0) cs → b ≡ true → refusal cs ≡ 0 → refusal (cs ++ cause x b ∷ ds) ≡ x
+unfolding refusal All
+comes-then x [] ds b h q e = rw q
+comes-then x (c ∷ cs) ds b h q e = go (c .applies) (comes-then x cs ds b (h .1) q) e
+  where
+    go : (a : Bool) → (refusal cs ≡ 0 → refusal (cs ++ cause x b ∷ ds) ≡ x) → cond a (c .number) (refusal cs) ≡ 0 → cond a (c .number) (refusal (cs ++ cause x b ∷ ds)) ≡ x
+    go true ih z = absurd (h .0 z)
+    go false ih z = ih z
+
+-- 8 behind others, where it applies
+never-done : (cs : List Cause) (b : Bool) → All (λ c. c .number ≢ 0) cs → b ≡ true → refusal (cs ++ cause 8 b ∷ []) ≢ 0
+unfolding refusal All
+never-done [] b h q e = (let z : _≡_ {A = ℕ} 8 0 = rw q at e in omega arith)
+never-done (c ∷ cs) b h q e = go (c .applies) (never-done cs b (h .1) q) e
+  where
+    go : (a : Bool) → refusal (cs ++ cause 8 b ∷ []) ≢ 0 → cond a (c .number) (refusal (cs ++ cause 8 b ∷ [])) ≢ 0
+    go true ih z = h .0 z
+    go false ih z = ih z
+
+-- the row's causes before its limit is asked
+abbrev inserting : Kind → Row → ℕ → List ℕ → List Cause
+inserting K r i l = row.noSuchPlace r i ∷ row.past K (row.inserted i (row.newEntry r l) (r .entries)) ∷ []
+
+abbrev splitting : Kind → Row → ℕ → List ℕ → List Cause
+splitting K r i l = row.noSuchId r i ∷ row.tooMuch K l (row.lengthsOf i (r .entries)) ∷ row.hollowPart K l (row.lengthsOf i (r .entries)) ∷ []
 
 move-eight : (K : Kind) (r : Row) (c : Call) → rowMove K r c .answer .number ≡ 8 → r .limit ≤ length (r .entries)
-unfolding rowMove
+unfolding rowMove All
 move-eight K r (row.reset l) e = absurd (omega arith)
-move-eight K r (row.insert i l) e = leb-true (r .limit) (length (r .entries)) (eight-last 4 7 _ _ (leb (r .limit) (length (r .entries))) (λ z. omega arith) (λ z. omega arith) (sym (number-is r _ _ _) ∙ e))
-move-eight K r (row.split flag i l) e = leb-true (r .limit) (length (r .entries)) (eight-last 4 6 _ _ (leb (r .limit) (length (r .entries))) (λ z. omega arith) (λ z. omega arith) (sym (number-is r _ _ _) ∙ e))
-move-eight K r (row.setLengths i l) e = absurd (two-causes 8 4 7 _ _ (λ z. omega arith) (λ z. omega arith) (λ z. omega arith) (sym (number-is r _ _ _) ∙ e))
-move-eight K r (row.update i l) e = absurd (two-causes 8 4 7 _ _ (λ z. omega arith) (λ z. omega arith) (λ z. omega arith) (sym (number-is r _ _ _) ∙ e))
-move-eight K r (row.lookup v x) e = absurd (one-cause 8 5 _ (λ z. omega arith) (λ z. omega arith) (sym (number-is r _ _ _) ∙ e))
-move-eight K r (row.rank v i) e = absurd (one-cause 8 4 _ (λ z. omega arith) (λ z. omega arith) (sym (number-is r _ _ _) ∙ e))
-move-eight K r (row.next i) e = absurd (one-cause 8 4 _ (λ z. omega arith) (λ z. omega arith) (sym (number-is r _ _ _) ∙ e))
-move-eight K r (row.compare i j) e = absurd (two-causes 8 4 4 _ _ (λ z. omega arith) (λ z. omega arith) (λ z. omega arith) (sym (number-is r _ _ _) ∙ e))
-move-eight K r (row.lengths i) e = absurd (one-cause 8 4 _ (λ z. omega arith) (λ z. omega arith) (sym (number-is r _ _ _) ∙ e))
+move-eight K r (row.insert i l) e = leb-true (r .limit) (length (r .entries)) (comes-only 8 (inserting K r i l) [] (leb (r .limit) (length (r .entries))) (λ z. omega arith) ((λ z. omega arith), ((λ z. omega arith), tt)) tt (sym (number-is r _ _ _) ∙ e) .1)
+move-eight K r (row.split flag i l) e = leb-true (r .limit) (length (r .entries)) (comes-only 8 (splitting K r i l) [] (leb (r .limit) (length (r .entries))) (λ z. omega arith) ((λ z. omega arith), ((λ z. omega arith), ((λ z. omega arith), tt))) tt (sym (number-is r _ _ _) ∙ e) .1)
+move-eight K r (row.setLengths i l) e = absurd (no-cause 8 _ (λ z. omega arith) ((λ z. omega arith), ((λ z. omega arith), tt)) (sym (number-is r _ _ _) ∙ e))
+move-eight K r (row.update i l) e = absurd (no-cause 8 _ (λ z. omega arith) ((λ z. omega arith), ((λ z. omega arith), tt)) (sym (number-is r _ _ _) ∙ e))
+move-eight K r (row.lookup v x) e = absurd (no-cause 8 _ (λ z. omega arith) ((λ z. omega arith), tt) (sym (number-is r _ _ _) ∙ e))
+move-eight K r (row.rank v i) e = absurd (no-cause 8 _ (λ z. omega arith) ((λ z. omega arith), tt) (sym (number-is r _ _ _) ∙ e))
+move-eight K r (row.next i) e = absurd (no-cause 8 _ (λ z. omega arith) ((λ z. omega arith), tt) (sym (number-is r _ _ _) ∙ e))
+move-eight K r (row.compare i j) e = absurd (no-cause 8 _ (λ z. omega arith) ((λ z. omega arith), ((λ z. omega arith), tt)) (sym (number-is r _ _ _) ∙ e))
+move-eight K r (row.lengths i) e = absurd (no-cause 8 _ (λ z. omega arith) ((λ z. omega arith), tt) (sym (number-is r _ _ _) ∙ e))
 move-eight K r row.count e = absurd (omega arith)
 move-eight K r row.first e = absurd (omega arith)
 move-eight K r row.malformed e = absurd (omega arith)
 
 -- never 9
 move-nine : (K : Kind) (r : Row) (c : Call) → rowMove K r c .answer .number ≢ 9
-unfolding rowMove
+unfolding rowMove All
 move-nine K r (row.reset l) e = absurd (omega arith)
-move-nine K r (row.insert i l) e = three-causes 9 4 7 8 _ _ _ (λ z. omega arith) (λ z. omega arith) (λ z. omega arith) (λ z. omega arith) (sym (number-is r _ _ _) ∙ e)
-move-nine K r (row.split flag i l) e = three-causes 9 4 6 8 _ _ _ (λ z. omega arith) (λ z. omega arith) (λ z. omega arith) (λ z. omega arith) (sym (number-is r _ _ _) ∙ e)
-move-nine K r (row.setLengths i l) e = two-causes 9 4 7 _ _ (λ z. omega arith) (λ z. omega arith) (λ z. omega arith) (sym (number-is r _ _ _) ∙ e)
-move-nine K r (row.update i l) e = two-causes 9 4 7 _ _ (λ z. omega arith) (λ z. omega arith) (λ z. omega arith) (sym (number-is r _ _ _) ∙ e)
-move-nine K r (row.lookup v x) e = one-cause 9 5 _ (λ z. omega arith) (λ z. omega arith) (sym (number-is r _ _ _) ∙ e)
-move-nine K r (row.rank v i) e = one-cause 9 4 _ (λ z. omega arith) (λ z. omega arith) (sym (number-is r _ _ _) ∙ e)
-move-nine K r (row.next i) e = one-cause 9 4 _ (λ z. omega arith) (λ z. omega arith) (sym (number-is r _ _ _) ∙ e)
-move-nine K r (row.lengths i) e = one-cause 9 4 _ (λ z. omega arith) (λ z. omega arith) (sym (number-is r _ _ _) ∙ e)
-move-nine K r (row.compare i j) e = two-causes 9 4 4 _ _ (λ z. omega arith) (λ z. omega arith) (λ z. omega arith) (sym (number-is r _ _ _) ∙ e)
+move-nine K r (row.insert i l) e = no-cause 9 _ (λ z. omega arith) ((λ z. omega arith), ((λ z. omega arith), ((λ z. omega arith), tt))) (sym (number-is r _ _ _) ∙ e)
+move-nine K r (row.split flag i l) e = no-cause 9 _ (λ z. omega arith) ((λ z. omega arith), ((λ z. omega arith), ((λ z. omega arith), ((λ z. omega arith), tt)))) (sym (number-is r _ _ _) ∙ e)
+move-nine K r (row.setLengths i l) e = no-cause 9 _ (λ z. omega arith) ((λ z. omega arith), ((λ z. omega arith), tt)) (sym (number-is r _ _ _) ∙ e)
+move-nine K r (row.update i l) e = no-cause 9 _ (λ z. omega arith) ((λ z. omega arith), ((λ z. omega arith), tt)) (sym (number-is r _ _ _) ∙ e)
+move-nine K r (row.lookup v x) e = no-cause 9 _ (λ z. omega arith) ((λ z. omega arith), tt) (sym (number-is r _ _ _) ∙ e)
+move-nine K r (row.rank v i) e = no-cause 9 _ (λ z. omega arith) ((λ z. omega arith), tt) (sym (number-is r _ _ _) ∙ e)
+move-nine K r (row.next i) e = no-cause 9 _ (λ z. omega arith) ((λ z. omega arith), tt) (sym (number-is r _ _ _) ∙ e)
+move-nine K r (row.lengths i) e = no-cause 9 _ (λ z. omega arith) ((λ z. omega arith), tt) (sym (number-is r _ _ _) ∙ e)
+move-nine K r (row.compare i j) e = no-cause 9 _ (λ z. omega arith) ((λ z. omega arith), ((λ z. omega arith), tt)) (sym (number-is r _ _ _) ∙ e)
 move-nine K r row.count e = absurd (omega arith)
 move-nine K r row.first e = absurd (omega arith)
 move-nine K r row.malformed e = absurd (omega arith)
 
 move-full : (K : Kind) (r : Row) (c : Call) → Adds c → r .limit ≤ length (r .entries) → rowMove K r c .answer .number ≢ 0
-unfolding rowMove
-move-full K r (row.insert i l) h f e = never-done 4 7 _ _ (leb (r .limit) (length (r .entries))) (λ z. omega arith) (λ z. omega arith) (le-leb (r .limit) (length (r .entries)) f) (sym (number-is r _ _ _) ∙ e)
-move-full K r (row.split flag i l) h f e = never-done 4 6 _ _ (leb (r .limit) (length (r .entries))) (λ z. omega arith) (λ z. omega arith) (le-leb (r .limit) (length (r .entries)) f) (sym (number-is r _ _ _) ∙ e)
+unfolding rowMove All
+move-full K r (row.insert i l) h f e = never-done (inserting K r i l) (leb (r .limit) (length (r .entries))) ((λ z. omega arith), ((λ z. omega arith), tt)) (le-leb (r .limit) (length (r .entries)) f) (sym (number-is r _ _ _) ∙ e)
+move-full K r (row.split flag i l) h f e = never-done (splitting K r i l) (leb (r .limit) (length (r .entries))) ((λ z. omega arith), ((λ z. omega arith), ((λ z. omega arith), tt))) (le-leb (r .limit) (length (r .entries)) f) (sym (number-is r _ _ _) ∙ e)
 move-full K r (row.reset l) h f e = absurd h
 move-full K r (row.setLengths i l) h f e = absurd h
 move-full K r (row.update i l) h f e = absurd h
@@ -138,13 +144,13 @@ row-full : (K : Kind) (r : Row) (c : Call) → Adds c → r .limit ≤ length (r
 row-full K r c d f = by-number (λ n. n ≢ 0) K r c (λ e. omega arith) (move-full K r c d f)
 
 row-exactly : (K : Kind) (r : Row) (c : Call) → Adds c → earlier K r c ≡ 0 → r .limit ≤ length (r .entries) → rowStep K r c .answer .number ≡ 8
-unfolding rowMove rowStep
+unfolding rowMove rowStep All
 row-exactly K r (row.insert i l) h z f =
     let y = clear 10 (tooManyLines K l) _ (λ z. omega arith) z in
-    rw (y .0) (number-is r _ _ _ ∙ eight-then 4 7 _ _ (leb (r .limit) (length (r .entries))) (λ z. omega arith) (λ z. omega arith) (le-leb (r .limit) (length (r .entries)) f) (y .1))
+    rw (y .0) (number-is r _ _ _ ∙ comes-then 8 (inserting K r i l) [] (leb (r .limit) (length (r .entries))) ((λ z. omega arith), ((λ z. omega arith), tt)) (le-leb (r .limit) (length (r .entries)) f) (y .1))
 row-exactly K r (row.split flag i l) h z f =
     let y = clear 10 (tooManyLines K l) _ (λ z. omega arith) z in
-    rw (y .0) (number-is r _ _ _ ∙ eight-then 4 6 _ _ (leb (r .limit) (length (r .entries))) (λ z. omega arith) (λ z. omega arith) (le-leb (r .limit) (length (r .entries)) f) (y .1))
+    rw (y .0) (number-is r _ _ _ ∙ comes-then 8 (splitting K r i l) [] (leb (r .limit) (length (r .entries))) ((λ z. omega arith), ((λ z. omega arith), ((λ z. omega arith), tt))) (le-leb (r .limit) (length (r .entries)) f) (y .1))
 row-exactly K r (row.reset l) h z f = absurd h
 row-exactly K r (row.setLengths i l) h z f = absurd h
 row-exactly K r (row.update i l) h z f = absurd h

@@ -1,13 +1,12 @@
 -- The calls that only read, on a sound state: count, lengths, rank, first and next answer what the row answers.
-use mathlib.Core.Path.{_≡_, refl, sym, ap, ap₂, _∙_, subst}
+use mathlib.Core.Path.{_≡_, refl, sym, ap, _∙_, subst}
 use mathlib.Core.Bool.{Bool, true, false, cond}
 use mathlib.Core.List.{List, [], _∷_, _++_, map}
 use Prim.Native.Nat.{ℕ, suc, _+_, _%_, _^_, _≤_, _<_}
 use native.Mathlib.Numerals.{add-one}
 use native.Mathlib.Omega.{arith}
 use lib.Dec.{ltb}
-use lib.ListN.{length, getD, drop, length-map}
-use lib.Seq.{getD-drop}
+use lib.ListN.{length, drop, length-map}
 use borrow.Author.Tests.{lt-ltb, le-ltb, ltb-true, ltb-false}
 use Rattle.model.specs.Kind.{stride}
 use Rattle.model.specs.declared.shape.Kind.{Kind}
@@ -16,13 +15,13 @@ use Rattle.model.specs.Node.{Node, child, lengths, used, start}
 use Rattle.model.specs.State.{State}
 use Rattle.model.specs.Climb.{leafNo, rankUp, nextUp}
 use Rattle.model.specs.Row as row
-use Rattle.model.specs.Row.{Entry, entry, done, refused, moved, before, after, firstId, rowMove}
+use Rattle.model.specs.Row.{Entry, done, refused, moved, before, after, firstId, rowMove}
 use Rattle.model.specs.Sound.{leafIn, shapeIn, Coherent, entriesOf}
 use Rattle.model.specs.Refuse.{opening, atCursor, badSize}
 use Rattle.model.specs.Calls as calls
 use Rattle.model.specs.Calls.{areaCauses, cursorAt, entryId}
 use Rattle.model.specs.ById.{idAnswer, standingAnswer, nextAnswer, treeMove}
-use Rattle.model.specs.Answer.{numberAnswer, measuredAnswer}
+use Rattle.model.specs.Answer.{numberAnswer}
 use Rattle.model.specs.declared.way.Sum.the-variants as sum
 use Rattle.model.specs.declared.way.Leaf.the-variants as leaf
 use Rattle.model.specs.declared.answer.Number.the-variants as number
@@ -30,7 +29,6 @@ use Rattle.model.specs.declared.answer.Named.{Named}
 use Rattle.model.specs.declared.answer.Named.the-variants as named
 use Rattle.model.specs.declared.answer.Next.the-variants as next
 use Rattle.model.specs.declared.answer.Standing.the-variants as standing
-use Rattle.model.specs.declared.answer.Measured.the-variants as measured
 use Rattle.abstract_tree.specs.Lists.{sumBy-append, All-right}
 use Rattle.abstract_tree.specs.Levels.{Slot, total, len, climb}
 use Rattle.abstract_tree.specs.Next as follow
@@ -45,11 +43,11 @@ use Rattle.theory.specs.Tree.{slotOf, slotsOf, treeOf}
 use Rattle.theory.specs.Marked.{getD-slot}
 use Rattle.theory.specs.Neat.{size-is, neat-of}
 use Rattle.theory.specs.Down.{body-of}
-use Rattle.theory.specs.Entries.{firsts, entryFrom, entry-is}
+use Rattle.theory.specs.Entries.{firsts, entryFrom}
 use Rattle.theory.specs.Open.{good-size, good-areas, passed, opens, fresh-at, Seat}
 use Rattle.theory.specs.Way.{Way, way, start-leaf, rank-up}
 use Rattle.theory.specs.Edge.{first-top, first-down, leafHead, next-leaf}
-use Rattle.theory.specs.Agree.{Agrees, Mirrors, rowOf, row-passed, own, entries-are, count-is, by-id, from-is, slot-is, slot-long, total-before}
+use Rattle.theory.specs.Agree.{Agrees, Mirrors, rowOf, row-passed, own, entries-are, count-is, by-id, from-is, slot-lengths, total-before}
 
 pub first-entry : (n : ℕ) (R : List Slot) → firstId (map (entryFrom n) R) ≡ firstChild R
 first-entry n [] = refl
@@ -89,11 +87,9 @@ module _ (K : Kind) (t : State) (w : Coherent K t) where
   lengths-at : (i : ℕ) (c : Seat K t w i) → calls.lengthsOf K t (cursorAt (t .head .stamp) (c .leaf) (c .slot)) ≡ done (row.lengthsOf i (entriesOf K t))
   unfolding calls.lengthsOf refusal firsts
   lengths-at i c =
-      let x : List ℕ = getD (leafIn (stride K) t (c .leaf) .slots) (c .slot) [] in
       let cs : List Cause = atCursor K t (cursorAt (t .head .stamp) (c .leaf) (c .slot)) in
-      let e : entry (child x) (lengths x) ≡ entryFrom (K .views) (c .cur .e) = sym (entry-is (K .views) x (slot-long K t w i c)) ∙ ap (entryFrom (K .views)) (slot-is K t w i c) in
       passed (opening K t ++ cs) refused _ (opens K t w cs ∙ fresh-at K t w (c .leaf) (c .slot) [] (c .leaf-in) (c .slot-in))
-      ∙ ap (λ (y : Entry). done (y .lengths)) e ∙ sym (ap (λ (l : List Entry). done (getD l 0 (entry i []) .lengths)) (from-is K t w i c))
+      ∙ ap done (slot-lengths K t w i c)
 
   pub step-lengths : (i : ℕ) → Agrees (Mirrors K) (treeMove K t (row.lengths i)) (rowMove K (rowOf K t) (row.lengths i))
   unfolding treeMove rowMove refusal

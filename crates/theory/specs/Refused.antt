@@ -19,7 +19,7 @@ use Rattle.model.specs.Place as place
 use Rattle.model.specs.Place.{Change}
 use Rattle.model.specs.Grow.{areas}
 use Rattle.model.specs.Answer.{outcomeAnswer, numberAnswer, selectedAnswer, locatedAnswer, insertedAnswer, dividedAnswer}
-use Rattle.model.specs.Refuse.{shapeOf, manyLines, opening, atCursor, tooMuch, past, full}
+use Rattle.model.specs.Refuse.{shapeOf, manyLines, opening, atCursor, tooMuch, hollowPart, past, full}
 use Rattle.model.specs.Row as row
 use Rattle.model.specs.Row.{Call, Answer, Moved, noEntry, overlong}
 use Rattle.model.specs.ById as byId
@@ -221,7 +221,7 @@ module _ (K : Kind) (s : State) where
   split-leaves c l flag w = let r = place.divide (shapeOf K (s .head)) flag s (c .leaf .0) (c .slot) l in
       let a = calls.dividedAt (s .head .entries) (nextStamp (s .head .stamp)) (r .leaf) (r .slot) in
       unless-leaves dividedAnswer divided.Refused (λ m. refl) s (calls.splitCauses K s c l) (calls.settled s r divided.Refused a)
-      (λ e. settled-leaves dividedAnswer divided.Refused (λ m. refl) s r a refl (divide-left (shapeOf K (s .head)) flag s (c .leaf .0) (c .slot) l (opened K s (atCursor K s c ++ tooMuch K l (lengths (calls.slotAt K s c)) ∷ full s ∷ []) (few K l _ e) .0) (let z = w .long in omega arith)))
+      (λ e. settled-leaves dividedAnswer divided.Refused (λ m. refl) s r a refl (divide-left (shapeOf K (s .head)) flag s (c .leaf .0) (c .slot) l (opened K s (atCursor K s c ++ tooMuch K l (lengths (calls.slotAt K s c)) ∷ hollowPart K l (lengths (calls.slotAt K s c)) ∷ full s ∷ []) (few K l _ e) .0) (let z = w .long in omega arith)))
 
   -- a lookup writes no area, and keeps a finger only where it finds an entry
   search-leaves : (b : Search) → Leaves (locatedAnswer (calls.bySearch s b .answer) .number) s (calls.bySearch s b .after)

@@ -1,8 +1,8 @@
 -- Other lengths for an entry: `set` and `update` on a sound state do what they do on the row.
 use mathlib.Core.Path.{_≡_, refl, sym, ap, ap₂, _∙_, subst, fun-ext}
-use mathlib.Core.Bool.{Bool, true, false, cond, _||_}
+use mathlib.Core.Bool.{Bool, true, false, cond}
 use mathlib.Core.List.{List, [], _∷_, _++_, map, append-assoc}
-use Prim.Native.Nat.{ℕ, zero, suc, _+_, _-_, _%_, _^_, _≤_, _<_}
+use Prim.Native.Nat.{ℕ, _+_, _-_, _%_, _^_, _≤_, _<_}
 use native.Mathlib.Decide.{decLt}
 use native.Mathlib.Omega.{arith}
 use lib.Dec.{ltb, eqb}
@@ -31,9 +31,9 @@ use Rattle.model.specs.declared.head.Held.the-variants as held
 use Rattle.model.specs.declared.way.Sum.{Sum}
 use Rattle.model.specs.declared.answer.Outcome.the-variants as outcome
 use Rattle.model.specs.declared.answer.Number.the-variants as number
-use Rattle.laws.specs.Lists.{All-at, length-zip}
+use Rattle.laws.specs.Lists.{All-at, length-zip, some-views}
 use Rattle.laws.specs.Areas.{node-same}
-use Rattle.theory.specs.Views.{none-in, some-views, firsts-of}
+use Rattle.theory.specs.Views.{none-in, firsts-of}
 use Rattle.theory.specs.Fits.{fits}
 use Rattle.abstract_tree.specs.Lists.{sumBy-append}
 use Rattle.abstract_tree.specs.Levels.{Slot, Area, total, len}

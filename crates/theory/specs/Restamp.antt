@@ -170,7 +170,7 @@ module _ (K : Kind) (m : ℕ) (s : State) where
   unfolding calls.splitEntry
   split-moves flag l k j =
       unless-moves m s dividedAnswer divided.Refused (calls.splitCauses K s (here k j) l) (calls.splitCauses K s′ (there k j) l)
-      (ap₂ (λ (a b : List Cause). refuse′.manyLines K l ∷ (a ++ b ++ refuse′.tooMuch K l (lengths (calls.slotAt K s (here k j))) ∷ refuse′.full s ∷ [])) opening-same (at-same k j)) _ _
+      (ap₂ (λ (a b : List Cause). let ls = lengths (calls.slotAt K s (here k j)) in refuse′.manyLines K l ∷ (a ++ b ++ refuse′.tooMuch K l ls ∷ refuse′.hollowPart K l ls ∷ refuse′.full s ∷ [])) opening-same (at-same k j)) _ _
       (settled-moves m s dividedAnswer divided.Refused (place.divide (shapeOf K (s .head)) flag s k j l) (place.divide (shapeOf K (s .head)) flag s′ k j l) (divide-twins (shapeOf K (s .head)) m flag s k j l) _ _ refl)
 
   resized-twins : (l : List ℕ) (k j : ℕ) → Climbed (shapeOf K (s .head)) (calls.resized K s (here k j) l) (calls.resized K s′ (there k j) l)

@@ -19,7 +19,7 @@ use Rattle.model.specs.Promise.{InWords, Stands}
 use Rattle.theory.specs.Agree.{count-is}
 use Rattle.theory.specs.Lines.{FewLines, inserted-few, changed-few, stands-few}
 use Rattle.theory.specs.Step.{step}
-use Rattle.theory.specs.Numbers.{number-is, one-cause, two-causes, three-causes}
+use Rattle.theory.specs.Numbers.{number-is, no-cause}
 
 at-most : (es : List Entry) → FewLines base es → total 2 es ≤ 65535 * length es
 unfolding All sumBy
@@ -117,17 +117,17 @@ module _ (t : State) (r : Row) (h : Stands base t r) where
 
   -- every call that answers 7 would pass a u32 in prepare or in effect
   move-seven : (c : Call) → overlong base c ≡ false → rowMove base r c .answer .number ≡ 7 → Passes (wanted r c)
-  unfolding rowMove
+  unfolding rowMove All
   move-seven (row.reset l) o e = absurd (omega arith)
   move-seven (row.insert i l) o e = passes-of (wanted r (row.insert i l)) (sym (insert-seven i l o) ∙ seven-first _ _ _ (sym (number-is r _ _ _) ∙ e))
-  move-seven (row.split flag i l) o e = absurd (three-causes 7 4 6 8 _ _ _ (λ z. omega arith) (λ z. omega arith) (λ z. omega arith) (λ z. omega arith) (sym (number-is r _ _ _) ∙ e))
+  move-seven (row.split flag i l) o e = absurd (no-cause 7 _ (λ z. omega arith) ((λ z. omega arith), ((λ z. omega arith), ((λ z. omega arith), ((λ z. omega arith), tt)))) (sym (number-is r _ _ _) ∙ e))
   move-seven (row.setLengths i l) o e = passes-of (wanted r (row.setLengths i l)) (sym (set-seven i l o) ∙ seven-last _ _ (sym (number-is r _ _ _) ∙ e))
   move-seven (row.update i l) o e = passes-of (wanted r (row.update i l)) (sym (set-seven i l o) ∙ seven-last _ _ (sym (number-is r _ _ _) ∙ e))
-  move-seven (row.lookup v x) o e = absurd (one-cause 7 5 _ (λ z. omega arith) (λ z. omega arith) (sym (number-is r _ _ _) ∙ e))
-  move-seven (row.rank v i) o e = absurd (one-cause 7 4 _ (λ z. omega arith) (λ z. omega arith) (sym (number-is r _ _ _) ∙ e))
-  move-seven (row.next i) o e = absurd (one-cause 7 4 _ (λ z. omega arith) (λ z. omega arith) (sym (number-is r _ _ _) ∙ e))
-  move-seven (row.compare i j) o e = absurd (two-causes 7 4 4 _ _ (λ z. omega arith) (λ z. omega arith) (λ z. omega arith) (sym (number-is r _ _ _) ∙ e))
-  move-seven (row.lengths i) o e = absurd (one-cause 7 4 _ (λ z. omega arith) (λ z. omega arith) (sym (number-is r _ _ _) ∙ e))
+  move-seven (row.lookup v x) o e = absurd (no-cause 7 _ (λ z. omega arith) ((λ z. omega arith), tt) (sym (number-is r _ _ _) ∙ e))
+  move-seven (row.rank v i) o e = absurd (no-cause 7 _ (λ z. omega arith) ((λ z. omega arith), tt) (sym (number-is r _ _ _) ∙ e))
+  move-seven (row.next i) o e = absurd (no-cause 7 _ (λ z. omega arith) ((λ z. omega arith), tt) (sym (number-is r _ _ _) ∙ e))
+  move-seven (row.compare i j) o e = absurd (no-cause 7 _ (λ z. omega arith) ((λ z. omega arith), ((λ z. omega arith), tt)) (sym (number-is r _ _ _) ∙ e))
+  move-seven (row.lengths i) o e = absurd (no-cause 7 _ (λ z. omega arith) ((λ z. omega arith), tt) (sym (number-is r _ _ _) ∙ e))
   move-seven row.count o e = absurd (omega arith)
   move-seven row.first o e = absurd (omega arith)
   move-seven row.malformed o e = absurd (omega arith)

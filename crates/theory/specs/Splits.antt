@@ -2,7 +2,7 @@
 use mathlib.Core.Path.{_≡_, refl, sym, ap, ap₂, _∙_, subst}
 use mathlib.Core.Bool.{Bool, true, false, cond, _||_}
 use mathlib.Core.List.{List, [], _∷_, _++_, map, zipWith, head-eq-of-cons-eq, append-assoc}
-use Prim.Native.Nat.{ℕ, zero, suc, _+_, _-_, _<_, _≤_}
+use Prim.Native.Nat.{ℕ, suc, _+_, _-_, _<_, _≤_}
 use native.Mathlib.Nat.{add-zero}
 use native.Mathlib.Decide.{decLt}
 use native.Mathlib.Omega.{arith}
@@ -10,7 +10,7 @@ use lib.Dec.{ltb, leb}
 use lib.ListN.{length, getD, take, drop, length-append, List·getD-eq-default}
 use lib.Seq.{drop-cons, getD-append-add, length-take-le}
 use borrow.Author.Tests.{lt-ltb, le-leb, ltb-false, leb-false}
-use Rattle.model.specs.Kind.{stride, viewsOf, tooManyLines}
+use Rattle.model.specs.Kind.{stride, viewsOf, tooManyLines, hollow}
 use Rattle.model.specs.declared.shape.Kind.{Kind}
 use Rattle.model.specs.Lists.{sumBy, some, Cause, refusal}
 use Rattle.model.specs.Node.{Node, lengths, lengthIn, used, childSplit}
@@ -38,7 +38,7 @@ use Rattle.abstract_tree.specs.Edit as ops
 use Rattle.abstract_tree.specs.Change.{withLeaf}
 use Rattle.abstract_tree.specs.Calls.{slotAt, spot, Done, divideIn, divide-done}
 use Rattle.abstract_tree.specs.Place.{front, behind}
-use Rattle.theory.specs.Views.{none-in, some-views, firsts-of, firsts-less}
+use Rattle.theory.specs.Views.{none-in, firsts-of, firsts-less}
 use Rattle.theory.specs.Tidy.{Tidy}
 use Rattle.theory.specs.Tree.{slotOf, slotsOf, areaOf, treeOf}
 use Rattle.theory.specs.Marked.{getD-slot}
@@ -48,12 +48,16 @@ use Rattle.theory.specs.Up.{sound-up}
 use Rattle.theory.specs.Put.{inner-keeps}
 use Rattle.theory.specs.Entries.{firsts, getD-firsts, entryFrom}
 use Rattle.theory.specs.Open.{passed, stopped, few-lines, opens, fresh-at, Seat}
-use Rattle.theory.specs.Carry.{slot-of, lengths-at}
+use Rattle.theory.specs.Carry.{slot-of}
 use Rattle.theory.specs.Room.{Roomed}
 use Rattle.theory.specs.Gap.{opened, leafWith, Gap, gap}
 use Rattle.theory.specs.Enter.{entered, entered-read, entered-neat, entered-tree}
 use Rattle.theory.specs.Halved.{halved-tidy, halved-parent, halved-at, halved-slots}
-use Rattle.theory.specs.Agree.{Agrees, Mirrors, rowOf, row-passed, row-stopped, own, entries-are, count-is, by-id, before-is, from-is, slot-is}
+use Rattle.theory.specs.Agree.{Agrees, Mirrors, rowOf, row-passed, row-stopped, own, entries-are, count-is, by-id, before-is, from-is, slot-lengths}
+
+-- the row's causes behind the id
+abbrev pub behindId : Kind → Row → ℕ → List ℕ → List Cause
+behindId K r i l = row.tooMuch K l (row.lengthsOf i (r .entries)) ∷ row.hollowPart K l (row.lengthsOf i (r .entries)) ∷ row.full r ∷ []
 
 -- the children of a divided entry's two parts
 first-part : (flag : Bool) (e : Slot) (u : ℕ → ℕ) (n : ℕ) (S : List Slot) → getD (ops.divided flag e u n S) 0 noSlot .child ≡ cond flag n (e .child)
@@ -227,10 +231,6 @@ module _ (K : Kind) (t : State) (w : Coherent K t) (i : ℕ) (c : Seat K t w i) 
   row-lens : (v : ℕ) → v < K .views → getD (row.lengthsOf i (entriesOf K t)) v 0 ≡ e .lens v
   row-lens v lv = ap (λ (f : List Entry). getD (getD f 0 (entry i []) .lengths) v 0) (from-is K t w i c) ∙ getD-firsts (K .views) (e .lens) v lv
 
-  short-is : some (λ v. ltb (getD (lengths (getD (leafIn (stride K) t (c .leaf) .slots) (c .slot) [])) v 0) (getD l v 0)) (viewsOf K) ≡ short
-  short-is = some-views (K .views) (λ v. ltb (getD (lengths (getD (leafIn (stride K) t (c .leaf) .slots) (c .slot) [])) v 0) (getD l v 0)) (λ v. ltb (getD (row.lengthsOf i (entriesOf K t)) v 0) (getD l v 0))
-      (λ v lv. ap (λ (k : ℕ). ltb k (getD l v 0)) (lengths-at (getD (leafIn (stride K) t (c .leaf) .slots) (c .slot) []) v ∙ ap (λ (y : Slot). y .lens v) (slot-is K t w i c) ∙ sym (row-lens v lv)))
-
   enough-of : short ≡ false → (v : ℕ) → new v ≤ e .lens v
   enough-of ok v = go (decLt v (K .views))
     where
@@ -238,20 +238,33 @@ module _ (K : Kind) (t : State) (w : Coherent K t) (i : ℕ) (c : Seat K t w i) 
       go (yes lv) = (let z = ltb-false (getD (row.lengthsOf i (entriesOf K t)) v 0) (getD l v 0) (none-in (λ v. ltb (getD (row.lengthsOf i (entriesOf K t)) v 0) (getD l v 0)) (K .views) ok v lv) in let y = row-lens v lv in omega arith)
       go (no ge) = (let z : getD l v 0 ≡ 0 = List·getD-eq-default l 0 {n = v} (omega arith) in omega arith)
 
+  abbrev empty : Bool
+  empty = hollow K l || hollow K (zipWith _-_ (row.lengthsOf i (entriesOf K t)) l)
+
+  -- the first number of three tests
+  abbrev numberOf : Bool → Bool → Bool → ℕ
+  numberOf a b d = cond a 6 (cond b 17 (cond d 8 0))
+
   abbrev causes : List Cause
   causes = splitCauses K t (cursorAt (t .head .stamp) (c .leaf) (c .slot)) l
 
+  -- those behind the cursor's, for an entry of the lengths ls
+  abbrev partCauses : List ℕ → List Cause
+  partCauses ls = refuse′.tooMuch K l ls ∷ refuse′.hollowPart K l ls ∷ refuse′.full t ∷ []
+
   abbrev rowCauses : List Cause
-  rowCauses = row.tooMuch K l (row.lengthsOf i (entriesOf K t)) ∷ row.full (rowOf K t) ∷ []
+  rowCauses = behindId K (rowOf K t) i l
 
   both-causes : refusal causes ≡ refusal rowCauses
   unfolding refusal
   both-causes =
-      few-lines K l (opening K t ++ atCursor K t (cursorAt (t .head .stamp) (c .leaf) (c .slot)) ++ refuse′.tooMuch K l (lengths (getD (leafIn (stride K) t (c .leaf) .slots) (c .slot) [])) ∷ refuse′.full t ∷ []) lines
-      ∙ ap refusal (append-assoc (opening K t) (atCursor K t (cursorAt (t .head .stamp) (c .leaf) (c .slot))) (refuse′.tooMuch K l (lengths (getD (leafIn (stride K) t (c .leaf) .slots) (c .slot) [])) ∷ refuse′.full t ∷ []))
-      ∙ opens K t w (atCursor K t (cursorAt (t .head .stamp) (c .leaf) (c .slot)) ++ refuse′.tooMuch K l (lengths (getD (leafIn (stride K) t (c .leaf) .slots) (c .slot) [])) ∷ refuse′.full t ∷ [])
-      ∙ fresh-at K t w (c .leaf) (c .slot) (refuse′.tooMuch K l (lengths (getD (leafIn (stride K) t (c .leaf) .slots) (c .slot) [])) ∷ refuse′.full t ∷ []) (c .leaf-in) (c .slot-in)
-      ∙ ap₂ (λ (a b : Bool). cond a 6 (cond b 8 0)) short-is (ap (leb (t .head .limit)) (sym (count-is K t w)))
+      let ls : List ℕ = lengths (getD (leafIn (stride K) t (c .leaf) .slots) (c .slot) []) in
+      few-lines K l (opening K t ++ atCursor K t (cursorAt (t .head .stamp) (c .leaf) (c .slot)) ++ partCauses ls) lines
+      ∙ ap refusal (append-assoc (opening K t) (atCursor K t (cursorAt (t .head .stamp) (c .leaf) (c .slot))) (partCauses ls))
+      ∙ opens K t w (atCursor K t (cursorAt (t .head .stamp) (c .leaf) (c .slot)) ++ partCauses ls)
+      ∙ fresh-at K t w (c .leaf) (c .slot) (partCauses ls) (c .leaf-in) (c .slot-in)
+      ∙ ap (λ (ls : List ℕ). refusal (partCauses ls)) (slot-lengths K t w i c)
+      ∙ ap (λ (b : Bool). numberOf short empty b) (ap (leb (t .head .limit)) (sym (count-is K t w)))
 
   abbrev entries′ : List Entry
   entries′ = divided flag i (newEntry (rowOf K t) l) (entriesOf K t)
@@ -265,7 +278,7 @@ module _ (K : Kind) (t : State) (w : Coherent K t) (i : ℕ) (c : Seat K t w i) 
       → P (calls.reply s (dividedAt (t .head .entries) (nextStamp (t .head .stamp)) k j)) (moved (row.row (t .head .limit) entries′) rowAnswer))
       → P (calls.splitEntry K t (cursorAt (t .head .stamp) (c .leaf) (c .slot)) l flag) (unless (rowOf K t) rowCauses entries′ rowAnswer)
   unfolding refusal calls.splitEntry
-  split-by P refusing parting = go short refl (leb (t .head .limit) (length (entriesOf K t))) refl
+  split-by P refusing parting = go short refl empty refl (leb (t .head .limit) (length (entriesOf K t))) refl
     where
       answered : calls.Reply Divided
       answered = let r = place.divide (shapeIn (stride K) t) flag t (c .leaf) (c .slot) l in
@@ -277,16 +290,20 @@ module _ (K : Kind) (t : State) (w : Coherent K t) (i : ℕ) (c : Seat K t w i) 
       stop : (n : ℕ) → refusal rowCauses ≡ suc n → P (calls.unless causes refuse answered) (unless (rowOf K t) rowCauses entries′ rowAnswer)
       stop n z = rw (stopped causes refuse answered n (both-causes ∙ z), row-stopped (rowOf K t) rowCauses entries′ rowAnswer n z) (refusing (suc n))
 
-      go : (p : Bool) → short ≡ p → (q : Bool) → leb (t .head .limit) (length (entriesOf K t)) ≡ q → P (calls.unless causes refuse answered) (unless (rowOf K t) rowCauses entries′ rowAnswer)
-      go true e′ q f = stop 5 (ap₂ (λ (a b : Bool). cond a 6 (cond b 8 0)) e′ f)
-      go false e′ true f = stop 7 (ap₂ (λ (a b : Bool). cond a 6 (cond b 8 0)) e′ f)
-      go false e′ false f =
-          let z : refusal rowCauses ≡ 0 = ap₂ (λ (a b : Bool). cond a 6 (cond b 8 0)) e′ f in
+      number : {a b d : Bool} → short ≡ a → empty ≡ b → leb (t .head .limit) (length (entriesOf K t)) ≡ d → refusal rowCauses ≡ numberOf a b d
+      number p q r = rw (p, q, r)
+
+      go : (p : Bool) → short ≡ p → (h : Bool) → empty ≡ h → (q : Bool) → leb (t .head .limit) (length (entriesOf K t)) ≡ q → P (calls.unless causes refuse answered) (unless (rowOf K t) rowCauses entries′ rowAnswer)
+      go true e′ h d q f = stop 5 (number e′ d f)
+      go false e′ true d q f = stop 16 (number e′ d f)
+      go false e′ false d true f = stop 7 (number e′ d f)
+      go false e′ false d false f =
+          let z : refusal rowCauses ≡ 0 = number e′ d f in
           let few : t .head .entries < t .head .limit = (let y = leb-false (t .head .limit) (length (entriesOf K t)) f in omega (arith, count-is K t w)) in
           rw (passed causes refuse answered (both-causes ∙ z), row-passed (rowOf K t) rowCauses entries′ rowAnswer z, divide-is (enough-of e′) few)
           (parting (t₃ (enough-of e′) few) (q (enough-of e′) few .leaf) (q (enough-of e′) few .slot) (parted₃ (enough-of e′) few) (stands₃ (enough-of e′) few))
 
 pub step-split : (K : Kind) (t : State) (w : Coherent K t) (flag : Bool) (i : ℕ) (l : List ℕ) (wl : length l ≡ K .views) → tooManyLines K l ≡ false → Agrees (Mirrors K) (treeMove K t (row.split flag i l)) (rowMove K (rowOf K t) (row.split flag i l))
 unfolding treeMove rowMove
-step-split K t w flag i l wl lines = by-id K t w i (λ c. told (calls.splitEntry K t c l flag) dividedAnswer) (row.tooMuch K l (row.lengthsOf i (entriesOf K t)) ∷ row.full (rowOf K t) ∷ []) (divided flag i (newEntry (rowOf K t) l) (entriesOf K t)) (done (length (entriesOf K t) ∷ []))
+step-split K t w flag i l wl lines = by-id K t w i (λ c. told (calls.splitEntry K t c l flag) dividedAnswer) (behindId K (rowOf K t) i l) (divided flag i (newEntry (rowOf K t) l) (entriesOf K t)) (done (length (entriesOf K t) ∷ []))
     (λ c. split-by K t w i c l wl lines flag (λ m n. Agrees (Mirrors K) (told m dividedAnswer) n) (λ n. record { same = refl; kept = own K t w }) (λ s k j p h. record { same = ap (λ (n : ℕ). done (n ∷ [])) (sym (count-is K t w)); kept = h }))

@@ -1,5 +1,5 @@
 -- Tests over all views of a kind, and lists of as many lengths.
-use mathlib.Core.Path.{_≡_, refl, sym, ap, ap₂, _∙_, subst}
+use mathlib.Core.Path.{_≡_, refl, sym, ap, _∙_, subst}
 use mathlib.Core.Bool.{Bool, true, false, _||_}
 use mathlib.Core.List.{List, [], _∷_, zipWith}
 use Prim.Native.Nat.{ℕ, zero, suc, _+_, _-_, _≤_, _<_}
@@ -9,7 +9,7 @@ use lib.ListN.{length, getD}
 use Rattle.model.specs.Lists.{All, some, range}
 use Rattle.theory.specs.Entries.{firsts, firsts-list}
 
-or-false : (a b : Bool) → (a || b) ≡ false → (a ≡ false) × (b ≡ false)
+pub or-false : (a b : Bool) → (a || b) ≡ false → (a ≡ false) × (b ≡ false)
 or-false true b e = absurd (let z : _≡_ {A = ℕ} 0 1 = cc in omega arith)
 or-false false b e = (refl, e)
 
@@ -25,14 +25,18 @@ some-none q i (suc n) e v lo hi = elim (ℕ-discrete i v) [
 pub none-in : (q : ℕ → Bool) (n : ℕ) → some q (range 0 n) ≡ false → (v : ℕ) → v < n → q v ≡ false
 none-in q n e v lv = some-none q 0 n e v (omega arith) (omega arith)
 
--- two tests that agree in each view
-some-same : (q q′ : ℕ → Bool) (i n : ℕ) → ((v : ℕ) → i ≤ v → v < i + n → q v ≡ q′ v) → some q (range i n) ≡ some q′ (range i n)
+-- some view for which a test holds
+some-one : (q : ℕ → Bool) (i n : ℕ) → some q (range i n) ≡ true → (v : ℕ) × (v < i + n) × (q v ≡ true)
 unfolding some range
-some-same q q′ i zero h = refl
-some-same q q′ i (suc n) h = ap₂ _||_ (h i (omega arith) (omega arith)) (some-same q q′ (suc i) n (λ v lo hi. h v (omega arith) (omega arith)))
+some-one q i zero e = absurd (let z : _≡_ {A = ℕ} 0 1 = cc in omega arith)
+some-one q i (suc n) e = go (q i) refl (some-one q (suc i) n)
+  where
+    go : (b : Bool) → q i ≡ b → (some q (range (suc i) n) ≡ true → (v : ℕ) × (v < suc i + n) × (q v ≡ true)) → (v : ℕ) × (v < i + suc n) × (q v ≡ true)
+    go true z ih = (i, omega arith, z)
+    go false z ih = (let y = ih (rw z at e) in (y .0, (let u = y .1 in omega arith), y .2))
 
-pub some-views : (n : ℕ) (q q′ : ℕ → Bool) → ((v : ℕ) → v < n → q v ≡ q′ v) → some q (range 0 n) ≡ some q′ (range 0 n)
-some-views n q q′ h = some-same q q′ 0 n (λ v lo hi. h v (omega arith))
+pub one-in : (q : ℕ → Bool) (n : ℕ) → some q (range 0 n) ≡ true → (v : ℕ) × (v < n) × (q v ≡ true)
+one-in q n e = let y = some-one q 0 n e in (y .0, (let u = y .1 in omega arith), y .2)
 
 -- as many lengths as there are views
 pub firsts-of : (n : ℕ) (l : List ℕ) → length l ≡ n → firsts n (λ v. getD l v 0) ≡ l

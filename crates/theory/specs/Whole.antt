@@ -13,7 +13,7 @@ use Rattle.model.specs.Lists.{All, Cause, refusal}
 use Rattle.model.specs.Node.{half}
 use Rattle.model.specs.State.{State, state, headOf}
 use Rattle.model.specs.Row as row
-use Rattle.model.specs.Row.{Row, Call, Answer, done, refused, moved, unless, madeRow, rowMove, rowStep}
+use Rattle.model.specs.Row.{Row, Entry, Call, Answer, done, refused, moved, unless, madeRow, rowMove, rowStep}
 use Rattle.model.specs.ById.{treeStep}
 use Rattle.model.specs.Calls as calls
 use Rattle.model.specs.Calls.{make, begun, areaCauses, makeCauses}
@@ -25,11 +25,12 @@ use Rattle.abstract_tree.specs.Follows.{levels-most, entry-floor}
 use Rattle.theory.specs.Tree.{treeOf}
 use Rattle.theory.specs.Down.{body-of}
 use Rattle.theory.specs.Open.{passed, stopped, clear}
-use Rattle.theory.specs.Agree.{Agrees, count-is}
+use Rattle.theory.specs.Agree.{Agrees, count-is, ids-below}
 use Rattle.theory.specs.Make.{sizes-of, begun-stands}
 use Rattle.theory.specs.Lines.{stands-of}
 use Rattle.theory.specs.Step.{step}
 use Rattle.theory.specs.Numbers.{numbers-are}
+use Rattle.theory.specs.Hollow.{parts-are}
 use Rattle.theory.specs.Fixed.{step-fixed}
 
 pub kept-of : (K : Kind) (ok : K .effect < K .views) (fan : ℕ) (s : State) (r : Row) → Stands K s r → s .head .fan ≡ fan → Kept K fan s r
@@ -46,6 +47,7 @@ kept-of K ok fan s r h f =
       levels = levels-most (treeOf (stride K) s) b;
       floor = λ two. subst (λ (m : ℕ). 2 * half m ^ s .head .levels ≤ length (r .entries)) f (let z = entry-floor (treeOf (stride K) s) b two in omega arith);
       numbers = numbers-are K ok s r h;
+      parts = parts-are K r (subst (λ (es : List Entry). All (λ e. e .id < length es) es) (h .entries) (ids-below K s (h .sound .coherent)));
     }
 
 never : false ≡ true → ⊥

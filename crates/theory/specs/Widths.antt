@@ -52,32 +52,35 @@ in-one : (e : ℕ) → e < 4294967296 → Words one (e ∷ [])
 unfolding All
 in-one e a = record { long = refl; small = (a, tt) }
 
--- four inserts split the leaf; then lookups and a rank in the last view, and what the last view alone refuses, by 5, 6 and 10, which comes before 4
+-- four inserts split the leaf and fill the tree; then lookups and a rank in the last view, and what the last view alone refuses, by 5, 6 and 10, which
+-- comes before 4; splits of which a part would be hollow, by 17, after 6 and before 8, and two by 8 that move or leave line ends alone
 abbrev threeCalls : List Call
 threeCalls = row.insert noEntry (2 ∷ 0 ∷ 0 ∷ []) ∷ row.insert 0 (0 ∷ 5 ∷ 3 ∷ []) ∷ row.insert 1 (1 ∷ 1 ∷ 2 ∷ []) ∷ row.insert noEntry (4 ∷ 4 ∷ 0 ∷ [])
-    ∷ row.lookup 2 2 ∷ row.lookup 2 5 ∷ row.rank 2 1 ∷ row.lengths 2 ∷ row.lookup 2 6 ∷ row.split true 2 (0 ∷ 1 ∷ 4 ∷ []) ∷ row.setLengths 9 (0 ∷ 0 ∷ 65536 ∷ [])
+    ∷ row.lookup 2 2 ∷ row.lookup 2 5 ∷ row.rank 2 1 ∷ row.lengths 2 ∷ row.lookup 2 6 ∷ row.split true 2 (0 ∷ 1 ∷ 4 ∷ [])
+    ∷ row.split true 2 (0 ∷ 0 ∷ 0 ∷ []) ∷ row.split true 2 (0 ∷ 5 ∷ 3 ∷ []) ∷ row.split true 2 (0 ∷ 6 ∷ 3 ∷ []) ∷ row.split true 2 (0 ∷ 0 ∷ 1 ∷ []) ∷ row.split false 2 (0 ∷ 5 ∷ 0 ∷ [])
+    ∷ row.setLengths 9 (0 ∷ 0 ∷ 65536 ∷ [])
     ∷ row.setLengths 2 (0 ∷ 0 ∷ 65535 ∷ []) ∷ row.rank 2 1 ∷ []
 
 abbrev bothCalls : List Call
-bothCalls = row.insert noEntry (2 ∷ 0 ∷ []) ∷ row.lookup 1 69999 ∷ row.rank 1 1 ∷ row.lengths 0 ∷ row.split true 0 (0 ∷ 70001 ∷ []) ∷ row.setLengths 1 (0 ∷ 4294897296 ∷ []) ∷ []
+bothCalls = row.insert noEntry (2 ∷ 0 ∷ []) ∷ row.lookup 1 69999 ∷ row.rank 1 1 ∷ row.lengths 0 ∷ row.split true 0 (0 ∷ 70001 ∷ []) ∷ row.split true 0 (3 ∷ 70000 ∷ []) ∷ row.split true 0 (0 ∷ 70000 ∷ []) ∷ row.setLengths 1 (0 ∷ 4294897296 ∷ []) ∷ []
 
 abbrev oneCalls : List Call
-oneCalls = row.insert noEntry (0 ∷ []) ∷ row.insert 0 (5 ∷ []) ∷ row.lookup 0 6 ∷ row.rank 0 1 ∷ row.split false 2 (2 ∷ []) ∷ row.split false 2 (4 ∷ []) ∷ row.update 0 (4294967291 ∷ []) ∷ []
+oneCalls = row.insert noEntry (0 ∷ []) ∷ row.insert 0 (5 ∷ []) ∷ row.lookup 0 6 ∷ row.rank 0 1 ∷ row.split false 2 (2 ∷ []) ∷ row.split false 2 (4 ∷ []) ∷ row.split false 2 (3 ∷ []) ∷ row.split true 1 (0 ∷ []) ∷ row.update 0 (4294967291 ∷ []) ∷ []
 
 in-threeCalls : All (InWords three) threeCalls
 unfolding All
 in-threeCalls = (
   (omega arith, in-three 2 0 0 (omega arith) (omega arith) (omega arith)),
-  ((omega arith, in-three 0 5 3 (omega arith) (omega arith) (omega arith)), ((omega arith, in-three 1 1 2 (omega arith) (omega arith) (omega arith)), ((omega arith, in-three 4 4 0 (omega arith) (omega arith) (omega arith)), ((omega arith, omega arith), ((omega arith, omega arith), ((omega arith, omega arith), (omega arith, ((omega arith, omega arith), ((omega arith, in-three 0 1 4 (omega arith) (omega arith) (omega arith)), ((omega arith, in-three 0 0 65536 (omega arith) (omega arith) (omega arith)), ((omega arith, in-three 0 0 65535 (omega arith) (omega arith) (omega arith)), ((omega arith, omega arith), tt)))))))))))),
+  ((omega arith, in-three 0 5 3 (omega arith) (omega arith) (omega arith)), ((omega arith, in-three 1 1 2 (omega arith) (omega arith) (omega arith)), ((omega arith, in-three 4 4 0 (omega arith) (omega arith) (omega arith)), ((omega arith, omega arith), ((omega arith, omega arith), ((omega arith, omega arith), (omega arith, ((omega arith, omega arith), ((omega arith, in-three 0 1 4 (omega arith) (omega arith) (omega arith)), ((omega arith, in-three 0 0 0 (omega arith) (omega arith) (omega arith)), ((omega arith, in-three 0 5 3 (omega arith) (omega arith) (omega arith)), ((omega arith, in-three 0 6 3 (omega arith) (omega arith) (omega arith)), ((omega arith, in-three 0 0 1 (omega arith) (omega arith) (omega arith)), ((omega arith, in-three 0 5 0 (omega arith) (omega arith) (omega arith)), ((omega arith, in-three 0 0 65536 (omega arith) (omega arith) (omega arith)), ((omega arith, in-three 0 0 65535 (omega arith) (omega arith) (omega arith)), ((omega arith, omega arith), tt))))))))))))))))),
 )
 
 in-bothCalls : All (InWords both) bothCalls
 unfolding All
-in-bothCalls = ((omega arith, in-both 2 0 (omega arith) (omega arith)), ((omega arith, omega arith), ((omega arith, omega arith), (omega arith, ((omega arith, in-both 0 70001 (omega arith) (omega arith)), ((omega arith, in-both 0 4294897296 (omega arith) (omega arith)), tt))))))
+in-bothCalls = ((omega arith, in-both 2 0 (omega arith) (omega arith)), ((omega arith, omega arith), ((omega arith, omega arith), (omega arith, ((omega arith, in-both 0 70001 (omega arith) (omega arith)), ((omega arith, in-both 3 70000 (omega arith) (omega arith)), ((omega arith, in-both 0 70000 (omega arith) (omega arith)), ((omega arith, in-both 0 4294897296 (omega arith) (omega arith)), tt))))))))
 
 in-oneCalls : All (InWords one) oneCalls
 unfolding All
-in-oneCalls = ((omega arith, in-one 0 (omega arith)), ((omega arith, in-one 5 (omega arith)), ((omega arith, omega arith), ((omega arith, omega arith), ((omega arith, in-one 2 (omega arith)), ((omega arith, in-one 4 (omega arith)), ((omega arith, in-one 4294967291 (omega arith)), tt)))))))
+in-oneCalls = ((omega arith, in-one 0 (omega arith)), ((omega arith, in-one 5 (omega arith)), ((omega arith, omega arith), ((omega arith, omega arith), ((omega arith, in-one 2 (omega arith)), ((omega arith, in-one 4 (omega arith)), ((omega arith, in-one 3 (omega arith)), ((omega arith, in-one 0 (omega arith)), ((omega arith, in-one 4294967291 (omega arith)), tt)))))))))
 
 pub three-answered : answers (treeStep three) (make three 4 5 (3 ∷ 3 ∷ 1 ∷ []) (replicate 38 7) (replicate 38 7) (replicate 5 7) .after) threeCalls ≡ answers (rowStep three) (madeRow 5 (3 ∷ 3 ∷ 1 ∷ [])) threeCalls
 three-answered = whole three (omega arith) 4 5 (3 ∷ 3 ∷ 1 ∷ []) (replicate 38 7) (replicate 38 7) (replicate 5 7) (in-three 3 3 1 (omega arith) (omega arith) (omega arith)) threeMade threeCalls in-threeCalls .0
@@ -90,14 +93,14 @@ one-answered = whole one (omega arith) 4 5 (3 ∷ []) (replicate 22 7) (replicat
 
 -- position 2 of the last view stands in id 2, position 5 in id 3
 pub three-are : answers (rowStep three) (madeRow 5 (3 ∷ 3 ∷ 1 ∷ [])) threeCalls
-    ≡ done (1 ∷ 3 ∷ []) ∷ done (2 ∷ 0 ∷ []) ∷ done (3 ∷ 8 ∷ []) ∷ done (4 ∷ 9 ∷ []) ∷ done (2 ∷ 2 ∷ 0 ∷ 0 ∷ []) ∷ done (3 ∷ 1 ∷ 8 ∷ 3 ∷ []) ∷ done (6 ∷ []) ∷ done (0 ∷ 5 ∷ 3 ∷ []) ∷ refused 5 ∷ refused 6 ∷ refused 10 ∷ done [] ∷ done (65538 ∷ []) ∷ []
+    ≡ done (1 ∷ 3 ∷ []) ∷ done (2 ∷ 0 ∷ []) ∷ done (3 ∷ 8 ∷ []) ∷ done (4 ∷ 9 ∷ []) ∷ done (2 ∷ 2 ∷ 0 ∷ 0 ∷ []) ∷ done (3 ∷ 1 ∷ 8 ∷ 3 ∷ []) ∷ done (6 ∷ []) ∷ done (0 ∷ 5 ∷ 3 ∷ []) ∷ refused 5 ∷ refused 6 ∷ refused 17 ∷ refused 17 ∷ refused 6 ∷ refused 8 ∷ refused 8 ∷ refused 10 ∷ done [] ∷ done (65538 ∷ []) ∷ []
 unfolding answers row.rowMove rowStep row.before row.from row.divided row.found row.ordered row.unless sumBy some range refusal zipWith
 three-are = refl
 
-pub both-are : answers (rowStep both) (madeRow 5 (3 ∷ 70000 ∷ [])) bothCalls ≡ done (1 ∷ 70000 ∷ []) ∷ done (0 ∷ 69999 ∷ 0 ∷ 0 ∷ []) ∷ done (70000 ∷ []) ∷ done (3 ∷ 70000 ∷ []) ∷ refused 6 ∷ refused 7 ∷ []
+pub both-are : answers (rowStep both) (madeRow 5 (3 ∷ 70000 ∷ [])) bothCalls ≡ done (1 ∷ 70000 ∷ []) ∷ done (0 ∷ 69999 ∷ 0 ∷ 0 ∷ []) ∷ done (70000 ∷ []) ∷ done (3 ∷ 70000 ∷ []) ∷ refused 6 ∷ refused 17 ∷ done (2 ∷ []) ∷ refused 7 ∷ []
 unfolding answers row.rowMove rowStep row.before row.from row.divided row.found row.ordered row.unless sumBy some range refusal zipWith
 both-are = refl
 
-pub one-are : answers (rowStep one) (madeRow 5 (3 ∷ [])) oneCalls ≡ done (1 ∷ 3 ∷ []) ∷ done (2 ∷ 0 ∷ []) ∷ done (0 ∷ 1 ∷ 5 ∷ 5 ∷ []) ∷ done (8 ∷ []) ∷ done (3 ∷ []) ∷ refused 6 ∷ refused 7 ∷ []
+pub one-are : answers (rowStep one) (madeRow 5 (3 ∷ [])) oneCalls ≡ done (1 ∷ 3 ∷ []) ∷ done (2 ∷ 0 ∷ []) ∷ done (0 ∷ 1 ∷ 5 ∷ 5 ∷ []) ∷ done (8 ∷ []) ∷ done (3 ∷ []) ∷ refused 6 ∷ refused 17 ∷ refused 17 ∷ refused 7 ∷ []
 unfolding answers row.rowMove rowStep row.before row.from row.divided row.found row.ordered row.unless sumBy some range refusal zipWith
 one-are = refl

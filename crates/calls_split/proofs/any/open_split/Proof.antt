@@ -1,10 +1,11 @@
--- `calls_split::any::open_split`: too many line ends are tested first, then the tree and its cursor, then what is taken, then the limit.
+-- `calls_split::any::open_split`: too many line ends are tested first, then the tree and its cursor, then what is taken, then whether a part is
+-- hollow, then the limit.
 use mathlib.Core.Path.{refl}
 use borrow.Author.Needs.{needs}
 use Rattle.model.specs.Kind.{kind}
 use Rattle.model.specs.Length.{lengthsIn}
 use Rattle.open.proofs.CursorLaws.{stands, slot-in}
-use Rattle.calls_split.proofs.SplitLaws.{split-many, split-refused, split-much, split-full, split-good}
+use Rattle.calls_split.proofs.SplitLaws.{split-many, split-refused, split-much, split-hollow, split-full, split-good}
 use Rattle.calls_split.proofs.any.open_split.Statement.{statement}
 use Rattle.calls_split.proofs.any.open_split.Tie as tie
 
@@ -54,40 +55,59 @@ returns-2 c =
     λ effect. split-much (kind (s .args .views) effect) _ (s .args .at) (s .args .x .now) _ (lines .ensures effect) few _ (o .ensures effect) _ (g .given .1) (y .last .1 .1 .1 .1 .0) (y .ensures .0) _
     (m .ensures) (c .if2 .taken)
 
-full-requires : tie.Need-full-requires
-full-requires c κs = tt
+hollow-part-requires : tie.Need-hollow-part-requires
+hollow-part-requires c κs =
+    let s = c .before .before .before .before .before .before .before .before .before .before .before .before .before .before .before in
+    let o = c .before .before .before .before .before .before .before .before .before .open-at in
+    let h = stands (kind (s .args .views) 0) (s .pre .0, s .pre .1) _ (s .args .at) _ _ (o .ensures 0) (c .before .before .before .before .before .before .before .g .given .1) in
+    (h .ready .shaped, s .pre .2, c .before .before .before .before .lengths-at .ensures .1)
 
 returns-3 : tie.Need-returns-3
 returns-3 c =
-    let s = c .before .before .before .before .before .before .before .before .before .before .before .before .before .before .before .before in
-    let lines = c .before .before .before .before .before .before .before .before .before .before .before .before .too-many-lines in
-    let few = c .before .before .before .before .before .before .before .before .before .before .before .if1 .left in
-    let o = c .before .before .before .before .before .before .before .before .before .before .open-at in
-    let g = c .before .before .before .before .before .before .before .before .g in
-    let y = c .before .before .before .before .before .lengths-at in
-    let m = c .before .before .before .too-much in
-    λ effect. split-full (kind (s .args .views) effect) _ (s .args .at) (s .args .x .now) _ (lines .ensures effect) few _ (o .ensures effect) _ (g .given .1) (y .last .1 .1 .1 .1 .0) (y .ensures .0) _
-    (m .ensures) (c .before .before .if2 .left) _ (c .before .full .ensures) (c .if3 .taken)
+    let s = c .before .before .before .before .before .before .before .before .before .before .before .before .before .before .before .before .before in
+    let lines = c .before .before .before .before .before .before .before .before .before .before .before .before .before .too-many-lines in
+    let few = c .before .before .before .before .before .before .before .before .before .before .before .before .if1 .left in
+    let o = c .before .before .before .before .before .before .before .before .before .before .before .open-at in
+    let g = c .before .before .before .before .before .before .before .before .before .g in
+    let y = c .before .before .before .before .before .before .lengths-at in
+    let m = c .before .before .before .before .too-much in
+    λ effect. split-hollow (kind (s .args .views) effect) _ (s .args .at) (s .args .x .now) _ (lines .ensures effect) few _ (o .ensures effect) _ (g .given .1) (y .last .1 .1 .1 .1 .0) (y .ensures .0) _
+    (m .ensures) (c .before .before .before .if2 .left) _ (c .before .hollow-part .ensures) (c .if3 .taken)
+
+full-requires : tie.Need-full-requires
+full-requires c κs = tt
 
 returns-4 : tie.Need-returns-4
 returns-4 c =
+    let s = c .before .before .before .before .before .before .before .before .before .before .before .before .before .before .before .before .before .before .before in
+    let lines = c .before .before .before .before .before .before .before .before .before .before .before .before .before .before .before .too-many-lines in
+    let few = c .before .before .before .before .before .before .before .before .before .before .before .before .before .before .if1 .left in
+    let o = c .before .before .before .before .before .before .before .before .before .before .before .before .before .open-at in
+    let g = c .before .before .before .before .before .before .before .before .before .before .before .g in
+    let y = c .before .before .before .before .before .before .before .before .lengths-at in
+    let m = c .before .before .before .before .before .before .too-much in
+    λ effect. split-full (kind (s .args .views) effect) _ (s .args .at) (s .args .x .now) _ (lines .ensures effect) few _ (o .ensures effect) _ (g .given .1) (y .last .1 .1 .1 .1 .0) (y .ensures .0) _
+    (m .ensures) (c .before .before .before .before .before .if2 .left) _ (c .before .before .before .hollow-part .ensures) (c .before .before .if3 .left) _ (c .before .full .ensures) (c .if4 .taken)
+
+returns-5 : tie.Need-returns-5
+returns-5 c =
     let s = c .before .before .before .before .before .before .before .before .before in
     let lines = c .before .before .before .before .before .too-many-lines in
     let few = c .before .before .before .before .if1 .left in
     let o = c .before .before .before .open-at in
     λ effect. split-refused (kind (s .args .views) effect) _ (s .args .at) (s .args .x .now) _ (lines .ensures effect) few _ (o .ensures effect) _ (c .before .n .given .1)
 
-returns-5 : tie.Need-returns-5
-returns-5 c =
-    let s = c .before .before .before .before .before .before .before .before .before .before .before .before .before .before .before .before in
-    let lines = c .before .before .before .before .before .before .before .before .before .before .before .before .too-many-lines in
-    let few = c .before .before .before .before .before .before .before .before .before .before .before .if1 .left in
-    let o = c .before .before .before .before .before .before .before .before .before .before .open-at in
-    let g = c .before .before .before .before .before .before .before .before .g in
-    let y = c .before .before .before .before .before .lengths-at in
-    let m = c .before .before .before .too-much in
+returns-6 : tie.Need-returns-6
+returns-6 c =
+    let s = c .before .before .before .before .before .before .before .before .before .before .before .before .before .before .before .before .before .before .before in
+    let lines = c .before .before .before .before .before .before .before .before .before .before .before .before .before .before .before .too-many-lines in
+    let few = c .before .before .before .before .before .before .before .before .before .before .before .before .before .before .if1 .left in
+    let o = c .before .before .before .before .before .before .before .before .before .before .before .before .before .open-at in
+    let g = c .before .before .before .before .before .before .before .before .before .before .before .g in
+    let y = c .before .before .before .before .before .before .before .before .lengths-at in
+    let m = c .before .before .before .before .before .before .too-much in
     λ effect. split-good (kind (s .args .views) effect) _ (s .args .at) (s .args .x .now) _ (lines .ensures effect) few _ (o .ensures effect) _ (g .given .1) (y .last .1 .1 .1 .1 .0) (y .ensures .0) _
-    (m .ensures) (c .before .before .if2 .left) _ (c .before .full .ensures) (c .if3 .left)
+    (m .ensures) (c .before .before .before .before .before .if2 .left) _ (c .before .before .before .hollow-part .ensures) (c .before .before .if3 .left) _ (c .before .full .ensures) (c .if4 .left)
 
 pub open-split-spec : {M : Type 1} → statement M
 open-split-spec =
@@ -101,7 +121,9 @@ open-split-spec =
     lengths-at-requires
     too-much-requires
     returns-2
-    full-requires
+    hollow-part-requires
     returns-3
+    full-requires
     returns-4
-    returns-5)
+    returns-5
+    returns-6)
