@@ -2,7 +2,7 @@
 
 use crate::cursors::{Giver, GIVERS, HANDED};
 use crate::record::Call;
-use crate::state::{Finger, Head};
+use crate::state::{Finger, Head, LINES};
 use std::collections::BTreeMap;
 
 #[derive(Clone, Default, PartialEq, Eq, Debug)]
@@ -10,7 +10,7 @@ pub struct Coverage {
     /// Calls answered, by kind.
     pub kinds: [u64; 14],
     /// Calls refused by the row, by number.
-    pub refused: [u64; 11],
+    pub refused: [u64; 18],
     pub leaf_splits: u64,
     /// Splits of an inner node below the root, and of the root.
     pub inner_splits: u64,
@@ -32,6 +32,10 @@ pub struct Coverage {
     pub looked: [u64; 3],
     pub ranked: [u64; 3],
     pub served: [u64; 3],
+    /// Splits refused by 17, by what has no length: the part that would be moved, the part left behind.
+    pub hollow: [u64; 2],
+    /// Splits answered, by what has line ends and no other length: the part moved, the part left behind. For lib.rs it has none.
+    pub lines_alone: [u64; 2],
     /// Full comparisons of entries and audit.
     pub checks: u64,
 }
@@ -70,6 +74,19 @@ impl Coverage {
     /// Whether every view was looked up, ranked in, and looked up by the finger.
     pub fn every_view(&self) -> bool {
         [self.looked, self.ranked, self.served].as_flattened().iter().all(|&count| count > 0)
+    }
+
+    /// Whether splits were tried that move nothing and that leave nothing, and such that move or leave line ends alone.
+    pub fn every_split(&self) -> bool {
+        [self.hollow, self.lines_alone].as_flattened().iter().all(|&count| count > 0)
+    }
+
+    /// Notes the parts of a split that is answered, or refused by 17.
+    pub fn note_split(&mut self, parts: [[u32; 3]; 2], answered: bool) {
+        for (part, lengths) in parts.into_iter().enumerate() {
+            self.hollow[part] += (!answered && lengths == [0; 3]) as u64;
+            self.lines_alone[part] += (answered && lengths[..LINES] == [0; 2]) as u64;
+        }
     }
 
     /// Notes an answered call and the kind of its record, with the heads before and after it and the leaf of the entry it names.
@@ -128,6 +145,8 @@ impl std::ops::AddAssign<&Coverage> for Coverage {
         add(&mut self.looked, &other.looked);
         add(&mut self.ranked, &other.ranked);
         add(&mut self.served, &other.served);
+        add(&mut self.hollow, &other.hollow);
+        add(&mut self.lines_alone, &other.lines_alone);
         self.leaf_splits += other.leaf_splits;
         self.inner_splits += other.inner_splits;
         self.root_growths += other.root_growths;

@@ -1,4 +1,5 @@
-//! Plays one list of calls on a subject (lib.rs) and on the plain row, and compares everything.
+//! Plays one list of calls on a subject (lib.rs) and on the plain row, and compares everything. Domain D is the row's to say: a call that
+//! it refuses, a hollow split among them, is not played on lib.rs.
 
 use crate::audit::{audit, Verdict};
 use crate::coverage::{Coverage, CursorCoverage};
@@ -47,6 +48,9 @@ impl<S: Subject> Driver<S> {
     pub fn play(&mut self, step: impl Into<Step>) -> Result<Line, Parted> {
         let Step { call, kind, from } = step.into();
         let answer = self.row.answer(call);
+        if let Some(Call::Split { id, lengths, .. }) = call {
+            self.note_split(id, lengths, answer.number);
+        }
         let reply = match call.filter(|_| answer.number == 0) {
             Some(call) => Some(self.answered((call, kind), from, answer)?),
             None => {
@@ -62,6 +66,15 @@ impl<S: Subject> Driver<S> {
             self.check()?;
         }
         Ok(Line { answer, reply })
+    }
+
+    /// Notes the part that a split moves and the part left behind.
+    fn note_split(&mut self, id: u32, moved: [u32; 3], number: u8) {
+        if [0, 17].contains(&number) {
+            let now = self.row.entries[self.row.place(id).expect("it isn't refused by 4")].lengths;
+            let left = if number == 0 { now } else { [0, 1, 2].map(|view| now[view] - moved[view]) };
+            self.coverage.note_split([moved, left], number == 0);
+        }
     }
 
     pub fn play_all(&mut self, steps: &[impl Into<Step> + Copy]) -> Result<(), Parted> {

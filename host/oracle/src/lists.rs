@@ -119,10 +119,7 @@ impl Lister {
         match kind {
             1 => self.with_lengths(1, 0, row),
             2 | 3 => self.with_lengths(kind, before, row),
-            4 => {
-                let taken = entry.lengths.map(|own| self.part_of(own));
-                Record::new(4, self.random.below(2) as u8, entry.id, taken[0], taken[1]).with_lines(taken[LINES] as u16)
-            }
+            4 => self.split(entry, row),
             5 | 6 => self.with_lengths(kind, entry.id, row),
             7 => self.lookup(row),
             8 => Record::new(8, self.random.below(3) as u8, entry.id, 0, 0),
@@ -130,6 +127,21 @@ impl Lister {
             9 | 11 => Record::new(kind, 0, entry.id, 0, 0),
             _ => Record::new(kind, 0, 0, 0, 0),
         }
+    }
+
+    /// A split of the entry at the focus or, where that has no length for two parts, mostly of the next that has. Few are hollow.
+    fn split(&mut self, entry: Entry, row: &Row) -> Record {
+        let long = |entry: &&Entry| entry.lengths.iter().map(|&own| own as u64).sum::<u64>() > 1;
+        let next = row.entries[self.focus..].iter().chain(&row.entries).find(long);
+        let Entry { id, lengths } = *next.filter(|_| self.random.percent(90)).unwrap_or(&entry);
+        let mut taken = [0; 3];
+        for _ in 0..4 {
+            taken = lengths.map(|own| self.part_of(own));
+            if ![[0; 3], lengths].contains(&taken) {
+                break;
+            }
+        }
+        split_off(self.random.below(2) as u8, id, taken)
     }
 
     fn kind(&mut self) -> u8 {
@@ -209,13 +221,12 @@ impl Lister {
         }
     }
 
-    /// A record that misses: a missing id, the view's end, a split of too much, a total past u32, or
-    /// a bad field.
+    /// A record that misses: a missing id, the view's end, a split of too much, of nothing or of all, a total past u32, or a bad field.
     fn missing(&mut self, entry: Entry, row: &Row) -> Record {
         let past = row.count() + self.random.below(2) as u32;
         let (flag, view) = (self.random.below(2) as u8, self.random.below(3) as u8);
         let too_much = [0, 1].map(|view| (u32::MAX - row.total(view)).saturating_add(1));
-        match self.random.below(13) {
+        match self.random.below(15) {
             0 => Record::new([4, 5, 6, 8, 9, 11][self.random.below(6) as usize], 0, past, 0, 0),
             1 => Record::new(2 + flag, 0, past, 1, 1),
             2 => Record::new(10, 0, entry.id, past, 0),
@@ -228,7 +239,13 @@ impl Lister {
             9 => Record::new(4, flag, entry.id, 0, 0).with_lines((entry.lengths[LINES] as u16).saturating_add(1)),
             10 => Record::new(1 + self.random.below(6) as u8, 2, 0, 0, 0),
             11 => Record::new(1 + self.random.below(13) as u8, 3, 0, 0, 0),
+            12 => split_off(flag, entry.id, [0; 3]),
+            13 => split_off(flag, entry.id, entry.lengths),
             _ => Record::new(7 + self.random.below(7) as u8, 0, 0, 0, 0).with_lines(1 << self.random.below(16)),
         }
     }
+}
+
+fn split_off(flag: u8, id: u32, [prepare, effect, lines]: [u32; 3]) -> Record {
+    Record::new(4, flag, id, prepare, effect).with_lines(lines as u16)
 }

@@ -6,7 +6,7 @@ use crate::driver::Driver;
 use crate::fans::{Make, Setup, FANS};
 use crate::record::{Call, Record};
 use crate::rust::Subject;
-use crate::state::{LINES, NONE};
+use crate::state::NONE;
 
 fn record(kind: u8, byte1: u8, a: u32, b: u32, c: u32) -> Step {
     Record::new(kind, byte1, a, b, c).into()
@@ -25,7 +25,7 @@ fn select(view: usize, index: u32) -> Step {
 pub type Alphabet = fn(u32, u32) -> Vec<Step>;
 
 /// Calls of all thirteen kinds and a `char_index_to_entry` around the entries `low` and `high`. Some are refused where the start
-/// has no such entry or length.
+/// has no such entry or length; of the splits one moves nothing, and one all that an entry of the start has.
 pub fn all_kinds(low: u32, high: u32) -> Vec<Step> {
     vec![
         lined(1, 0, 0, [1, 2, 3]),
@@ -34,6 +34,8 @@ pub fn all_kinds(low: u32, high: u32) -> Vec<Step> {
         lined(3, 0, high, [2, 0, 65_535]),
         lined(4, 0, low, [1, 0, 1]),
         lined(4, 1, high, [0, 1, 0]),
+        lined(4, 0, high, [0, 0, 0]),
+        lined(4, 1, low, [2, 1, 1]),
         lined(5, 0, high, [0, 0, 0]),
         lined(6, 0, low, [3, 1, 2]),
         record(7, 0, 0, 0, 0),
@@ -210,18 +212,18 @@ pub fn giving(giver: Giver, slot: u32) -> Option<Step> {
     }
 }
 
-/// Fills a tree to its limit at the end, at the front, around the middle or by splits; one more is 8.
+/// Fills a tree to its limit, at most 200, at the end, at the front, around the middle or by splits that move a line end alone; one more
+/// is 8.
 pub fn fill(limit: u32, way: u8, setup: Setup) -> Coverage {
     let mut driver = setup.driver(limit, [200; 3]);
     for _ in 0..limit {
         let count = driver.row.count();
         let id = |place: u32| driver.row.entries[place as usize].id;
-        let lines = driver.row.entries[count as usize * 2 / 3].lengths[LINES];
         let next = match way {
             0 => lined(2, 0, NONE, [1, 1, 1]),
             1 => lined(3, 0, id(0), [1, 1, 2]),
             2 => lined(3, 0, id(count / 2), [1, 1, 65_535]),
-            _ => lined(4, (count % 2) as u8, id(count * 2 / 3), [0, 0, lines / 2]),
+            _ => lined(4, (count % 3 != 0) as u8, 0, [0, 0, 1]),
         };
         driver.play(next).unwrap();
     }

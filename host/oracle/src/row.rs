@@ -1,4 +1,5 @@
-//! The plain row of document 01, with document 02's line ends, written from the papers and not from lib.rs.
+//! The plain row of document 01, with document 02's line ends and its refusal of hollow splits, written from the papers and not from
+//! lib.rs.
 
 use crate::record::{Answer, Call, Record};
 use crate::state::{EFFECT, LINES, MOST_LINES, NONE, PREPARE};
@@ -82,9 +83,13 @@ impl Row {
         if views.iter().any(|&view| lengths[view] > own[view]) {
             return Err(6);
         }
+        let left = views.map(|view| own[view] - lengths[view]);
+        if [lengths, left].contains(&[0; 3]) {
+            return Err(17);
+        }
         self.room()?;
         let new = self.count();
-        self.entries[place].lengths = views.map(|view| own[view] - lengths[view]);
+        self.entries[place].lengths = left;
         self.entries.insert(if before { place } else { place + 1 }, Entry { id: new, lengths });
         Ok([new, 0, 0, 0])
     }

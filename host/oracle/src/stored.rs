@@ -26,8 +26,8 @@ struct Plan {
 /// `fan8` starts from the tree of the door and of `rowrun`. Only `fan32-tall` has enough entries to
 /// split a root of 32 children.
 const PLANS: [Plan; 5] = [
-    Plan { name: "fan4", fan: 4, limit: 48, first: [3, 3, 0], at_end: 0, drawn: 200, reset_at: 12, seed: 3, levels: 3 },
-    Plan { name: "fan5", fan: 5, limit: 48, first: [0, 2, 0], at_end: 0, drawn: 200, reset_at: 12, seed: 2, levels: 2 },
+    Plan { name: "fan4", fan: 4, limit: 48, first: [3, 3, 0], at_end: 0, drawn: 200, reset_at: 12, seed: 7, levels: 3 },
+    Plan { name: "fan5", fan: 5, limit: 48, first: [0, 2, 0], at_end: 0, drawn: 200, reset_at: 12, seed: 0, levels: 2 },
     Plan { name: "fan8", fan: 8, limit: 512, first: [0; 3], at_end: 0, drawn: 200, reset_at: 12, seed: 5, levels: 2 },
     Plan {
         name: "fan32",
@@ -37,7 +37,7 @@ const PLANS: [Plan; 5] = [
         at_end: 0,
         drawn: 300,
         reset_at: 12,
-        seed: 1,
+        seed: 2,
         levels: 1,
     },
     Plan {
@@ -48,7 +48,7 @@ const PLANS: [Plan; 5] = [
         at_end: 532,
         drawn: 120,
         reset_at: 119,
-        seed: 17,
+        seed: 26,
         levels: 2,
     },
 ];
@@ -63,8 +63,9 @@ pub struct Stored {
     pub coverage: Coverage,
 }
 
-/// Every stored list. Each meets all kinds, the refusals 4 to 7 and 10, leaf splits, all ways of the
-/// finger, lookups and ranks in every view, and its plan's levels; those that are drawn from the start also a leaf split under the finger.
+/// Every stored list. Each meets all kinds, the refusals 4 to 7, 10 and 17, both kinds of hollow splits, splits into a part of line ends
+/// alone, leaf splits, all ways of the finger, lookups and ranks in every view, and its plan's levels; those that are drawn from the
+/// start also a leaf split under the finger.
 pub fn stored() -> Vec<Stored> {
     PLANS
         .iter()
@@ -72,9 +73,9 @@ pub fn stored() -> Vec<Stored> {
             let list = play(plan);
             let met = &list.coverage;
             assert!(met.all_kinds() && met.finger_whole() && met.leaf_splits > 0, "{}: {met:?}", list.name);
-            assert!(met.every_view(), "{}: {met:?}", list.name);
+            assert!(met.every_view() && met.every_split(), "{}: {met:?}", list.name);
             assert!(plan.at_end > 0 || met.leaf_split_under_finger > 0, "{}: {met:?}", list.name);
-            assert!([4, 5, 6, 7, 10].iter().all(|&number| met.refused[number] > 0), "{}: {met:?}", list.name);
+            assert!([4, 5, 6, 7, 10, 17].iter().all(|&number| met.refused[number] > 0), "{}: {met:?}", list.name);
             assert_eq!(
                 (met.most_levels, met.calls()),
                 (plan.levels, (plan.at_end + plan.drawn) as u64),

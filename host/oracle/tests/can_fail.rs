@@ -164,9 +164,12 @@ fn set_forgets_the_line_ends(tree: &mut Mutant, call: Call, from: Source) -> Rep
     }
 }
 
+/// A split that moves line ends alone would be hollow, and refused.
 fn split_moves_no_line_ends(tree: &mut Mutant, call: Call, from: Source) -> Reply {
     match call {
-        Call::Split { .. } => tree.rust.call(call.with_lines(0), from),
+        Call::Split { lengths: [prepare, effect, _], .. } if [prepare, effect] != [0; 2] => {
+            tree.rust.call(call.with_lines(0), from)
+        }
         _ => right(tree, call, from),
     }
 }

@@ -8,13 +8,13 @@ use oracle::patterns::{all_kinds, every_short_list_at_each_fan, movers};
 #[test]
 fn every_list_of_up_to_three_calls_of_all_kinds() {
     let met = every_short_list_at_each_fan(all_kinds, 3, rust);
-    assert!(met.all_kinds());
-    assert_eq!(met.checks, 46 * (22 + 484 + 10_648));
+    assert!(met.all_kinds() && met.hollow.iter().all(|&count| count > 0));
+    assert_eq!(met.checks, 46 * (24 + 576 + 13_824));
 }
 
 #[test]
 fn every_list_of_up_to_five_moving_calls() {
     let met = every_short_list_at_each_fan(movers, 5, rust);
-    assert!(met.refused[8] > 0);
+    assert!(met.refused[8] > 0 && met.refused[17] > 0);
     assert_eq!(met.checks, 46 * (9 + 81 + 729 + 6_561 + 59_049));
 }

@@ -6,13 +6,13 @@ use oracle::lists::{with_resets, Sizes, Style, EVEN, GROWING, LOOKING};
 use oracle::runs::Run;
 use oracle::state::MOST_LINES;
 
-/// The run at each fan. It must meet all of the finger's ways and every view at each, and over all of them hand a cursor of every call that answers
-/// one to every kind of call that takes one.
+/// The run at each fan. It must meet all of the finger's ways and every view at each, try hollow splits and such with a part of line ends
+/// alone, and over all of them hand a cursor of every call that answers one to every kind of call that takes one.
 fn at_each_fan(run: Run) -> Coverage {
     let mut met = Coverage::default();
     let (at_fans, cursors) = run.at_each_fan(rust, 0);
     for at_fan in &at_fans {
-        assert!(at_fan.finger_whole() && at_fan.every_view());
+        assert!(at_fan.finger_whole() && at_fan.every_view() && at_fan.every_split());
         assert!(at_fan.leaf_splits > 0 && at_fan.leaf_split_under_finger > 0);
         met += at_fan;
     }

@@ -1,4 +1,4 @@
-//! The row's refusals 10 and 4 to 8, each by itself and in their order, and the records' fields.
+//! The row's refusals 10, 4 to 8 and 17, each by itself and in their order, and the records' fields.
 
 use oracle::record::{Answer, Call, Record};
 use oracle::row::{Entry, Row};
@@ -74,10 +74,36 @@ fn a_total_past_u32_is_7() {
     refused(0, &[(5, 0, 1, 5, 1), (6, 0, 1, 5, 1), (5, 0, 0, 4_294_967_292, 2), (6, 0, 1, 0, 4_294_967_293)]);
 }
 
+/// Splits of one entry, each with its number; what isn't refused leaves both parts, the new one behind the other.
+fn splits(own: [u32; 3], wanted: &[([u32; 3], u8)]) {
+    for &(lengths, number) in wanted {
+        let mut row = Row::make(2, own);
+        let answer = row.answer(Some(Call::Split { id: 0, lengths, before: false }));
+        let parts = [[0, 1, 2].map(|view| own[view].wrapping_sub(lengths[view])), lengths];
+        let left: Vec<_> = if number == 0 { parts.to_vec() } else { vec![own] };
+        let entries: Vec<_> = row.entries.iter().map(|entry| entry.lengths).collect();
+        assert_eq!((answer.number, entries), (number, left), "{lengths:?} of {own:?}");
+    }
+}
+
+/// Nothing moved or nothing left, in all three lengths; an entry without any can't be split. Line ends alone are a part.
+#[test]
+fn a_hollow_split_is_17() {
+    splits([3, 1, 4], &[([0; 3], 17), ([3, 1, 4], 17), ([0, 0, 1], 0), ([0, 0, 4], 0), ([3, 1, 3], 0), ([3, 1, 0], 0)]);
+    splits(
+        [3, 1, 4],
+        &[([1, 0, 0], 0), ([0, 1, 0], 0), ([2, 1, 4], 0), ([3, 0, 4], 0), ([4, 0, 0], 6), ([0, 0, 5], 6)],
+    );
+    splits([3, 0, 0], &[([0; 3], 17), ([3, 0, 0], 17), ([1, 0, 0], 0), ([3, 1, 0], 6), ([3, 0, 1], 6)]);
+    splits([0, 1, 0], &[([0; 3], 17), ([0, 1, 0], 17), ([1, 1, 0], 6), ([0, 2, 0], 6)]);
+    splits([0, 0, 2], &[([0; 3], 17), ([0, 0, 2], 17), ([0, 0, 1], 0), ([0, 0, 3], 6), ([0, 1, 2], 6)]);
+    splits([0; 3], &[([0; 3], 17), ([1, 0, 0], 6), ([0, 1, 0], 6), ([0, 0, 1], 6)]);
+}
+
 #[test]
 fn one_entry_past_the_limit_is_8() {
-    refused(8, &[(2, 0, NONE, 2, 0), (3, 0, 0, 0, 0), (4, 0, 0, 0, 0), (4, 1, 1, 3, 1)]);
-    assert_eq!(number(Record::new(4, 1, 1, 3, 1).with_lines(4)), 8);
+    refused(8, &[(2, 0, NONE, 2, 0), (3, 0, 0, 0, 0), (4, 0, 0, 1, 0), (4, 1, 1, 3, 1)]);
+    assert_eq!(number(Record::new(4, 1, 1, 3, 1).with_lines(3)), 8);
 }
 
 /// A full row of 65,536 entries with as many line ends each as an entry may have: one entry more is 8 and not 7.
@@ -148,11 +174,16 @@ fn more_than_65535_line_ends_are_10() {
     assert_eq!(played, 4 * 4 * 2 * 5);
 }
 
-/// 4 before 7 and 8; 6 and 7 before 8; 10 before all.
+/// 4 before 7, 8 and 17; 6, 7 and 17 before 8; 6 before 17; 10 before all.
 #[test]
 fn the_order_of_the_refusals() {
     refused(4, &[(2, 0, 2, NONE, NONE), (3, 0, 9, NONE, NONE), (4, 0, 2, NONE, NONE), (5, 0, 2, NONE, NONE)]);
     refused(6, &[(4, 0, 1, 4, 0)]);
+    assert_eq!(number(Record::new(4, 0, 1, 3, 1).with_lines(5)), 6);
+    refused(17, &[(4, 0, 0, 0, 0), (4, 1, 1, 0, 0)]);
+    assert_eq!(number(Record::new(4, 0, 1, 3, 1).with_lines(4)), 17);
+    refused(4, &[(4, 0, 2, 0, 0)]);
+    refused(10, &[(4, 2, 0, 0, 0)]);
     refused(7, &[(2, 0, 0, NONE, 0)]);
     refused(10, &[(2, 1, 2, NONE, NONE), (4, 2, 2, NONE, NONE), (7, 3, NONE, 0, 0), (10, 0, 2, 2, 1)]);
 }

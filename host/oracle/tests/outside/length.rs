@@ -1,4 +1,4 @@
-//! Splits of more than there is, and totals past u32.
+//! Splits of more than there is, hollow splits, and totals past u32.
 
 use super::*;
 
@@ -23,6 +23,33 @@ fn after_a_split_of_too_much() {
     assert_eq!(outcome(|| tree.entry_to_char_index(View::Prepare, tree.cursor(2))), wrapped(3));
     let (at, offset, _) = tree.locate(View::Prepare, 3);
     assert_eq!((tree.id(at), offset), (0, 3));
+}
+
+/// Nothing moved, all moved, and an entry without lengths: the hollow part is an entry like any other, and the tree stays sound.
+#[test]
+fn a_hollow_split_makes_the_entry() {
+    for (own, taken) in [([3, 3], [0, 0]), ([3, 3], [3, 3]), ([0, 0], [0, 0])] {
+        for before in [false, true] {
+            let mut tree = Tree::new(pair(own));
+            let (id, parts) = tree.split_entry(tree.cursor(0), pair(taken), before);
+            let (kept, new) = ([0, own[0] - taken[0], own[1] - taken[1]], [1, taken[0], taken[1]]);
+            assert_eq!((id, walked(&tree)), (1, if before { vec![new, kept] } else { vec![kept, new] }));
+            assert_eq!(parts.map(|part| tree.id(part)), if before { [1, 0] } else { [0, 1] });
+            assert_eq!(verdict(&tree), Verdict::Yes);
+        }
+    }
+}
+
+/// The sheet fills with them: 999 hollow splits of one entry, and every character is still its own.
+#[test]
+fn a_sheet_full_of_hollow_entries() {
+    let mut tree = Tree::new(pair([3, 3]));
+    (1..1_000).for_each(|id| assert_eq!(tree.split_entry(tree.cursor(0), pair([0, 0]), id % 2 == 0).0, id));
+    for index in 0..3 {
+        let (at, offset, _) = tree.locate(View::Prepare, index);
+        assert_eq!((tree.id(at), offset), (0, index));
+    }
+    assert_eq!((tree.len(), verdict(&tree)), (1_000, Verdict::Yes));
 }
 
 /// Prepare totals 4294967295 and then one more: the root says 0, so nothing is found.
