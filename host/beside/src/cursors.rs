@@ -80,7 +80,7 @@ pub fn wanted(state: &State, export: Export, given: &Given) -> u32 {
     failed.unwrap_or_else(|| behind_cursors(state, export, given))
 }
 
-/// The causes behind the cursors, 4 to 8, of a call whose cursors are current.
+/// The causes behind the cursors, 4 to 8 and 17, of a call whose cursors are current.
 fn behind_cursors(state: &State, export: Export, given: &Given) -> u32 {
     let head = &state.head;
     let totals = state.inner(head.root).total();
@@ -89,11 +89,13 @@ fn behind_cursors(state: &State, export: Export, given: &Given) -> u32 {
         lengths.map(u64::from)
     };
     let new = lengths(given).map(u64::from);
+    let hollow = |own: [u64; 3]| [[0; 3], own].contains(&new);
     let past = |old: [u64; 3]| (0..3).any(|view| totals[view] - old[view] + new[view] > u32::MAX as u64);
     match export {
         Export::Cursor if given.id >= head.entry_count => 4,
         Export::Locate | Export::CharIndexToEntry if given.index as u64 >= totals[given.view as usize] => 5,
         Export::SplitEntry if (0..3).any(|view| new[view] > own()[view]) => 6,
+        Export::SplitEntry if hollow(own()) => 17,
         Export::Insert if past([0; 3]) => 7,
         Export::SetLengths | Export::Update if past(own()) => 7,
         Export::Insert | Export::SplitEntry if head.entry_count >= head.limit => 8,

@@ -107,7 +107,7 @@ pub fn across_resets() -> Vec<Thing> {
 
 /// Every call that takes cursors with every number of a cursor and with every odd cursor in every place; comparisons of every two
 /// numbers; the other calls, answered; lookups and ranks in every view; too many line ends in every call that gives lengths and takes
-/// a cursor.
+/// a cursor; a hollow split.
 pub fn needed() -> Vec<Thing> {
     let mut needed = Vec::new();
     for export in TAKING {
@@ -119,6 +119,7 @@ pub fn needed() -> Vec<Thing> {
     needed.extend(VIEWED.into_iter().flat_map(|export| (0..3).map(move |view| Thing::Viewed(export, view))));
     let giving = GIVING.into_iter().filter(|export| TAKING.contains(export));
     needed.extend(giving.map(|export| Thing::Taking(export, 10)));
+    needed.push(Thing::Taking(Export::SplitEntry, 17));
     needed.extend(OTHERS.into_iter().chain([Export::Insert]).map(|export| Thing::Other(export, 0)));
     needed
 }

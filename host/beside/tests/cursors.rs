@@ -102,7 +102,7 @@ fn every_call<const N: usize>(beside: &Beside<N, Tree>, at: raw::Cursor, others:
         let number = beside.clone().play(export, &given).unwrap().number;
         met.note(&state, export, &given, [given.at, given.other].map(|at| Drawn { at, issued: None }), 0, number);
     };
-    let lengths = three([0; 3]).into();
+    let lengths = three([0, 0, 1]).into();
     for export in TAKING.into_iter().filter(|&export| export != Export::Cmp) {
         play(export, Given { at, lengths, ..Given::default() });
     }
@@ -145,22 +145,29 @@ fn every_cursor_around_a_small_tree() {
     }
 }
 
-/// In a tree that holds its limit a cursor that fails is told before 8.
+/// In a tree that holds its limit a cursor that fails is told before 8 and before 17, and a hollow split before 8.
 #[test]
 fn a_full_tree_tells_the_cursor_first() {
     let mut beside = extended::<4>(5, 4);
     for (leaf, slot, stamp, number) in [(0, 0, 4, 3), (2, 0, 5, 13), (0, 2, 5, 14), (0, 0, 5, 8)] {
-        let given = Given { at: raw::Cursor { leaf, slot, stamp }, ..Given::default() };
-        for export in [Export::Insert, Export::SplitEntry] {
-            assert_eq!(beside.play(export, &given).unwrap().number, number, "{export:?}");
+        let at = raw::Cursor { leaf, slot, stamp };
+        let mut play = |export, lengths| {
+            let given = Given { at, lengths: three(lengths).into(), ..Given::default() };
+            beside.play(export, &given).unwrap().number
+        };
+        for lengths in [[0, 0, 1], [0; 3], [2, 1, 1]] {
+            assert_eq!(play(Export::Insert, lengths), number);
         }
+        assert_eq!(play(Export::SplitEntry, [0, 0, 1]), number);
+        let hollow = if number == 8 { 17 } else { number };
+        assert_eq!([[0; 3], [2, 1, 1]].map(|lengths| play(Export::SplitEntry, lengths)), [hollow; 2]);
     }
 }
 
 /// The number of a call on that cursor, for both cursors of a comparison. A refused call answers zeros and leaves every word.
 fn number<const N: usize>(tree: &PrepareEffectTree<N>, export: Export, at: Cursor) -> u32 {
     let mut after = Tree::of(tree);
-    let given = Given { at: at.into(), other: at.into(), ..Given::default() };
+    let given = Given { at: at.into(), other: at.into(), lengths: three([0, 0, 1]).into(), ..Given::default() };
     let answer = after.play(export, &given);
     if answer.number != 0 {
         assert!(answer.values.iter().all(|&value| value == 0) && after == Tree::of(tree), "{export:?}");

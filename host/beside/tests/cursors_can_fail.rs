@@ -9,7 +9,7 @@ use beside::plays::Plays;
 use beside::words::on_zeros;
 use oracle::driver::Parted;
 use oracle::state::{node_words, EFFECT, LINES, MOST_LINES};
-use smelvock::raw::word::{ENTRIES, FAN, LEAVES};
+use smelvock::raw::word::{ENTRIES, FAN, LEAVES, LIMIT};
 use smelvock::raw::{Cursor, Lengths};
 
 type Wrong = fn(&mut Tree, Export, &Given) -> Answer;
@@ -272,6 +272,52 @@ fn six_blind_to_line_ends(tree: &mut Tree, export: Export, given: &Given) -> Ans
     }
 }
 
+/// A hollow split makes its entry.
+fn hollow_split_taken(tree: &mut Tree, export: Export, given: &Given) -> Answer {
+    renumbered(right(tree, export, given), 17, 0)
+}
+
+/// A split that moves all is taken.
+fn moved_part_alone_tested(tree: &mut Tree, export: Export, given: &Given) -> Answer {
+    let answer = right(tree, export, given);
+    if given.lengths == Lengths::default() {
+        return answer;
+    }
+    renumbered(answer, 17, 0)
+}
+
+/// A split that moves nothing is taken.
+fn part_left_alone_tested(tree: &mut Tree, export: Export, given: &Given) -> Answer {
+    let answer = right(tree, export, given);
+    if given.lengths == Lengths::default() {
+        return renumbered(answer, 17, 0);
+    }
+    answer
+}
+
+/// A split that moves line ends alone is refused as one that moves nothing.
+fn seventeen_blind_to_line_ends(tree: &mut Tree, export: Export, given: &Given) -> Answer {
+    let before = tree.clone();
+    let answer = right(tree, export, given);
+    if answer.number == 0 && [given.lengths.prepare, given.lengths.effect] == [0; 2] {
+        *tree = before;
+        return Answer { number: 17, values: vec![] };
+    }
+    answer
+}
+
+/// 8 is tested before 17.
+fn seventeen_behind_eight(tree: &mut Tree, export: Export, given: &Given) -> Answer {
+    let full = tree.word(ENTRIES) == tree.word(LIMIT);
+    renumbered(right(tree, export, given), 17, if full { 8 } else { 17 })
+}
+
+/// 17 for a split that moves no character and too many line ends.
+fn seventeen_before_six(tree: &mut Tree, export: Export, given: &Given) -> Answer {
+    let nothing = [given.lengths.prepare, given.lengths.effect] == [0; 2];
+    renumbered(right(tree, export, given), 6, if nothing { 17 } else { 6 })
+}
+
 /// What stands in for each call that gives lengths and takes a cursor.
 const WRONG_GIVING: [(&str, Wrong); 3] = [
     ("line ends dropped", line_ends_dropped),
@@ -280,7 +326,7 @@ const WRONG_GIVING: [(&str, Wrong); 3] = [
 ];
 
 /// What stands in for one call alone.
-const WRONG_IN: [(Export, &str, Wrong); 16] = [
+const WRONG_IN: [(Export, &str, Wrong); 22] = [
     (Export::Cmp, "the second cursor first", second_first),
     (Export::Cmp, "both stamps, both leaves, both slots", part_by_part),
     (Export::Cmp, "the second cursor not tested", second_not_tested),
@@ -293,6 +339,12 @@ const WRONG_IN: [(Export, &str, Wrong); 16] = [
     (Export::Reset, "a reset that counts anew", counted_anew),
     (Export::Locate, "a lookup that puts the number of entries for the stamp", entries_counted),
     (Export::SplitEntry, "6 blind to line ends", six_blind_to_line_ends),
+    (Export::SplitEntry, "a hollow split taken", hollow_split_taken),
+    (Export::SplitEntry, "a split that moves all taken", moved_part_alone_tested),
+    (Export::SplitEntry, "a split that moves nothing taken", part_left_alone_tested),
+    (Export::SplitEntry, "17 blind to line ends", seventeen_blind_to_line_ends),
+    (Export::SplitEntry, "17 behind 8", seventeen_behind_eight),
+    (Export::SplitEntry, "17 before 6", seventeen_before_six),
     (Export::Lengths, "no line ends", no_line_ends),
     (Export::EntryToCharIndex, "lines by the effect view", lines_by_the_effect_view),
     (Export::Locate, "lines by the effect view", lines_by_the_effect_view),
@@ -301,12 +353,12 @@ const WRONG_IN: [(Export, &str, Wrong); 16] = [
 
 const STYLE: Style = Style { name: "can fail", limit: 120, reset_every: 1_000 };
 
-/// Plays a list of 6,000 calls at fan 4.
+/// Plays a list of 12,000 calls at fan 4.
 fn play(wrong: Wrong, only: Export) -> Result<Met, Parted> {
     let tree = Tree::of(&on_zeros::<4>(STYLE.limit, [2, 1, 1]));
     let beside = Beside::<4, _>::new(StandIn { tree, wrong, only }, STYLE.limit, [2, 1, 1]);
     let mut list = List::new(beside, STYLE, 5, 1);
-    list.play(6_000).map(|()| list.met)
+    list.play(12_000).map(|()| list.met)
 }
 
 #[test]

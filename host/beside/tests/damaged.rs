@@ -1,5 +1,5 @@
 //! Unsound trees: every export ends on them, writes in its areas and its buffer only (guards stand around each), answers a number
-//! of document 01 or 12 to 14, and audit's verdict is that of oracle's audit, which is written from the paper.
+//! of document 01, 12 to 14 or 17, and audit's verdict is that of oracle's audit, which is written from the paper.
 
 use beside::exports::{unprinted, Area, Export, Given, Tree, EXPORTS, UNPRINTED};
 use beside::port::three;
@@ -15,14 +15,22 @@ use smelvock::{View, PAGE_BYTES};
 
 const SCALE: u64 = if cfg!(debug_assertions) { 1 } else { 10 };
 
-/// How often each number was answered, by 0 to 14, and how often audit said yes and no.
+/// How often each number was answered, by 0 to 17, and how often audit said yes and no.
 #[derive(Default, Debug)]
 struct Met {
-    numbers: [u64; 15],
+    numbers: [u64; 18],
     sound: u64,
     unsound: u64,
     /// How often print wrote lines and then met 9.
     half_printed: u64,
+}
+
+impl Met {
+    /// Notes the number of a tree's call; those of records and of files of edits are none.
+    fn number(&mut self, number: u32) {
+        assert!(number <= 17 && ![11, 15, 16].contains(&number), "{number}");
+        self.numbers[number as usize] += 1;
+    }
 }
 
 fn sound<const N: usize>(entries: u32) -> Tree {
@@ -80,8 +88,7 @@ fn is_line(line: &[u8]) -> bool {
 fn every_export(tree: &Tree, random: &mut Random, met: &mut Met) {
     for export in EXPORTS {
         let given = given(tree, random);
-        let number = export.play(&mut tree.clone(), &given).number;
-        met.numbers[number as usize] += 1;
+        met.number(export.play(&mut tree.clone(), &given).number);
     }
     printed(tree, met);
     audited(tree, &given(tree, random), met);
@@ -154,7 +161,7 @@ fn every_single_flipped_word() {
         flip_every_word(sound::<32>(40), &mut met);
     }
     println!("{met:?}");
-    assert!(met.unsound > 1_000 && [0, 1, 2, 3, 9, 10, 12, 13, 14].iter().all(|&number| met.numbers[number] > 0));
+    assert!(met.unsound > 1_000 && [0, 1, 2, 3, 9, 10, 12, 13, 14, 17].iter().all(|&number| met.numbers[number] > 0));
 }
 
 /// Gives an entry those line ends, in its leaf and in every sum above it: where there are too many, nothing else is wrong.
@@ -220,7 +227,7 @@ fn chains_of_calls_on_damaged_trees() {
         for _ in 0..20 {
             let export = EXPORTS[2 + random.below(EXPORTS.len() as u64 - 2) as usize];
             let given = given(&tree, &mut random);
-            met.numbers[export.play(&mut tree, &given).number as usize] += 1;
+            met.number(export.play(&mut tree, &given).number);
         }
         printed(&Tree { page: unprinted(2 * PAGE_BYTES), ..tree.clone() }, &mut met);
         audited(&tree, &given(&tree, &mut random), &mut met);

@@ -42,16 +42,62 @@ fn drawn(seed: u64, style: Style, length: usize) -> Vec<Record> {
 
 #[test]
 fn every_length_from_0() {
-    let mut played = 0;
+    let (mut played, mut hollow) = (0, 0);
     for length in 0..=200 {
         for (style, seed) in styles().into_iter().zip(0..) {
             let list = drawn(seed + length as u64 * 3, style, length);
-            assert_eq!(door(&bytes(&list)), Ok(wanted(&list)), "{length} records, style {seed}");
+            let answers = wanted(&list);
+            assert_eq!(door(&bytes(&list)).as_ref(), Ok(&answers), "{length} records, style {seed}");
+            hollow +=
+                list.iter().zip(answers.chunks(16)).filter(|(record, of)| (record.kind, of[0]) == (4, 17)).count();
             Driver::<Rust<8>>::make(LIMIT, [0; 3], 0).play_all(&list).expect("lib.rs answers as the row does");
             played += length;
         }
     }
-    println!("door: {played} records in lists of 0 to 200");
+    println!("door: {played} records in lists of 0 to 200, {hollow} of them hollow splits");
+    assert!(hollow > 0);
+}
+
+/// The numbers of the door's answers, which must be the row's.
+fn numbers(list: &[Record]) -> Vec<u8> {
+    let answers = door(&bytes(list)).expect("good lengths");
+    assert_eq!(answers, wanted(list));
+    answers.chunks(16).map(|answer| answer[0]).collect()
+}
+
+/// Splits by id that move nothing, or all; behind 10, 4 and 6, before 8.
+#[test]
+fn hollow_splits_are_17() {
+    let split = |flag, id, [prepare, effect, lines]: [u32; 3]| {
+        Record::new(4, flag, id, prepare, effect).with_lines(lines as u16)
+    };
+    let reset = Record::new(1, 0, 0, 3, 2).with_lines(1);
+    for flag in [0, 1] {
+        let list = [
+            (reset, 0),
+            (split(flag, 0, [0; 3]), 17),
+            (split(flag, 0, [3, 2, 1]), 17),
+            (split(flag, 0, [3, 2, 2]), 6),
+            (split(flag, 0, [0, 0, 2]), 6),
+            (split(flag, 1, [0; 3]), 4),
+            (split(2, 0, [0; 3]), 10),
+            (split(flag, 0, [0, 0, 1]), 0),
+            (split(flag, 1, [0, 0, 1]), 17),
+            (split(flag, 0, [3, 2, 0]), 17),
+            (split(flag, 0, [3, 0, 0]), 0),
+            (split(flag, 2, [3, 0, 0]), 17),
+            (split(flag, 2, [1, 0, 0]), 0),
+            (Record::new(5, 0, 0, 0, 0), 0),
+            (split(flag, 0, [0; 3]), 17),
+            (split(flag, 0, [1, 0, 0]), 6),
+            (Record::new(12, 0, 0, 0, 0), 0),
+        ];
+        assert_eq!(numbers(&list.map(|(record, _)| record)), list.map(|(_, number)| number));
+    }
+    let mut full = vec![reset];
+    full.extend([Record::new(2, 0, u32::MAX, 1, 1); LIMIT as usize - 1]);
+    full.extend([split(0, 0, [0, 0, 1]), split(0, 0, [0; 3]), split(1, 5, [1, 1, 0])]);
+    assert_eq!(numbers(&full)[LIMIT as usize..], [8, 17, 17]);
 }
 
 #[test]
@@ -89,20 +135,23 @@ fn kind_3_is_answered_as_kind_2() {
     assert!(placed > 0 && placed < threes);
 }
 
-/// Every byte of a good record of every kind replaced by others: a field outside its values is number 10, all else is the row's. The
+/// Every byte of a record of every kind that the row answers replaced by others: a field outside its values is number 10, all else is the row's. The
 /// lengths of both entries and the line of the second follow.
 #[test]
 fn damaged_records_of_every_kind() {
-    let row = Row::make(LIMIT, [0; 3]);
+    let insert = Record::new(2, 0, u32::MAX, 3, 4).with_lines(0x0203);
+    let mut row = Row::make(LIMIT, [0; 3]);
+    row.play(&insert);
     let mut lister = Lister::new(7, styles()[1]);
     let mut played = 0;
     for kind in 1..=13 {
-        let good = lister.good(kind, &row).encode();
+        let mut drawn = std::iter::repeat_with(|| lister.good(kind, &row));
+        let good = drawn.find(|record| row.clone().play(record).number == 0).expect("the row answers one").encode();
         for place in 0..16 {
             for byte in [0, 1, 2, 14, 128, 255] {
                 let mut bad = good;
                 bad[place] = byte;
-                let before = [Record::new(2, 0, u32::MAX, 3, 4).with_lines(0x0203), Record::decode(&bad)];
+                let before = [insert, Record::decode(&bad)];
                 let after = [(12, 0, 0), (11, 0, 0), (11, 0, 1), (8, 2, 1)]
                     .map(|(kind, view, id)| Record::new(kind, view, id, 0, 0));
                 let list = [&before[..], &after].concat();

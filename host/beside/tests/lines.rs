@@ -29,6 +29,7 @@ fn at_their_most<const N: usize>() {
         // the tree is full: an entry more is 8, and its line ends are no cause for 7
         assert_eq!(tree.insert(Some(at), three([0, 0, MOST_LINES])), Err(Refusal::FULL));
         assert_eq!(tree.split_entry(at, three([0, 0, MOST_LINES]), false), Err(Refusal::FULL));
+        assert_eq!(tree.split_entry(at, three([0, 1, MOST_LINES]), false), Err(Refusal::HOLLOW));
         assert_eq!(tree.set_lengths(at, three([0, 1, 0])), Ok(()));
         assert_eq!(tree.locate(View::Lines, TOTAL - MOST_LINES), Err(Refusal::POSITION));
         assert_eq!(tree.update(at, three([0, 1, MOST_LINES])), Ok(id));

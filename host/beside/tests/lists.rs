@@ -16,8 +16,9 @@ fn at(fan: u32) -> Setup {
     Setup { make: both, fan, check_every: 0 }
 }
 
-/// Every run meets all of the finger's ways and every view at every fan, hands a cursor of every call that answers one to every kind of call that
-/// takes one, and splits leaves and inner nodes.
+/// Every run meets all of the finger's ways and every view at every fan, tries hollow splits, which are 17, and splits with a part of line
+/// ends alone, which lib.rs makes without a length, hands a cursor of every call that answers one to every kind of call that takes one,
+/// and splits leaves and inner nodes.
 #[test]
 fn random_lists() {
     let mut met = Coverage::default();
@@ -25,7 +26,7 @@ fn random_lists() {
         let mut of_run = Coverage::default();
         let (at_fans, cursors) = run.at_each_fan(both, 0);
         for at_fan in &at_fans {
-            assert!(at_fan.finger_whole() && at_fan.every_view(), "{}", run.name);
+            assert!(at_fan.finger_whole() && at_fan.every_view() && at_fan.every_split(), "{}", run.name);
             assert!(at_fan.leaf_splits > 0 && at_fan.leaf_split_under_finger > 0, "{}", run.name);
             of_run += at_fan;
         }
@@ -35,13 +36,14 @@ fn random_lists() {
     }
     println!("random lists: {} calls, {met:?}", met.calls());
     assert_eq!(met.calls(), 5 * FANS.len() as u64 * LISTS * 5_000);
-    assert!(met.all_kinds() && [4, 5, 6, 7, 8, 10].iter().all(|&number| met.refused[number] > 0));
+    assert!(met.all_kinds() && [4, 5, 6, 7, 8, 10, 17].iter().all(|&number| met.refused[number] > 0));
 }
 
 #[test]
 fn every_short_list_of_all_kinds() {
     let met = every_short_list_at_each_fan(all_kinds, 2, both);
-    assert_eq!(met.checks, 46 * (22 + 22 * 22));
+    assert!(met.hollow.iter().all(|&count| count > 0));
+    assert_eq!(met.checks, 46 * (24 + 24 * 24));
 }
 
 #[test]

@@ -1,9 +1,9 @@
 //! Each cause of a refusal on the exports themselves: its number, zeros for values, head, areas and buffer as they were. The numbers
-//! wanted are document 01's ("When a call cannot be done") and document 02's 10 of line ends and 12 to 14, written down here.
+//! wanted are document 01's ("When a call cannot be done") and document 02's 10 of line ends, 12 to 14 and 17, written down here.
 
 use beside::exports::{unprinted, Area, Export, Given, Tree, EXPORTS};
 use beside::port::three;
-use beside::words::{cursor_of, on_zeros};
+use beside::words::on_zeros;
 use oracle::at_fan;
 use oracle::fans::FANS;
 use oracle::state::{node_words, MOST_LINES};
@@ -11,6 +11,9 @@ use smelvock::raw::word::{FAN, LEAVES, LIMIT, PRESENT, ROOT};
 use smelvock::raw::{Cursor, Lengths};
 use smelvock::{View, PAGE_BYTES};
 use std::sync::atomic::{AtomicU64, Ordering};
+
+#[path = "refusals/split.rs"]
+mod split;
 
 /// Refusals played, over all tests of this file.
 static PLAYED: AtomicU64 = AtomicU64::new(0);
@@ -186,47 +189,6 @@ fn a_position_at_or_past_the_total_is_5() {
     });
 }
 
-#[test]
-fn a_split_of_more_than_there_is_is_6() {
-    at_each_fan(|tree, given| {
-        let own = Export::Lengths.play(&mut tree.clone(), &given).values;
-        let more = [[1, 0, 0], [0, 1, 0], [0, 0, 1], [1, 1, 1]];
-        for (more, before) in more.into_iter().flat_map(|more| [(more, 0), (more, 1)]) {
-            let lengths = three([0, 1, 2].map(|view| own[view] + more[view])).into();
-            refused(6, SplitEntry, &tree, &Given { lengths, before, ..given });
-        }
-        for lines in [own[2] + 2, 256, MOST_LINES] {
-            let lengths = Lengths { prepare: 0, effect: 0, lines };
-            refused(6, SplitEntry, &tree, &Given { lengths, ..given });
-        }
-        let lengths = three([own[0], own[1], own[2]]).into();
-        assert_eq!(SplitEntry.play(&mut tree.clone(), &Given { lengths, ..given }).number, 0);
-    });
-}
-
-/// A split moves its line ends from the entry to the new one, before it and after it.
-#[test]
-fn a_split_moves_line_ends() {
-    at_each_fan(|tree, given| {
-        let own = Export::Lengths.play(&mut tree.clone(), &given).values[2];
-        for (lines, before) in (0..=own).flat_map(|lines| [(lines, 0), (lines, 1)]) {
-            let mut tree = tree.clone();
-            let total = totals(&tree)[2];
-            let lengths = Lengths { prepare: 0, effect: 0, lines };
-            let answer = SplitEntry.play(&mut tree, &Given { lengths, before, ..given });
-            assert_eq!(answer.number, 0);
-            let cursors = answer.values[1..].as_chunks().0;
-            let parts = [0, 1].map(|part| Given { at: cursor_of(cursors[part]), view: 2, ..given });
-            let lines_of = parts.map(|part| Export::Lengths.play(&mut tree, &part).values[2]);
-            let wanted = if before == 1 { [lines, own - lines] } else { [own - lines, lines] };
-            assert_eq!((lines_of, totals(&tree)[2]), (wanted, total));
-            let ranks = parts.map(|part| EntryToCharIndex.play(&mut tree, &part).values[0]);
-            assert_eq!(ranks[1] - ranks[0], wanted[0]);
-            assert_eq!(Audit.play(&mut tree, &given).values, [1]);
-        }
-    });
-}
-
 /// The total with the new lengths is 4,294,967,295 and one more, in either old view; line ends never are 7.
 #[test]
 fn a_total_past_u32_is_7() {
@@ -256,7 +218,7 @@ fn an_entry_more_than_the_limit_is_8() {
         for end in [0, 1] {
             refused(8, Insert, &tree, &Given { at, end, ..given });
         }
-        let lengths = Lengths::default();
+        let lengths = Lengths { lines: 0, ..given.lengths };
         refused(8, SplitEntry, &tree, &Given { at, lengths, ..given });
     });
 }
@@ -354,7 +316,7 @@ fn the_order_of_the_refusals_of_print() {
     });
 }
 
-/// Several causes at once: 10 comes first, then 1 to 8 in rising order, 13 and 14 directly behind 3.
+/// Several causes at once: 10 comes first, then 1 to 8 in rising order, 13 and 14 directly behind 3 (17: refusals/split.rs).
 #[test]
 fn the_order_of_the_refusals() {
     at_each_fan(|mut tree, given| {

@@ -59,7 +59,7 @@ fn the_list_meets_every_answer() {
     let met: BTreeSet<_> =
         list.iter().zip(answers(LIMIT, &list)).map(|(record, answer)| (record.kind, answer.number)).collect();
     assert!((1..=13).all(|kind| met.contains(&(kind, 0))), "{met:?}");
-    assert!([4, 5, 6, 7, 8, 10].iter().all(|number| met.iter().any(|(_, met)| met == number)), "{met:?}");
+    assert!([4, 5, 6, 7, 8, 10, 17].iter().all(|number| met.iter().any(|(_, met)| met == number)), "{met:?}");
     assert!((2..=4).all(|kind| met.contains(&(kind, 8))), "{met:?}");
     let of_lines: BTreeSet<_> = list
         .iter()

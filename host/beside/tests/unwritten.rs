@@ -143,6 +143,6 @@ fn whatever_the_memory_held() {
         met.every_view()
             && met.all_kinds()
             && met.kinds[1] > 10
-            && [4, 5, 6, 7, 8].iter().all(|&number| met.refused[number] > 0)
+            && [4, 5, 6, 7, 8, 17].iter().all(|&number| met.refused[number] > 0)
     );
 }

@@ -14,9 +14,10 @@
  *    5  position at or past the total            head that is not nineteen words
  *    6  a split moves more than the entry    12  the buffer is below 2,750 bytes a page
  *       has                                  13  the cursor's leaf is not in use
- *                                            14  the cursor's slot is at or past its leaf's len
- * A tree's call tests 10 before all others, and a cursor for 3, 13 and 14 in this order, before 4 to 8; smelvock_cmp tests the first
- * cursor whole, then the second.
+ *   17  a split moves nothing, or leaves     14  the cursor's slot is at or past its leaf's len
+ *       nothing behind, in every length
+ * A tree's call tests 10 before all others, and a cursor for 3, 13 and 14 in this order, before 4 to 8 and 17; smelvock_cmp tests the
+ * first cursor whole, then the second. 17 stands between 6 and 8.
  * Of a file of edits: 10 the rest of a record isn't zero, 11 the file's length isn't a multiple of 16, 12 the list area is below
  * 512 words, 15 a parent isn't smaller than its edit, 16 more than 512 edits.
  * Refused: the other values are 0 and, but for 9, head, areas and buffer are as they were. */
@@ -179,7 +180,8 @@ static inline smelvock_inserted smelvock_insert(
     return smelvock_insert_words(SMELVOCK_GIVEN, end, before.leaf, before.slot, before.stamp, lengths.prepare, lengths.effect, lengths.lines);
 }
 
-/* Takes lengths out of an entry into a new one just before it (before 1) or after it (0): its id, and both cursors in order. */
+/* Takes lengths out of an entry into a new one just before it (before 1) or after it (0): its id, and both cursors in order. Each of
+ * the two keeps or gets some length, line ends among them, else it is 17. */
 static inline smelvock_divided smelvock_split_entry(
     SMELVOCK_HEAD_WRITTEN, SMELVOCK_AREAS_WRITTEN, smelvock_cursor_at at, smelvock_length lengths, uint32_t before) {
     return smelvock_split_entry_words(SMELVOCK_GIVEN, at.leaf, at.slot, at.stamp, lengths.prepare, lengths.effect, lengths.lines, before);

@@ -221,7 +221,8 @@ impl<const N: usize> PrepareEffectTree<N> {
     }
 
     /// Moves `lengths` out of the entry at `at` into a new entry just before it if `before`, else
-    /// just after, returning the new id and both entries' cursors in order.
+    /// just after, returning the new id and both entries' cursors in order. Refused by 17 where one
+    /// of the two would have no length, line ends counted.
     pub fn split_entry(
         &mut self,
         at: Cursor,

@@ -3,7 +3,7 @@ use std::{error, fmt};
 /// Why a call was not done. Head, areas and a lent buffer are as they were, but for [`LINK`](Refusal::LINK).
 #[derive(Clone, Copy, PartialEq, Eq, Debug)]
 pub struct Refusal {
-    /// Document 01's number, 1 to 11, or document 02's 12 to 16.
+    /// Document 01's number, 1 to 11, or document 02's 12 to 17.
     pub number: u32,
 }
 
@@ -41,6 +41,7 @@ refusals! {
     SLOT = 14: "the cursor's slot is at or past its leaf's len";
     PARENT = 15: "a parent of an edit is not smaller than the edit";
     EDITS = 16: "the file has more than 512 edits";
+    HOLLOW = 17: "the split moves nothing, or leaves nothing behind";
 }
 
 impl Refusal {

@@ -39,6 +39,8 @@ locate 0 4 1 8 3
 locate 5 0 0 0 0
 split_entry 6 0 0 0 0 0
 split_entry 8 0 0 0 0 0
+split_entry 17 0 0 0 0 0
+split_entry 17 0 0 0 0 0
 cmp 0 2
 len 0 5
 is_empty 0 0

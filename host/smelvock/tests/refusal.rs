@@ -3,7 +3,7 @@
 use smelvock::{raw, Cursor, Lengths, PrepareEffectTree, Refusal};
 
 /// The names in the order of their numbers, from 1.
-const NAMED: [Refusal; 16] = [
+const NAMED: [Refusal; 17] = [
     Refusal::SIZE,
     Refusal::AREA,
     Refusal::STAMP,
@@ -20,14 +20,16 @@ const NAMED: [Refusal; 16] = [
     Refusal::SLOT,
     Refusal::PARENT,
     Refusal::EDITS,
+    Refusal::HOLLOW,
 ];
 
 #[test]
-fn the_names_are_those_of_1_to_16() {
-    assert_eq!(NAMED.map(|refusal| refusal.number).as_slice(), (1..=16).collect::<Vec<_>>());
+fn the_names_are_those_of_1_to_17() {
+    assert_eq!(NAMED.map(|refusal| refusal.number).as_slice(), (1..=17).collect::<Vec<_>>());
     let texts = NAMED.map(|refusal| refusal.to_string());
     assert!((1..).zip(&texts).all(|(number, text)| text.starts_with(&format!("refused by {number}: "))));
     assert_eq!(Refusal::STAMP.to_string(), "refused by 3: the cursor's stamp is not the present one");
+    assert_eq!(Refusal::HOLLOW.to_string(), "refused by 17: the split moves nothing, or leaves nothing behind");
     assert_eq!(Refusal { number: 99 }.to_string(), "refused by 99: no call answers this number");
 }
 

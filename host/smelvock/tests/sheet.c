@@ -133,6 +133,8 @@ int main(void) {
     locate(SMELVOCK_LINES, 6);
     split(3, (smelvock_length){0, 0, 5});
     split(3, (smelvock_length){0, 0, 4});
+    split(3, (smelvock_length){0, 0, 0});
+    split(3, (smelvock_length){1, 1, 4});
     smelvock_number order = smelvock_cmp(HEAD, AREAS, at(0), at(3));
     printf("cmp %u %u\n", order.number, order.value);
     printf("len %u %u\n", smelvock_len(HEAD).number, smelvock_len(HEAD).value);
