@@ -7,7 +7,8 @@ use crate::trees::Trees;
 use beside::port::{self, Port};
 use oracle::calls::Calls;
 use oracle::random::Random;
-use oracle::tree::{Lengths, PrepareEffectTree};
+use oracle::rust::pair;
+use oracle::tree::PrepareEffectTree;
 use std::hint::black_box;
 
 /// The calls that keep the number of entries, at random entries.
@@ -36,24 +37,24 @@ pub fn resizes<A: Calls, B: Calls, C: Calls>(table: &mut Table, trees: &mut Tree
 /// Trees made anew and filled to their limit, the making included: the time is per entry. `cursor` is a part of every call but
 /// those at the end.
 pub fn growth<const N: usize>(table: &mut Table, entries: u32) {
-    let first = [3, 3, 0];
-    let rust = || PrepareEffectTree::<N>::new(Lengths { prepare: 3, effect: 3 });
-    let called = || Called::<N>::new(first);
+    let rust = |first| PrepareEffectTree::<N>::new(pair(first));
+    let called = |first| Called::<N>::new(first);
     let port =
-        || Port(smelvock::PrepareEffectTree::<N>::with_limit(entries, port::three(first)).expect("a good limit"));
-    let mut filling = |name: &str, way: Way| {
+        |first| Port(smelvock::PrepareEffectTree::<N>::with_limit(entries, port::three(first)).expect("a good limit"));
+    let (first, shares) = ([3, 3, 0], shares(entries));
+    let mut filling = |name: &str, way: Way, first: [u32; 3]| {
         table.call(
             name,
-            || fill(&mut rust(), entries, way),
-            || fill(&mut called(), entries, way),
-            || fill(&mut port(), entries, way),
+            || fill(&mut rust(first), entries, way, &shares),
+            || fill(&mut called(first), entries, way, &shares),
+            || fill(&mut port(first), entries, way, &shares),
         );
     };
-    filling("insert at the end", Way::InsertAtEnd);
-    filling("insert, random + cursor", Way::Insert);
-    filling("split_entry, random + cursor", Way::Split);
-    filling("locate, split, update, insert", Way::Edit);
-    let mut trees = (rust(), called(), port());
+    filling("insert at the end", Way::InsertAtEnd, first);
+    filling("insert, random + cursor", Way::Insert, first);
+    filling("split_entry, random + cursor", Way::Split, [entries, 3, 0]);
+    filling("locate, split, update, insert", Way::Edit, first);
+    let mut trees = (rust(first), called(first), port(first));
     table.call(
         "reset",
         || each(0..CALLS / 10, |_| Calls::reset(&mut trees.0, first)),
@@ -62,9 +63,9 @@ pub fn growth<const N: usize>(table: &mut Table, entries: u32) {
     );
     table.call(
         "new (port: its own areas)",
-        || each(0..100, |_| rust()),
-        || each(0..100, |_| called()),
-        || each(0..100, |_| port()),
+        || each(0..100, |_| rust(first)),
+        || each(0..100, |_| called(first)),
+        || each(0..100, |_| port(first)),
     );
 }
 
@@ -76,9 +77,22 @@ enum Way {
     Edit,
 }
 
+/// What the places of a filling are drawn from.
+const SEED: u64 = 5;
+
+/// The prepare length that each entry of a tree filled by splits gets when it is made: 1, and 1 for each entry that is split off it or off
+/// one of those, so that no split moves nothing or all.
+fn shares(entries: u32) -> Vec<u32> {
+    let mut random = Random::new(SEED);
+    let drawn: Vec<_> = (1..entries as u64).map(|count| random.below(count) as usize).collect();
+    let mut shares = vec![1; entries as usize];
+    (1..entries as usize).rev().for_each(|new| shares[drawn[new - 1]] += shares[new]);
+    shares
+}
+
 /// One entry after the other until the tree holds its limit.
-fn fill<T: Calls>(tree: &mut T, entries: u32, way: Way) -> usize {
-    let mut random = Random::new(5);
+fn fill<T: Calls>(tree: &mut T, entries: u32, way: Way, shares: &[u32]) -> usize {
+    let mut random = Random::new(SEED);
     let mut near = 0;
     for count in 1..entries {
         let id = random.below(count as u64) as u32;
@@ -86,7 +100,10 @@ fn fill<T: Calls>(tree: &mut T, entries: u32, way: Way) -> usize {
         match way {
             Way::InsertAtEnd => _ = black_box(tree.insert(None, lengths)),
             Way::Insert => _ = black_box(tree.insert(Some(tree.cursor(id)), lengths)),
-            Way::Split => _ = black_box(tree.split_entry(tree.cursor(id), [0; 3], id % 2 == 0)),
+            Way::Split => {
+                let share = shares[count as usize];
+                _ = black_box(tree.split_entry(tree.cursor(id), [share, 0, 0], id % 2 == 0))
+            }
             Way::Edit => near = edit(tree, near, count),
         }
     }
@@ -97,12 +114,12 @@ fn fill<T: Calls>(tree: &mut T, entries: u32, way: Way) -> usize {
 fn edit<T: Calls>(tree: &mut T, near: u32, count: u32) -> u32 {
     let index = if count.is_multiple_of(50) { 0 } else { near };
     let (at, offset, _) = tree.locate(0, index);
-    if count.is_multiple_of(3) {
-        let [_, effect, _] = tree.lengths(at);
-        let (_, [_, second]) = tree.split_entry(at, [offset, effect.min(1), 0], true);
-        black_box(tree.update(second, tree.lengths(second)));
-    } else {
-        black_box(tree.insert(Some(at), [3, 1, 0]));
+    match count.is_multiple_of(3).then(|| tree.lengths(at)) {
+        Some([_, effect, _]) if offset > 0 || effect > 0 => {
+            let (_, [_, second]) = tree.split_entry(at, [offset, effect.min(1), 0], true);
+            black_box(tree.update(second, tree.lengths(second)));
+        }
+        _ => _ = black_box(tree.insert(Some(at), [3, 1, 0])),
     }
     index + 2
 }
