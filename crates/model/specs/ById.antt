@@ -24,13 +24,16 @@ use Rattle.model.specs.declared.answer.Divided.{Divided}
 use Rattle.model.specs.declared.answer.Divided.the-variants as divided
 
 -- goes on with a cursor, or passes its refusal on
-abbrev pub withCursor : State → Standing → (Cursor → Moved State) → Moved State
+abbrev pub withCursor : {S : Type 0} → S → Standing → (Cursor → Moved S) → Moved S
 withCursor s (standing.At c) f = f c
 withCursor s (standing.Refused n) f = moved s (refused n)
 
--- goes on with the target of an insertion
+-- goes on with the target of an insertion: the end, or the entry i, whose cursor is asked for
+abbrev pub atTarget : {S : Type 0} → S → ℕ → Standing → (Target → Moved S) → Moved S
+atTarget s i c f = cond (eqb i noEntry) (f target.End) (withCursor s c (λ c. f (target.Before c)))
+
 abbrev pub withTarget : Kind → State → ℕ → (Target → Moved State) → Moved State
-withTarget K s i f = cond (eqb i noEntry) (f target.End) (withCursor s (calls.cursor K s i) (λ c. f (target.Before c)))
+withTarget K s i f = atTarget s i (calls.cursor K s i) f
 
 -- the id at a cursor, then more values
 abbrev pub idAnswer : Named → List ℕ → Answer

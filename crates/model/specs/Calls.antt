@@ -269,23 +269,30 @@ abbrev pub targetCauses : Kind → State → Target → List Cause
 targetCauses K s (target.Before c) = atCursor K s c
 targetCauses K s target.End = []
 
-abbrev pub insertCauses : Kind → State → Target → List ℕ → List Cause
-insertCauses K s t l = manyLines K l ∷ (opening K s ++ targetCauses K s t ++ past K s [] l ∷ full s ∷ [])
+-- room is why one entry more has no space: the tree holds its limit, or, with seats, their rules
+abbrev pub insertCauses : Kind → List Cause → State → Target → List ℕ → List Cause
+insertCauses K room s t l = manyLines K l ∷ (opening K s ++ targetCauses K s t ++ past K s [] l ∷ room)
 
-unfoldable pub insert : Kind → State → Target → List ℕ → Reply Inserted
-insert K s t l =
+unfoldable pub insertBy : Kind → List Cause → State → Target → List ℕ → Reply Inserted
+insertBy K room s t l =
     let r = placed K s t l in
-    unless (insertCauses K s t l) (λ n. reply s (inserted.Refused n)) (settled s (r .0) inserted.Refused (inserted.At (entryId (s .head .entries)) (r .1)))
+    unless (insertCauses K room s t l) (λ n. reply s (inserted.Refused n)) (settled s (r .0) inserted.Refused (inserted.At (entryId (s .head .entries)) (r .1)))
+
+abbrev pub insert : Kind → State → Target → List ℕ → Reply Inserted
+insert K s t l = insertBy K (full s ∷ []) s t l
 
 -- what a split answers: n is the count before, so the new id; slot i of leaf k holds the first of the two entries; both cursors bear the new stamp
 abbrev pub dividedAt : ℕ → ℕ → ℕ → ℕ → Divided
 dividedAt n stamp k i = divided.At (entryId n) (cursorAt stamp k i) (cursorAt stamp k (i + 1))
 
-abbrev pub splitCauses : Kind → State → Cursor → List ℕ → List Cause
-splitCauses K s c l = manyLines K l ∷ (opening K s ++ atCursor K s c ++ tooMuch K l (lengths (slotAt K s c)) ∷ hollowPart K l (lengths (slotAt K s c)) ∷ full s ∷ [])
+abbrev pub splitCauses : Kind → List Cause → State → Cursor → List ℕ → List Cause
+splitCauses K room s c l = manyLines K l ∷ (opening K s ++ atCursor K s c ++ tooMuch K l (lengths (slotAt K s c)) ∷ hollowPart K l (lengths (slotAt K s c)) ∷ room)
 
-unfoldable pub splitEntry : Kind → State → Cursor → List ℕ → Bool → Reply Divided
-splitEntry K s c l flag =
+unfoldable pub splitBy : Kind → List Cause → State → Cursor → List ℕ → Bool → Reply Divided
+splitBy K room s c l flag =
     let r = divide (shapeOf K (s .head)) flag s (c .leaf .0) (c .slot) l in
-    unless (splitCauses K s c l) (λ m. reply s (divided.Refused m))
+    unless (splitCauses K room s c l) (λ m. reply s (divided.Refused m))
     (settled s r divided.Refused (dividedAt (s .head .entries) (nextStamp (s .head .stamp)) (r .leaf) (r .slot)))
+
+abbrev pub splitEntry : Kind → State → Cursor → List ℕ → Bool → Reply Divided
+splitEntry K s c l flag = splitBy K (full s ∷ []) s c l flag

@@ -19,6 +19,9 @@ pub mod ByCursor
 pub mod Record
 pub mod Sound
 pub mod Audit
+pub mod Seats
+pub mod SeatedCalls
+pub mod SeatedList
 pub mod Table
 pub mod Spelling
 pub mod Promise

@@ -167,14 +167,21 @@ overlong K count = false
 overlong K first = false
 overlong K malformed = false
 
+-- an insert and a split; room is why one entry more has no space: the row holds its limit, or, with seats, their rules
+abbrev pub insertBy : Kind → List Cause → Row → ℕ → List ℕ → Moved Row
+insertBy K room r i l =
+    let es = inserted i (newEntry r l) (r .entries) in
+    unless r (noSuchPlace r i ∷ past K es ∷ room) es (done (length (r .entries) ∷ total (K .effect) (before i (r .entries)) ∷ []))
+
+abbrev pub splitBy : Kind → List Cause → Row → Bool → ℕ → List ℕ → Moved Row
+splitBy K room r flag i l =
+    unless r (noSuchId r i ∷ tooMuch K l (lengthsOf i (r .entries)) ∷ hollowPart K l (lengthsOf i (r .entries)) ∷ room) (divided flag i (newEntry r l) (r .entries)) (done (length (r .entries) ∷ []))
+
 -- what any other call does; and every call, 10 before all else
 unfoldable pub rowMove : Kind → Row → Call → Moved Row
 rowMove K r (reset l) = moved (madeRow (r .limit) l) (done [])
-rowMove K r (insert i l) =
-    let es = inserted i (newEntry r l) (r .entries) in
-    unless r (noSuchPlace r i ∷ past K es ∷ full r ∷ []) es (done (length (r .entries) ∷ total (K .effect) (before i (r .entries)) ∷ []))
-rowMove K r (split flag i l) =
-    unless r (noSuchId r i ∷ tooMuch K l (lengthsOf i (r .entries)) ∷ hollowPart K l (lengthsOf i (r .entries)) ∷ full r ∷ []) (divided flag i (newEntry r l) (r .entries)) (done (length (r .entries) ∷ []))
+rowMove K r (insert i l) = insertBy K (full r ∷ []) r i l
+rowMove K r (split flag i l) = splitBy K (full r ∷ []) r flag i l
 rowMove K r (setLengths i l) =
     let es = changed i l (r .entries) in
     unless r (noSuchId r i ∷ past K es ∷ []) es (done [])

@@ -83,7 +83,7 @@ unfolding treePlay newestIn treeSeen treeRun rowPlay rowSeen rowRun
     grow.adopt grow.adoptAll grow.link grow.divide grow.growRoot grow.splitNode grow.linkHalf grow.addTo grow.aboveOf
     place.rehome place.linkLeaf place.splitLeaf place.makeRoom place.enter place.place place.divide place.replace place.climb
     refuse.opening
-    calls.begun calls.make calls.first calls.nextAfter calls.id calls.cursor calls.locate calls.insert calls.splitEntry
+    calls.begun calls.make calls.first calls.nextAfter calls.id calls.cursor calls.locate calls.insertBy calls.splitBy
     treeMove treeStep entriesOf level
     check.every check.depth check.isFilled check.isHeld check.isChild check.isInner check.isEntry check.isLeaf check.isFinger check.isSound audit
 settled = (refl, refl)
