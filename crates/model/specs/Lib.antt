@@ -26,6 +26,7 @@ pub mod Table
 pub mod Spelling
 pub mod Promise
 pub mod Stamp
+pub mod SeatPromise
 pub mod Settled
 pub mod Spelled
 pub mod Paged
