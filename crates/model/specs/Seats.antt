@@ -7,6 +7,7 @@ use Prim.Native.Nat.{ℕ, zero, suc, _+_, _-_, _≤_, _<_}
 use lib.Dec.{ltb, leb, eqb}
 use lib.ListN.{getD, set, replicate}
 use Rattle.model.specs.Lists.{Cause, cause}
+use Rattle.model.specs.Node.{wrap}
 use Rattle.model.specs.declared.seats.Seats.{Seats}
 use Rattle.model.specs.declared.seats.Seat.{Seat}
 use Rattle.model.specs.declared.seats.Seat.the-variants as seat
@@ -75,9 +76,9 @@ tooHigh limit shares = cause 19 (not (withinLimit limit shares))
 
 -- what calls do to the charges --------------------------------------------------------------------------------------------------------------
 
--- one entry more for the seat that was named; without seats none is
+-- one entry more for the seat that was named; without seats none is. A charge is a u32: one that a damaged head holds may go round
 abbrev pub charged : ℕ → Seats → Seats
-charged i b = seatsOf (b .seated) (b .shares) (set (b .charges) i (charge b i + 1))
+charged i b = seatsOf (b .seated) (b .shares) (set (b .charges) i (wrap (charge b i + 1)))
 
 abbrev pub chargedTo : Seat → Seats → Seats
 chargedTo seat.Nobody b = b
