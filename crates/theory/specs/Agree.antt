@@ -1,11 +1,13 @@
 -- A tree's call and the row's: the same answer, and what each leaves belongs together again. A sound state's row, and the row at a seat.
 use mathlib.Core.Path.{_≡_, refl, sym, ap, _∙_, subst}
+use mathlib.Core.Bool.{Bool, true, false, cond}
 use mathlib.Core.List.{List, [], _∷_, _++_, map}
 use Prim.Native.Nat.{ℕ, suc, _≤_, _<_}
 use native.Mathlib.Decide.{decLt}
 use native.Mathlib.Omega.{arith}
+use lib.Dec.{leb}
 use lib.ListN.{length, getD, length-map}
-use borrow.Author.Tests.{ne-eqb, le-leb, lt-leb}
+use borrow.Author.Tests.{ne-eqb, le-leb, lt-leb, leb-false}
 use Rattle.model.specs.Kind.{stride}
 use Rattle.model.specs.declared.shape.Kind.{Kind}
 use Rattle.model.specs.Lists.{sumBy, All, Cause, refusal}
@@ -14,6 +16,7 @@ use Rattle.model.specs.State.{State}
 use Rattle.model.specs.Row as row
 use Rattle.model.specs.Row.{Row, Entry, entry, Answer, refused, Moved, moved, noSuchId, unless, before, from}
 use Rattle.model.specs.Sound.{leafIn, Coherent, entriesOf}
+use Rattle.model.specs.Refuse as refuse
 use Rattle.model.specs.Calls as calls
 use Rattle.model.specs.ById.{withCursor}
 use Rattle.model.specs.declared.head.Cursor.{Cursor}
@@ -46,6 +49,11 @@ pub record Agrees (Q : State → Row → Type 0) (m : Moved State) (n : Moved Ro
 abbrev pub rowOf : Kind → State → Row
 rowOf K t = row.row (t .head .limit) (entriesOf K t)
 
+-- the causes by which one entry more has no space, in the tree and in the row: they stop at the same number, and where they stop nothing an entry is free
+pub record Space (t : State) (room rowRoom : List Cause) : Type 0 where
+  pub same : refusal room ≡ refusal rowRoom
+  pub free : refusal rowRoom ≡ 0 → t .head .entries < t .head .limit
+
 -- the row's causes
 pub row-passed : (r : Row) (cs : List Cause) (es : List Entry) (a : Answer) → refusal cs ≡ 0 → unless r cs es a ≡ moved (row.row (r .limit) es) a
 unfolding unless
@@ -64,6 +72,15 @@ module _ (K : Kind) (t : State) (w : Coherent K t) where
 
   pub count-is : length (entriesOf K t) ≡ t .head .entries
   count-is = ap length entries-are ∙ length-map (tree.row (treeOf (stride K) t)) (entryFrom (K .views)) ∙ body-of (stride K) t (K .effect) w .count
+
+  -- without seats: the limit
+  pub by-limit : Space t (refuse.full t ∷ []) (row.full (rowOf K t) ∷ [])
+  unfolding refusal
+  by-limit = record { same = ap (λ (n : ℕ). cond (leb (t .head .limit) n) 8 0) (sym count-is); free = λ e. fits (leb (t .head .limit) (length (entriesOf K t))) refl e }
+    where
+      fits : (b : Bool) → leb (t .head .limit) (length (entriesOf K t)) ≡ b → _≡_ {A = ℕ} (cond b 8 0) 0 → t .head .entries < t .head .limit
+      fits true q e = absurd (omega arith)
+      fits false q e = (let z = leb-false (t .head .limit) (length (entriesOf K t)) q in omega (arith, count-is))
 
   -- every id is below the count
   pub below : All (λ (x : Slot). x .child < t .head .entries) (tree.row (treeOf (stride K) t))

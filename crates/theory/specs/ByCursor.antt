@@ -17,7 +17,7 @@ use Rattle.model.specs.State.{State}
 use Rattle.model.specs.Row as row
 use Rattle.model.specs.Row.{Row, Call, Entry, Answer, done, refused, Moved, moved, noEntry, rowMove, rowStep}
 use Rattle.model.specs.Sound.{Coherent, entriesOf}
-use Rattle.model.specs.Refuse.{opening, stale, overfull, atCursor, current, badSize}
+use Rattle.model.specs.Refuse.{opening, stale, overfull, atCursor, current, badSize, full}
 use Rattle.model.specs.Calls as calls
 use Rattle.model.specs.Calls.{make, cursorAt}
 use Rattle.model.specs.Answer.{outcomeAnswer, numberAnswer, verdictAnswer, namedAnswer, comparedAnswer, insertedAnswer}
@@ -127,18 +127,18 @@ module _ (K : Kind) (ok : K .effect < K .views) (s : State) (w : Coherent K s) w
 
     -- the calls, one by one
     by-insert : (c : Cursor) (l : List ℕ) → Words K l → Agrees (Stands K) (cursorStep K s (by.insert (target.Before c) l)) (entryStep K r (meant K s (by.insert (target.Before c) l)))
-    unfolding cursorStep meant entryStep treeMove treeStep rowStep calls.insert
+    unfolding cursorStep meant entryStep treeMove treeStep rowStep calls.insertBy
     by-insert c l k = with-lines l c (told (calls.insert K s (target.Before c) l) insertedAnswer) (λ i. by.plain (row.insert i l))
-        (λ o. (ap (λ (z : calls.Reply Inserted). told z insertedAnswer) (stopped (calls.insertCauses K s (target.Before c) l) (λ m. calls.reply s (inserted.Refused m)) _ 9 (many-lines K l _ o)), rw o))
+        (λ o. (ap (λ (z : calls.Reply Inserted). told z insertedAnswer) (stopped (calls.insertCauses K (full s ∷ []) s (target.Before c) l) (λ m. calls.reply s (inserted.Refused m)) _ 9 (many-lines K l _ o)), rw o))
         (λ o. with-one c (told (calls.insert K s (target.Before c) l) insertedAnswer) (λ i. by.plain (row.insert i l))
         (λ e. plainly c (λ d. told (calls.insert K s (target.Before d) l) insertedAnswer) (row.insert (entryAt K s c) l) (word c e, k) (rw (o, ne-eqb (entryAt K s c) noEntry (λ z. let y = small c e in omega arith))) e)
-        (λ n q. ap (λ (z : calls.Reply Inserted). told z insertedAnswer) (stopped (calls.insertCauses K s (target.Before c) l) (λ m. calls.reply s (inserted.Refused m)) _ n (few-lines K l _ o ∙ first-applies (opening K s ++ atCursor K s c) _ n (stops c n q)))))
+        (λ n q. ap (λ (z : calls.Reply Inserted). told z insertedAnswer) (stopped (calls.insertCauses K (full s ∷ []) s (target.Before c) l) (λ m. calls.reply s (inserted.Refused m)) _ n (few-lines K l _ o ∙ first-applies (opening K s ++ atCursor K s c) _ n (stops c n q)))))
 
     by-end : (l : List ℕ) → Words K l → Agrees (Stands K) (cursorStep K s (by.insert target.End l)) (entryStep K r (meant K s (by.insert target.End l)))
-    unfolding cursorStep meant entryStep treeMove treeStep calls.insert
+    unfolding cursorStep meant entryStep treeMove treeStep calls.insertBy
     by-end l k = subst (λ (z : Moved State). Agrees (Stands K) z (rowStep K r (row.insert noEntry l)))
         (by-itself (tooManyLines K l) (told (calls.insert K s target.End l) insertedAnswer)
-        (λ o. ap (λ (z : calls.Reply Inserted). told z insertedAnswer) (stopped (calls.insertCauses K s target.End l) (λ m. calls.reply s (inserted.Refused m)) _ 9 (many-lines K l _ o))))
+        (λ o. ap (λ (z : calls.Reply Inserted). told z insertedAnswer) (stopped (calls.insertCauses K (full s ∷ []) s target.End l) (λ m. calls.reply s (inserted.Refused m)) _ 9 (many-lines K l _ o))))
         (step K ok s r h (row.insert noEntry l) (omega arith, k))
 
     by-reset : (l : List ℕ) → Words K l → Agrees (Stands K) (cursorStep K s (by.reset l)) (entryStep K r (meant K s (by.reset l)))
@@ -245,9 +245,9 @@ module _ (K : Kind) (ok : K .effect < K .views) (s : State) (w : Coherent K s) w
         go (selected.Refused n) p = sym (ap by.lessPositions p)
 
     by-split : (flag : Bool) (c : Cursor) (l : List ℕ) → Words K l → Agrees (Stands K) (cursorStep K s (by.split flag c l)) (entryStep K r (meant K s (by.split flag c l)))
-    unfolding cursorStep meant treeMove treeStep entryStep rowStep calls.splitEntry
+    unfolding cursorStep meant treeMove treeStep entryStep rowStep calls.splitBy
     by-split flag c l k = with-lines l c (let z = calls.splitEntry K s c l flag in moved (z .after) (by.partsAnswer K (z .after) (z .answer))) (λ i. by.parts flag i l)
-        (λ o. (ap (λ (z : calls.Reply Divided). moved (z .after) (by.partsAnswer K (z .after) (z .answer))) (split-lines K s c l flag o), rw o))
+        (λ o. (ap (λ (z : calls.Reply Divided). moved (z .after) (by.partsAnswer K (z .after) (z .answer))) (split-lines K (full s ∷ []) s c l flag o), rw o))
         (λ o. with-one c (let z = calls.splitEntry K s c l flag in moved (z .after) (by.partsAnswer K (z .after) (z .answer))) (λ i. by.parts flag i l)
         (λ e. record {
           same = go (entryAt K s c) (calls.splitEntry K s c l flag .answer) (subst (λ (q : Row). DividedAt K flag (entryAt K s c) (s .head .entries) (calls.splitEntry K s c l flag .after) (calls.splitEntry K s c l flag .answer) (rowStep K q (row.split flag (entryAt K s c) l) .answer)) own-row (split-at K ok s w c (entryAt K s c) (current-at K s w c e) l (k .long) flag));

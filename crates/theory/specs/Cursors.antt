@@ -11,13 +11,13 @@ use lib.ListN.{length, getD}
 use borrow.Author.Tests.{eq-eqb, lt-ltb}
 use Rattle.model.specs.Kind.{stride, tooManyLines}
 use Rattle.model.specs.declared.shape.Kind.{Kind}
-use Rattle.model.specs.Lists.{cause, refusal}
+use Rattle.model.specs.Lists.{Cause, cause, refusal}
 use Rattle.model.specs.Node.{child}
 use Rattle.model.specs.State.{State, nextStamp}
 use Rattle.model.specs.Row as row
 use Rattle.model.specs.Row.{Row, Entry, lengthIn, Answer, done, refused, Moved, moved, unless, after, firstId, rowMove, rowStep}
 use Rattle.model.specs.Sound.{leafIn, Coherent, entriesOf}
-use Rattle.model.specs.Refuse.{opening, stale, overfull, atCursor, current}
+use Rattle.model.specs.Refuse.{opening, stale, overfull, atCursor, current, full}
 use Rattle.model.specs.Calls as calls
 use Rattle.model.specs.Calls.{cursorAt, slotAt}
 use Rattle.model.specs.ById.{withCursor, idAnswer, standingAnswer, nextAnswer, locatedAnswer, treeMove}
@@ -38,7 +38,7 @@ use Rattle.abstract_tree.specs.Calls as tree
 use Rattle.theory.specs.Tree.{treeOf}
 use Rattle.theory.specs.Open.{passed, stopped, many-lines, opens, fresh-at, seat}
 use Rattle.theory.specs.Numbers.{number-is}
-use Rattle.theory.specs.Agree.{rowOf, row-known, row-passed, count-is}
+use Rattle.theory.specs.Agree.{rowOf, Space, by-limit, row-known, row-passed, count-is}
 use Rattle.theory.specs.Read.{id-at, step-first, step-next}
 use Rattle.theory.specs.Looks.{step-lookup}
 use Rattle.theory.specs.Splits.{behindId, TwoParts, split-by}
@@ -65,9 +65,9 @@ looked-not-stale K r v x = subst (λ (n : ℕ). (n < 13) × (n ≢ 3)) (sym (num
     go false = (omega arith, λ e. omega arith)
 
 -- a split with too many line ends
-pub split-lines : (K : Kind) (s : State) (c : Cursor) (l : List ℕ) (flag : Bool) → tooManyLines K l ≡ true → calls.splitEntry K s c l flag ≡ calls.reply s (divided.Refused 10)
-unfolding calls.splitEntry
-split-lines K s c l flag e = stopped (calls.splitCauses K s c l) (λ m. calls.reply s (divided.Refused m)) _ 9 (many-lines K l _ e)
+pub split-lines : (K : Kind) (room : List Cause) (s : State) (c : Cursor) (l : List ℕ) (flag : Bool) → tooManyLines K l ≡ true → calls.splitBy K room s c l flag ≡ calls.reply s (divided.Refused 10)
+unfolding calls.splitBy
+split-lines K room s c l flag e = stopped (calls.splitCauses K room s c l) (λ m. calls.reply s (divided.Refused m)) _ 9 (many-lines K l _ e)
 
 module _ (K : Kind) (s : State) (w : Coherent K s) where
   at-slot : (k j : ℕ) → k < s .head .leaves → j < leafIn (stride K) s k .len → At K s (cursorAt (s .head .stamp) k j) (tree.slotAt (treeOf (stride K) s) k j .child)
@@ -147,16 +147,16 @@ module _ (K : Kind) (ok : K .effect < K .views) (s : State) (w : Coherent K s) w
       go (located.At c offset effect prepare) h = (h .0, effect, prepare, h .1, h .2)
       go (located.Refused n) h = h
 
-  few-split-at : (c : Cursor) (i : ℕ) → At K s c i → (l : List ℕ) (wl : length l ≡ K .views) → tooManyLines K l ≡ false → (flag : Bool)
-      → (let r = calls.splitEntry K s c l flag in DividedAt K flag i (s .head .entries) (r .after) (r .answer) (rowMove K (rowOf K s) (row.split flag i l) .answer))
-  unfolding rowMove unless
-  few-split-at c i h l wl lines flag =
+  pub split-at-by : (room rowRoom : List Cause) → Space s room rowRoom → (c : Cursor) (i : ℕ) → At K s c i → (l : List ℕ) (wl : length l ≡ K .views) → tooManyLines K l ≡ false → (flag : Bool)
+      → (let r = calls.splitBy K room s c l flag in DividedAt K flag i (s .head .entries) (r .after) (r .answer) (row.splitBy K rowRoom (rowOf K s) flag i l .answer))
+  unfolding unless
+  split-at-by room rowRoom space c i h l wl lines flag =
       let o = own-cursor K s w c i h in
       let e = seat K s w i (o .0) in
       let here : cursorAt (s .head .stamp) (e .leaf) (e .slot) ≡ c = ap (cursorOf c) (sym (e .is) ∙ o .1) in
-      subst (λ (d : Cursor). let r = calls.splitEntry K s d l flag in DividedAt K flag i (s .head .entries) (r .after) (r .answer) (rowMove K (rowOf K s) (row.split flag i l) .answer)) here
-      (rw (row-known K s w i (behindId K (rowOf K s) i l) (o .0))
-      (split-by K s w i e l wl lines flag (λ m n. DividedAt K flag i (s .head .entries) (m .after) (m .answer) (n .answer)) (λ n. refl) (λ t k j p g. (ap (λ (n : ℕ). done (n ∷ [])) (count-is K s w), refl, first-part t k j p, second-part t k j p))))
+      subst (λ (d : Cursor). let r = calls.splitBy K room s d l flag in DividedAt K flag i (s .head .entries) (r .after) (r .answer) (row.splitBy K rowRoom (rowOf K s) flag i l .answer)) here
+      (rw (row-known K s w i (behindId K rowRoom (rowOf K s) i l) (o .0))
+      (split-by K s w i e l wl lines flag room rowRoom space (λ m n. DividedAt K flag i (s .head .entries) (m .after) (m .answer) (n .answer)) (λ n. refl) (λ t k j p g. (ap (λ (n : ℕ). done (n ∷ [])) (count-is K s w), refl, first-part t k j p, second-part t k j p))))
     where
       first-part : (t : State) (k j : ℕ) → TwoParts K flag i (s .head .entries) (nextStamp (s .head .stamp)) t k j → At K t (cursorAt (nextStamp (s .head .stamp)) k j) (cond flag (s .head .entries) i)
       first-part t k j p = subst (λ (m : ℕ). At K t (cursorAt m k j) (cond flag (s .head .entries) i)) (p .stamp) (subst (At K t (cursorAt (t .head .stamp) k j)) (p .first) (at-slot K t (p .sound) k j (p .leaf-in) (let z = p .slot-in in omega arith)))
@@ -166,12 +166,12 @@ module _ (K : Kind) (ok : K .effect < K .views) (s : State) (w : Coherent K s) w
 
   pub split-at : (c : Cursor) (i : ℕ) → At K s c i → (l : List ℕ) (wl : length l ≡ K .views) (flag : Bool)
       → (let r = calls.splitEntry K s c l flag in DividedAt K flag i (s .head .entries) (r .after) (r .answer) (rowStep K (rowOf K s) (row.split flag i l) .answer))
-  unfolding rowStep
+  unfolding rowMove rowStep
   split-at c i h l wl flag = go (tooManyLines K l) refl
     where
       move : Moved Row
       move = rowMove K (rowOf K s) (row.split flag i l)
 
       go : (b : Bool) → tooManyLines K l ≡ b → (let r = calls.splitEntry K s c l flag in DividedAt K flag i (s .head .entries) (r .after) (r .answer) (cond b (moved (rowOf K s) (refused 10)) move .answer))
-      go true e = subst (λ (r : calls.Reply Divided). DividedAt K flag i (s .head .entries) (r .after) (r .answer) (refused 10)) (sym (split-lines K s c l flag e)) refl
-      go false e = few-split-at c i h l wl e flag
+      go true e = subst (λ (r : calls.Reply Divided). DividedAt K flag i (s .head .entries) (r .after) (r .answer) (refused 10)) (sym (split-lines K (full s ∷ []) s c l flag e)) refl
+      go false e = split-at-by (full s ∷ []) (row.full (rowOf K s) ∷ []) (by-limit K s w) c i h l wl e flag

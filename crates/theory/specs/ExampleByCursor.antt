@@ -49,7 +49,7 @@ unfolding meantAll meant by.standing by.standingFor cursorStep
     locate.descend locate.fromRoot
     place.makeRoom place.enter place.place place.divide place.climb
     refuse.opening
-    calls.make calls.begun calls.insert calls.splitEntry calls.setLengths calls.locate calls.charIndexToEntry
+    calls.make calls.begun calls.insertBy calls.splitBy calls.setLengths calls.locate calls.charIndexToEntry
 cursors-mean = refl
 
 pub cursors-are : answers (entryStep base) (madeRow 5 (pair 3 3)) (meantAll base start cursorCalls)

@@ -52,7 +52,7 @@ unfolding answers cursorStep
     climb.climbUp climb.lastDown
     place.makeRoom place.enter place.place place.climb
     refuse.opening
-    calls.make calls.begun calls.reset calls.insert calls.id calls.len
+    calls.make calls.begun calls.reset calls.insertBy calls.id calls.len
 old-refused = refl
 
 -- the same by the theorem, from the tree where the cursor was issued
@@ -63,7 +63,7 @@ unfolding makes makesAll finally cursorStep
     climb.climbUp climb.lastDown
     place.makeRoom place.enter place.place place.climb
     refuse.opening
-    calls.make calls.begun calls.reset calls.insert
+    calls.make calls.begun calls.reset calls.insertBy
 entries-made = refl
 
 issued : 2 ≡ finally (cursorStep base) start sheet .head .stamp
@@ -73,7 +73,7 @@ unfolding finally cursorStep
     climb.climbUp climb.lastDown
     place.makeRoom place.enter place.place place.climb
     refuse.opening
-    calls.make calls.begun calls.insert
+    calls.make calls.begun calls.insertBy
 issued = refl
 
 pub old-shut : refusal (stale base (finally (cursorStep base) (finally (cursorStep base) start sheet) (by.reset (pair 1 1) ∷ next)) (cursorAt 2 0 1)) ≡ 3

@@ -1,7 +1,7 @@
 -- No call changes a tree's fan or its limit, on any state, sound or not. Assumes nothing.
 use mathlib.Core.Path.{_≡_, refl, _∙_}
 use mathlib.Core.Bool.{Bool, true, false, cond, _&&_}
-use mathlib.Core.List.{List, _∷_}
+use mathlib.Core.List.{List, [], _∷_}
 use Prim.Native.Nat.{ℕ, _+_, _-_}
 use lib.Dec.{ltb, leb, eqb}
 use Rattle.model.specs.declared.shape.Kind.{Kind}
@@ -13,7 +13,7 @@ use Rattle.model.specs.Locate.{servedBy, fromRoot}
 use Rattle.model.specs.Place as place
 use Rattle.model.specs.Place.{Change}
 use Rattle.model.specs.Answer.{outcomeAnswer, numberAnswer, insertedAnswer}
-use Rattle.model.specs.Refuse.{shapeOf, opening}
+use Rattle.model.specs.Refuse.{shapeOf, opening, full}
 use Rattle.model.specs.Row as row
 use Rattle.model.specs.Row.{Call, Moved, noEntry, overlong}
 use Rattle.model.specs.ById.{withCursor, withTarget, dividedAnswer, told, treeMove, treeStep}
@@ -155,10 +155,10 @@ module _ (K : Kind) (s : State) where
       climb-fixed (shapeOf K (s .head)) s (K .effect) (minus l (lengths (calls.slotAt K s c))) (place.replace (shapeOf K (s .head)) s (c .leaf .0) (c .slot) l)
       (replace-fixed (shapeOf K (s .head)) s (c .leaf .0) (c .slot) l)
 
-  insert-fixed : (t : Target) (l : List ℕ) → Fixed s (calls.insert K s t l .after)
-  unfolding calls.insert
-  insert-fixed t l = let r = calls.placed K s t l in let a = inserted′.At (calls.entryId (s .head .entries)) (r .1) in
-      unless-fixed s (calls.insertCauses K s t l) inserted′.Refused (calls.settled s (r .0) inserted′.Refused a) (settled-fixed s (r .0) inserted′.Refused a (placed-fixed t l))
+  pub insert-fixed : (room : List Cause) (t : Target) (l : List ℕ) → Fixed s (calls.insertBy K room s t l .after)
+  unfolding calls.insertBy
+  insert-fixed room t l = let r = calls.placed K s t l in let a = inserted′.At (calls.entryId (s .head .entries)) (r .1) in
+      unless-fixed s (calls.insertCauses K room s t l) inserted′.Refused (calls.settled s (r .0) inserted′.Refused a) (settled-fixed s (r .0) inserted′.Refused a (placed-fixed t l))
 
   set-fixed : (c : Cursor) (l : List ℕ) → Fixed s (calls.setLengths K s c l .after)
   unfolding calls.setLengths
@@ -170,11 +170,11 @@ module _ (K : Kind) (s : State) where
   update-fixed c l = let r = calls.resized K s c l in
       unless-fixed s (calls.resizeCauses K s c l) number.Refused (calls.settled s (r .0) number.Refused (number.Is (r .1))) (settled-fixed s (r .0) number.Refused (number.Is (r .1)) (resized-fixed c l))
 
-  split-entry-fixed : (c : Cursor) (l : List ℕ) (flag : Bool) → Fixed s (calls.splitEntry K s c l flag .after)
-  unfolding calls.splitEntry
-  split-entry-fixed c l flag = let r = place.divide (shapeOf K (s .head)) flag s (c .leaf .0) (c .slot) l in
+  pub split-entry-fixed : (room : List Cause) (c : Cursor) (l : List ℕ) (flag : Bool) → Fixed s (calls.splitBy K room s c l flag .after)
+  unfolding calls.splitBy
+  split-entry-fixed room c l flag = let r = place.divide (shapeOf K (s .head)) flag s (c .leaf .0) (c .slot) l in
       let a = calls.dividedAt (s .head .entries) (nextStamp (s .head .stamp)) (r .leaf) (r .slot) in
-      unless-fixed s (calls.splitCauses K s c l) divided.Refused (calls.settled s r divided.Refused a)
+      unless-fixed s (calls.splitCauses K room s c l) divided.Refused (calls.settled s r divided.Refused a)
       (settled-fixed s r divided.Refused a (divide-fixed (shapeOf K (s .head)) flag s (c .leaf .0) (c .slot) l))
 
   search-fixed : (b : Search) → Fixed s (calls.bySearch s b .after)
@@ -207,8 +207,8 @@ module _ (K : Kind) (s : State) where
   move-fixed : (c : Call) → Fixed s (treeMove K s c .after)
   unfolding treeMove
   move-fixed (row.reset l) = reset-fixed l
-  move-fixed (row.insert i l) = target-fixed i (λ t. told (calls.insert K s t l) insertedAnswer) (λ t. insert-fixed t l)
-  move-fixed (row.split flag i l) = at-fixed (calls.cursor K s i) (λ c. told (calls.splitEntry K s c l flag) dividedAnswer) (λ c. split-entry-fixed c l flag)
+  move-fixed (row.insert i l) = target-fixed i (λ t. told (calls.insert K s t l) insertedAnswer) (λ t. insert-fixed (full s ∷ []) t l)
+  move-fixed (row.split flag i l) = at-fixed (calls.cursor K s i) (λ c. told (calls.splitEntry K s c l flag) dividedAnswer) (λ c. split-entry-fixed (full s ∷ []) c l flag)
   move-fixed (row.setLengths i l) = at-fixed (calls.cursor K s i) (λ c. told (calls.setLengths K s c l) outcomeAnswer) (λ c. set-fixed c l)
   move-fixed (row.update i l) = at-fixed (calls.cursor K s i) (λ c. told (calls.update K s c l) numberAnswer) (λ c. update-fixed c l)
   move-fixed (row.lookup v x) = locate-fixed v x
@@ -234,8 +234,8 @@ unfolding calls.charIndexToEntry
 fixes K s =
     record {
       reset = reset-fixed K s;
-      insert = insert-fixed K s;
-      split = split-entry-fixed K s;
+      insert = insert-fixed K s (full s ∷ []);
+      split = split-entry-fixed K s (full s ∷ []);
       setLengths = set-fixed K s;
       update = update-fixed K s;
       locate = locate-fixed K s;

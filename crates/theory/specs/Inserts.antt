@@ -3,7 +3,7 @@ use mathlib.Core.Path.{_≡_, refl, sym, ap, ap₂, _∙_, subst}
 use mathlib.Core.Logic.{_≢_}
 use mathlib.Core.Bool.{Bool, true, false, cond, _&&_, not}
 use mathlib.Core.List.{List, [], _∷_, _++_, map, append-nil, append-assoc}
-use Prim.Native.Nat.{ℕ, _+_, _<_}
+use Prim.Native.Nat.{ℕ, zero, suc, _+_, _<_}
 use native.Mathlib.Decide.{decLt}
 use native.Mathlib.Omega.{arith}
 use lib.Dec.{ltb, leb, eqb}
@@ -50,14 +50,14 @@ use Rattle.theory.specs.Open.{passed, stopped, few-lines, opens, fresh-a
 use Rattle.theory.specs.Edge.{last-top, last-down}
 use Rattle.theory.specs.Resize.{ltb-same}
 use Rattle.theory.specs.Placed.{Placed, placed-is}
-use Rattle.theory.specs.Agree.{Agrees, Mirrors, rowOf, row-passed, row-stopped, own, entries-are, count-is, below, by-id, before-is, from-is, total-before}
+use Rattle.theory.specs.Agree.{Agrees, Mirrors, rowOf, Space, by-limit, row-passed, row-stopped, own, entries-are, count-is, below, by-id, before-is, from-is, total-before}
 
 -- an insertion at a place between R₁ and R₂ of the row, by a call that answers X where the row answers a
-module _ (K : Kind) (t : State) (w : Coherent K t) (i : ℕ) (l : List ℕ) (wl : length l ≡ K .views) (tg : Target) (k j : ℕ) (R₁ R₂ : List Slot)
+module _ (K : Kind) (t : State) (w : Coherent K t) (room rowRoom : List Cause) (space : Space t room rowRoom) (i : ℕ) (l : List ℕ) (wl : length l ≡ K .views) (tg : Target) (k j : ℕ) (R₁ R₂ : List Slot)
     (whole : tree.row (treeOf (stride K) t) ≡ R₁ ++ R₂)
     (ins : inserted i (newEntry (rowOf K t) l) (entriesOf K t) ≡ map (entryFrom (K .views)) R₁ ++ entry (t .head .entries) l ∷ map (entryFrom (K .views)) R₂)
     (aimed : placed K t tg l ≡ climb (shapeIn (stride K) t) (K .effect) l (place.place (shapeIn (stride K) t) t k j l))
-    (causes : refusal (insertCauses K t tg l) ≡ refusal (past K t [] l ∷ refuse′.full t ∷ []))
+    (causes : refusal (insertCauses K room t tg l) ≡ refusal (past K t [] l ∷ room))
     (pl : t .head .entries < t .head .limit → ((v : ℕ) → sumBy (len v) (R₁ ++ insert.slotOf (t .head .entries) (λ u. getD l u 0) ∷ R₂) < 4294967296) → Placed K t k j R₁ R₂ l) where
   abbrev es′ : List Entry
   es′ = inserted i (newEntry (rowOf K t) l) (entriesOf K t)
@@ -89,12 +89,9 @@ module _ (K : Kind) (t : State) (w : Coherent K t) (i : ℕ) (l : List ℕ) (wl 
       let e : totalOf K t v ≡ sumBy (len v) (tree.row (treeOf (stride K) t)) = sym (sum-slots v (used (innerIn (stride K) t (t .head .root .0)))) ∙ total-is (treeOf (stride K) t) (body-of (stride K) t (K .effect) w) v in
       ltb-same (4294967295 + getD [] v 0) (totalOf K t v + getD l v 0) 4294967295 (row.total v es′) (λ h. omega arith) (λ h. omega arith)))
 
-  full-is : leb (t .head .limit) (t .head .entries) ≡ leb (t .head .limit) (length (entriesOf K t))
-  full-is = ap (leb (t .head .limit)) (sym (count-is K t w))
-
-  both-causes : refusal (insertCauses K t tg l) ≡ refusal (row.past K es′ ∷ row.full (rowOf K t) ∷ [])
+  both-causes : refusal (insertCauses K room t tg l) ≡ refusal (row.past K es′ ∷ rowRoom)
   unfolding refusal
-  both-causes = causes ∙ ap₂ (λ (a b : Bool). cond a 7 (cond b 8 0)) past-is full-is
+  both-causes = causes ∙ ap₂ (λ (a : Bool) (n : ℕ). cond a 7 n) past-is (space .same)
 
   small : over ≡ false → (v : ℕ) → sumBy (len v) R′ < 4294967296
   small ok v = go (decLt v (K .views))
@@ -105,26 +102,26 @@ module _ (K : Kind) (t : State) (w : Coherent K t) (i : ℕ) (l : List ℕ) (wl 
 
   module _ {X : Type 0} (refuse : ℕ → X) (answer : ℕ → X) (say : X → Answer) (a : Answer) (says : (n : ℕ) → say (refuse n) ≡ refused n) (right : say (answer (sumBy (len (K .effect)) R₁)) ≡ a) where
     pub insert-step : Agrees (Mirrors K)
-        (told (calls.unless (insertCauses K t tg l) (λ n. calls.reply t (refuse n)) (calls.settled t (placed K t tg l .0) refuse (answer (placed K t tg l .1)))) say)
-        (unless (rowOf K t) (row.past K es′ ∷ row.full (rowOf K t) ∷ []) es′ a)
+        (told (calls.unless (insertCauses K room t tg l) (λ n. calls.reply t (refuse n)) (calls.settled t (placed K t tg l .0) refuse (answer (placed K t tg l .1)))) say)
+        (unless (rowOf K t) (row.past K es′ ∷ rowRoom) es′ a)
     unfolding refusal
-    insert-step = go over refl (leb (t .head .limit) (length (entriesOf K t))) refl
+    insert-step = go over refl (refusal rowRoom) refl
       where
-        go : (p : Bool) → over ≡ p → (q : Bool) → leb (t .head .limit) (length (entriesOf K t)) ≡ q → Agrees (Mirrors K)
-            (told (calls.unless (insertCauses K t tg l) (λ n. calls.reply t (refuse n)) (calls.settled t (placed K t tg l .0) refuse (answer (placed K t tg l .1)))) say)
-            (unless (rowOf K t) (row.past K es′ ∷ row.full (rowOf K t) ∷ []) es′ a)
-        go true e q f =
-            let z : refusal (row.past K es′ ∷ row.full (rowOf K t) ∷ []) ≡ 7 = ap₂ (λ (a b : Bool). cond a 7 (cond b 8 0)) e f in
-            rw (stopped (insertCauses K t tg l) (λ n. calls.reply t (refuse n)) (calls.settled t (placed K t tg l .0) refuse (answer (placed K t tg l .1))) 6 (both-causes ∙ z), row-stopped (rowOf K t) (row.past K es′ ∷ row.full (rowOf K t) ∷ []) es′ a 6 z)
+        go : (p : Bool) → over ≡ p → (n : ℕ) → refusal rowRoom ≡ n → Agrees (Mirrors K)
+            (told (calls.unless (insertCauses K room t tg l) (λ n. calls.reply t (refuse n)) (calls.settled t (placed K t tg l .0) refuse (answer (placed K t tg l .1)))) say)
+            (unless (rowOf K t) (row.past K es′ ∷ rowRoom) es′ a)
+        go true e n f =
+            let z : refusal (row.past K es′ ∷ rowRoom) ≡ 7 = ap₂ (λ (a : Bool) (n : ℕ). cond a 7 n) e f in
+            rw (stopped (insertCauses K room t tg l) (λ n. calls.reply t (refuse n)) (calls.settled t (placed K t tg l .0) refuse (answer (placed K t tg l .1))) 6 (both-causes ∙ z), row-stopped (rowOf K t) (row.past K es′ ∷ rowRoom) es′ a 6 z)
             (record { same = says 7; kept = own K t w })
-        go false e true f =
-            let z : refusal (row.past K es′ ∷ row.full (rowOf K t) ∷ []) ≡ 8 = ap₂ (λ (a b : Bool). cond a 7 (cond b 8 0)) e f in
-            rw (stopped (insertCauses K t tg l) (λ n. calls.reply t (refuse n)) (calls.settled t (placed K t tg l .0) refuse (answer (placed K t tg l .1))) 7 (both-causes ∙ z), row-stopped (rowOf K t) (row.past K es′ ∷ row.full (rowOf K t) ∷ []) es′ a 7 z)
-            (record { same = says 8; kept = own K t w })
-        go false e false f =
-            let z : refusal (row.past K es′ ∷ row.full (rowOf K t) ∷ []) ≡ 0 = ap₂ (λ (a b : Bool). cond a 7 (cond b 8 0)) e f in
-            let p = pl (let y = leb-false (t .head .limit) (length (entriesOf K t)) f in omega (arith, count-is K t w)) (small e) in
-            rw (passed (insertCauses K t tg l) (λ n. calls.reply t (refuse n)) (calls.settled t (placed K t tg l .0) refuse (answer (placed K t tg l .1))) (both-causes ∙ z), row-passed (rowOf K t) (row.past K es′ ∷ row.full (rowOf K t) ∷ []) es′ a z, aimed, p .is)
+        go false e (suc n) f =
+            let z : refusal (row.past K es′ ∷ rowRoom) ≡ suc n = ap₂ (λ (a : Bool) (n : ℕ). cond a 7 n) e f in
+            rw (stopped (insertCauses K room t tg l) (λ n. calls.reply t (refuse n)) (calls.settled t (placed K t tg l .0) refuse (answer (placed K t tg l .1))) n (both-causes ∙ z), row-stopped (rowOf K t) (row.past K es′ ∷ rowRoom) es′ a n z)
+            (record { same = says (suc n); kept = own K t w })
+        go false e zero f =
+            let z : refusal (row.past K es′ ∷ rowRoom) ≡ 0 = ap₂ (λ (a : Bool) (n : ℕ). cond a 7 n) e f in
+            let p = pl (space .free f) (small e) in
+            rw (passed (insertCauses K room t tg l) (λ n. calls.reply t (refuse n)) (calls.settled t (placed K t tg l .0) refuse (answer (placed K t tg l .1))) (both-causes ∙ z), row-passed (rowOf K t) (row.past K es′ ∷ rowRoom) es′ a z, aimed, p .is)
             (record { same = right; kept = record { coherent = p .sound; entries = p .entries ∙ sym ins; limit = p .limit } })
 
 and-true : (a : Bool) → (a && not false) ≡ a
@@ -136,20 +133,20 @@ and-false true = refl
 and-false false = refl
 
 -- the calls, with the answer of a call that answers X
-module _ (K : Kind) (ok : K .effect < K .views) (t : State) (w : Coherent K t) (i : ℕ) (l : List ℕ) (wl : length l ≡ K .views) (lines : tooManyLines K l ≡ false) {X : Type 0} (refuse : ℕ → X) (answer : ℕ → X) (say : X → Answer) (a : Answer) (says : (n : ℕ) → say (refuse n) ≡ refused n) where
+module _ (K : Kind) (ok : K .effect < K .views) (t : State) (w : Coherent K t) (room rowRoom : List Cause) (space : Space t room rowRoom) (i : ℕ) (l : List ℕ) (wl : length l ≡ K .views) (lines : tooManyLines K l ≡ false) {X : Type 0} (refuse : ℕ → X) (answer : ℕ → X) (say : X → Answer) (a : Answer) (says : (n : ℕ) → say (refuse n) ≡ refused n) where
   abbrev call : Target → Moved State
-  call tg = told (calls.unless (insertCauses K t tg l) (λ n. calls.reply t (refuse n)) (calls.settled t (placed K t tg l .0) refuse (answer (placed K t tg l .1)))) say
+  call tg = told (calls.unless (insertCauses K room t tg l) (λ n. calls.reply t (refuse n)) (calls.settled t (placed K t tg l .0) refuse (answer (placed K t tg l .1)))) say
 
   abbrev rowCauses : List Cause
-  rowCauses = row.past K (inserted i (newEntry (rowOf K t) l) (entriesOf K t)) ∷ row.full (rowOf K t) ∷ []
+  rowCauses = row.past K (inserted i (newEntry (rowOf K t) l) (entriesOf K t)) ∷ rowRoom
 
   before-step : (c : Seat K t w i) → say (answer (sumBy (len (K .effect)) (front (c .cur)))) ≡ a → Agrees (Mirrors K) (call (target.Before (cursorAt (t .head .stamp) (c .leaf) (c .slot)))) (unless (rowOf K t) rowCauses (inserted i (newEntry (rowOf K t) l) (entriesOf K t)) a)
   before-step c right =
-      insert-step K t w i l wl (target.Before (cursorAt (t .head .stamp) (c .leaf) (c .slot))) (c .leaf) (c .slot) (front (c .cur)) (c .cur .e ∷ behind (c .cur)) (c .cur .row)
+      insert-step K t w room rowRoom space i l wl (target.Before (cursorAt (t .head .stamp) (c .leaf) (c .slot))) (c .leaf) (c .slot) (front (c .cur)) (c .cur .e ∷ behind (c .cur)) (c .cur .row)
       (ap₂ (λ (b : List Entry) (n : ℕ). b ++ entry n l ∷ from i (entriesOf K t)) (before-is K t w i c) (count-is K t w) ∙ ap (λ (b : List Entry). map (entryFrom (K .views)) (front (c .cur)) ++ entry (t .head .entries) l ∷ b) (from-is K t w i c))
       refl
-      (few-lines K l _ lines ∙ ap refusal (append-assoc (opening K t) (atCursor K t (cursorAt (t .head .stamp) (c .leaf) (c .slot))) (past K t [] l ∷ refuse′.full t ∷ []))
-      ∙ opens K t w (atCursor K t (cursorAt (t .head .stamp) (c .leaf) (c .slot)) ++ past K t [] l ∷ refuse′.full t ∷ []) ∙ fresh-at K t w (c .leaf) (c .slot) (past K t [] l ∷ refuse′.full t ∷ []) (c .leaf-in) (c .slot-in))
+      (few-lines K l _ lines ∙ ap refusal (append-assoc (opening K t) (atCursor K t (cursorAt (t .head .stamp) (c .leaf) (c .slot))) (past K t [] l ∷ room))
+      ∙ opens K t w (atCursor K t (cursorAt (t .head .stamp) (c .leaf) (c .slot)) ++ past K t [] l ∷ room) ∙ fresh-at K t w (c .leaf) (c .slot) (past K t [] l ∷ room) (c .leaf-in) (c .slot-in))
       (λ few tot. placed-is K t w (c .cur .A) (c .leaf) (c .cur .B) (c .cur .body) (c .slot) (let z = c .cur .inside in omega arith) (front (c .cur)) (c .cur .e ∷ behind (c .cur)) (c .cur .made) l wl few tot)
       refuse answer say a says right
 
@@ -179,10 +176,10 @@ module _ (K : Kind) (ok : K .effect < K .views) (t : State) (w : Coherent K t) (
   end-step : i ≡ noEntry → say (answer (sumBy (len (K .effect)) (tree.row (treeOf (stride K) t)))) ≡ a → Agrees (Mirrors K) (call target.End) (unless (rowOf K t) rowCauses (inserted i (newEntry (rowOf K t) l) (entriesOf K t)) a)
   unfolding refusal
   end-step e right =
-      insert-step K t w i l wl target.End last (length (slotsOf (leafIn (stride K) t last))) (tree.row (treeOf (stride K) t)) [] (sym (append-nil (tree.row (treeOf (stride K) t))))
+      insert-step K t w room rowRoom space i l wl target.End last (length (slotsOf (leafIn (stride K) t last))) (tree.row (treeOf (stride K) t)) [] (sym (append-nil (tree.row (treeOf (stride K) t))))
       (ap₂ (λ (b f : List Entry). b ++ newEntry (rowOf K t) l ∷ f) (before-end i (entriesOf K t) (without e)) (from-end i (entriesOf K t) (without e)) ∙ ap₂ (λ (b : List Entry) (n : ℕ). b ++ entry n l ∷ []) (entries-are K t w) (count-is K t w))
       (ap (λ (r : Change). climb (shapeIn (stride K) t) (K .effect) l (cond (eqb (r .number) 0) (place.place (shapeIn (stride K) t) t (r .leaf) (r .slot) l) r)) aim-end)
-      (few-lines K l (opening K t ++ [] ++ past K t [] l ∷ refuse′.full t ∷ []) lines ∙ ap refusal (append-assoc (opening K t) [] (past K t [] l ∷ refuse′.full t ∷ [])) ∙ opens K t w (past K t [] l ∷ refuse′.full t ∷ []))
+      (few-lines K l (opening K t ++ [] ++ past K t [] l ∷ room) lines ∙ ap refusal (append-assoc (opening K t) [] (past K t [] l ∷ room)) ∙ opens K t w (past K t [] l ∷ room))
       (λ few tot. placed-is K t w (last-at .0) last [] last-body (length (slotsOf (leafIn (stride K) t last))) (omega arith) (tree.row (treeOf (stride K) t)) [] (end-made (K .effect) (treeOf (stride K) t) (sound-of (stride K) t (K .effect) w)) l wl few tot)
       refuse answer say a says right
 
@@ -202,7 +199,12 @@ module _ (K : Kind) (ok : K .effect < K .views) (t : State) (w : Coherent K t) (
           (by-id K t w i (λ c. call (target.Before c)) rowCauses (inserted i (newEntry (rowOf K t) l) (entriesOf K t)) a (λ c. before-step c (right (sumBy (len (K .effect)) (front (c .cur))) (total-before K t w i c (K .effect) (ok)))))
 
 module _ (K : Kind) (ok : K .effect < K .views) (t : State) (w : Coherent K t) where
-  pub step-insert : (i : ℕ) (l : List ℕ) (wl : length l ≡ K .views) → tooManyLines K l ≡ false → Agrees (Mirrors K) (treeMove K t (row.insert i l)) (rowMove K (rowOf K t) (row.insert i l))
-  unfolding treeMove rowMove calls.insert
-  step-insert i l wl lines = target-step K ok t w i l wl lines insertion.Refused (λ p. insertion.At (entryId (t .head .entries)) p) insertedAnswer (done (length (entriesOf K t) ∷ row.total (K .effect) (before i (entriesOf K t)) ∷ [])) (λ n. refl)
+  pub step-insert-by : (room rowRoom : List Cause) (space : Space t room rowRoom) (i : ℕ) (l : List ℕ) (wl : length l ≡ K .views) → tooManyLines K l ≡ false
+      → Agrees (Mirrors K) (withTarget K t i (λ tg. told (calls.insertBy K room t tg l) insertedAnswer)) (row.insertBy K rowRoom (rowOf K t) i l)
+  unfolding calls.insertBy
+  step-insert-by room rowRoom space i l wl lines = target-step K ok t w room rowRoom space i l wl lines insertion.Refused (λ p. insertion.At (entryId (t .head .entries)) p) insertedAnswer (done (length (entriesOf K t) ∷ row.total (K .effect) (before i (entriesOf K t)) ∷ [])) (λ n. refl)
       (λ n e. ap₂ (λ (c p : ℕ). done (c ∷ p ∷ [])) (sym (count-is K t w)) (sym e))
+
+  pub step-insert : (i : ℕ) (l : List ℕ) (wl : length l ≡ K .views) → tooManyLines K l ≡ false → Agrees (Mirrors K) (treeMove K t (row.insert i l)) (rowMove K (rowOf K t) (row.insert i l))
+  unfolding treeMove rowMove
+  step-insert i l wl lines = step-insert-by (refuse′.full t ∷ []) (row.full (rowOf K t) ∷ []) (by-limit K t w) i l wl lines

@@ -198,11 +198,11 @@ module _ (K : Kind) (s : State) where
       climb-left (shapeOf K (s .head)) s (K .effect) (minus l (lengths (calls.slotAt K s c))) (place.replace (shapeOf K (s .head)) s (c .leaf .0) (c .slot) l) h (omega arith)
       (replace-left (shapeOf K (s .head)) s (c .leaf .0) (c .slot) l h (omega arith) hk)
 
-  insert-leaves : (t : Target) (l : List ℕ) → Words K l → Leaves (insertedAnswer (calls.insert K s t l .answer) .number) s (calls.insert K s t l .after)
-  unfolding calls.insert opening
-  insert-leaves t l w = let r = calls.placed K s t l in let a = inserted.At (calls.entryId (s .head .entries)) (r .1) in
-      unless-leaves insertedAnswer inserted.Refused (λ n. refl) s (calls.insertCauses K s t l) (calls.settled s (r .0) inserted.Refused a)
-      (λ e. settled-leaves insertedAnswer inserted.Refused (λ n. refl) s (r .0) a refl (placed-left t l w (opened K s (calls.targetCauses K s t ++ past K s [] l ∷ full s ∷ []) (few K l _ e) .0)))
+  pub insert-leaves : (room : List Cause) (t : Target) (l : List ℕ) → Words K l → Leaves (insertedAnswer (calls.insertBy K room s t l .answer) .number) s (calls.insertBy K room s t l .after)
+  unfolding calls.insertBy opening
+  insert-leaves room t l w = let r = calls.placed K s t l in let a = inserted.At (calls.entryId (s .head .entries)) (r .1) in
+      unless-leaves insertedAnswer inserted.Refused (λ n. refl) s (calls.insertCauses K room s t l) (calls.settled s (r .0) inserted.Refused a)
+      (λ e. settled-leaves insertedAnswer inserted.Refused (λ n. refl) s (r .0) a refl (placed-left t l w (opened K s (calls.targetCauses K s t ++ past K s [] l ∷ room) (few K l _ e) .0)))
 
   set-leaves : (c : Cursor) (l : List ℕ) → Words K l → Leaves (outcomeAnswer (calls.setLengths K s c l .answer) .number) s (calls.setLengths K s c l .after)
   unfolding calls.setLengths opening
@@ -216,12 +216,12 @@ module _ (K : Kind) (s : State) where
       unless-leaves numberAnswer number.Refused (λ n. refl) s (calls.resizeCauses K s c l) (calls.settled s (r .0) number.Refused (number.Is (r .1)))
       (λ e. let o = opened K s (atCursor K s c ++ past K s (lengths (calls.slotAt K s c)) l ∷ []) (few K l _ e) in settled-leaves numberAnswer number.Refused (λ n. refl) s (r .0) (number.Is (r .1)) refl (resized-left c l w (o .0) (current-of K s c (past K s (lengths (calls.slotAt K s c)) l ∷ []) (o .1))))
 
-  split-leaves : (c : Cursor) (l : List ℕ) (flag : Bool) → Words K l → Leaves (dividedAnswer (calls.splitEntry K s c l flag .answer) .number) s (calls.splitEntry K s c l flag .after)
-  unfolding calls.splitEntry opening
-  split-leaves c l flag w = let r = place.divide (shapeOf K (s .head)) flag s (c .leaf .0) (c .slot) l in
+  pub split-leaves : (room : List Cause) (c : Cursor) (l : List ℕ) (flag : Bool) → Words K l → Leaves (dividedAnswer (calls.splitBy K room s c l flag .answer) .number) s (calls.splitBy K room s c l flag .after)
+  unfolding calls.splitBy opening
+  split-leaves room c l flag w = let r = place.divide (shapeOf K (s .head)) flag s (c .leaf .0) (c .slot) l in
       let a = calls.dividedAt (s .head .entries) (nextStamp (s .head .stamp)) (r .leaf) (r .slot) in
-      unless-leaves dividedAnswer divided.Refused (λ m. refl) s (calls.splitCauses K s c l) (calls.settled s r divided.Refused a)
-      (λ e. settled-leaves dividedAnswer divided.Refused (λ m. refl) s r a refl (divide-left (shapeOf K (s .head)) flag s (c .leaf .0) (c .slot) l (opened K s (atCursor K s c ++ tooMuch K l (lengths (calls.slotAt K s c)) ∷ hollowPart K l (lengths (calls.slotAt K s c)) ∷ full s ∷ []) (few K l _ e) .0) (let z = w .long in omega arith)))
+      unless-leaves dividedAnswer divided.Refused (λ m. refl) s (calls.splitCauses K room s c l) (calls.settled s r divided.Refused a)
+      (λ e. settled-leaves dividedAnswer divided.Refused (λ m. refl) s r a refl (divide-left (shapeOf K (s .head)) flag s (c .leaf .0) (c .slot) l (opened K s (atCursor K s c ++ tooMuch K l (lengths (calls.slotAt K s c)) ∷ hollowPart K l (lengths (calls.slotAt K s c)) ∷ room) (few K l _ e) .0) (let z = w .long in omega arith)))
 
   -- a lookup writes no area, and keeps a finger only where it finds an entry
   search-leaves : (b : Search) → Leaves (locatedAnswer (calls.bySearch s b .answer) .number) s (calls.bySearch s b .after)
@@ -299,8 +299,8 @@ module _ (K : Kind) (s : State) where
   move-leaves : (c : Call) → InWords K c → Leaves (treeMove K s c .answer .number) s (treeMove K s c .after)
   unfolding treeMove
   move-leaves (row.reset l) k = reset-leaves l k
-  move-leaves (row.insert i l) k = target-leaves i (λ t. told (calls.insert K s t l) insertedAnswer) (λ t. insert-leaves t l (k .1))
-  move-leaves (row.split flag i l) k = at-leaves (calls.cursor K s i) (λ c. told (calls.splitEntry K s c l flag) byId.dividedAnswer) (λ c. rw (id-number (calls.splitEntry K s c l flag .answer)) (split-leaves c l flag (k .1)))
+  move-leaves (row.insert i l) k = target-leaves i (λ t. told (calls.insert K s t l) insertedAnswer) (λ t. insert-leaves (full s ∷ []) t l (k .1))
+  move-leaves (row.split flag i l) k = at-leaves (calls.cursor K s i) (λ c. told (calls.splitEntry K s c l flag) byId.dividedAnswer) (λ c. rw (id-number (calls.splitEntry K s c l flag .answer)) (split-leaves (full s ∷ []) c l flag (k .1)))
   move-leaves (row.setLengths i l) k = at-leaves (calls.cursor K s i) (λ c. told (calls.setLengths K s c l) outcomeAnswer) (λ c. set-leaves c l (k .1))
   move-leaves (row.update i l) k = at-leaves (calls.cursor K s i) (λ c. told (calls.update K s c l) numberAnswer) (λ c. update-leaves c l (k .1))
   move-leaves (row.lookup v x) k = look-leaves v x
@@ -323,8 +323,8 @@ pub refusals : (K : Kind) (s : State) → Refusals K s
 refusals K s =
     record {
       reset = reset-leaves K s;
-      insert = insert-leaves K s;
-      split = split-leaves K s;
+      insert = insert-leaves K s (full s ∷ []);
+      split = split-leaves K s (full s ∷ []);
       setLengths = set-leaves K s;
       update = update-leaves K s;
       locate = locate-leaves K s;

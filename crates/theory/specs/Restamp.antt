@@ -148,10 +148,10 @@ module _ (K : Kind) (m : ℕ) (s : State) where
 
   insert-moves : (t t′ : Target) (l : List ℕ) → Twins (calls.aim K s t) (calls.aim K s′ t′) → calls.targetCauses K s′ t′ ≡ calls.targetCauses K s t
       → Moves (told (calls.insert K s t l) insertedAnswer) (told (calls.insert K s′ t′ l) insertedAnswer)
-  unfolding calls.insert
+  unfolding calls.insertBy
   insert-moves t t′ l h e =
       let c = placed-twins t t′ l h in
-      unless-moves m s insertedAnswer inserted′.Refused (calls.insertCauses K s t l) (calls.insertCauses K s′ t′ l)
+      unless-moves m s insertedAnswer inserted′.Refused (calls.insertCauses K (refuse′.full s ∷ []) s t l) (calls.insertCauses K (refuse′.full s′ ∷ []) s′ t′ l)
       (ap₂ (λ (a b : List Cause). refuse′.manyLines K l ∷ (a ++ b ++ refuse′.past K s [] l ∷ refuse′.full s ∷ [])) opening-same e) _ _
       (settled-moves m s insertedAnswer inserted′.Refused (calls.placed K s t l .0) (calls.placed K s′ t′ l .0) (c .twins) _ _ (ap (λ (n : ℕ). insertedAnswer (inserted′.At (calls.entryId (s .head .entries)) n)) (c .same)))
 
@@ -167,9 +167,9 @@ module _ (K : Kind) (m : ℕ) (s : State) where
       (λ k j. insert-moves (target.Before (here k j)) (target.Before (there k j)) l (record { stamp = m; is = refl }) (at-same k j)))
 
   split-moves : (flag : Bool) (l : List ℕ) (k j : ℕ) → Moves (told (calls.splitEntry K s (here k j) l flag) dividedAnswer) (told (calls.splitEntry K s′ (there k j) l flag) dividedAnswer)
-  unfolding calls.splitEntry
+  unfolding calls.splitBy
   split-moves flag l k j =
-      unless-moves m s dividedAnswer divided.Refused (calls.splitCauses K s (here k j) l) (calls.splitCauses K s′ (there k j) l)
+      unless-moves m s dividedAnswer divided.Refused (calls.splitCauses K (refuse′.full s ∷ []) s (here k j) l) (calls.splitCauses K (refuse′.full s′ ∷ []) s′ (there k j) l)
       (ap₂ (λ (a b : List Cause). let ls = lengths (calls.slotAt K s (here k j)) in refuse′.manyLines K l ∷ (a ++ b ++ refuse′.tooMuch K l ls ∷ refuse′.hollowPart K l ls ∷ refuse′.full s ∷ [])) opening-same (at-same k j)) _ _
       (settled-moves m s dividedAnswer divided.Refused (place.divide (shapeOf K (s .head)) flag s k j l) (place.divide (shapeOf K (s .head)) flag s′ k j l) (divide-twins (shapeOf K (s .head)) m flag s k j l) _ _ refl)
 

@@ -2,7 +2,7 @@
 use mathlib.Core.Path.{_≡_, refl, sym, ap, ap₂, _∙_, subst}
 use mathlib.Core.Bool.{Bool, true, false, cond, _||_}
 use mathlib.Core.List.{List, [], _∷_, _++_, map, zipWith, head-eq-of-cons-eq, append-assoc}
-use Prim.Native.Nat.{ℕ, suc, _+_, _-_, _<_, _≤_}
+use Prim.Native.Nat.{ℕ, zero, suc, _+_, _-_, _<_, _≤_}
 use native.Mathlib.Nat.{add-zero}
 use native.Mathlib.Decide.{decLt}
 use native.Mathlib.Omega.{arith}
@@ -25,7 +25,7 @@ use Rattle.model.specs.Refuse.{opening, atCursor}
 use Rattle.model.specs.Refuse as refuse′
 use Rattle.model.specs.Calls as calls
 use Rattle.model.specs.Calls.{cursorAt, dividedAt, splitCauses}
-use Rattle.model.specs.ById.{told, treeMove, dividedAnswer}
+use Rattle.model.specs.ById.{withCursor, told, treeMove, dividedAnswer}
 use Rattle.model.specs.declared.answer.Divided.{Divided}
 use Rattle.model.specs.declared.answer.Divided.the-variants as division
 use Rattle.abstract_tree.specs.Lists.{cat, sumBy-append, map-append}
@@ -53,11 +53,11 @@ use Rattle.theory.specs.Room.{Roomed}
 use Rattle.theory.specs.Gap.{opened, leafWith, Gap, gap}
 use Rattle.theory.specs.Enter.{entered, entered-read, entered-neat, entered-tree}
 use Rattle.theory.specs.Halved.{halved-tidy, halved-parent, halved-at, halved-slots}
-use Rattle.theory.specs.Agree.{Agrees, Mirrors, rowOf, row-passed, row-stopped, own, entries-are, count-is, by-id, before-is, from-is, slot-lengths}
+use Rattle.theory.specs.Agree.{Agrees, Mirrors, rowOf, Space, by-limit, row-passed, row-stopped, own, entries-are, count-is, by-id, before-is, from-is, slot-lengths}
 
 -- the row's causes behind the id
-abbrev pub behindId : Kind → Row → ℕ → List ℕ → List Cause
-behindId K r i l = row.tooMuch K l (row.lengthsOf i (r .entries)) ∷ row.hollowPart K l (row.lengthsOf i (r .entries)) ∷ row.full r ∷ []
+abbrev pub behindId : Kind → List Cause → Row → ℕ → List ℕ → List Cause
+behindId K room r i l = row.tooMuch K l (row.lengthsOf i (r .entries)) ∷ row.hollowPart K l (row.lengthsOf i (r .entries)) ∷ room
 
 -- the children of a divided entry's two parts
 first-part : (flag : Bool) (e : Slot) (u : ℕ → ℕ) (n : ℕ) (S : List Slot) → getD (ops.divided flag e u n S) 0 noSlot .child ≡ cond flag n (e .child)
@@ -241,69 +241,75 @@ module _ (K : Kind) (t : State) (w : Coherent K t) (i : ℕ) (c : Seat K t w i) 
   abbrev empty : Bool
   empty = hollow K l || hollow K (zipWith _-_ (row.lengthsOf i (entriesOf K t)) l)
 
-  -- the first number of three tests
-  abbrev numberOf : Bool → Bool → Bool → ℕ
-  numberOf a b d = cond a 6 (cond b 17 (cond d 8 0))
+  -- with the causes for want of space
+  module _ (room rowRoom : List Cause) (space : Space t room rowRoom) where
+    -- the number of two tests and, behind them, of want of space
+    abbrev numberOf : Bool → Bool → ℕ → ℕ
+    numberOf a b n = cond a 6 (cond b 17 n)
 
-  abbrev causes : List Cause
-  causes = splitCauses K t (cursorAt (t .head .stamp) (c .leaf) (c .slot)) l
+    abbrev causes : List Cause
+    causes = splitCauses K room t (cursorAt (t .head .stamp) (c .leaf) (c .slot)) l
 
-  -- those behind the cursor's, for an entry of the lengths ls
-  abbrev partCauses : List ℕ → List Cause
-  partCauses ls = refuse′.tooMuch K l ls ∷ refuse′.hollowPart K l ls ∷ refuse′.full t ∷ []
+    -- those behind the cursor's, for an entry of the lengths ls
+    abbrev partCauses : List ℕ → List Cause
+    partCauses ls = refuse′.tooMuch K l ls ∷ refuse′.hollowPart K l ls ∷ room
 
-  abbrev rowCauses : List Cause
-  rowCauses = behindId K (rowOf K t) i l
+    abbrev rowCauses : List Cause
+    rowCauses = behindId K rowRoom (rowOf K t) i l
 
-  both-causes : refusal causes ≡ refusal rowCauses
-  unfolding refusal
-  both-causes =
-      let ls : List ℕ = lengths (getD (leafIn (stride K) t (c .leaf) .slots) (c .slot) []) in
-      few-lines K l (opening K t ++ atCursor K t (cursorAt (t .head .stamp) (c .leaf) (c .slot)) ++ partCauses ls) lines
-      ∙ ap refusal (append-assoc (opening K t) (atCursor K t (cursorAt (t .head .stamp) (c .leaf) (c .slot))) (partCauses ls))
-      ∙ opens K t w (atCursor K t (cursorAt (t .head .stamp) (c .leaf) (c .slot)) ++ partCauses ls)
-      ∙ fresh-at K t w (c .leaf) (c .slot) (partCauses ls) (c .leaf-in) (c .slot-in)
-      ∙ ap (λ (ls : List ℕ). refusal (partCauses ls)) (slot-lengths K t w i c)
-      ∙ ap (λ (b : Bool). numberOf short empty b) (ap (leb (t .head .limit)) (sym (count-is K t w)))
+    both-causes : refusal causes ≡ refusal rowCauses
+    unfolding refusal
+    both-causes =
+        let ls : List ℕ = lengths (getD (leafIn (stride K) t (c .leaf) .slots) (c .slot) []) in
+        few-lines K l (opening K t ++ atCursor K t (cursorAt (t .head .stamp) (c .leaf) (c .slot)) ++ partCauses ls) lines
+        ∙ ap refusal (append-assoc (opening K t) (atCursor K t (cursorAt (t .head .stamp) (c .leaf) (c .slot))) (partCauses ls))
+        ∙ opens K t w (atCursor K t (cursorAt (t .head .stamp) (c .leaf) (c .slot)) ++ partCauses ls)
+        ∙ fresh-at K t w (c .leaf) (c .slot) (partCauses ls) (c .leaf-in) (c .slot-in)
+        ∙ ap (λ (ls : List ℕ). refusal (partCauses ls)) (slot-lengths K t w i c)
+        ∙ ap (numberOf short empty) (space .same)
 
-  abbrev entries′ : List Entry
-  entries′ = divided flag i (newEntry (rowOf K t) l) (entriesOf K t)
+    abbrev entries′ : List Entry
+    entries′ = divided flag i (newEntry (rowOf K t) l) (entriesOf K t)
 
-  abbrev rowAnswer : Answer
-  rowAnswer = done (length (entriesOf K t) ∷ [])
+    abbrev rowAnswer : Answer
+    rowAnswer = done (length (entriesOf K t) ∷ [])
 
-  -- where both stop at the same number, or the entry is parted and the state stands for the row
-  pub split-by : (P : calls.Reply Divided → Moved Row → Type 0) → ((n : ℕ) → P (calls.reply t (division.Refused n)) (moved (rowOf K t) (refused n)))
-      → ((s : State) (k j : ℕ) → TwoParts K flag i (t .head .entries) (nextStamp (t .head .stamp)) s k j → Mirrors K s (row.row (t .head .limit) entries′)
-      → P (calls.reply s (dividedAt (t .head .entries) (nextStamp (t .head .stamp)) k j)) (moved (row.row (t .head .limit) entries′) rowAnswer))
-      → P (calls.splitEntry K t (cursorAt (t .head .stamp) (c .leaf) (c .slot)) l flag) (unless (rowOf K t) rowCauses entries′ rowAnswer)
-  unfolding refusal calls.splitEntry
-  split-by P refusing parting = go short refl empty refl (leb (t .head .limit) (length (entriesOf K t))) refl
-    where
-      answered : calls.Reply Divided
-      answered = let r = place.divide (shapeIn (stride K) t) flag t (c .leaf) (c .slot) l in
-          calls.settled t r division.Refused (dividedAt (t .head .entries) (nextStamp (t .head .stamp)) (r .leaf) (r .slot))
+    -- where both stop at the same number, or the entry is parted and the state stands for the row
+    pub split-by : (P : calls.Reply Divided → Moved Row → Type 0) → ((n : ℕ) → P (calls.reply t (division.Refused n)) (moved (rowOf K t) (refused n)))
+        → ((s : State) (k j : ℕ) → TwoParts K flag i (t .head .entries) (nextStamp (t .head .stamp)) s k j → Mirrors K s (row.row (t .head .limit) entries′)
+        → P (calls.reply s (dividedAt (t .head .entries) (nextStamp (t .head .stamp)) k j)) (moved (row.row (t .head .limit) entries′) rowAnswer))
+        → P (calls.splitBy K room t (cursorAt (t .head .stamp) (c .leaf) (c .slot)) l flag) (unless (rowOf K t) rowCauses entries′ rowAnswer)
+    unfolding refusal calls.splitBy
+    split-by P refusing parting = go short refl empty refl (refusal rowRoom) refl
+      where
+        answered : calls.Reply Divided
+        answered = let r = place.divide (shapeIn (stride K) t) flag t (c .leaf) (c .slot) l in
+            calls.settled t r division.Refused (dividedAt (t .head .entries) (nextStamp (t .head .stamp)) (r .leaf) (r .slot))
 
-      refuse : ℕ → calls.Reply Divided
-      refuse n = calls.reply t (division.Refused n)
+        refuse : ℕ → calls.Reply Divided
+        refuse n = calls.reply t (division.Refused n)
 
-      stop : (n : ℕ) → refusal rowCauses ≡ suc n → P (calls.unless causes refuse answered) (unless (rowOf K t) rowCauses entries′ rowAnswer)
-      stop n z = rw (stopped causes refuse answered n (both-causes ∙ z), row-stopped (rowOf K t) rowCauses entries′ rowAnswer n z) (refusing (suc n))
+        stop : (n : ℕ) → refusal rowCauses ≡ suc n → P (calls.unless causes refuse answered) (unless (rowOf K t) rowCauses entries′ rowAnswer)
+        stop n z = rw (stopped causes refuse answered n (both-causes ∙ z), row-stopped (rowOf K t) rowCauses entries′ rowAnswer n z) (refusing (suc n))
 
-      number : {a b d : Bool} → short ≡ a → empty ≡ b → leb (t .head .limit) (length (entriesOf K t)) ≡ d → refusal rowCauses ≡ numberOf a b d
-      number p q r = rw (p, q, r)
+        number : {a b : Bool} {n : ℕ} → short ≡ a → empty ≡ b → refusal rowRoom ≡ n → refusal rowCauses ≡ numberOf a b n
+        number p q r = rw (p, q, r)
 
-      go : (p : Bool) → short ≡ p → (h : Bool) → empty ≡ h → (q : Bool) → leb (t .head .limit) (length (entriesOf K t)) ≡ q → P (calls.unless causes refuse answered) (unless (rowOf K t) rowCauses entries′ rowAnswer)
-      go true e′ h d q f = stop 5 (number e′ d f)
-      go false e′ true d q f = stop 16 (number e′ d f)
-      go false e′ false d true f = stop 7 (number e′ d f)
-      go false e′ false d false f =
-          let z : refusal rowCauses ≡ 0 = number e′ d f in
-          let few : t .head .entries < t .head .limit = (let y = leb-false (t .head .limit) (length (entriesOf K t)) f in omega (arith, count-is K t w)) in
-          rw (passed causes refuse answered (both-causes ∙ z), row-passed (rowOf K t) rowCauses entries′ rowAnswer z, divide-is (enough-of e′) few)
-          (parting (t₃ (enough-of e′) few) (q (enough-of e′) few .leaf) (q (enough-of e′) few .slot) (parted₃ (enough-of e′) few) (stands₃ (enough-of e′) few))
+        go : (p : Bool) → short ≡ p → (h : Bool) → empty ≡ h → (n : ℕ) → refusal rowRoom ≡ n → P (calls.unless causes refuse answered) (unless (rowOf K t) rowCauses entries′ rowAnswer)
+        go true e′ h d n f = stop 5 (number e′ d f)
+        go false e′ true d n f = stop 16 (number e′ d f)
+        go false e′ false d (suc n) f = stop n (number e′ d f)
+        go false e′ false d zero f =
+            let z : refusal rowCauses ≡ 0 = number e′ d f in
+            let few : t .head .entries < t .head .limit = space .free f in
+            rw (passed causes refuse answered (both-causes ∙ z), row-passed (rowOf K t) rowCauses entries′ rowAnswer z, divide-is (enough-of e′) few)
+            (parting (t₃ (enough-of e′) few) (q (enough-of e′) few .leaf) (q (enough-of e′) few .slot) (parted₃ (enough-of e′) few) (stands₃ (enough-of e′) few))
+
+pub step-split-by : (K : Kind) (t : State) (w : Coherent K t) (room rowRoom : List Cause) (space : Space t room rowRoom) (flag : Bool) (i : ℕ) (l : List ℕ) (wl : length l ≡ K .views) → tooManyLines K l ≡ false
+    → Agrees (Mirrors K) (withCursor t (calls.cursor K t i) (λ c. told (calls.splitBy K room t c l flag) dividedAnswer)) (row.splitBy K rowRoom (rowOf K t) flag i l)
+step-split-by K t w room rowRoom space flag i l wl lines = by-id K t w i (λ c. told (calls.splitBy K room t c l flag) dividedAnswer) (behindId K rowRoom (rowOf K t) i l) (divided flag i (newEntry (rowOf K t) l) (entriesOf K t)) (done (length (entriesOf K t) ∷ []))
+    (λ c. split-by K t w i c l wl lines flag room rowRoom space (λ m n. Agrees (Mirrors K) (told m dividedAnswer) n) (λ n. record { same = refl; kept = own K t w }) (λ s k j p h. record { same = ap (λ (n : ℕ). done (n ∷ [])) (sym (count-is K t w)); kept = h }))
 
 pub step-split : (K : Kind) (t : State) (w : Coherent K t) (flag : Bool) (i : ℕ) (l : List ℕ) (wl : length l ≡ K .views) → tooManyLines K l ≡ false → Agrees (Mirrors K) (treeMove K t (row.split flag i l)) (rowMove K (rowOf K t) (row.split flag i l))
 unfolding treeMove rowMove
-step-split K t w flag i l wl lines = by-id K t w i (λ c. told (calls.splitEntry K t c l flag) dividedAnswer) (behindId K (rowOf K t) i l) (divided flag i (newEntry (rowOf K t) l) (entriesOf K t)) (done (length (entriesOf K t) ∷ []))
-    (λ c. split-by K t w i c l wl lines flag (λ m n. Agrees (Mirrors K) (told m dividedAnswer) n) (λ n. record { same = refl; kept = own K t w }) (λ s k j p h. record { same = ap (λ (n : ℕ). done (n ∷ [])) (sym (count-is K t w)); kept = h }))
+step-split K t w flag i l wl lines = step-split-by K t w (refuse′.full t ∷ []) (row.full (rowOf K t) ∷ []) (by-limit K t w) flag i l wl lines

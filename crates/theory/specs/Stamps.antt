@@ -16,7 +16,7 @@ use Rattle.model.specs.Locate.{servedBy, fromRoot}
 use Rattle.model.specs.Place as place
 use Rattle.model.specs.Place.{Change}
 use Rattle.model.specs.Answer.{outcomeAnswer, insertedAnswer, dividedAnswer}
-use Rattle.model.specs.Refuse.{shapeOf, opening}
+use Rattle.model.specs.Refuse.{shapeOf, opening, full}
 use Rattle.model.specs.Row.{Answer}
 use Rattle.model.specs.Calls as calls
 use Rattle.model.specs.ByCursor as by
@@ -167,20 +167,20 @@ module _ (K : Kind) (s : State) (small : s .head .stamp < 2 ^ 64) where
       unless-made outcomeAnswer outcome.Refused (calls.makeCauses K (h .fan) (h .limit) l (s .leaves) (s .inners) (s .homes))
       (calls.reply (calls.begun K (h .fan) (h .limit) (nextStamp (h .stamp)) l (s .leaves) (s .inners) (s .homes)) outcome.Done) (λ n. refl) refl
 
-  insert-made : (t : Target) (l : List ℕ) → After (one (insertedAnswer (calls.insert K s t l .answer))) (calls.insert K s t l .after)
-  unfolding calls.insert
-  insert-made t l =
+  insert-made : (room : List Cause) (t : Target) (l : List ℕ) → After (one (insertedAnswer (calls.insertBy K room s t l .answer))) (calls.insertBy K room s t l .after)
+  unfolding calls.insertBy
+  insert-made room t l =
       let r = calls.placed K s t l in
       let a = inserted′.At (calls.entryId (s .head .entries)) (r .1) in
-      unless-made insertedAnswer inserted′.Refused (calls.insertCauses K s t l) (calls.settled s (r .0) inserted′.Refused a) (λ n. refl)
+      unless-made insertedAnswer inserted′.Refused (calls.insertCauses K room s t l) (calls.settled s (r .0) inserted′.Refused a) (λ n. refl)
       (settled-made insertedAnswer (r .0) inserted′.Refused a (λ n. refl) refl (placed-counts t l))
 
-  split-made : (flag : Bool) (c : Cursor) (l : List ℕ) → After (one (dividedAnswer (calls.splitEntry K s c l flag .answer))) (calls.splitEntry K s c l flag .after)
-  unfolding calls.splitEntry
-  split-made flag c l =
+  split-made : (room : List Cause) (flag : Bool) (c : Cursor) (l : List ℕ) → After (one (dividedAnswer (calls.splitBy K room s c l flag .answer))) (calls.splitBy K room s c l flag .after)
+  unfolding calls.splitBy
+  split-made room flag c l =
       let r = place.divide (shapeOf K (s .head)) flag s (c .leaf .0) (c .slot) l in
       let a = calls.dividedAt (s .head .entries) (nextStamp (s .head .stamp)) (r .leaf) (r .slot) in
-      unless-made dividedAnswer divided.Refused (calls.splitCauses K s c l) (calls.settled s r divided.Refused a) (λ n. refl)
+      unless-made dividedAnswer divided.Refused (calls.splitCauses K room s c l) (calls.settled s r divided.Refused a) (λ n. refl)
       (settled-made dividedAnswer r divided.Refused a (λ n. refl) refl (dividing flag (c .leaf .0) (c .slot) l))
 
   -- the others make none
@@ -225,8 +225,8 @@ module _ (K : Kind) (s : State) (small : s .head .stamp < 2 ^ 64) where
   made-after : (c : CursorCall) → After (makes K s c) (cursorStep K s c .after)
   unfolding cursorStep makes calls.charIndexToEntry
   made-after (by.reset l) = reset-made l
-  made-after (by.insert t l) = insert-made t l
-  made-after (by.split flag c l) = split-made flag c l
+  made-after (by.insert t l) = insert-made (full s ∷ []) t l
+  made-after (by.split flag c l) = split-made (full s ∷ []) flag c l
   made-after (by.setLengths c l) = none-made (calls.setLengths K s c l .after) (set-still c l)
   made-after (by.update c l) = none-made (calls.update K s c l .after) (update-still c l)
   made-after (by.locate v x) = none-made (calls.locate K s v x .after) (locate-still v x)
