@@ -63,6 +63,7 @@ pub mod Stamps
 pub mod Twins
 pub mod Restamp
 pub mod AcrossReset
+pub mod Fair
 pub mod Example
 pub mod ExampleByCursor
 pub mod ExampleStamps

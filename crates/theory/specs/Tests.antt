@@ -53,7 +53,7 @@ empty-is K (a ∷ ls) l e =
     let z : ls ≡ replicate (length ls) 0 = zeros ls (λ v lv. rw (add-one v) at (eqb-true (getD (a ∷ ls) (v + 1) 0) 0 (every-at (λ v. eqb (getD (a ∷ ls) (v + 1) 0) 0) 0 (K .views) (r .1) v (omega arith) (omega arith)))) in
     ap₂ (λ (p : ℕ) (q : List ℕ). p ∷ q) (eqb-true a none (r .0)) (z ∙ ap (λ (k : ℕ). replicate k 0) (n ∙ sym m))
 
-zero-at : (n v : ℕ) → _≡_ {A = ℕ} (getD (replicate n 0) v 0) 0
+pub zero-at : (n v : ℕ) → _≡_ {A = ℕ} (getD (replicate n 0) v 0) 0
 zero-at zero v = refl
 zero-at (suc n) zero = refl
 zero-at (suc n) (suc v) = zero-at n v
