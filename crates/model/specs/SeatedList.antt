@@ -80,7 +80,7 @@ rowSpace r b seat.Nobody = row.full r ∷ []
 rowSpace r b (seat.Number i) = over (r .limit) (length (r .entries)) b i ∷ []
 
 -- the new entry is charged to the seat named; a refused call charges nobody
-abbrev pub charging : Seat → Seats → Moved Row → Moved (Seated Row)
+abbrev pub charging : {S : Type 0} → Seat → Seats → Moved S → Moved (Seated S)
 charging seat b m = moved (seated (m .after) (cond (eqb (m .answer .number) 0) (chargedTo seat b) b)) (m .answer)
 
 -- the row of a seated list

@@ -42,7 +42,7 @@ pub record Mirrors (K : Kind) (t : State) (r : Row) : Type 0 where
   pub entries : entriesOf K t ≡ r .entries
   pub limit : t .head .limit ≡ r .limit
 
-pub record Agrees (Q : State → Row → Type 0) (m : Moved State) (n : Moved Row) : Type 0 where
+pub record Agrees {S R : Type 0} (Q : S → R → Type 0) (m : Moved S) (n : Moved R) : Type 0 where
   pub same : m .answer ≡ n .answer
   pub kept : Q (m .after) (n .after)
 

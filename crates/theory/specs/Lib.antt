@@ -64,6 +64,8 @@ pub mod Twins
 pub mod Restamp
 pub mod AcrossReset
 pub mod Fair
+pub mod Counted
+pub mod Seated
 pub mod Example
 pub mod ExampleByCursor
 pub mod ExampleStamps

@@ -86,7 +86,7 @@ module _ (K : Kind) where
   unfolding All
   changed-few i l es f h = All-append (FewIn K) (before i es) (entry i l ∷ after i es) (before-all (FewIn K) i es h) (f, after-few i es h)
 
-  divided-few : (flag : Bool) (i : ℕ) (e : Entry) (es : List Entry) → FewIn K e → FewLines K es → FewLines K (divided flag i e es)
+  pub divided-few : (flag : Bool) (i : ℕ) (e : Entry) (es : List Entry) → FewIn K e → FewLines K es → FewLines K (divided flag i e es)
   unfolding All divided
   divided-few flag i e es f h = All-append (FewIn K) (before i es) (cond flag (e ∷ rest ∷ after i es) (rest ∷ e ∷ after i es)) (before-all (FewIn K) i es h) (go flag)
     where
@@ -100,7 +100,7 @@ module _ (K : Kind) where
       go true = (f, (left, after-few i es h))
       go false = (left, (f, after-few i es h))
 
-  unless-few : (r : Row) (cs : List Cause) (es : List Entry) (a : Answer) → FewLines K (r .entries) → FewLines K es → FewLines K (unless r cs es a .after .entries)
+  pub unless-few : (r : Row) (cs : List Cause) (es : List Entry) (a : Answer) → FewLines K (r .entries) → FewLines K es → FewLines K (unless r cs es a .after .entries)
   unfolding unless
   unless-few r cs es a h k = go (eqb (refusal cs) 0)
     where

@@ -155,8 +155,16 @@ module _ (K : Kind) (fan limit stamp : ℕ) (l : List ℕ) (ls xs hs : List ℕ)
   unfolding begun firsts x
   begun-stands = record { coherent = start-sound; entries = entries-are K start start-sound ∙ ap (map (entryFrom (K .views))) (fresh-row (treeOf (stride K) start) (slotOf x) (slotOf x) fresh) ∙ ap (λ (y : Entry). y ∷ []) (entry-is (K .views) x (ap suc (small .long))); limit = refl }
 
+-- reset on a tree with good areas
+pub reset-is : (K : Kind) (t : State) (w : Coherent K t) (l : List ℕ) → tooManyLines K l ≡ false
+    → calls.reset K t l ≡ calls.reply (begun K (t .head .fan) (t .head .limit) (nextStamp (t .head .stamp)) l (t .leaves) (t .inners) (t .homes)) outcome.Done
+unfolding calls.reset refusal
+reset-is K t w l few =
+    let h = t .head in
+    passed (makeCauses K (h .fan) (h .limit) l (t .leaves) (t .inners) (t .homes)) (λ n. calls.reply t (outcome.Refused n)) _ (few-lines K l (areaCauses K (h .fan) (h .limit) (t .leaves) (t .inners) (t .homes)) few ∙ good-areas K t w [])
+
 pub step-reset : (K : Kind) (t : State) (w : Coherent K t) (l : List ℕ) → Words K l → tooManyLines K l ≡ false → Agrees (Mirrors K) (treeMove K t (row.reset l)) (rowMove K (rowOf K t) (row.reset l))
-unfolding treeMove rowMove calls.reset refusal
+unfolding treeMove rowMove
 step-reset K t w l small few =
     let h = t .head in
     let z : Sizes K (h .fan) (h .limit) (t .leaves) (t .inners) (t .homes) = record {
@@ -168,6 +176,5 @@ step-reset K t w l small few =
       inner-area = w .inner-area;
       home-area = w .home-area;
     } in
-    subst (λ (r : calls.Reply Outcome). Agrees (Mirrors K) (told r outcomeAnswer) (rowMove K (rowOf K t) (row.reset l)))
-    (sym (passed (makeCauses K (h .fan) (h .limit) l (t .leaves) (t .inners) (t .homes)) (λ n. calls.reply t (outcome.Refused n)) (calls.reply (begun K (h .fan) (h .limit) (nextStamp (h .stamp)) l (t .leaves) (t .inners) (t .homes)) outcome.Done) (few-lines K l (areaCauses K (h .fan) (h .limit) (t .leaves) (t .inners) (t .homes)) few ∙ good-areas K t w [])))
+    subst (λ (r : calls.Reply Outcome). Agrees (Mirrors K) (told r outcomeAnswer) (rowMove K (rowOf K t) (row.reset l))) (sym (reset-is K t w l few))
     (record { same = refl; kept = begun-stands K (h .fan) (h .limit) (nextStamp (h .stamp)) l (t .leaves) (t .inners) (t .homes) z small })

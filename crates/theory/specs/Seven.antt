@@ -37,7 +37,7 @@ pub old-views : (es : List Entry) → FewLines base es → length es ≤ 65537 �
 unfolding some range
 old-views es h few = rw (never-past es h few)
 
-around : (i : ℕ) (es : List Entry) → length (before i es) + length (from i es) ≡ length es
+pub around : (i : ℕ) (es : List Entry) → length (before i es) + length (from i es) ≡ length es
 unfolding before from
 around i [] = refl
 around i (e ∷ es) = go (eqb (e .id) i) (around i es)
@@ -46,7 +46,7 @@ around i (e ∷ es) = go (eqb (e .id) i) (around i es)
     go true k = omega arith
     go false k = omega arith
 
-one-more : (i : ℕ) (e : Entry) (es : List Entry) → length (row.inserted i e es) ≡ suc (length es)
+pub one-more : (i : ℕ) (e : Entry) (es : List Entry) → length (row.inserted i e es) ≡ suc (length es)
 one-more i e es = (let a = length-append (before i es) (e ∷ from i es) in let b = around i es in omega arith)
 
 no-less : (i : ℕ) (l : List ℕ) (es : List Entry) → length (row.changed i l es) ≤ suc (length es)
