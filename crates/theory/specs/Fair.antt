@@ -89,7 +89,7 @@ module _ (limit n : ℕ) (b : Seats) (f : FairShares limit n b) (i : ℕ) (seat 
 
 -- make and reset
 no-charges : sum noCharges + 1 ≡ 1
-unfolding sumFrom replicate
+unfolding sumFrom
 no-charges = refl
 
 pub fair-begun : (limit : ℕ) (seated : Bool) (shares : List ℕ) → sum shares < limit → FairShares limit 1 (seatsOf seated shares noCharges)

@@ -65,7 +65,9 @@ pub mod Restamp
 pub mod AcrossReset
 pub mod Fair
 pub mod Counted
+pub mod Deeds
 pub mod Seated
+pub mod SeatedNumbers
 pub mod Example
 pub mod ExampleByCursor
 pub mod ExampleStamps

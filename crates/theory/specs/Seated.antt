@@ -46,6 +46,7 @@ use Rattle.theory.specs.Step.{step}
 use Rattle.theory.specs.Fixed.{fixes}
 use Rattle.theory.specs.Seven.{one-more}
 use Rattle.theory.specs.Counted.{divided-count, is-there, other-count}
+use Rattle.theory.specs.Deeds.{by-deed}
 use Rattle.theory.specs.Fair.{outnumber, fair-take, fair-begun}
 
 -- a tree and a row with the same seats, whose free entries cover all unused shares
@@ -198,19 +199,8 @@ module _ (K : Kind) (ok : K .effect < K .views) (t : State) (w : Sound K t) (b :
       rw e (record { same = a .same; kept = record { stands = a .kept; seats = refl; eight = eight; fair = subst (λ (m : ℕ). Fair m (length (rowMove K (rowOf K t) c .after .entries)) b) (sym l) (subst (λ (n : ℕ). Fair (t .head .limit) n b) (sym (other-count K t (w .coherent) c e)) fair) } })
 
   move-seated : (x : Seat) (c : Call) → overlong K c ≡ false → misnamed b x (deed c) ≡ false → InWords K c → Agrees (SeatedStands K) (seatedTreeMove K t b x c (deed c)) (seatedRowMove K (rowOf K t) b x c (deed c))
-  move-seated x (row.reset l) o e k = reset-seated x l k o
-  move-seated x (row.insert i l) o e k = insert-seated x i l (k .1 .long) o e
-  move-seated x (row.split flag i l) o e k = split-seated x flag i l (k .1 .long) o e
-  move-seated x (row.setLengths i l) o e k = other-seated x (row.setLengths i l) refl o k
-  move-seated x (row.update i l) o e k = other-seated x (row.update i l) refl o k
-  move-seated x (row.lookup v y) o e k = other-seated x (row.lookup v y) refl o k
-  move-seated x (row.rank v i) o e k = other-seated x (row.rank v i) refl o k
-  move-seated x (row.next i) o e k = other-seated x (row.next i) refl o k
-  move-seated x (row.compare i j) o e k = other-seated x (row.compare i j) refl o k
-  move-seated x (row.lengths i) o e k = other-seated x (row.lengths i) refl o k
-  move-seated x row.count o e k = other-seated x row.count refl o k
-  move-seated x row.first o e k = other-seated x row.first refl o k
-  move-seated x row.malformed o e k = other-seated x row.malformed refl o k
+  move-seated x c o e k = by-deed (λ c. overlong K c ≡ false → misnamed b x (deed c) ≡ false → InWords K c → Agrees (SeatedStands K) (seatedTreeMove K t b x c (deed c)) (seatedRowMove K (rowOf K t) b x c (deed c)))
+      (λ l o e k. reset-seated x l k o) (λ i l o e k. insert-seated x i l (k .1 .long) o e) (λ flag i l o e k. split-seated x flag i l (k .1 .long) o e) (λ c n o e k. other-seated x c n o k) c o e k
 
 -- every call
 pub seated-step : (K : Kind) (ok : K .effect < K .views) (s : Seated State) (r : Seated Row) → SeatedStands K s r → (c : Naming Call) → InWords K (c .call) → Agrees (SeatedStands K) (seatedTree K s c) (seatedRow K r c)
