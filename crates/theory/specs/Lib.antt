@@ -68,6 +68,7 @@ pub mod Counted
 pub mod Deeds
 pub mod Seated
 pub mod SeatedNumbers
+pub mod SeatedRefused
 pub mod Example
 pub mod ExampleByCursor
 pub mod ExampleStamps

@@ -59,7 +59,12 @@ use Rattle.theory.specs.Printed.{print-leaves}
 use Rattle.theory.specs.Finds.{Seen, Finds, held-finds, root-finds}
 use Rattle.theory.specs.Spans.{Left, Holds, put-leaf, put-inner, place-left, divide-left, replace-left, climb-left, leaf-slot}
 
-unmoved : (n : ℕ) (s : State) → Leaves n s s
+-- the id that a split answers by id, and its cursors: the same number
+pub id-number : (a : Divided) → byId.dividedAnswer a .number ≡ dividedAnswer a .number
+id-number (divided.At i a b) = refl
+id-number (divided.Refused n) = refl
+
+pub unmoved : (n : ℕ) (s : State) → Leaves n s s
 unmoved n s = record { refused = λ a b. refl; broken = λ e. refl; leaves = refl; inners = refl; homes = refl }
 
 -- a call that is done
@@ -264,10 +269,6 @@ module _ (K : Kind) (s : State) where
       go false e = rw e (at-leaves (calls.cursor K s i) (λ c. f (target.Before c)) (λ c. h (target.Before c)))
 
   -- the new id alone
-  id-number : (a : Divided) → byId.dividedAnswer a .number ≡ dividedAnswer a .number
-  id-number (divided.At i a b) = refl
-  id-number (divided.Refused n) = refl
-
   -- a finger found stands at a slot in use, so its id is read
   id-read : (f : Finger) (offset : ℕ) (vs : List ℕ) → refusal (opening K s) ≡ 0 → Seen K s f
       → byId.idAnswer (calls.id K (calls.hit s f offset .after) (calls.cursorAt (s .head .stamp) (f .leaf) (f .slot))) vs .number ≡ 0
