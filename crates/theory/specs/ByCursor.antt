@@ -52,9 +52,14 @@ use Rattle.theory.specs.Step.{step}
 use Rattle.theory.specs.Current.{first-applies, Fails, which, fails-not, current-is, is-current}
 use Rattle.theory.specs.Cursors.{split-lines, current-at, cursor-at, select-at, split-at}
 
+-- both parts of a split, read
+pub parts-read : (K : Kind) (flag : Bool) (i n : ℕ) (s : State) (a : Divided) (q : Answer) → DividedAt K flag i n s a q → by.partsAnswer K s a ≡ by.withParts flag i q
+parts-read K flag i n s (divided.At k a b) q p = rw (p .1, p .2 .id, p .3 .id) (sym (ap (by.withParts flag i) (p .0)))
+parts-read K flag i n s (divided.Refused m) q p = sym (ap (by.withParts flag i) p)
+
 module _ (K : Kind) (ok : K .effect < K .views) (s : State) (w : Coherent K s) where
   -- a cursor that no cause stops is current, and a current one passes
-  is-clear : (c : Cursor) → refusal (stale K s c) ≡ 0 → current K s c ≡ true
+  pub is-clear : (c : Cursor) → refusal (stale K s c) ≡ 0 → current K s c ≡ true
   is-clear c e = go (which K s w c)
     where
       go : ((current K s c ≡ true) × (refusal (stale K s c) ≡ 0)) ⊎ Fails K s c (refusal (stale K s c)) → current K s c ≡ true
@@ -65,17 +70,17 @@ module _ (K : Kind) (ok : K .effect < K .views) (s : State) (w : Coherent K s) w
   clear c cs e = let r = current-is K s w c e in subst (λ (m : ℕ). refusal (stale K s (cursorAt m (c .leaf .0) (c .slot)) ++ cs) ≡ refusal cs) (sym (r .0)) (fresh K s w (c .leaf .0) (c .slot) cs (r .1) (r .2))
 
   -- a cursor that fails stops its call by the same number
-  stops : (c : Cursor) (n : ℕ) → refusal (stale K s c) ≡ suc n → refusal (opening K s ++ atCursor K s c) ≡ suc n
+  pub stops : (c : Cursor) (n : ℕ) → refusal (stale K s c) ≡ suc n → refusal (opening K s ++ atCursor K s c) ≡ suc n
   stops c n e = opens K s w (atCursor K s c) ∙ first-applies (stale K s c) (overfull K s c ∷ []) n e
 
   -- the entry at a current cursor
   below : (c : Cursor) → current K s c ≡ true → entryAt K s c < s .head .entries
   below c e = is-current K s w c e .0
 
-  small : (c : Cursor) → current K s c ≡ true → entryAt K s c < 65536
+  pub small : (c : Cursor) → current K s c ≡ true → entryAt K s c < 65536
   small c e = (let z = below c e in omega (arith, w .entry-count, w .limit-most))
 
-  word : (c : Cursor) → current K s c ≡ true → IsWord (entryAt K s c)
+  pub word : (c : Cursor) → current K s c ≡ true → IsWord (entryAt K s c)
   word c e = (let z = small c e in omega arith)
 
   found : (c : Cursor) (F : Cursor → Moved State) → current K s c ≡ true → withCursor s (calls.cursor K s (entryAt K s c)) F ≡ F c
@@ -250,15 +255,10 @@ module _ (K : Kind) (ok : K .effect < K .views) (s : State) (w : Coherent K s) w
         (λ o. (ap (λ (z : calls.Reply Divided). moved (z .after) (by.partsAnswer K (z .after) (z .answer))) (split-lines K (full s ∷ []) s c l flag o), rw o))
         (λ o. with-one c (let z = calls.splitEntry K s c l flag in moved (z .after) (by.partsAnswer K (z .after) (z .answer))) (λ i. by.parts flag i l)
         (λ e. record {
-          same = go (entryAt K s c) (calls.splitEntry K s c l flag .answer) (subst (λ (q : Row). DividedAt K flag (entryAt K s c) (s .head .entries) (calls.splitEntry K s c l flag .after) (calls.splitEntry K s c l flag .answer) (rowStep K q (row.split flag (entryAt K s c) l) .answer)) own-row (split-at K ok s w c (entryAt K s c) (current-at K s w c e) l (k .long) flag));
+          same = parts-read K flag (entryAt K s c) (s .head .entries) _ (calls.splitEntry K s c l flag .answer) _ (subst (λ (q : Row). DividedAt K flag (entryAt K s c) (s .head .entries) (calls.splitEntry K s c l flag .after) (calls.splitEntry K s c l flag .answer) (rowStep K q (row.split flag (entryAt K s c) l) .answer)) own-row (split-at K ok s w c (entryAt K s c) (current-at K s w c e) l (k .long) flag));
           kept = plainly c (λ d. told (calls.splitEntry K s d l flag) dividedAnswer) (row.split flag (entryAt K s c) l) (word c e, k) (rw o) e .kept;
         })
         (λ n q. ap (λ (z : calls.Reply Divided). moved (z .after) (by.partsAnswer K (z .after) (z .answer))) (stopped _ (λ m. calls.reply s (divided.Refused m)) _ n (few-lines K l _ o ∙ first-applies (opening K s ++ atCursor K s c) _ n (stops c n q)))))
-      where
-        go : (i : ℕ) (a : Divided) → DividedAt K flag i (s .head .entries) (calls.splitEntry K s c l flag .after) a (rowStep K r (row.split flag i l) .answer)
-            → by.partsAnswer K (calls.splitEntry K s c l flag .after) a ≡ by.withParts flag i (rowStep K r (row.split flag i l) .answer)
-        go i (divided.At k a b) p = rw (p .1, p .2 .id, p .3 .id) (sym (ap (by.withParts flag i) (p .0)))
-        go i (divided.Refused n) p = sym (ap (by.withParts flag i) p)
 
     -- every call
     pub cursor-step : (c : CursorCall) → CursorInWords K c → Agrees (Stands K) (cursorStep K s c) (entryStep K r (meant K s c))

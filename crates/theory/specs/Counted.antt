@@ -35,7 +35,7 @@ divided-count flag i e es h = go flag
     go true = (let a = length-append (before i es) (e ∷ rest ∷ after i es) in let b = around i es in let c = length-drop 1 (from i es) in omega arith)
     go false = (let a = length-append (before i es) (rest ∷ e ∷ after i es) in let b = around i es in let c = length-drop 1 (from i es) in omega arith)
 
-unless-count : (r : Row) (cs : List Cause) (es : List Entry) (a : Answer) → (refusal cs ≡ 0 → length es ≡ length (r .entries)) → length (unless r cs es a .after .entries) ≡ length (r .entries)
+pub unless-count : (r : Row) (cs : List Cause) (es : List Entry) (a : Answer) → (refusal cs ≡ 0 → length es ≡ length (r .entries)) → length (unless r cs es a .after .entries) ≡ length (r .entries)
 unfolding unless
 unless-count r cs es a h = go (eqb (refusal cs) 0) refl
   where

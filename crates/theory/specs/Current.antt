@@ -71,6 +71,11 @@ module _ (K : Kind) (t : State) (w : Coherent K t) (c : Cursor) where
   fails-not n m (inr (inl f)) lt ne e = (let z = f .0 in omega arith)
   fails-not n m (inr (inr f)) lt ne e = (let z = f .0 in omega arith)
 
+  pub fails-by : (n m : ℕ) → Fails K t c n → 3 ≢ m → 13 ≢ m → 14 ≢ m → n ≢ m
+  fails-by n m (inl f) a b d e = a (sym (f .0) ∙ e)
+  fails-by n m (inr (inl f)) a b d e = b (sym (f .0) ∙ e)
+  fails-by n m (inr (inr f)) a b d e = d (sym (f .0) ∙ e)
+
   -- a call stops by the number of its cursor
   pub blocked : (cs : List Cause) → Fails K t c (refusal (stale K t c)) → (m : ℕ) × (refusal (stale K t c) ≡ suc m) × (refusal (opening K t ++ (stale K t c ++ cs)) ≡ suc m)
   blocked cs f = go (refusal (stale K t c)) refl f

@@ -69,6 +69,7 @@ pub mod Deeds
 pub mod Seated
 pub mod SeatedNumbers
 pub mod SeatedRefused
+pub mod SeatedByCursor
 pub mod Example
 pub mod ExampleByCursor
 pub mod ExampleStamps
