@@ -70,6 +70,7 @@ pub mod Seated
 pub mod SeatedNumbers
 pub mod SeatedRefused
 pub mod SeatedByCursor
+pub mod SeatedWhole
 pub mod Example
 pub mod ExampleByCursor
 pub mod ExampleStamps

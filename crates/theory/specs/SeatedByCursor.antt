@@ -46,6 +46,7 @@ use Rattle.theory.specs.WholeByCursor.{cursor-fixed}
 use Rattle.theory.specs.Deeds.{by-cursor-deed}
 use Rattle.theory.specs.Counted.{unless-count, other-count}
 use Rattle.theory.specs.Seated.{SeatedStands, spaces, seated-step}
+use Rattle.theory.specs.SeatedRefused.{seated-refusals}
 
 -- calls on cursors that have nothing to do with seats -------------------------------------------------------------------------------------------
 
@@ -284,3 +285,10 @@ pub seated-cursor-step : (K : Kind) (ok : K .effect < K .views) (s : Seated Stat
     → Agrees (SeatedStands K) (seatedCursor K s c) (seatedEntry K r (seatedMeant K s c))
 unfolding seatedCursor seatedEntry seatedMeant
 seated-cursor-step K ok s r h c k = move-step K ok s r h (c .seat) (c .call) k
+
+-- no call changes the fan
+pub seated-cursor-fan : (K : Kind) (s : Seated State) (c : Naming CursorCall) → CursorInWords K (c .call) → seatedCursor K s c .after .of .head .fan ≡ s .of .head .fan
+unfolding seatedCursor seatedCursorMove
+seated-cursor-fan K s c = by-cursor-deed (λ d. CursorInWords K d → seatedCursorMove K (s .of) (s .seats) (c .seat) d (cursorDeed d) .after .of .head .fan ≡ s .of .head .fan)
+    (λ l k. seated-refusals K s .reset l k .fixed .fan) (λ t l k. seated-refusals K s .insert (c .seat) t l k .fixed .fan) (λ flag at l k. seated-refusals K s .split (c .seat) at l flag k .fixed .fan)
+    (λ d e k. rw e (cursor-fixed K (s .of) d .fan)) (c .call)

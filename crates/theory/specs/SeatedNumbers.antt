@@ -36,22 +36,22 @@ not-last [] n = refl
 not-last (c ∷ cs) n = ap (cond (c .applies) (c .number)) (not-last cs n)
 
 -- a number that no check has but those for want of space
-record Apart (y : ℕ) : Type 0 where
-  done : y ≢ 0
-  four : 4 ≢ y
-  five : 5 ≢ y
-  six : 6 ≢ y
-  seven : 7 ≢ y
-  ten : 10 ≢ y
-  seventeen : 17 ≢ y
+pub record Apart (y : ℕ) : Type 0 where
+  pub done : y ≢ 0
+  pub four : 4 ≢ y
+  pub five : 5 ≢ y
+  pub six : 6 ≢ y
+  pub seven : 7 ≢ y
+  pub ten : 10 ≢ y
+  pub seventeen : 17 ≢ y
 
-eight-apart : Apart 8
+pub eight-apart : Apart 8
 eight-apart = record { done = λ z. omega arith; four = λ z. omega arith; five = λ z. omega arith; six = λ z. omega arith; seven = λ z. omega arith; ten = λ z. omega arith; seventeen = λ z. omega arith }
 
-nine-apart : Apart 9
+pub nine-apart : Apart 9
 nine-apart = record { done = λ z. omega arith; four = λ z. omega arith; five = λ z. omega arith; six = λ z. omega arith; seven = λ z. omega arith; ten = λ z. omega arith; seventeen = λ z. omega arith }
 
-eighteen-apart : Apart 18
+pub eighteen-apart : Apart 18
 eighteen-apart = record { done = λ z. omega arith; four = λ z. omega arith; five = λ z. omega arith; six = λ z. omega arith; seven = λ z. omega arith; ten = λ z. omega arith; seventeen = λ z. omega arith }
 
 module _ (K : Kind) (r : Seated Row) (x : Seat) where
@@ -129,7 +129,7 @@ module _ (K : Kind) (r : Seated Row) (x : Seat) where
         go false q z = no-cause y _ (a .done) (All-append (λ z. z .number ≢ y) (front (deed c)) (rowSpace (r .of) (r .seats) x) (front-not y (a .four) (a .six) (a .seven) (a .ten) (a .seventeen) (deed c)) (room q)) z
 
   -- 18 is answered only by the rules
-  eighteen-only : (c : Call) → numberOf c ≡ 18 → (i : ℕ) × Asks r (naming x c) i × Over r i
+  pub eighteen-only : (c : Call) → numberOf c ≡ 18 → (i : ℕ) × Asks r (naming x c) i × Over r i
   unfolding All
   eighteen-only c e = go (adds-or 18 eighteen-apart c)
     where
@@ -182,7 +182,7 @@ module _ (K : Kind) (r : Seated Row) (x : Seat) where
   wrong-seat : (c : Call) → Adds c → badSeat (r .seats) x ≡ true → numberOf c ≡ 10
   wrong-seat c h e = named c h ∙ rw e
 
-  eight-not : (c : Call) → r .seats .seated ≡ true → numberOf c ≢ 8
+  pub eight-not : (c : Call) → r .seats .seated ≡ true → numberOf c ≢ 8
   unfolding All
   eight-not c s = go (adds-or 8 eight-apart c)
     where

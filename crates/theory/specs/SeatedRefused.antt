@@ -4,10 +4,10 @@ use mathlib.Core.Path.{_≡_, refl, sym, ap, _∙_, subst}
 use mathlib.Core.Logic.{_≢_}
 use mathlib.Core.Bool.{Bool, true, false, cond, not, _||_}
 use mathlib.Core.List.{List, [], _∷_, _++_}
-use Prim.Native.Nat.{ℕ, zero, suc}
+use Prim.Native.Nat.{ℕ, zero, suc, _<_}
 use native.Mathlib.Omega.{arith}
 use lib.Dec.{eqb}
-use borrow.Author.Tests.{ne-eqb}
+use borrow.Author.Tests.{ne-eqb, ltb-true}
 use Rattle.model.specs.declared.shape.Kind.{Kind}
 use Rattle.model.specs.Lists.{Cause, refusal}
 use Rattle.model.specs.State.{State, state, headOf}
@@ -21,7 +21,7 @@ use Rattle.model.specs.ById.{told, withCursor, withTarget, atTarget, treeMove, 
 use Rattle.model.specs.Audit.{audit}
 use Rattle.model.specs.Sound.{Sound}
 use Rattle.model.specs.Promise.{Words, InWords, Leaves, Fixed}
-use Rattle.model.specs.Seats.{seatsOf, noCharges, noSeats, badSeat, tooHigh, chargedTo, isFair}
+use Rattle.model.specs.Seats.{noSeats, sum, withinLimit, badSeat, tooHigh, chargedTo, isFair}
 use Rattle.model.specs.SeatedCalls.{seatedReply, SeatedReply, makeSeated, resetSeated, afterReset, space, insertSeated, afterInsert, splitSeated, afterSplit, alsoFair, auditSeated}
 use Rattle.model.specs.SeatedList as list
 use Rattle.model.specs.SeatedList.{Seated, seated, Naming, naming, Deed, deed, misnamed, toldSeated, seatedTreeMove, seatedTree}
@@ -44,7 +44,7 @@ use Rattle.model.specs.declared.answer.Divided.the-variants as divided
 use Rattle.model.specs.declared.answer.Verdict.{Verdict}
 use Rattle.model.specs.declared.answer.Verdict.the-variants as verdict
 use Rattle.theory.specs.Views.{or-false}
-use Rattle.theory.specs.Open.{passed, stopped}
+use Rattle.theory.specs.Open.{stopped, clear}
 use Rattle.theory.specs.Fixed.{insert-fixed, split-entry-fixed, fixes}
 use Rattle.theory.specs.Refused.{unmoved, id-number, insert-leaves, split-leaves, refusals}
 use Rattle.theory.specs.Audited.{audit-exactly}
@@ -155,7 +155,7 @@ none-before cs ds e = go (refusal cs) refl
     go zero q = q
     go (suc n) q = absurd (let z = first-applies cs ds n q in omega arith)
 
-seated-made : (K : Kind) (fan limit : ℕ) (shares l ls xs hs : List ℕ) → SeatedMade K fan limit shares l ls xs hs
+pub seated-made : (K : Kind) (fan limit : ℕ) (shares l ls xs hs : List ℕ) → SeatedMade K fan limit shares l ls xs hs
 unfolding makeSeated calls.make
 seated-made K fan limit shares l ls xs hs = go (refusal (calls.makeCauses K fan limit l ls xs hs ++ tooHigh limit shares ∷ [])) refl
   where
@@ -164,6 +164,27 @@ seated-made K fan limit shares l ls xs hs = go (refusal (calls.makeCauses K fan 
         let q = none-before (calls.makeCauses K fan limit l ls xs hs) (tooHigh limit shares ∷ []) e in
         record { refused = rw e (λ n. absurd (n refl)); done = rw (e, q) (λ d. (refl, refl)) }
     go (suc n) e = record { refused = rw (e, ne-eqb (suc n) 0 (λ z. omega arith)) (λ m. refl); done = rw (e, ne-eqb (suc n) 0 (λ z. omega arith)) (λ d. absurd (let z : _≡_ {A = ℕ} 0 1 = cc in omega arith)) }
+
+-- a make that isn't refused has shares that sum to less than the limit
+pub shares-within : (K : Kind) (fan limit : ℕ) (shares l ls xs hs : List ℕ) → makeSeated K fan limit shares l ls xs hs .answer ≡ outcome.Done → sum shares < limit
+unfolding makeSeated
+shares-within K fan limit shares l ls xs hs given = go (refusal causes) refl given
+  where
+    causes : List Cause
+    causes = calls.makeCauses K fan limit l ls xs hs ++ tooHigh limit shares ∷ []
+
+    within : (p : Bool) → not p ≡ false → p ≡ true
+    within true e = refl
+    within false e = sym e
+
+    go : (n : ℕ) → refusal causes ≡ n → makeSeated K fan limit shares l ls xs hs .answer ≡ outcome.Done → sum shares < limit
+    go zero e d =
+        let a = clear 10 _ _ (λ z. omega arith) e in
+        let b = clear 1 _ _ (λ z. omega arith) (a .1) in
+        let c = clear 2 _ _ (λ z. omega arith) (b .1) in
+        ltb-true (sum shares) limit (within (withinLimit limit shares) (clear 19 (not (withinLimit limit shares)) [] (λ z. omega arith) (c .1) .0))
+    go (suc n) e d = absurd (let y : outcome.Refused (suc n) ≡ outcome.Done = sym (ap (λ (r : SeatedReply Outcome). r .answer) (stopped causes (λ m. seatedReply (state (headOf 0 0 0 0 0 0 0 0 held.Absent) ls xs hs) noSeats (outcome.Refused m)) _ n e)) ∙ d in
+        let z : _≡_ {A = ℕ} 0 1 = cc in omega arith)
 
 -- a tree without seats --------------------------------------------------------------------------------------------------------------------------
 
