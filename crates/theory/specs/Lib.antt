@@ -74,4 +74,5 @@ pub mod SeatedWhole
 pub mod Example
 pub mod ExampleByCursor
 pub mod ExampleStamps
+pub mod ExampleSeats
 pub mod Widths
