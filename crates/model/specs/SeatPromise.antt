@@ -9,7 +9,7 @@ use lib.ListN.{length}
 use Rattle.model.specs.Lists.{All}
 use Rattle.model.specs.declared.shape.Kind.{Kind}
 use Rattle.model.specs.State.{State, state, headOf}
-use Rattle.model.specs.Row.{Row, Call, Answer, Moved, madeRow}
+use Rattle.model.specs.Row.{Row, Call, Answer, madeRow}
 use Rattle.model.specs.Answer.{outcomeAnswer, insertedAnswer, dividedAnswer}
 use Rattle.model.specs.Calls as calls
 use Rattle.model.specs.ById.{treeStep}

@@ -2,11 +2,11 @@
 -- with seats. A call that names an entry of a tree's row finds it there.
 use mathlib.Core.Path.{_≡_, refl, sym, subst}
 use mathlib.Core.Bool.{Bool, true, false, cond}
-use mathlib.Core.List.{List, [], _∷_, _++_, zipWith}
-use Prim.Native.Nat.{ℕ, zero, suc, _-_, _<_}
+use mathlib.Core.List.{List, _∷_, _++_, zipWith}
+use Prim.Native.Nat.{ℕ, suc, _-_, _<_}
 use native.Mathlib.Omega.{arith}
 use lib.Dec.{eqb}
-use lib.ListN.{length, drop, length-append, length-drop}
+use lib.ListN.{length, length-append, length-drop}
 use borrow.Author.Tests.{leb-false, eqb-true}
 use Rattle.model.specs.declared.shape.Kind.{Kind}
 use Rattle.model.specs.Lists.{Cause, refusal}
@@ -15,7 +15,7 @@ use Rattle.model.specs.Row as row
 use Rattle.model.specs.Row.{Row, Call, Entry, entry, Answer, refused, moved, unless, before, from, after, divided, rowMove}
 use Rattle.model.specs.Sound.{Coherent, entriesOf}
 use Rattle.model.specs.SeatedList as list
-use Rattle.model.specs.SeatedList.{Deed, deed}
+use Rattle.model.specs.SeatedList.{deed}
 use Rattle.theory.specs.Open.{clear, seat}
 use Rattle.theory.specs.Agree.{rowOf, count-is, from-is}
 use Rattle.theory.specs.Seven.{around}

@@ -10,7 +10,7 @@ use Rattle.model.specs.ByCursor as by
 use Rattle.model.specs.ByCursor.{CursorCall}
 use Rattle.model.specs.Promise.{Adds}
 use Rattle.model.specs.SeatedList as list
-use Rattle.model.specs.SeatedList.{Deed, deed, cursorDeed}
+use Rattle.model.specs.SeatedList.{deed, cursorDeed}
 use Rattle.model.specs.declared.head.Cursor.{Cursor}
 use Rattle.model.specs.declared.answer.Target.{Target}
 

@@ -12,7 +12,7 @@ use Rattle.model.specs.Lists.{All}
 use Rattle.model.specs.Node as node
 use Rattle.model.specs.State.{State}
 use Rattle.model.specs.Row as row
-use Rattle.model.specs.Row.{Row, Call, Answer, done, refused, noEntry, madeRow}
+use Rattle.model.specs.Row.{Row, Call, done, refused, noEntry, madeRow}
 use Rattle.model.specs.Answer.{outcomeAnswer}
 use Rattle.model.specs.Climb as climb
 use Rattle.model.specs.Place as place
@@ -21,7 +21,7 @@ use Rattle.model.specs.Calls as calls
 use Rattle.model.specs.Calls.{cursorAt}
 use Rattle.model.specs.ByCursor as by
 use Rattle.model.specs.ByCursor.{CursorCall}
-use Rattle.model.specs.Promise.{InWords, answers, finally}
+use Rattle.model.specs.Promise.{answers, finally}
 use Rattle.model.specs.Seats as seats
 use Rattle.model.specs.Seats.{seatsOf, noCharges, Fair, isFair}
 use Rattle.model.specs.SeatedCalls as changes
@@ -30,7 +30,6 @@ use Rattle.model.specs.SeatedList as list
 use Rattle.model.specs.SeatedList.{Seated, seated, Naming, naming, seatedRow, seatedTree, seatedCursor, seatedEntry, seatedMeantAll}
 use Rattle.model.specs.SeatPromise.{NamingInWords, CursorNamingInWords, SeatedKept, AlongSeats, SeatedDemand3}
 use Rattle.model.specs.declared.seats.Seats.{Seats}
-use Rattle.model.specs.declared.seats.Seat.{Seat}
 use Rattle.model.specs.declared.seats.Seat.the-variants as seat
 use Rattle.model.specs.declared.answer.Target.the-variants as target
 use Rattle.model.specs.declared.answer.Outcome.the-variants as outcome

@@ -1,19 +1,18 @@
 -- Seats on numbers alone: a call that the rules let pass leaves the free entries covering all unused shares, so a seat below its share always finds
 -- a free entry; and audit's three tests say the same.
-use mathlib.Core.Path.{_≡_, refl, sym, ap, ap₂, _∙_}
+use mathlib.Core.Path.{_≡_, refl, ap, ap₂, _∙_}
 use mathlib.Core.Logic.{_≢_}
 use mathlib.Core.Bool.{Bool, true, false, cond, not, _&&_, _||_}
 use mathlib.Core.List.{List}
-use Prim.Native.Nat.{ℕ, zero, suc, _+_, _-_, _%_, _^_, _≤_, _<_}
+use Prim.Native.Nat.{ℕ, zero, suc, _+_, _-_, _≤_, _<_}
 use native.Mathlib.Decide.{ℕ-discrete, decLt}
 use native.Mathlib.Omega.{arith}
-use lib.Dec.{ltb, leb, eqb}
-use lib.ListN.{length, getD, set, replicate}
+use lib.Dec.{leb, eqb}
+use lib.ListN.{length, getD, set}
 use lib.Seq.{getD-set-same, getD-set-other}
 use borrow.Author.Tests.{lt-ltb, ltb-true, le-leb, lt-leb, leb-true, leb-false, eq-eqb, ne-eqb, eqb-true}
-use Rattle.model.specs.Lists.{cause}
 use Rattle.model.specs.Node.{wrap}
-use Rattle.model.specs.Seats.{seatsOf, noCharges, sumFrom, overSeats, sum, share, charge, unused, allUnused, othersUnused, free, withinLimit, over, charged, uncharged, FairShares, Fair, isFair}
+use Rattle.model.specs.Seats.{seatsOf, noCharges, sumFrom, overSeats, sum, share, charge, unused, allUnused, othersUnused, free, withinLimit, over, charged, FairShares, Fair, isFair}
 use Rattle.model.specs.declared.seats.Seats.{Seats}
 use Rattle.theory.specs.Tests.{both, zero-at}
 

@@ -2,43 +2,41 @@
 -- row becomes, with the same charges. A call that names a seat is the call without seats with other causes for want of space, and then a charge.
 use mathlib.Core.Path.{_≡_, refl, sym, ap, ap₂, _∙_, subst}
 use mathlib.Core.Bool.{Bool, true, false, cond, not, _||_}
-use mathlib.Core.List.{List, [], _∷_}
-use Prim.Native.Nat.{ℕ, zero, suc, _+_, _-_, _<_, _≤_}
+use mathlib.Core.List.{List, []}
+use Prim.Native.Nat.{ℕ, zero, suc, _+_, _<_}
 use native.Mathlib.Decide.{decLt}
 use native.Mathlib.Omega.{arith}
 use lib.Dec.{eqb, ltb, leb}
 use lib.ListN.{length, length-set}
 use borrow.Author.Tests.{ne-eqb, ltb-false, lt-leb}
 use Rattle.model.specs.declared.shape.Kind.{Kind}
-use Rattle.model.specs.Lists.{Cause, cause, refusal}
+use Rattle.model.specs.Lists.{Cause, refusal}
 use Rattle.model.specs.State.{State}
 use Rattle.model.specs.Place.{Change, divide}
 use Rattle.model.specs.Refuse.{shapeOf}
 use Rattle.model.specs.Row as row
 use Rattle.model.specs.Row.{Row, Call, Entry, Answer, done, refused, Moved, moved, noEntry, newEntry, inserted, divided, overlong, rowMove, rowStep}
-use Rattle.model.specs.Answer.{insertedAnswer, outcomeAnswer}
+use Rattle.model.specs.Answer.{insertedAnswer}
 use Rattle.model.specs.Sound.{Sound, entriesOf}
 use Rattle.model.specs.Calls as calls
 use Rattle.model.specs.ById.{told, withCursor, withTarget, atTarget, dividedAnswer, treeMove, treeStep}
 use Rattle.model.specs.Promise.{InWords, Words, Stands}
-use Rattle.model.specs.Seats.{badSeat, over, charged, chargedTo, uncharged, Fair}
+use Rattle.model.specs.Seats.{badSeat, over, chargedTo, Fair}
 use Rattle.model.specs.SeatedCalls.{space, afterInsert, afterSplit, insertSeated, splitSeated, resetSeated}
 use Rattle.model.specs.SeatedList as list
-use Rattle.model.specs.SeatedList.{Seated, seated, Naming, naming, Deed, deed, misnamed, beside, charging, rowSpace, toldSeated, seatedRowMove, seatedRow, seatedTreeMove, seatedTree}
+use Rattle.model.specs.SeatedList.{Seated, seated, Naming, deed, misnamed, charging, rowSpace, toldSeated, seatedRowMove, seatedRow, seatedTreeMove, seatedTree}
 use Rattle.model.specs.declared.seats.Seats.{Seats}
 use Rattle.model.specs.declared.seats.Seat.{Seat}
 use Rattle.model.specs.declared.seats.Seat.the-variants as seat′
 use Rattle.model.specs.declared.head.Cursor.{Cursor}
 use Rattle.model.specs.declared.answer.Target.{Target}
 use Rattle.model.specs.declared.answer.Target.the-variants as target
-use Rattle.model.specs.declared.answer.Outcome.{Outcome}
-use Rattle.model.specs.declared.answer.Outcome.the-variants as outcome
 use Rattle.model.specs.declared.answer.Inserted.the-variants as insertion
 use Rattle.model.specs.declared.answer.Divided.the-variants as division
 use Rattle.theory.specs.Views.{or-false}
 use Rattle.theory.specs.Open.{clear, seat, no-seat}
-use Rattle.theory.specs.Agree.{Agrees, Mirrors, Space, rowOf, own, row-passed, row-stopped, count-is, by-limit}
-use Rattle.theory.specs.Lines.{FewLines, unless-few, inserted-few, divided-few, stands-few, stands-of}
+use Rattle.theory.specs.Agree.{Agrees, Mirrors, Space, rowOf, row-passed, row-stopped, count-is, by-limit}
+use Rattle.theory.specs.Lines.{FewLines, inserted-few, divided-few, stands-few, stands-of}
 use Rattle.theory.specs.Make.{reset-is}
 use Rattle.theory.specs.Inserts.{step-insert-by}
 use Rattle.theory.specs.Splits.{step-split-by}

@@ -2,7 +2,7 @@
 -- current cursor is its entry's, so that it is the seated call by id, and any other is refused by its own number.
 use mathlib.Core.Path.{_≡_, refl, sym, ap, ap₂, _∙_, subst}
 use mathlib.Core.Bool.{Bool, true, false, cond, _||_}
-use mathlib.Core.List.{List, [], _∷_, _++_}
+use mathlib.Core.List.{List, _++_}
 use Prim.Native.Nat.{ℕ, zero, suc, _<_}
 use native.Mathlib.Omega.{arith}
 use lib.Dec.{eqb}
@@ -10,10 +10,10 @@ use lib.ListN.{length}
 use borrow.Author.Tests.{ne-eqb}
 use Rattle.model.specs.Kind.{tooManyLines}
 use Rattle.model.specs.declared.shape.Kind.{Kind}
-use Rattle.model.specs.Lists.{Cause, refusal}
+use Rattle.model.specs.Lists.{refusal}
 use Rattle.model.specs.State.{State}
 use Rattle.model.specs.Row as row
-use Rattle.model.specs.Row.{Row, Call, Answer, refused, Moved, moved, noEntry, overlong, rowMove, rowStep}
+use Rattle.model.specs.Row.{Row, Call, refused, Moved, moved, noEntry, overlong, rowMove, rowStep}
 use Rattle.model.specs.Answer.{outcomeAnswer, insertedAnswer}
 use Rattle.model.specs.Sound.{Coherent, entriesOf}
 use Rattle.model.specs.Refuse.{opening, stale, atCursor, current}
@@ -21,17 +21,15 @@ use Rattle.model.specs.Calls as calls
 use Rattle.model.specs.ById.{dividedAnswer}
 use Rattle.model.specs.ByCursor as by
 use Rattle.model.specs.ByCursor.{CursorCall, EntryCall, cursorStep, entryStep, entryAt, meant, partsAnswer, withParts}
-use Rattle.model.specs.Promise.{Words, InWords, Stands, CursorInWords, DividedAt}
+use Rattle.model.specs.Promise.{Words, Stands, CursorInWords}
 use Rattle.model.specs.Seats.{badSeat, Fair}
 use Rattle.model.specs.SeatedCalls.{seatedReply, SeatedReply, space, insertSeated, splitSeated, resetSeated}
 use Rattle.model.specs.SeatedList as list
-use Rattle.model.specs.SeatedList.{Seated, seated, Naming, naming, Deed, deed, cursorDeed, misnamed, beside, toldSeated, rowSpace, seatedRow, seatedRowMove, seatedTree, seatedTreeMove, seatedCursorMove, seatedCursor, seatedEntryMove, seatedEntry, seatedMeant}
+use Rattle.model.specs.SeatedList.{Seated, seated, Naming, naming, deed, cursorDeed, misnamed, beside, toldSeated, rowSpace, seatedRow, seatedRowMove, seatedTree, seatedTreeMove, seatedCursorMove, seatedCursor, seatedEntryMove, seatedEntry, seatedMeant}
 use Rattle.model.specs.declared.seats.Seat.{Seat}
 use Rattle.model.specs.declared.head.Cursor.{Cursor}
 use Rattle.model.specs.declared.answer.Target.{Target}
 use Rattle.model.specs.declared.answer.Target.the-variants as target
-use Rattle.model.specs.declared.answer.Standing.the-variants as standing
-use Rattle.model.specs.declared.answer.Outcome.{Outcome}
 use Rattle.model.specs.declared.answer.Outcome.the-variants as outcome
 use Rattle.model.specs.declared.answer.Inserted.{Inserted}
 use Rattle.model.specs.declared.answer.Inserted.the-variants as inserted

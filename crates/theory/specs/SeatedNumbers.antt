@@ -6,7 +6,6 @@ use mathlib.Core.Bool.{Bool, true, false, cond, _||_}
 use mathlib.Core.List.{List, [], _∷_, _++_}
 use Prim.Native.Nat.{ℕ, zero, suc, _<_}
 use native.Mathlib.Omega.{arith}
-use lib.Dec.{ltb, leb}
 use lib.ListN.{length}
 use borrow.Author.Tests.{le-ltb}
 use Rattle.model.specs.Kind.{tooManyLines}
@@ -16,9 +15,9 @@ use Rattle.model.specs.State.{State}
 use Rattle.model.specs.Row as row
 use Rattle.model.specs.Row.{Row, Call, Answer, refused, Moved, moved, overlong, rowMove}
 use Rattle.model.specs.Promise.{InWords, Adds, earlier}
-use Rattle.model.specs.Seats.{share, charge, badSeat, over}
+use Rattle.model.specs.Seats.{badSeat, over}
 use Rattle.model.specs.SeatedList as list
-use Rattle.model.specs.SeatedList.{Seated, seated, Naming, naming, Deed, deed, misnamed, beside, charging, rowSpace, seatedRowMove, seatedRow, seatedTree}
+use Rattle.model.specs.SeatedList.{Seated, seated, Naming, naming, Deed, deed, misnamed, charging, rowSpace, seatedRowMove, seatedRow, seatedTree}
 use Rattle.model.specs.SeatPromise.{Asks, Over, SeatedNumbers}
 use Rattle.model.specs.declared.seats.Seat.{Seat}
 use Rattle.model.specs.declared.seats.Seat.the-variants as seat

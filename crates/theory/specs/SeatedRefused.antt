@@ -11,15 +11,12 @@ use borrow.Author.Tests.{ne-eqb, ltb-true}
 use Rattle.model.specs.declared.shape.Kind.{Kind}
 use Rattle.model.specs.Lists.{Cause, refusal}
 use Rattle.model.specs.State.{State, state, headOf}
-use Rattle.model.specs.Refuse.{full}
-use Rattle.model.specs.Row as row
-use Rattle.model.specs.Row.{Call, Answer, refused, Moved, moved, noEntry, overlong}
+use Rattle.model.specs.Row.{Call, refused, Moved, moved, noEntry, overlong}
 use Rattle.model.specs.Answer.{outcomeAnswer, insertedAnswer, dividedAnswer}
 use Rattle.model.specs.Calls as calls
 use Rattle.model.specs.ById as byId
 use Rattle.model.specs.ById.{told, withCursor, withTarget, atTarget, treeMove, treeStep}
 use Rattle.model.specs.Audit.{audit}
-use Rattle.model.specs.Sound.{Sound}
 use Rattle.model.specs.Promise.{Words, InWords, Leaves, Fixed}
 use Rattle.model.specs.Seats.{noSeats, sum, withinLimit, badSeat, tooHigh, chargedTo, isFair}
 use Rattle.model.specs.SeatedCalls.{seatedReply, SeatedReply, makeSeated, resetSeated, afterReset, space, insertSeated, afterInsert, splitSeated, afterSplit, alsoFair, auditSeated}

@@ -3,29 +3,24 @@
 use mathlib.Core.Path.{_≡_, refl, sym, ap, ap₂, _∙_, subst}
 use mathlib.Core.Logic.{_≢_}
 use mathlib.Core.Bool.{Bool, true, false, cond}
-use mathlib.Core.List.{List, [], _∷_, _++_}
+use mathlib.Core.List.{List, [], _∷_}
 use Prim.Native.Nat.{ℕ, _<_}
 use native.Mathlib.Omega.{arith}
-use lib.ListN.{length}
-use borrow.Author.Tests.{ltb-true}
 use Rattle.model.specs.declared.shape.Kind.{Kind}
-use Rattle.model.specs.Lists.{All, refusal}
+use Rattle.model.specs.Lists.{All}
 use Rattle.model.specs.State.{State}
 use Rattle.model.specs.Row as row
 use Rattle.model.specs.Row.{Row, Call, Answer, madeRow, rowMove, rowStep}
-use Rattle.model.specs.Calls as calls
 use Rattle.model.specs.ByCursor as by
 use Rattle.model.specs.ByCursor.{CursorCall, EntryCall, entryStep, meant}
-use Rattle.model.specs.Promise.{Words, InWords, CursorInWords, earlier, answers, finally}
-use Rattle.model.specs.Seats.{seatsOf, noCharges, noSeats, withinLimit, share, charge, tooHigh}
-use Rattle.model.specs.SeatedCalls.{SeatedReply, makeSeated}
+use Rattle.model.specs.Promise.{CursorInWords, earlier, answers, finally}
+use Rattle.model.specs.Seats.{seatsOf, noCharges, share, charge}
+use Rattle.model.specs.SeatedCalls.{SeatedReply}
 use Rattle.model.specs.SeatedList.{Seated, seated, Naming, naming, cursorDeed, misnamed, seatedRow, seatedTree, seatedCursor, seatedEntryMove, seatedEntry, seatedMeant, seatedMeantAll}
 use Rattle.model.specs.SeatPromise.{NamingInWords, CursorNamingInWords, Asks, BelowShare, SeatedKept, AlongSeats, AlongSeatedCursors, SeatedDemand3, SeatedLists}
 use Rattle.model.specs.declared.seats.Seat.{Seat}
 use Rattle.model.specs.declared.seats.Seat.the-variants as seat
 use Rattle.model.specs.declared.answer.Outcome.{Outcome}
-use Rattle.model.specs.declared.answer.Outcome.the-variants as outcome
-use Rattle.theory.specs.Open.{clear}
 use Rattle.theory.specs.Agree.{Agrees}
 use Rattle.theory.specs.Numbers.{number-is, no-cause}
 use Rattle.theory.specs.Whole.{kept-of, made, fan-made}

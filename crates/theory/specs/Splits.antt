@@ -6,10 +6,10 @@ use Prim.Native.Nat.{ℕ, zero, suc, _+_, _-_, _<_, _≤_}
 use native.Mathlib.Nat.{add-zero}
 use native.Mathlib.Decide.{decLt}
 use native.Mathlib.Omega.{arith}
-use lib.Dec.{ltb, leb}
+use lib.Dec.{ltb}
 use lib.ListN.{length, getD, take, drop, length-append, List·getD-eq-default}
 use lib.Seq.{drop-cons, getD-append-add, length-take-le}
-use borrow.Author.Tests.{lt-ltb, le-leb, ltb-false, leb-false}
+use borrow.Author.Tests.{lt-ltb, le-leb, ltb-false}
 use Rattle.model.specs.Kind.{stride, viewsOf, tooManyLines, hollow}
 use Rattle.model.specs.declared.shape.Kind.{Kind}
 use Rattle.model.specs.Lists.{sumBy, some, Cause, refusal}
