@@ -56,7 +56,7 @@ pub record SeatedMade (K : Kind) (fan limit : ℕ) (shares l ls xs hs : List ℕ
   pub done : makeSeated K fan limit shares l ls xs hs .answer ≡ outcome.Done
       → (calls.make K fan limit l ls xs hs .answer ≡ outcome.Done) × (makeSeated K fan limit shares l ls xs hs ≡ seatedReply (calls.make K fan limit l ls xs hs .after) (seatsOf true shares noCharges) outcome.Done)
 
--- in a tree without seats the calls that name nobody are those of a tree that has never heard of seats
+-- in a tree without seats the calls that name nobody are those of Calls.antt, ById.antt and Audit.antt
 pub record WithoutSeats (K : Kind) (s : State) (b : Seats) : Type 0 where
   pub insert : (t : Target) (l : List ℕ) → insertSeated K s b seat.Nobody t l ≡ seatedReply (calls.insert K s t l .after) b (calls.insert K s t l .answer)
   pub split : (c : Cursor) (l : List ℕ) (flag : Bool) → splitSeated K s b seat.Nobody c l flag ≡ seatedReply (calls.splitEntry K s c l flag .after) b (calls.splitEntry K s c l flag .answer)
@@ -102,11 +102,11 @@ pub record SeatedNumbers (K : Kind) (s : Seated State) (r : Seated Row) (c : Nam
   pub eight : r .seats .seated ≡ true → seatedTree K s c .answer .number ≢ 8
   pub nine : seatedTree K s c .answer .number ≢ 9
 
--- what holds of a seated state of that fan beside a seated row: demand 3's `Kept`, the charges are the row's, and the free entries cover all unused shares
+-- what holds of a seated state of that fan beside a seated row: demand 3's `Kept`, it is sound, seats and all, and the charges are the row's
 pub record SeatedKept (K : Kind) (fan : ℕ) (s : Seated State) (r : Seated Row) : Type 0 where
   pub kept : Kept K fan (s .of) (r .of)
+  pub sound : SoundSeated K s
   pub seats : s .seats ≡ r .seats
-  pub fair : Fair (r .of .limit) (length (r .of .entries)) (r .seats)
   pub numbers : (c : Naming Call) → InWords K (c .call) → SeatedNumbers K s r c
 
 abbrev pub NamingInWords : Kind → Naming Call → Type 0

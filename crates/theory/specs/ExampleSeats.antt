@@ -1,6 +1,6 @@
 -- The premises of the list theorem with seats are met by a tree of five entries with shares of 1 and 2: a seat below its share is served by the last free
 -- entry, others are refused by 18 before; wrong seats are 10, and what the calls answer and charge is computed.
-use mathlib.Core.Path.{_≡_, refl, sym, subst}
+use mathlib.Core.Path.{_≡_, refl}
 use mathlib.Core.Bool.{true, false}
 use mathlib.Core.List.{List, [], _∷_, flatMap, map, zipWith}
 use Prim.Native.Nat.{ℕ}
@@ -23,13 +23,12 @@ use Rattle.model.specs.ByCursor as by
 use Rattle.model.specs.ByCursor.{CursorCall}
 use Rattle.model.specs.Promise.{answers, finally}
 use Rattle.model.specs.Seats as seats
-use Rattle.model.specs.Seats.{seatsOf, noCharges, Fair, isFair}
+use Rattle.model.specs.Seats.{seatsOf, noCharges, isFair}
 use Rattle.model.specs.SeatedCalls as changes
 use Rattle.model.specs.SeatedCalls.{makeSeated, auditSeated}
 use Rattle.model.specs.SeatedList as list
 use Rattle.model.specs.SeatedList.{Seated, seated, Naming, naming, seatedRow, seatedTree, seatedCursor, seatedEntry, seatedMeantAll}
-use Rattle.model.specs.SeatPromise.{NamingInWords, CursorNamingInWords, SeatedKept, AlongSeats, SeatedDemand3}
-use Rattle.model.specs.declared.seats.Seats.{Seats}
+use Rattle.model.specs.SeatPromise.{NamingInWords, CursorNamingInWords, AlongSeats, SeatedDemand3}
 use Rattle.model.specs.declared.seats.Seat.the-variants as seat
 use Rattle.model.specs.declared.answer.Target.the-variants as target
 use Rattle.model.specs.declared.answer.Outcome.the-variants as outcome
@@ -122,10 +121,7 @@ cursors-mean = refl
 -- the tree that make leaves is sound, seats and all
 pub audited : auditSeated base (startSeated .of) (startSeated .seats) ≡ verdict.Yes
 unfolding AlongSeats All
-audited = let k = promised .each [] tt in audit-seated base startSeated .1 (record { sound = k .kept .sound; fair = fair-start k })
-  where
-    fair-start : SeatedKept base 4 startSeated startRow → Fair (startSeated .of .head .limit) (startSeated .of .head .entries) (startSeated .seats)
-    fair-start k = subst (λ (n : ℕ). Fair n (startSeated .of .head .entries) (startSeated .seats)) (sym (k .kept .limit)) (subst (λ (n : ℕ). Fair 5 n (startSeated .seats)) (sym (k .kept .count)) (subst (λ (b : Seats). Fair 5 1 b) (sym (k .seats)) (k .fair)))
+audited = audit-seated base startSeated .1 (promised .each [] tt .sound)
 
 -- one entry charged that isn't there, or a share that the free entries don't cover: not fair
 pub unfair : (isFair 5 1 (seatsOf true shares noCharges) ≡ true) × (isFair 5 1 (seatsOf true shares (1 ∷ 0 ∷ 0 ∷ 0 ∷ 0 ∷ 0 ∷ 0 ∷ 0 ∷ [])) ≡ false)

@@ -14,7 +14,7 @@ use Rattle.model.specs.Row.{Row, Call, Answer, madeRow, rowMove, rowStep}
 use Rattle.model.specs.ByCursor as by
 use Rattle.model.specs.ByCursor.{CursorCall, EntryCall, entryStep, meant}
 use Rattle.model.specs.Promise.{CursorInWords, earlier, answers, finally}
-use Rattle.model.specs.Seats.{seatsOf, noCharges, share, charge}
+use Rattle.model.specs.Seats.{seatsOf, noCharges, share, charge, Fair}
 use Rattle.model.specs.SeatedCalls.{SeatedReply}
 use Rattle.model.specs.SeatedList.{Seated, seated, Naming, naming, cursorDeed, misnamed, seatedRow, seatedTree, seatedCursor, seatedEntryMove, seatedEntry, seatedMeant, seatedMeantAll}
 use Rattle.model.specs.SeatPromise.{NamingInWords, CursorNamingInWords, Asks, BelowShare, SeatedKept, AlongSeats, AlongSeatedCursors, SeatedDemand3, SeatedLists}
@@ -75,7 +75,10 @@ module _ (K : Kind) (ok : K .effect < K .views) (s : Seated State) (r : Seated R
 
 module _ (K : Kind) (ok : K .effect < K .views) where
   seated-kept : (fan : ℕ) (s : Seated State) (r : Seated Row) → SeatedStands K s r → s .of .head .fan ≡ fan → SeatedKept K fan s r
-  seated-kept fan s r h f = record { kept = kept-of K ok fan (s .of) (r .of) (h .stands) f; seats = h .seats; fair = h .fair; numbers = seated-numbers K ok s r h }
+  seated-kept fan s r h f =
+      let k = kept-of K ok fan (s .of) (r .of) (h .stands) f in
+      let fair : Fair (s .of .head .limit) (s .of .head .entries) (r .seats) = subst (λ (n : ℕ). Fair n (s .of .head .entries) (r .seats)) (sym (k .limit)) (subst (λ (n : ℕ). Fair (r .of .limit) n (r .seats)) (sym (k .count)) (h .fair)) in
+      record { kept = k; sound = record { sound = h .stands .sound; fair = subst (Fair (s .of .head .limit) (s .of .head .entries)) (sym (h .seats)) fair }; seats = h .seats; numbers = seated-numbers K ok s r h }
 
   seated-alike : (s : Seated State) (r : Seated Row) (cs : List (Naming Call)) → SeatedStands K s r → All (NamingInWords K) cs
       → (answers (seatedTree K) s cs ≡ answers (seatedRow K) r cs) × SeatedStands K (finally (seatedTree K) s cs) (finally (seatedRow K) r cs)
