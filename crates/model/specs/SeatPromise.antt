@@ -4,22 +4,26 @@ use mathlib.Core.Path.{_≡_}
 use mathlib.Core.Logic.{_≢_}
 use mathlib.Core.Bool.{Bool, true, false}
 use mathlib.Core.List.{List, [], _∷_}
-use Prim.Native.Nat.{ℕ, _≤_, _<_}
+use Prim.Native.Nat.{ℕ, _+_, _%_, _^_, _≤_, _<_}
 use lib.ListN.{length}
-use Rattle.model.specs.Lists.{All}
+use Rattle.model.specs.Kind.{tooManyLines}
+use Rattle.model.specs.Lists.{All, refusal}
 use Rattle.model.specs.declared.shape.Kind.{Kind}
 use Rattle.model.specs.State.{State, state, headOf}
 use Rattle.model.specs.Row.{Row, Call, Answer, madeRow}
 use Rattle.model.specs.Answer.{outcomeAnswer, insertedAnswer, dividedAnswer}
+use Rattle.model.specs.Refuse.{stale}
 use Rattle.model.specs.Calls as calls
 use Rattle.model.specs.ById.{treeStep}
 use Rattle.model.specs.ByCursor.{CursorCall}
 use Rattle.model.specs.Sound.{Sound}
 use Rattle.model.specs.Audit.{audit}
 use Rattle.model.specs.Promise.{Words, InWords, CursorInWords, Leaves, Fixed, Adds, earlier, Kept, answers, finally}
+use Rattle.model.specs.Stamp.{one}
 use Rattle.model.specs.Seats.{seatsOf, noCharges, noSeats, share, charge, othersUnused, free, badSeat, Fair}
 use Rattle.model.specs.SeatedCalls.{SeatedReply, seatedReply, makeSeated, resetSeated, insertSeated, splitSeated, auditSeated}
-use Rattle.model.specs.SeatedList.{Seated, seated, Naming, naming, seatedRow, seatedTree, seatedCursor, seatedEntry, seatedMeant, seatedMeantAll}
+use Rattle.model.specs.SeatedList as list
+use Rattle.model.specs.SeatedList.{Seated, seated, Naming, naming, Deed, cursorDeed, seatedRow, seatedTree, seatedCursor, seatedEntry, seatedMeant, seatedMeantAll}
 use Rattle.model.specs.declared.seats.Seats.{Seats}
 use Rattle.model.specs.declared.seats.Seat.{Seat}
 use Rattle.model.specs.declared.seats.Seat.the-variants as seat
@@ -139,6 +143,23 @@ AlongSeatedCursors K fan s r (c ∷ cs) =
     × (BelowShare r (c .seat) → seatedCursor K s c .answer .number ≢ 18)
     × AlongSeatedCursors K fan (seatedCursor K s c .after) (seatedEntry K r (seatedMeant K s c) .after) cs
 
+-- the stamp (document 02, CR 8): a reset makes its first entry, an insert or a split its new one, where it isn't refused
+unfoldable pub seatedMakes : Kind → Seated State → Seat → Deed Target Cursor → ℕ
+seatedMakes K s x (list.resets l) = one (outcomeAnswer (resetSeated K (s .of) (s .seats) l .answer))
+seatedMakes K s x (list.inserts t l) = one (insertedAnswer (insertSeated K (s .of) (s .seats) x t l .answer))
+seatedMakes K s x (list.splits flag c l) = one (dividedAnswer (splitSeated K (s .of) (s .seats) x c l flag .answer))
+seatedMakes K s x list.nothing = 0
+
+unfoldable pub seatedMakesAll : Kind → Seated State → List (Naming CursorCall) → ℕ
+seatedMakesAll K s [] = 0
+seatedMakesAll K s (c ∷ cs) = seatedMakes K s (c .seat) (cursorDeed (c .call)) + seatedMakesAll K (seatedCursor K s c .after) cs
+
+-- it goes on by the entries made, and a cursor with the stamp of s is refused by 3 once 1 to 2 ^ 64 - 1 were made
+pub record SeatedCounts (K : Kind) (s : Seated State) : Type 0 where
+  pub stamp : (cs : List (Naming CursorCall)) → finally (seatedCursor K) s cs .of .head .stamp ≡ (s .of .head .stamp + seatedMakesAll K s cs) % 2 ^ 64
+  pub shut : (c : Cursor) → c .stamp ≡ s .of .head .stamp → (cs : List (Naming CursorCall)) → 0 < seatedMakesAll K s cs → seatedMakesAll K s cs < 2 ^ 64
+      → refusal (stale K (finally (seatedCursor K) s cs .of) c) ≡ 3
+
 -- demand 3 of a tree with seats or without, from the state that a make leaves, and the row beside it
 pub record SeatedDemand3 (K : Kind) (fan : ℕ) (s : Seated State) (r : Seated Row) : Type 0 where
   -- the answers to every list of seated calls are the row's
@@ -152,6 +173,10 @@ pub record SeatedDemand3 (K : Kind) (fan : ℕ) (s : Seated State) (r : Seated R
   -- the same on cursors
   pub by-cursor : (cs : List (Naming CursorCall)) → All (CursorNamingInWords K) cs → answers (seatedCursor K) s cs ≡ answers (seatedEntry K) r (seatedMeantAll K s cs)
   pub each-by-cursor : (cs : List (Naming CursorCall)) → All (CursorNamingInWords K) cs → AlongSeatedCursors K fan s r cs
+  -- and the stamp counts as without seats: no cursor passes a reset until 2 ^ 64 entries were made since its issue; one with too many line ends is refused
+  pub counts : (cs : List (Naming CursorCall)) → SeatedCounts K (finally (seatedCursor K) s cs)
+  pub resets : (cs : List (Naming CursorCall)) → All (CursorNamingInWords K) cs → (x : Seat) (l : List ℕ) → tooManyLines K l ≡ false
+      → seatedMakes K (finally (seatedCursor K) s cs) x (list.resets l) ≡ 1
 
 -- of every make that isn't refused, with shares or without seats
 pub record SeatedLists (K : Kind) : Type 0 where

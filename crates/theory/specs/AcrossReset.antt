@@ -1,5 +1,5 @@
 -- A cursor passes again only once 2 ^ 64 entries were made since its issue, so after a reset none from before does; and with 2 ^ 64 one does.
-use mathlib.Core.Path.{_≡_, refl, sym, ap, _∙_, subst}
+use mathlib.Core.Path.{_≡_, refl, sym, ap, subst}
 use mathlib.Core.Bool.{false}
 use mathlib.Core.List.{List, [], _∷_, _++_}
 use Prim.Native.Nat.{ℕ, zero, suc, _+_, _^_, _<_}
@@ -9,12 +9,12 @@ use borrow.Author.Tests.{ne-eqb}
 use Rattle.model.specs.Kind.{tooManyLines}
 use Rattle.model.specs.declared.shape.Kind.{Kind}
 use Rattle.model.specs.Lists.{All, refusal}
-use Rattle.model.specs.State.{State, nextStamp}
+use Rattle.model.specs.State.{State}
 use Rattle.model.specs.Row.{Row, madeRow}
 use Rattle.model.specs.Refuse.{stale}
 use Rattle.model.specs.Sound.{Coherent}
 use Rattle.model.specs.Calls as calls
-use Rattle.model.specs.Calls.{make, begun, areaCauses, makeCauses, cursorAt}
+use Rattle.model.specs.Calls.{make, begun, cursorAt}
 use Rattle.model.specs.Answer.{outcomeAnswer}
 use Rattle.model.specs.ByCursor as by
 use Rattle.model.specs.ByCursor.{CursorCall, cursorStep, entryStep, meant}
@@ -23,7 +23,8 @@ use Rattle.model.specs.Stamp.{one, makes, makesAll, Counts, GoesRound, AcrossRe
 use Rattle.model.specs.declared.head.Cursor.{Cursor}
 use Rattle.model.specs.declared.answer.Outcome.{Outcome}
 use Rattle.model.specs.declared.answer.Outcome.the-variants as outcome
-use Rattle.theory.specs.Open.{passed, few-lines, good-areas, fresh}
+use Rattle.theory.specs.Make.{reset-is}
+use Rattle.theory.specs.Open.{fresh}
 use Rattle.theory.specs.Whole.{made, made-is}
 use Rattle.theory.specs.ByCursor.{cursor-step}
 use Rattle.theory.specs.Stamps.{below-64, made-by}
@@ -47,22 +48,13 @@ still-small K s small cs = subst (λ (n : ℕ). n < 2 ^ 64) (sym (made-by K s sm
 
 module _ (K : Kind) (l : List ℕ) (few : tooManyLines K l ≡ false) where
   -- no other cause refuses a reset there
-  reset-is : (s : State) → Coherent K s
-      → calls.reset K s l ≡ (let h = s .head in calls.reply (begun K (h .fan) (h .limit) (nextStamp (h .stamp)) l (s .leaves) (s .inners) (s .homes)) outcome.Done)
-  unfolding calls.reset refusal
-  reset-is s w =
-      let h = s .head in
-      passed (makeCauses K (h .fan) (h .limit) l (s .leaves) (s .inners) (s .homes)) (λ n. calls.reply s (outcome.Refused n))
-      (calls.reply (begun K (h .fan) (h .limit) (nextStamp (h .stamp)) l (s .leaves) (s .inners) (s .homes)) outcome.Done)
-      (few-lines K l (areaCauses K (h .fan) (h .limit) (s .leaves) (s .inners) (s .homes)) few ∙ good-areas K s w [])
-
-  reset-makes : (s : State) → Coherent K s → makes K s (by.reset l) ≡ 1
+  pub reset-makes : (s : State) → Coherent K s → makes K s (by.reset l) ≡ 1
   unfolding makes
-  reset-makes s w = ap (λ (r : calls.Reply Outcome). one (outcomeAnswer (r .answer))) (reset-is s w)
+  reset-makes s w = ap (λ (r : calls.Reply Outcome). one (outcomeAnswer (r .answer))) (reset-is K s w l few)
 
   reset-lone : (s : State) → Coherent K s → cursorStep K s (by.reset l) .after .head .leaves ≡ 1
   unfolding cursorStep begun
-  reset-lone s w = ap (λ (r : calls.Reply Outcome). r .after .head .leaves) (reset-is s w)
+  reset-lone s w = ap (λ (r : calls.Reply Outcome). r .after .head .leaves) (reset-is K s w l few)
 
 module _ (K : Kind) (ok : K .effect < K .views) where
   -- what a call leaves stands for a row again

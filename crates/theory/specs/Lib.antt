@@ -70,6 +70,7 @@ pub mod Seated
 pub mod SeatedNumbers
 pub mod SeatedRefused
 pub mod SeatedByCursor
+pub mod SeatedStamps
 pub mod SeatedWhole
 pub mod Example
 pub mod ExampleByCursor

@@ -4,7 +4,7 @@ use mathlib.Core.Path.{_≡_, refl, sym, ap, ap₂, _∙_, subst}
 use mathlib.Core.Logic.{_≢_}
 use mathlib.Core.Bool.{Bool, true, false, cond}
 use mathlib.Core.List.{List, [], _∷_}
-use Prim.Native.Nat.{ℕ, _<_}
+use Prim.Native.Nat.{ℕ, _^_, _<_}
 use native.Mathlib.Omega.{arith}
 use Rattle.model.specs.declared.shape.Kind.{Kind}
 use Rattle.model.specs.Lists.{All}
@@ -13,7 +13,9 @@ use Rattle.model.specs.Row as row
 use Rattle.model.specs.Row.{Row, Call, Answer, madeRow, rowMove, rowStep}
 use Rattle.model.specs.ByCursor as by
 use Rattle.model.specs.ByCursor.{CursorCall, EntryCall, entryStep, meant}
-use Rattle.model.specs.Promise.{CursorInWords, earlier, answers, finally}
+use Rattle.model.specs.Calls.{make}
+use Rattle.model.specs.Sound.{Coherent}
+use Rattle.model.specs.Promise.{Words, CursorInWords, earlier, answers, finally}
 use Rattle.model.specs.Seats.{seatsOf, noCharges, share, charge, Fair}
 use Rattle.model.specs.SeatedCalls.{SeatedReply}
 use Rattle.model.specs.SeatedList.{Seated, seated, Naming, naming, cursorDeed, misnamed, seatedRow, seatedTree, seatedCursor, seatedEntryMove, seatedEntry, seatedMeant, seatedMeantAll}
@@ -21,15 +23,18 @@ use Rattle.model.specs.SeatPromise.{NamingInWords, CursorNamingInWords, Asks, B
 use Rattle.model.specs.declared.seats.Seat.{Seat}
 use Rattle.model.specs.declared.seats.Seat.the-variants as seat
 use Rattle.model.specs.declared.answer.Outcome.{Outcome}
+use Rattle.model.specs.declared.answer.Outcome.the-variants as outcome
 use Rattle.theory.specs.Agree.{Agrees}
 use Rattle.theory.specs.Numbers.{number-is, no-cause}
 use Rattle.theory.specs.Whole.{kept-of, made, fan-made}
 use Rattle.theory.specs.WholeByCursor.{NotBy, meant-not}
+use Rattle.theory.specs.AcrossReset.{stamped}
 use Rattle.theory.specs.Fair.{fair-begun}
 use Rattle.theory.specs.Seated.{SeatedStands, seated-step}
 use Rattle.theory.specs.SeatedNumbers.{Apart, eight-apart, nine-apart, eighteen-apart, eighteen-only, eight-not, nine-not, seated-numbers}
 use Rattle.theory.specs.SeatedRefused.{seated-refusals, seated-made, shares-within}
 use Rattle.theory.specs.SeatedByCursor.{seated-cursor-step, seated-cursor-fan}
+use Rattle.theory.specs.SeatedStamps.{seated-counts, still-small, reset-one}
 
 -- numbers that no call on cursors answers -------------------------------------------------------------------------------------------------------
 
@@ -121,14 +126,24 @@ module _ (K : Kind) (ok : K .effect < K .views) where
       → (let q = finally (seatedRow K) r cs in Asks q c i → charge (q .seats) i < share (q .seats) i → seatedTree K (finally (seatedTree K) s cs) c .answer .number ≡ earlier K (q .of) (c .call))
   never-for-space s r h cs k c j i a lt = seated-numbers K ok (finally (seatedTree K) s cs) (finally (seatedRow K) r cs) (seated-alike s r cs h k .1) c j .below i a lt
 
-  pub seated-demand3 : (fan : ℕ) (s : Seated State) (r : Seated Row) → SeatedStands K s r → s .of .head .fan ≡ fan → SeatedDemand3 K fan s r
-  seated-demand3 fan s r h f = record {
+  left-by-cursors : (s : Seated State) (r : Seated Row) (cs : List (Naming CursorCall)) → SeatedStands K s r → All (CursorNamingInWords K) cs → Coherent K (finally (seatedCursor K) s cs .of)
+  unfolding finally All
+  left-by-cursors s r [] h k = h .stands .sound .coherent
+  left-by-cursors s r (c ∷ cs) h k = left-by-cursors (seatedCursor K s c .after) (seatedEntry K r (seatedMeant K s c) .after) cs (seated-cursor-step K ok s r h c (k .0) .kept) (k .1)
+
+  pub seated-demand3 : (fan : ℕ) (s : Seated State) (r : Seated Row) → SeatedStands K s r → s .of .head .fan ≡ fan → s .of .head .stamp < 2 ^ 64 → SeatedDemand3 K fan s r
+  seated-demand3 fan s r h f small = record {
     answered = λ cs k. seated-alike s r cs h k .0;
     each = λ cs k. along-seats fan s r cs h f k;
     below = never-for-space s r h;
     by-cursor = λ cs k. cursors-alike s r cs h k;
     each-by-cursor = λ cs k. along-cursors fan s r cs h f k;
+    counts = λ cs. seated-counts K (finally (seatedCursor K) s cs) (still-small K s small cs);
+    resets = λ cs k. reset-one K (finally (seatedCursor K) s cs) (left-by-cursors s r cs h k);
   }
+
+  first-stamp : (fan limit : ℕ) (l ls xs hs : List ℕ) → Words K l → make K fan limit l ls xs hs .answer ≡ outcome.Done → make K fan limit l ls xs hs .after .head .stamp < 2 ^ 64
+  first-stamp fan limit l ls xs hs small given = (let z = stamped K ok fan limit l ls xs hs small given .first in omega arith)
 
   -- from make: with shares, or without seats
   pub seated-lists : SeatedLists K
@@ -136,7 +151,7 @@ module _ (K : Kind) (ok : K .effect < K .views) where
     shared = λ fan limit shares l ls xs hs small given.
         (let m = seated-made K fan limit shares l ls xs hs .done given in
         subst (λ (r : SeatedReply Outcome). SeatedDemand3 K fan (seated (r .after) (r .seats)) (seated (madeRow limit l) (seatsOf true shares noCharges))) (sym (m .1))
-        (seated-demand3 fan _ _ (record { stands = made K ok fan limit l ls xs hs small (m .0); seats = refl; eight = refl; fair = λ q. fair-begun limit true shares (shares-within K fan limit shares l ls xs hs given) }) (fan-made K ok fan limit l ls xs hs small (m .0))));
+        (seated-demand3 fan _ _ (record { stands = made K ok fan limit l ls xs hs small (m .0); seats = refl; eight = refl; fair = λ q. fair-begun limit true shares (shares-within K fan limit shares l ls xs hs given) }) (fan-made K ok fan limit l ls xs hs small (m .0)) (first-stamp fan limit l ls xs hs small (m .0))));
     without = λ fan limit l ls xs hs small given.
-        seated-demand3 fan _ _ (record { stands = made K ok fan limit l ls xs hs small given; seats = refl; eight = refl; fair = λ q. absurd (let z : _≡_ {A = ℕ} 0 1 = cc in omega arith) }) (fan-made K ok fan limit l ls xs hs small given);
+        seated-demand3 fan _ _ (record { stands = made K ok fan limit l ls xs hs small given; seats = refl; eight = refl; fair = λ q. absurd (let z : _≡_ {A = ℕ} 0 1 = cc in omega arith) }) (fan-made K ok fan limit l ls xs hs small given) (first-stamp fan limit l ls xs hs small given);
   }

@@ -116,10 +116,10 @@ module _ (m : ℕ) where
 
 module _ (K : Kind) (s : State) (small : s .head .stamp < 2 ^ 64) where
   -- the tree after a call that makes n entries
-  abbrev After : ℕ → State → Type 0
+  abbrev pub After : ℕ → State → Type 0
   After n t = t .head .stamp ≡ (s .head .stamp + n) % 2 ^ 64
 
-  none-made : (t : State) → t .head .stamp ≡ s .head .stamp → After 0 t
+  pub none-made : (t : State) → t .head .stamp ≡ s .head .stamp → After 0 t
   none-made t e = (let z = small in omega arith)
 
   -- a change that is settled, with what it answers where it isn't refused and where it is
@@ -160,14 +160,14 @@ module _ (K : Kind) (s : State) (small : s .head .stamp < 2 ^ 64) where
       put r (no ne) = rw (ne-eqb (r .number) 0 ne) (λ z. absurd (ne z))
 
   -- each call that makes an entry
-  reset-made : (l : List ℕ) → After (one (outcomeAnswer (calls.reset K s l .answer))) (calls.reset K s l .after)
+  pub reset-made : (l : List ℕ) → After (one (outcomeAnswer (calls.reset K s l .answer))) (calls.reset K s l .after)
   unfolding calls.reset calls.begun
   reset-made l =
       let h = s .head in
       unless-made outcomeAnswer outcome.Refused (calls.makeCauses K (h .fan) (h .limit) l (s .leaves) (s .inners) (s .homes))
       (calls.reply (calls.begun K (h .fan) (h .limit) (nextStamp (h .stamp)) l (s .leaves) (s .inners) (s .homes)) outcome.Done) (λ n. refl) refl
 
-  insert-made : (room : List Cause) (t : Target) (l : List ℕ) → After (one (insertedAnswer (calls.insertBy K room s t l .answer))) (calls.insertBy K room s t l .after)
+  pub insert-made : (room : List Cause) (t : Target) (l : List ℕ) → After (one (insertedAnswer (calls.insertBy K room s t l .answer))) (calls.insertBy K room s t l .after)
   unfolding calls.insertBy
   insert-made room t l =
       let r = calls.placed K s t l in
@@ -175,7 +175,7 @@ module _ (K : Kind) (s : State) (small : s .head .stamp < 2 ^ 64) where
       unless-made insertedAnswer inserted′.Refused (calls.insertCauses K room s t l) (calls.settled s (r .0) inserted′.Refused a) (λ n. refl)
       (settled-made insertedAnswer (r .0) inserted′.Refused a (λ n. refl) refl (placed-counts t l))
 
-  split-made : (room : List Cause) (flag : Bool) (c : Cursor) (l : List ℕ) → After (one (dividedAnswer (calls.splitBy K room s c l flag .answer))) (calls.splitBy K room s c l flag .after)
+  pub split-made : (room : List Cause) (flag : Bool) (c : Cursor) (l : List ℕ) → After (one (dividedAnswer (calls.splitBy K room s c l flag .answer))) (calls.splitBy K room s c l flag .after)
   unfolding calls.splitBy
   split-made room flag c l =
       let r = place.divide (shapeOf K (s .head)) flag s (c .leaf .0) (c .slot) l in
@@ -222,7 +222,7 @@ module _ (K : Kind) (s : State) (small : s .head .stamp < 2 ^ 64) where
       go true q = rw q (finger-still (servedBy v (K .effect) (shapeOf K (s .head)) (s .head .finger) (s .head .leaves) x (s .leaves)) (fromRoot v (K .effect) (shapeOf K (s .head)) (s .head .levels) (s .head .root .0) (s .head .leaves) x (s .leaves) (s .inners)))
       go false q = rw q
 
-  made-after : (c : CursorCall) → After (makes K s c) (cursorStep K s c .after)
+  pub made-after : (c : CursorCall) → After (makes K s c) (cursorStep K s c .after)
   unfolding cursorStep makes calls.charIndexToEntry
   made-after (by.reset l) = reset-made l
   made-after (by.insert t l) = insert-made (full s ∷ []) t l
