@@ -1,2 +1,3 @@
 pub mod TargetLaws
 pub mod PutLaws
+pub mod SeatedLaws

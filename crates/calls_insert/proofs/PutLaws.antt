@@ -8,13 +8,14 @@ use lib.ListN.{length, getD, take}
 use lib.Dec.{ltb, leb, eqb}
 use borrow.Author.Tests.{eq-eqb, ne-eqb, ltb-true, leb-true, le-leb}
 use Rattle.model.specs.Length.{lengthsIn}
+use Rattle.model.specs.Lists.{Cause}
 use Rattle.model.specs.Node as node
 use Rattle.model.specs.Node.{Node, wrap}
 use Rattle.model.specs.State.{State, state, shapeFor, nodeAt}
 use Rattle.model.specs.Climb.{lastDown}
 use Rattle.model.specs.Place.{Change, change, makeRoom, enter, place, summed, climb}
 use Rattle.model.specs.Refuse.{shapeOf}
-use Rattle.model.specs.Calls.{Reply, reply, settled, entryId, aim, endOf, insertCauses, insert}
+use Rattle.model.specs.Calls.{Reply, reply, settled, entryId, aim, endOf, insertCauses, insertBy}
 use Rattle.model.specs.declared.shape.Kind.{Kind}
 use Rattle.model.specs.declared.shape.Shape.{Shape}
 use Rattle.model.specs.declared.head.Head.{Head}
@@ -262,11 +263,11 @@ module _ (K : Kind) (s : State) (t : Target) (g : Shape) (a : Aim) (x : List ℕ
       put-broken q = way-reply (sum.Broken, xs1) (low-lost xs1 (way g new) (ap (λ (y : Sum). (y, xs1)) (sym q) ∙ low))
 
 -- the call, from what its tests answered
-module _ (K : Kind) (s : State) (t : Target) (l : List ℕ) (o : Opened) (e : o ≡ openedBy (insertCauses K s t l) (shapeOf K (s .head))) where
-  pub insert-refused : (n : ℕ) → o ≡ Refused n → reply s (inserted.Refused n) ≡ insert K s t l
-  unfolding insert
-  insert-refused n d = call-refused (λ m. reply s (inserted.Refused m)) (λ g. insertedBy K g s t l) (insertCauses K s t l) (shapeOf K (s .head)) o e n d
+module _ (K : Kind) (causes : List Cause) (s : State) (t : Target) (l : List ℕ) (o : Opened) (e : o ≡ openedBy (insertCauses K causes s t l) (shapeOf K (s .head))) where
+  pub insert-refused : (n : ℕ) → o ≡ Refused n → reply s (inserted.Refused n) ≡ insertBy K causes s t l
+  unfolding insertBy
+  insert-refused n d = call-refused (λ m. reply s (inserted.Refused m)) (λ g. insertedBy K g s t l) (insertCauses K causes s t l) (shapeOf K (s .head)) o e n d
 
-  pub insert-done : (g : Shape) → o ≡ Good g → (r : Reply Inserted) → r ≡ insertedBy K g s t l → r ≡ insert K s t l
-  unfolding insert
-  insert-done g d r q = call-good (λ m. reply s (inserted.Refused m)) (λ g. insertedBy K g s t l) (insertCauses K s t l) (shapeOf K (s .head)) o e g d r q
+  pub insert-done : (g : Shape) → o ≡ Good g → (r : Reply Inserted) → r ≡ insertedBy K g s t l → r ≡ insertBy K causes s t l
+  unfolding insertBy
+  insert-done g d r q = call-good (λ m. reply s (inserted.Refused m)) (λ g. insertedBy K g s t l) (insertCauses K causes s t l) (shapeOf K (s .head)) o e g d r q

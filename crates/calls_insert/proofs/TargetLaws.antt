@@ -7,13 +7,13 @@ use native.Mathlib.Omega.{arith}
 use lib.ListN.{getD}
 use lib.Dec.{ltb, leb}
 use borrow.Author.Tests.{ltb-true, leb-false, ltb-false, lt-ltb, le-ltb, le-leb, lt-leb}
-use Rattle.model.specs.Lists.{Cause, cause, some, All, range}
+use Rattle.model.specs.Lists.{Cause, cause, refusal, some, All, range}
 use Rattle.model.specs.Kind.{tooManyLines}
 use Rattle.model.specs.Length.{lengthsIn}
 use Rattle.model.specs.Node.{child}
 use Rattle.model.specs.State.{State, shapeFor, nodeAt}
 use Rattle.model.specs.Climb.{lastDown}
-use Rattle.model.specs.Refuse.{shapeOf, opening, atCursor, totalOf, past, full}
+use Rattle.model.specs.Refuse.{shapeOf, opening, atCursor, totalOf, past}
 use Rattle.model.specs.Calls.{endOf, targetCauses, insertCauses}
 use Rattle.model.specs.declared.shape.Kind.{Kind}
 use Rattle.model.specs.declared.shape.Shape.{Shape}
@@ -24,7 +24,7 @@ use Rattle.model.specs.declared.way.Leaf.the-variants as leaf
 use Rattle.model.specs.declared.answer.Target.{Target}
 use Rattle.model.specs.declared.answer.Target.the-variants as target
 use Rattle.laws.specs.Lens.{by-test}
-use Rattle.open.proofs.Causes.{opened-first, opened-next, opened-none, opened-stop, opened-more, good-number, good-shape, none-applies, Numbered}
+use Rattle.open.proofs.Causes.{opened-first, opened-next, opened-number, opened-zero, opened-stop, opened-more, good-number, good-shape, good-front, good-tail, none-applies, Numbered}
 use Rattle.open.proofs.ReadyLaws.{ready-here}
 use Rattle.open.proofs.WidthLaws.{past-same}
 use Rattle.open.specs.Lengths.{pastIn}
@@ -34,6 +34,11 @@ use Rattle.open.specs.declared.open.Opened.{Opened}
 use Rattle.open.specs.declared.open.Opened.the-variants.{Good, Refused}
 use Rattle.calls_insert.specs.Put.{aimAt, inUse, aimed, Aimed}
 use Rattle.calls_insert.specs.declared.any.Aim.{Aim}
+
+-- a cause that has a number
+pub one-cause : (n : ℕ) → refusal (cause n true ∷ []) ≡ n
+unfolding refusal
+one-cause n = refl
 
 -- the causes of the tree and of the target
 abbrev pub frontOf : Kind → State → Target → List Cause
@@ -51,11 +56,6 @@ front-numbered : (K : Kind) (s : State) (t : Target) → Numbered (frontOf K s t
 unfolding opening All
 front-numbered K s (target.Before c) = (omega arith, (omega arith, (omega arith, (omega arith, (omega arith, (omega arith, (omega arith, tt)))))))
 front-numbered K s target.End = (omega arith, (omega arith, (omega arith, tt)))
-
-insert-numbered : (K : Kind) (s : State) (t : Target) (l : List ℕ) → Numbered (insertCauses K s t l)
-unfolding opening All
-insert-numbered K s (target.Before c) l = (omega arith, (omega arith, (omega arith, (omega arith, (omega arith, (omega arith, (omega arith, (omega arith, (omega arith, (omega arith, tt))))))))))
-insert-numbered K s target.End l = (omega arith, (omega arith, (omega arith, (omega arith, (omega arith, (omega arith, tt))))))
 
 -- what 7 says with no lengths for old ones
 zeros : (K : Kind) (s : State) (l : List ℕ) (n : ℕ) → 1 ≤ n → n ≤ 3
@@ -83,58 +83,67 @@ module _ (K : Kind) (w : (1 ≤ K .views) × (K .views ≤ 3)) (s : State) where
       rw (← good-shape (frontOf K s t) (shapeOf K (s .head)) g q)
       (none-ready (targetCauses K s t) (none-applies (frontOf K s t) (front-numbered K s t) (good-number (frontOf K s t) (shapeOf K (s .head)) g q)))
 
-  -- what `open_insert` answers: 10 where there are too many line ends
-  pub insert-many : (t : Target) (l : List ℕ) (m : Bool) → m ≡ tooManyLines K l → m ≡ true → Refused 10 ≡ openedBy (insertCauses K s t l) (shapeOf K (s .head))
-  insert-many t l m em h = sym (opened-first 9 _ _ _ (sym em ∙ h))
-
-  -- else, from what `open_for` answered
-  module _ (t : Target) (l : List ℕ) (m : Bool) (em : m ≡ tooManyLines K l) (few : m ≡ false) (o : Opened) (e : o ≡ openedBy (frontOf K s t) (shapeOf K (s .head))) where
-    behind : openedBy (insertCauses K s t l) (shapeOf K (s .head)) ≡ openedBy (opening K s ++ targetCauses K s t ++ past K s [] l ∷ full s ∷ []) (shapeOf K (s .head))
-    behind = opened-next 10 _ _ _ (sym em ∙ few)
-
-    pub insert-stop : (n : ℕ) → o ≡ Refused n → Refused n ≡ openedBy (insertCauses K s t l) (shapeOf K (s .head))
-    insert-stop n d = sym (behind ∙ opened-stop (frontOf K s t) (past K s [] l ∷ full s ∷ []) _ n (sym e ∙ d))
-
-    module _ (g : Shape) (d : o ≡ Good g) (b : Bool)
-        (eb : b ≡ pastIn (shapeFor (K .views) (g .fan) (g .nodes)) (s .head .root .0) (s .inners) (lengthsIn (K .views) (0 ∷ 0 ∷ 0 ∷ 0 ∷ [])) l) where
-      same : shapeOf K (s .head) ≡ g
-      same = good-shape (frontOf K s t) (shapeOf K (s .head)) g (sym e ∙ d)
-
-      here : b ≡ past K s [] l .applies
-      here = eb ∙ past-same K s g (sym same) (lengthsIn (K .views) (0 ∷ 0 ∷ 0 ∷ 0 ∷ [])) l ∙ past-none K w s l
-
-      rest : openedBy (insertCauses K s t l) (shapeOf K (s .head)) ≡ openedBy (past K s [] l ∷ full s ∷ []) (shapeOf K (s .head))
-      rest = behind ∙ opened-more (frontOf K s t) (past K s [] l ∷ full s ∷ []) _ g (front-numbered K s t) (sym e ∙ d)
-
-      pub insert-past : b ≡ true → Refused 7 ≡ openedBy (insertCauses K s t l) (shapeOf K (s .head))
-      insert-past h = sym (rest ∙ opened-first 6 _ (full s ∷ []) _ (sym here ∙ h))
-
-      last : b ≡ false → openedBy (insertCauses K s t l) (shapeOf K (s .head)) ≡ openedBy (full s ∷ []) (shapeOf K (s .head))
-      last h = rest ∙ opened-next 7 _ (full s ∷ []) _ (sym here ∙ h)
-
-      module _ (h : b ≡ false) (f : Bool) (ef : f ≡ full s .applies) where
-        pub insert-full : f ≡ true → Refused 8 ≡ openedBy (insertCauses K s t l) (shapeOf K (s .head))
-        insert-full q = sym (last h ∙ opened-first 7 _ [] _ (sym ef ∙ q))
-
-        pub insert-good : f ≡ false → Good g ≡ openedBy (insertCauses K s t l) (shapeOf K (s .head))
-        insert-good q = sym (last h ∙ opened-next 8 _ [] _ (sym ef ∙ q) ∙ opened-none _ ∙ ap Good same)
-
-  -- and what is known where it gives no number: the tree is ready and has room for one entry more, and a cursor stands
-  none-room : (t : Target) (l : List ℕ) → All (λ c. c .applies ≡ false) (insertCauses K s t l) → Ready K s (shapeOf K (s .head)) × Aimed K s t × (s .head .entries < s .head .limit)
+  -- a cursor stands where its causes don't apply
+  stood : (t : Target) → All (λ c. c .applies ≡ false) (frontOf K s t) → Aimed K s t
   unfolding opening All Aimed
-  none-room (target.Before c) l n = (
-    (ready-here K w s (n .1 .0) (n .1 .1 .0) (n .1 .1 .1 .0)),
-    (leb-false _ _ (n .1 .1 .1 .1 .1 .0), leb-false _ _ (n .1 .1 .1 .1 .1 .1 .0), ltb-false _ _ (n .1 .1 .1 .1 .1 .1 .1 .0)),
-    (leb-false _ _ (n .1 .1 .1 .1 .1 .1 .1 .1 .1 .0)),
-  )
-  none-room target.End l n = (ready-here K w s (n .1 .0) (n .1 .1 .0) (n .1 .1 .1 .0), omega arith, leb-false _ _ (n .1 .1 .1 .1 .1 .0))
+  stood (target.Before c) n = (leb-false _ _ (n .1 .1 .1 .1 .0), leb-false _ _ (n .1 .1 .1 .1 .1 .0), ltb-false _ _ (n .1 .1 .1 .1 .1 .1 .0))
+  stood target.End n = omega arith
 
-  pub insert-room : (t : Target) (l : List ℕ) (g : Shape) (o : Opened) → o ≡ openedBy (insertCauses K s t l) (shapeOf K (s .head)) → o ≡ Good g
-      → Ready K s g × Aimed K s t × (s .head .entries < s .head .limit)
-  insert-room t l g o e d =
-      let q = sym e ∙ d in
-      let r = none-room t l (none-applies (insertCauses K s t l) (insert-numbered K s t l) (good-number (insertCauses K s t l) (shapeOf K (s .head)) g q)) in
-      (rw (← good-shape (insertCauses K s t l) (shapeOf K (s .head)) g q) (r .0), r .1, r .2)
+  -- what `open_insert` answers, with these causes behind all others: 10 where there are too many line ends
+  module _ (causes : List Cause) where
+    pub insert-many : (t : Target) (l : List ℕ) (m : Bool) → m ≡ tooManyLines K l → m ≡ true → Refused 10 ≡ openedBy (insertCauses K causes s t l) (shapeOf K (s .head))
+    insert-many t l m em h = sym (opened-first 9 _ _ _ (sym em ∙ h))
+
+    -- else, from what `open_for` answered
+    module _ (t : Target) (l : List ℕ) (m : Bool) (em : m ≡ tooManyLines K l) (few : m ≡ false) (o : Opened) (e : o ≡ openedBy (frontOf K s t) (shapeOf K (s .head))) where
+      behind : openedBy (insertCauses K causes s t l) (shapeOf K (s .head)) ≡ openedBy (opening K s ++ targetCauses K s t ++ past K s [] l ∷ causes) (shapeOf K (s .head))
+      behind = opened-next 10 _ _ _ (sym em ∙ few)
+
+      pub insert-stop : (n : ℕ) → o ≡ Refused n → Refused n ≡ openedBy (insertCauses K causes s t l) (shapeOf K (s .head))
+      insert-stop n d = sym (behind ∙ opened-stop (frontOf K s t) (past K s [] l ∷ causes) _ n (sym e ∙ d))
+
+      module _ (g : Shape) (d : o ≡ Good g) (b : Bool)
+          (eb : b ≡ pastIn (shapeFor (K .views) (g .fan) (g .nodes)) (s .head .root .0) (s .inners) (lengthsIn (K .views) (0 ∷ 0 ∷ 0 ∷ 0 ∷ [])) l) where
+        same : shapeOf K (s .head) ≡ g
+        same = good-shape (frontOf K s t) (shapeOf K (s .head)) g (sym e ∙ d)
+
+        here : b ≡ past K s [] l .applies
+        here = eb ∙ past-same K s g (sym same) (lengthsIn (K .views) (0 ∷ 0 ∷ 0 ∷ 0 ∷ [])) l ∙ past-none K w s l
+
+        rest : openedBy (insertCauses K causes s t l) (shapeOf K (s .head)) ≡ openedBy (past K s [] l ∷ causes) (shapeOf K (s .head))
+        rest = behind ∙ opened-more (frontOf K s t) (past K s [] l ∷ causes) _ g (front-numbered K s t) (sym e ∙ d)
+
+        pub insert-past : b ≡ true → Refused 7 ≡ openedBy (insertCauses K causes s t l) (shapeOf K (s .head))
+        insert-past h = sym (rest ∙ opened-first 6 _ causes _ (sym here ∙ h))
+
+        module _ (h : b ≡ false) (room : ℕ) (er : refusal causes ≡ room) where
+          last : openedBy (insertCauses K causes s t l) (shapeOf K (s .head)) ≡ openedBy causes (shapeOf K (s .head))
+          last = rest ∙ opened-next 7 _ causes _ (sym here ∙ h)
+
+          pub insert-full : (room ≡ 0 → ⊥) → Refused room ≡ openedBy (insertCauses K causes s t l) (shapeOf K (s .head))
+          insert-full q = sym (last ∙ opened-number causes _ room er q)
+
+          pub insert-good : room ≡ 0 → Good g ≡ openedBy (insertCauses K causes s t l) (shapeOf K (s .head))
+          insert-good q = sym (last ∙ opened-zero causes _ (er ∙ q) ∙ ap Good same)
+
+    -- and what is known where it gives no number: the tree is ready, a cursor stands, and none of the causes applies
+    module _ (t : Target) (l : List ℕ) (g : Shape) (o : Opened) (e : o ≡ openedBy (insertCauses K causes s t l) (shapeOf K (s .head))) (d : o ≡ Good g) where
+      behind-lines : openedBy (opening K s ++ targetCauses K s t ++ past K s [] l ∷ causes) (shapeOf K (s .head)) ≡ Good g
+      behind-lines = good-tail 9 (tooManyLines K l) _ (shapeOf K (s .head)) g (sym e ∙ d)
+
+      front : openedBy (frontOf K s t) (shapeOf K (s .head)) ≡ Good g
+      front = good-front (frontOf K s t) (past K s [] l ∷ causes) (shapeOf K (s .head)) g behind-lines
+
+      pub insert-ready : Ready K s g × Aimed K s t
+      insert-ready = (
+        front-ready t g _ refl front,
+        stood t (none-applies (frontOf K s t) (front-numbered K s t) (good-number (frontOf K s t) (shapeOf K (s .head)) g front)),
+      )
+
+      pub insert-room : refusal causes ≡ 0
+      insert-room =
+          good-number causes (shapeOf K (s .head)) g
+          (good-tail 6 _ causes _ g (sym (opened-more (frontOf K s t) (past K s [] l ∷ causes) _ g (front-numbered K s t) front) ∙ behind-lines))
 
 -- the leaf that the last slots lead to is in the area
 within : Shape → Leaf → Type 0

@@ -12,7 +12,6 @@ use model::way::Sum;
 use open::lengths::past;
 use open::lengths::too_many_lines;
 use open::open::Opened;
-use open::open::full;
 use open::open::open;
 use open::open::open_at;
 use place::entry::place;
@@ -24,6 +23,7 @@ ghost use Prim.Native.Nat.{ℕ, _<_, _≤_};
 ghost use lib.ListN.{length, getD};
 ghost use Rattle.model.specs.Length.{lengthsIn};
 ghost use Rattle.model.specs.Kind.{kind};
+ghost use Rattle.model.specs.Lists.{Cause, refusal};
 ghost use Rattle.model.specs.State.{state};
 ghost use Rattle.model.specs.Refuse.{shapeOf, opening};
 ghost use Rattle.model.specs.Calls as calls;
@@ -61,10 +61,11 @@ fn open_for(
     }
 }
 
-// All that insert tests: too many line ends before all else; behind the tree and a cursor, whether a total would pass u32, and whether
-// the tree holds its limit.
+// All that insert tests: too many line ends before all else; behind the tree and a cursor, whether a total would pass u32, and then
+// room, the number for want of space.
 fn open_insert(
     views: usize,
+    room: u32,
     head: Head,
     leaves: &[u32],
     inners: &[u32],
@@ -73,7 +74,7 @@ fn open_insert(
     x: &[u32; 4],
 ) -> Opened
     requires { ⌜ (1 ≤ views) × (views ≤ 3) × (length (now x) ≡ 4) ⌝ }
-    ensures { λ r. ⌜ ((effect : ℕ) → r ≡ openedBy (insertCauses (kind views effect) (state head (now (leaves .entry)) (now (inners .entry)) (now (homes .entry))) before (lengthsIn views (now (x .entry)))) (shapeOf (kind views effect) head)) ⌝ }
+    ensures { λ r. ⌜ ((effect : ℕ) (causes : List Cause) → refusal causes ≡ room → r ≡ openedBy (insertCauses (kind views effect) causes (state head (now (leaves .entry)) (now (inners .entry)) (now (homes .entry))) before (lengthsIn views (now (x .entry)))) (shapeOf (kind views effect) head)) ⌝ }
 {
     if too_many_lines(views, x) {
         return Opened::Refused(10);
@@ -85,8 +86,8 @@ fn open_insert(
             if past(head.root, inners, views, g.fan, g.nodes, &none, x) {
                 return Opened::Refused(7);
             }
-            if full(head) {
-                return Opened::Refused(8);
+            if room != 0 {
+                return Opened::Refused(room);
             }
             Opened::Good(g)
         }
@@ -202,10 +203,12 @@ fn enter(
     }
 }
 
-// The entry x, which is the next, before a cursor's or at the end: its id and its position.
+// The entry x, which is the next, before a cursor's or at the end: its id and its position. room: the number for want of space, 0 where
+// there is some.
 pub fn insert(
     views: usize,
     effect: usize,
+    room: u32,
     head: Head,
     leaves: &mut [u32],
     inners: &mut [u32],
@@ -213,10 +216,10 @@ pub fn insert(
     before: Target,
     x: &[u32; 4],
 ) -> InsertedReply
-    requires { ⌜ (1 ≤ views) × (views ≤ 3) × (effect < views) × (getD (now x) 0 0 ≡ head .entries) × (length (now x) ≡ 4) ⌝ }
-    ensures { λ r. ⌜ reply (state (r .head) (now (leaves .exit)) (now (inners .exit)) (now (homes .exit))) (r .answer) ≡ calls.insert (kind views effect) (state head (now (leaves .entry)) (now (inners .entry)) (now (homes .entry))) before (lengthsIn views (now (x .entry))) ⌝ }
+    requires { ⌜ (1 ≤ views) × (views ≤ 3) × (effect < views) × (getD (now x) 0 0 ≡ head .entries) × (length (now x) ≡ 4) × (room ≡ 0 → head .entries < head .limit) ⌝ }
+    ensures { λ r. ⌜ ((causes : List Cause) → refusal causes ≡ room → reply (state (r .head) (now (leaves .exit)) (now (inners .exit)) (now (homes .exit))) (r .answer) ≡ calls.insertBy (kind views effect) causes (state head (now (leaves .entry)) (now (inners .entry)) (now (homes .entry))) before (lengthsIn views (now (x .entry)))) ⌝ }
 {
-    match open_insert(views, head, leaves, inners, homes, before, x) {
+    match open_insert(views, room, head, leaves, inners, homes, before, x) {
         Opened::Refused(n) => refused(head, n),
         Opened::Good(g) => enter(views, effect, head, leaves, inners, homes, g, before, x),
     }

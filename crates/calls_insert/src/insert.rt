@@ -4,6 +4,7 @@ use model::answer::Target;
 use model::head::Head;
 use model::length::Lengths;
 use model::length::Slot;
+use seating::rule::without;
 ghost use mathlib.Core.Path.{_≡_};
 ghost use Rattle.model.specs.Length.{listOf};
 ghost use Rattle.model.specs.Kind.{base};
@@ -29,5 +30,6 @@ pub fn insert(
         slot.effect_len,
         slot.line_ends,
     ];
-    crate::any::insert(3, 1, head, leaves, inners, homes, before, &x)
+    let room = without(head.limit, head.entries);
+    crate::any::insert(3, 1, room, head, leaves, inners, homes, before, &x)
 }

@@ -11,7 +11,7 @@ ghost use lib.ListN.{length, getD};
 ghost use Rattle.model.specs.Kind.{kind};
 ghost use Rattle.model.specs.Lists.{refusal};
 ghost use Rattle.model.specs.State.{state, shape, nodesFor, nodeAt};
-ghost use Rattle.model.specs.Refuse.{badSize, tooShort, astray, shapeOf, opening, stale, atCursor, full};
+ghost use Rattle.model.specs.Refuse.{badSize, tooShort, astray, shapeOf, opening, stale, atCursor};
 ghost use Rattle.model.specs.Calls.{areaCauses};
 ghost use Rattle.model.specs.declared.shape.Kind.{Kind};
 ghost use Rattle.node.specs.Shaped.{Shaped};
@@ -181,13 +181,6 @@ pub fn fault(head: Head, leaves: &[u32], g: Shape, c: Cursor) -> u32
         return 14;
     }
     0
-}
-
-// Whether the tree holds its limit.
-pub fn full(head: Head) -> bool
-    ensures { λ r. ⌜ r ≡ full (state head [] [] []) .applies ⌝ }
-{
-    head.limit <= head.entries
 }
 
 // What every call tests that takes a cursor.

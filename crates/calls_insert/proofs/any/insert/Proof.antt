@@ -1,9 +1,12 @@
 -- `calls_insert::any::insert`: the tests, then the change with the shape that they gave.
-use mathlib.Core.Path.{refl, _∙_}
+use mathlib.Core.Path.{refl, sym, _∙_}
+use mathlib.Core.Bool.{true}
+use mathlib.Core.List.{List, [], _∷_}
+use Rattle.model.specs.Lists.{Cause, cause}
 use Rattle.model.specs.Kind.{kind}
 use Rattle.model.specs.Length.{lengthsIn}
 use Rattle.model.specs.State.{State, state}
-use Rattle.calls_insert.proofs.TargetLaws.{insert-room}
+use Rattle.calls_insert.proofs.TargetLaws.{one-cause, insert-ready, insert-room}
 use Rattle.calls_insert.proofs.PutLaws.{refused-is, insert-refused, insert-done}
 use borrow.Author.Needs.{needs}
 use Rattle.calls_insert.proofs.any.insert.Statement.{statement}
@@ -33,8 +36,12 @@ enter-requires c κs =
     let o = c .before .before .before .before .before .before .open-insert in
     let e = s .args .effect in
     let l = lengthsIn (s .args .views) (s .args .x .now) in
-    let r = insert-room (kind (s .args .views) e) (s .pre .0, s .pre .1) (entry s) (s .args .before) l _ _ (o .ensures e) (c .before .before .before .before .g .given .1) in
-    (r .0, r .1, s .pre .2, r .2, s .pre .3, s .pre .4)
+    let want : List Cause = cause (s .args .room) true ∷ [] in
+    let opened = o .ensures e want (one-cause (s .args .room)) in
+    let good = c .before .before .before .before .g .given .1 in
+    let r = insert-ready (kind (s .args .views) e) (s .pre .0, s .pre .1) (entry s) want (s .args .before) l _ _ opened good in
+    let some = insert-room (kind (s .args .views) e) (s .pre .0, s .pre .1) (entry s) want (s .args .before) l _ _ opened good in
+    (r .0, r .1, s .pre .2, s .pre .5 (sym (one-cause (s .args .room)) ∙ some), s .pre .3, s .pre .4)
 
 same-length : tie.Need-same-length
 same-length c = refl
@@ -51,7 +58,7 @@ returns c =
     let o = c .before .before .before .before .open-insert in
     let e = s .args .effect in
     let l = lengthsIn (s .args .views) (s .args .x .now) in
-    refused-is _ _ _ (c .refused .ensures) ∙ insert-refused (kind (s .args .views) e) (entry s) (s .args .before) l _ (o .ensures e) _ (c .before .before .n .given .1)
+    λ causes room. refused-is _ _ _ (c .refused .ensures) ∙ insert-refused (kind (s .args .views) e) causes (entry s) (s .args .before) l _ (o .ensures e causes room) _ (c .before .before .n .given .1)
 
 same-length-4 : tie.Need-same-length-4
 same-length-4 c =
@@ -74,7 +81,7 @@ returns-2 c =
     let o = c .before .before .before .before .before .before .before .before .before .before .before .before .before .open-insert in
     let e = s .args .effect in
     let l = lengthsIn (s .args .views) (s .args .x .now) in
-    insert-done (kind (s .args .views) e) (entry s) (s .args .before) l _ (o .ensures e) _ (c .before .before .before .before .before .before .before .before .before .before .before .g .given .1) _ (c .before .before .before .before .before .before .enter .ensures)
+    λ causes room. insert-done (kind (s .args .views) e) causes (entry s) (s .args .before) l _ (o .ensures e causes room) _ (c .before .before .before .before .before .before .before .before .before .before .before .g .given .1) _ (c .before .before .before .before .before .before .enter .ensures)
 
 pub insert-spec : {M : Type 1} → statement M
 insert-spec =

@@ -20,7 +20,7 @@ returns : tie.Need-returns
 returns c =
     let s = c .before .before .before .before .before in
     let l = lengthsIn (s .args .views) (s .args .x .now) in
-    λ effect. insert-many (kind (s .args .views) effect) (s .pre .0, s .pre .1) (entry s) (s .args .before) l _ (c .before .too-many-lines .ensures effect) (c .if1 .taken)
+    λ effect causes room. insert-many (kind (s .args .views) effect) (s .pre .0, s .pre .1) (entry s) causes (s .args .before) l _ (c .before .too-many-lines .ensures effect) (c .if1 .taken)
 
 open-for-requires : tie.Need-open-for-requires
 open-for-requires c κs =
@@ -44,53 +44,26 @@ past-requires c κs =
 returns-2 : tie.Need-returns-2
 returns-2 c =
     let s = c .before .before .before .before .before .before .before .before .before .before .before .before in
-    let m = c .before .before .before .before .before .before .before .before .too-many-lines in
-    let few = c .before .before .before .before .before .before .before .if1 .left in
-    let o = c .before .before .before .before .before .before .open-for in
     let l = lengthsIn (s .args .views) (s .args .x .now) in
-    let g = c .before .before .before .before .g in
-    let p = c .before .past in
-    λ effect. insert-past (kind (s .args .views) effect) (s .pre .0, s .pre .1) (entry s) (s .args .before) l _ (m .ensures effect) few _ (o .ensures effect) _ (g .given .1) _ (p .ensures) (c .if2 .taken)
-
-full-requires : tie.Need-full-requires
-full-requires c κs = tt
+    λ effect causes room. insert-past (kind (s .args .views) effect) (s .pre .0, s .pre .1) (entry s) causes (s .args .before) l _ (c .before .before .before .before .before .before .before .before .too-many-lines .ensures effect) (c .before .before .before .before .before .before .before .if1 .left) _ (c .before .before .before .before .before .before .open-for .ensures effect) _ (c .before .before .before .before .g .given .1) _ (c .before .past .ensures) (c .if2 .taken)
 
 returns-3 : tie.Need-returns-3
 returns-3 c =
-    let s = c .before .before .before .before .before .before .before .before .before .before .before .before .before .before in
-    let m = c .before .before .before .before .before .before .before .before .before .before .too-many-lines in
-    let few = c .before .before .before .before .before .before .before .before .before .if1 .left in
-    let o = c .before .before .before .before .before .before .before .before .open-for in
+    let s = c .before .before .before .before .before .before .before .before .before .before .before .before .before in
     let l = lengthsIn (s .args .views) (s .args .x .now) in
-    let g = c .before .before .before .before .before .before .g in
-    let p = c .before .before .before .past in
-    let two = c .before .before .if2 in
-    let f = c .before .full in
-    λ effect. insert-full (kind (s .args .views) effect) (s .pre .0, s .pre .1) (entry s) (s .args .before) l _ (m .ensures effect) few _ (o .ensures effect) _ (g .given .1) _ (p .ensures) (two .left) _ (f .ensures)
-    (c .if3 .taken)
+    λ effect causes room. insert-full (kind (s .args .views) effect) (s .pre .0, s .pre .1) (entry s) causes (s .args .before) l _ (c .before .before .before .before .before .before .before .before .before .too-many-lines .ensures effect) (c .before .before .before .before .before .before .before .before .if1 .left) _ (c .before .before .before .before .before .before .before .open-for .ensures effect) _ (c .before .before .before .before .before .g .given .1) _ (c .before .before .past .ensures) (c .before .if2 .left) _ room (c .if3 .taken)
 
 returns-4 : tie.Need-returns-4
 returns-4 c =
     let s = c .before .before .before .before .before .before .before .before .before in
-    let m = c .before .before .before .before .before .too-many-lines in
-    let few = c .before .before .before .before .if1 .left in
-    let o = c .before .before .before .open-for in
     let l = lengthsIn (s .args .views) (s .args .x .now) in
-    λ effect. insert-stop (kind (s .args .views) effect) (s .pre .0, s .pre .1) (entry s) (s .args .before) l _ (m .ensures effect) few _ (o .ensures effect) _ (c .before .n .given .1)
+    λ effect causes room. insert-stop (kind (s .args .views) effect) (s .pre .0, s .pre .1) (entry s) causes (s .args .before) l _ (c .before .before .before .before .before .too-many-lines .ensures effect) (c .before .before .before .before .if1 .left) _ (c .before .before .before .open-for .ensures effect) _ (c .before .n .given .1)
 
 returns-5 : tie.Need-returns-5
 returns-5 c =
-    let s = c .before .before .before .before .before .before .before .before .before .before .before .before .before .before in
-    let m = c .before .before .before .before .before .before .before .before .before .before .too-many-lines in
-    let few = c .before .before .before .before .before .before .before .before .before .if1 .left in
-    let o = c .before .before .before .before .before .before .before .before .open-for in
+    let s = c .before .before .before .before .before .before .before .before .before .before .before .before .before in
     let l = lengthsIn (s .args .views) (s .args .x .now) in
-    let g = c .before .before .before .before .before .before .g in
-    let p = c .before .before .before .past in
-    let two = c .before .before .if2 in
-    let f = c .before .full in
-    λ effect. insert-good (kind (s .args .views) effect) (s .pre .0, s .pre .1) (entry s) (s .args .before) l _ (m .ensures effect) few _ (o .ensures effect) _ (g .given .1) _ (p .ensures) (two .left) _ (f .ensures)
-    (c .if3 .left)
+    λ effect causes room. insert-good (kind (s .args .views) effect) (s .pre .0, s .pre .1) (entry s) causes (s .args .before) l _ (c .before .before .before .before .before .before .before .before .before .too-many-lines .ensures effect) (c .before .before .before .before .before .before .before .before .if1 .left) _ (c .before .before .before .before .before .before .before .open-for .ensures effect) _ (c .before .before .before .before .before .g .given .1) _ (c .before .before .past .ensures) (c .before .if2 .left) _ room (c .if3 .left)
 
 pub open-insert-spec : {M : Type 1} → statement M
 open-insert-spec =
@@ -103,7 +76,6 @@ open-insert-spec =
     enum-known-g
     past-requires
     returns-2
-    full-requires
     returns-3
     returns-4
     returns-5)

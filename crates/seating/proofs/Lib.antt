@@ -1,0 +1,4 @@
+pub mod SumLaws
+pub mod RuleLaws
+pub mod WriteLaws
+pub mod ReplyLaws
