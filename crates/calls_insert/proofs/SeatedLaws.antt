@@ -27,9 +27,9 @@ module _ (t : Seat) (b : Seats) (a : Inserted) where
 module _ (s : State) (b : Seats) (t : Seat) (to : Target) (l : List ℕ) (q : Bool) (e : q ≡ badSeat b t) where
   pub seated-refused : q ≡ true → seatedReply s b (inserted.Refused 10) ≡ insertSeated base s b t to l
   unfolding insertSeated
-  seated-refused h = seat-refused (seatedReply s b (inserted.Refused 10)) (afterInsert t b) (badSeat b t) (insertBy base (space s b t) s to l) (sym e ∙ h)
+  seated-refused h = seat-refused (afterInsert t b) (seatedReply s b (inserted.Refused 10)) (badSeat b t) (insertBy base (space s b t) s to l) (sym e ∙ h)
 
   pub seated-done : q ≡ false → (s1 : State) (a : Inserted) → reply s1 a ≡ insertBy base (space s b t) s to l → (b1 : Seats) → b1 ≡ afterInsert t b a
       → seatedReply s1 b1 a ≡ insertSeated base s b t to l
   unfolding insertSeated
-  seated-done h s1 a d b1 c = seat-taken (seatedReply s b (inserted.Refused 10)) (afterInsert t b) (badSeat b t) (insertBy base (space s b t) s to l) (sym e ∙ h) s1 b1 a d c
+  seated-done h s1 a d b1 c = seat-taken (afterInsert t b) (seatedReply s b (inserted.Refused 10)) (badSeat b t) (insertBy base (space s b t) s to l) (sym e ∙ h) s1 b1 a d c

@@ -7,7 +7,7 @@ use native.Mathlib.Omega.{arith}
 use lib.ListN.{getD}
 use lib.Dec.{ltb, leb}
 use borrow.Author.Tests.{ltb-true, leb-false, ltb-false, lt-ltb, le-ltb, le-leb, lt-leb}
-use Rattle.model.specs.Lists.{Cause, cause, refusal, some, All, range}
+use Rattle.model.specs.Lists.{Cause, refusal, some, All, range}
 use Rattle.model.specs.Kind.{tooManyLines}
 use Rattle.model.specs.Length.{lengthsIn}
 use Rattle.model.specs.Node.{child}
@@ -34,11 +34,6 @@ use Rattle.open.specs.declared.open.Opened.{Opened}
 use Rattle.open.specs.declared.open.Opened.the-variants.{Good, Refused}
 use Rattle.calls_insert.specs.Put.{aimAt, inUse, aimed, Aimed}
 use Rattle.calls_insert.specs.declared.any.Aim.{Aim}
-
--- a cause that has a number
-pub one-cause : (n : ℕ) → refusal (cause n true ∷ []) ≡ n
-unfolding refusal
-one-cause n = refl
 
 -- the causes of the tree and of the target
 abbrev pub frontOf : Kind → State → Target → List Cause

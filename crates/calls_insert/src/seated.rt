@@ -11,7 +11,7 @@ use seating::rule::room;
 use seating::write::charge;
 ghost use mathlib.Core.Path.{_≡_};
 ghost use mathlib.Core.Bool.{false};
-ghost use lib.ListN.{length};
+ghost use lib.ListN.{length, getD};
 ghost use Rattle.model.specs.Length.{listOf};
 ghost use Rattle.model.specs.Kind.{base};
 ghost use Rattle.model.specs.State.{state};
@@ -19,10 +19,10 @@ ghost use Rattle.model.specs.Seats.{badSeat};
 ghost use Rattle.model.specs.SeatedCalls.{seatedReply, afterInsert, insertSeated};
 ghost use Rattle.seating.specs.Words.{seatsFrom};
 
-// The entry is charged to the seat, unless the call was refused.
+// The entry is charged to the seat, unless the call was refused. The flag stays.
 fn charge_for(seats: &mut [u32], seat: Seat, answer: Inserted)
     requires { ⌜ (length (now seats) ≡ 17) × (badSeat (seatsFrom (now seats)) seat ≡ false) ⌝ }
-    ensures { λ _. ⌜ seatsFrom (now (seats .exit)) ≡ afterInsert seat (seatsFrom (now (seats .entry))) answer ⌝ }
+    ensures { λ _. ⌜ (seatsFrom (now (seats .exit)) ≡ afterInsert seat (seatsFrom (now (seats .entry))) answer) × (getD (now (seats .exit)) 0 0 ≡ getD (now (seats .entry)) 0 0) ⌝ }
 {
     match answer {
         Inserted::At(id, position) => charge(seats, seat),
@@ -42,7 +42,7 @@ pub fn insert(
     lengths: Lengths,
 ) -> InsertedReply
     requires { ⌜ length (now seats) ≡ 17 ⌝ }
-    ensures { λ r. ⌜ seatedReply (state (r .head) (now (leaves .exit)) (now (inners .exit)) (now (homes .exit))) (seatsFrom (now (seats .exit))) (r .answer) ≡ insertSeated base (state head (now (leaves .entry)) (now (inners .entry)) (now (homes .entry))) (seatsFrom (now (seats .entry))) seat before (listOf lengths) ⌝ }
+    ensures { λ r. ⌜ (seatedReply (state (r .head) (now (leaves .exit)) (now (inners .exit)) (now (homes .exit))) (seatsFrom (now (seats .exit))) (r .answer) ≡ insertSeated base (state head (now (leaves .entry)) (now (inners .entry)) (now (homes .entry))) (seatsFrom (now (seats .entry))) seat before (listOf lengths)) × (getD (now (seats .exit)) 0 0 ≡ getD (now (seats .entry)) 0 0) ⌝ }
 {
     if bad_seat(seats, seat) {
         return InsertedReply {

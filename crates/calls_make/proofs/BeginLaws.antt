@@ -1,7 +1,7 @@
 -- What make and reset write and answer. Assumes nothing.
 use mathlib.Core.Path.{_≡_, refl, sym, ap, _∙_}
 use mathlib.Core.Bool.{Bool, true, false, cond}
-use mathlib.Core.List.{List, [], _∷_}
+use mathlib.Core.List.{List, [], _∷_, _++_}
 use Prim.Native.Nat.{ℕ, suc, _+_, _-_, _*_, _/_, _<_, _≤_}
 use native.Mathlib.Omega.{arith}
 use lib.ListN.{length, getD, set, take, drop}
@@ -9,7 +9,7 @@ use lib.Dec.{ltb}
 use borrow.Author.Tests.{ltb-false}
 use borrow.Rule.Slice.PartMut.{putMid}
 use Rattle.model.specs.Kind.{kind, stride, tooManyLines}
-use Rattle.model.specs.Lists.{All, putAt}
+use Rattle.model.specs.Lists.{Cause, refusal, All, putAt}
 use Rattle.model.specs.Node.{none, newNode}
 use Rattle.model.specs.Length.{lengthsIn}
 use Rattle.model.specs.State.{State, state, headOf, nextStamp, shape, putNode}
@@ -23,12 +23,13 @@ use Rattle.laws.specs.Words.{lent-back}
 use Rattle.laws.specs.Lists.{rows-le}
 use Rattle.node.specs.Shaped.{Shaped}
 use Rattle.open.proofs.Bools.{or-false}
-use Rattle.open.proofs.Causes.{none-applies, good-number, good-shape, good-tail, call-refused, call-good}
+use Rattle.open.proofs.Causes.{Numbered, opened-stop, opened-more, opened-number, opened-zero, none-applies, good-number, good-shape, good-front, good-tail, call-refused, call-good}
 use Rattle.open.proofs.OpenLaws.{sized}
 use Rattle.open.proofs.ReadyLaws.{shaped}
 use Rattle.open.specs.Open.{openedBy}
 use Rattle.open.specs.declared.open.Opened.{Opened}
 use Rattle.open.specs.declared.open.Opened.the-variants.{Good, Refused}
+use Rattle.calls_make.specs.Made.{makeBy}
 
 -- node 0 is the area's first words
 pub first-node : (g : Shape) (ws xs : List ℕ) → g .size ≤ length ws → length xs ≡ length (take (g .size - 0) (drop 0 ws)) → putMid 0 (g .size - 0) ws xs ≡ putAt (0 * g .size) xs ws
@@ -98,18 +99,52 @@ pub make-room : (K : Kind) → (1 ≤ K .views) × (K .views ≤ 3) → (fan lim
 make-room K w fan limit l ls xs hs o e g d =
     room K w fan limit ls xs hs _ refl g (good-tail 9 (tooManyLines K l) (areaCauses K fan limit ls xs hs) (shape (stride K) fan limit) g (sym e ∙ d))
 
+-- what `open_new` answers, with more causes behind those of `open_make`
+module _ (K : Kind) (fan limit : ℕ) (l ls xs hs : List ℕ) (o : Opened) (e : o ≡ openedBy (makeCauses K fan limit l ls xs hs) (shape (stride K) fan limit)) (more : List Cause) where
+  abbrev causes : List Cause
+  causes = makeCauses K fan limit l ls xs hs
+
+  pub new-stop : (n : ℕ) → o ≡ Refused n → Refused n ≡ openedBy (causes ++ more) (shape (stride K) fan limit)
+  new-stop n d = sym (opened-stop causes more (shape (stride K) fan limit) n (sym e ∙ d))
+
+  module _ (g : Shape) (d : o ≡ Good g) (high : ℕ) (er : refusal more ≡ high) where
+    numbered : Numbered causes
+    unfolding All
+    numbered = (omega arith, (omega arith, (omega arith, tt)))
+
+    rest : openedBy (causes ++ more) (shape (stride K) fan limit) ≡ openedBy more (shape (stride K) fan limit)
+    rest = opened-more causes more (shape (stride K) fan limit) g numbered (sym e ∙ d)
+
+    pub new-high : (high ≡ 0 → ⊥) → Refused high ≡ openedBy (causes ++ more) (shape (stride K) fan limit)
+    new-high h = sym (rest ∙ opened-number more (shape (stride K) fan limit) high er h)
+
+    pub new-good : high ≡ 0 → Good g ≡ openedBy (causes ++ more) (shape (stride K) fan limit)
+    new-good h = sym (rest ∙ opened-zero more (shape (stride K) fan limit) (er ∙ h) ∙ ap Good (good-shape causes (shape (stride K) fan limit) g (sym e ∙ d)))
+
 -- make
-module _ (K : Kind) (fan limit : ℕ) (l ls xs hs : List ℕ) (o : Opened) (e : o ≡ openedBy (makeCauses K fan limit l ls xs hs) (shape (stride K) fan limit)) where
-  pub make-refused : (n : ℕ) → o ≡ Refused n → reply (state (headOf 0 0 0 0 0 0 0 0 held.Absent) ls xs hs) (outcome.Refused n) ≡ make K fan limit l ls xs hs
-  unfolding make
+module _ (K : Kind) (more : List Cause) (fan limit : ℕ) (l ls xs hs : List ℕ) (o : Opened) (e : o ≡ openedBy (makeCauses K fan limit l ls xs hs ++ more) (shape (stride K) fan limit)) where
+  pub make-refused : (n : ℕ) → o ≡ Refused n → reply (state (headOf 0 0 0 0 0 0 0 0 held.Absent) ls xs hs) (outcome.Refused n) ≡ makeBy K more fan limit l ls xs hs
+  unfolding makeBy
   make-refused n d =
       call-refused (λ (m : ℕ). reply (state (headOf 0 0 0 0 0 0 0 0 held.Absent) ls xs hs) (outcome.Refused m)) (λ (g : Shape). reply (begun K fan limit 1 l ls xs hs) outcome.Done) _ _ o e n d
 
-  pub make-good : (g : Shape) → o ≡ Good g → (s : State) → s ≡ begun K fan limit 1 l ls xs hs → reply s outcome.Done ≡ make K fan limit l ls xs hs
-  unfolding make
+  pub make-good : (g : Shape) → o ≡ Good g → (s : State) → s ≡ begun K fan limit 1 l ls xs hs → reply s outcome.Done ≡ makeBy K more fan limit l ls xs hs
+  unfolding makeBy
   make-good g d s q =
       call-good (λ (m : ℕ). reply (state (headOf 0 0 0 0 0 0 0 0 held.Absent) ls xs hs) (outcome.Refused m))
       (λ (y : Shape). reply (begun K fan limit 1 l ls xs hs) outcome.Done) _ _ o e g d _ (ap (λ (t : State). reply t outcome.Done) q)
+
+  pub new-room : (1 ≤ K .views) × (K .views ≤ 3) → (g : Shape) → o ≡ Good g → Room K fan limit g ls xs hs
+  new-room w g d = make-room K w fan limit l ls xs hs _ refl g (good-front (makeCauses K fan limit l ls xs hs) more (shape (stride K) fan limit) g (sym e ∙ d))
+
+-- without more causes
+pub no-more : refusal [] ≡ 0
+unfolding refusal
+no-more = refl
+
+pub make-plain : (K : Kind) (fan limit : ℕ) (l ls xs hs : List ℕ) → makeBy K [] fan limit l ls xs hs ≡ make K fan limit l ls xs hs
+unfolding makeBy make
+make-plain K fan limit l ls xs hs = refl
 
 -- reset
 module _ (K : Kind) (s : State) (l : List ℕ) (o : Opened) (e : o ≡ openedBy (makeCauses K (s .head .fan) (s .head .limit) l (s .leaves) (s .inners) (s .homes)) (shapeOf K (s .head))) where

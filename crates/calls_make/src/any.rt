@@ -11,10 +11,11 @@ use open::lengths::too_many_lines;
 use open::open::Opened;
 use open::open::open_areas;
 ghost use mathlib.Core.Path.{_≡_};
-ghost use mathlib.Core.List.{[], _∷_};
+ghost use mathlib.Core.List.{List, [], _∷_, _++_};
 ghost use Prim.Native.Nat.{ℕ, suc, _<_, _≤_};
 ghost use lib.ListN.{length, getD, take};
 ghost use Rattle.model.specs.Length.{lengthsIn};
+ghost use Rattle.model.specs.Lists.{Cause, refusal};
 ghost use Rattle.model.specs.Kind.{kind};
 ghost use Rattle.model.specs.Node.{newNode};
 ghost use Rattle.model.specs.State.{state, shape, putNode};
@@ -22,6 +23,7 @@ ghost use Rattle.model.specs.Calls as calls;
 ghost use Rattle.model.specs.Calls.{begun, makeCauses, reply};
 ghost use Rattle.node.specs.Shaped.{Shaped};
 ghost use Rattle.open.specs.Open.{openedBy};
+ghost use Rattle.calls_make.specs.Made.{makeBy};
 
 // Node 0 of an area written anew with the slot x.
 fn write_first(area: &mut [u32], g: Shape, parent: u32, x: &[u32; 4])
@@ -83,9 +85,36 @@ fn open_make(
     open_areas(views, fan, limit, leaves, inners, homes)
 }
 
-// A new tree with the entry x, 0; a refused one is a head of zeros without finger.
+// The same of a new tree, and behind all that high, the number for shares that sum too high.
+fn open_new(
+    views: usize,
+    high: u32,
+    fan: u32,
+    limit: u32,
+    x: &[u32; 4],
+    leaves: &[u32],
+    inners: &[u32],
+    homes: &[u32],
+) -> Opened
+    requires { ⌜ (1 ≤ views) × (views ≤ 3) × (length (now x) ≡ 4) ⌝ }
+    ensures { λ r. ⌜ ((effect : ℕ) (more : List Cause) → refusal more ≡ high → r ≡ openedBy (makeCauses (kind views effect) fan limit (lengthsIn views (now (x .entry))) (now (leaves .entry)) (now (inners .entry)) (now (homes .entry)) ++ more) (shape (suc views) fan limit)) ⌝ }
+{
+    match open_make(views, fan, limit, x, leaves, inners, homes) {
+        Opened::Refused(n) => Opened::Refused(n),
+        Opened::Good(g) => {
+            if high != 0 {
+                return Opened::Refused(high);
+            }
+            Opened::Good(g)
+        }
+    }
+}
+
+// A new tree with the entry x, 0; a refused one is a head of zeros without finger. high: the number for shares that sum too high, 0 where
+// there are none.
 pub fn new(
     views: usize,
+    high: u32,
     fan: u32,
     limit: u32,
     x: &[u32; 4],
@@ -94,9 +123,9 @@ pub fn new(
     homes: &mut [u32],
 ) -> OutcomeReply
     requires { ⌜ (1 ≤ views) × (views ≤ 3) × (getD (now x) 0 0 ≡ 0) × (length (now x) ≡ 4) ⌝ }
-    ensures { λ r. ⌜ ((effect : ℕ) → reply (state (r .head) (now (leaves .exit)) (now (inners .exit)) (now (homes .exit))) (r .answer) ≡ calls.make (kind views effect) fan limit (lengthsIn views (now (x .entry))) (now (leaves .entry)) (now (inners .entry)) (now (homes .entry))) ⌝ }
+    ensures { λ r. ⌜ ((effect : ℕ) (more : List Cause) → refusal more ≡ high → reply (state (r .head) (now (leaves .exit)) (now (inners .exit)) (now (homes .exit))) (r .answer) ≡ makeBy (kind views effect) more fan limit (lengthsIn views (now (x .entry))) (now (leaves .entry)) (now (inners .entry)) (now (homes .entry))) ⌝ }
 {
-    match open_make(views, fan, limit, x, leaves, inners, homes) {
+    match open_new(views, high, fan, limit, x, leaves, inners, homes) {
         Opened::Refused(n) => {
             let zeros = Head {
                 fan: 0,

@@ -1,1 +1,2 @@
 pub mod SplitLaws
+pub mod SeatedLaws

@@ -10,23 +10,25 @@ use open::lengths::lengths_at;
 use open::lengths::too_many_lines;
 use open::lengths::too_much;
 use open::open::Opened;
-use open::open::full;
 use open::open::open_at;
 use place::entry::divide;
 ghost use mathlib.Core.Path.{_≡_};
+ghost use mathlib.Core.List.{List};
 ghost use Prim.Native.Nat.{ℕ, _<_, _≤_};
 ghost use lib.ListN.{length, getD};
 ghost use Rattle.model.specs.Length.{lengthsIn};
 ghost use Rattle.model.specs.Kind.{kind};
+ghost use Rattle.model.specs.Lists.{Cause, refusal};
 ghost use Rattle.model.specs.State.{state, nextStamp};
 ghost use Rattle.model.specs.Refuse.{shapeOf};
 ghost use Rattle.model.specs.Calls as calls;
 ghost use Rattle.model.specs.Calls.{reply, dividedAt, splitCauses};
 ghost use Rattle.open.specs.Open.{openedBy};
 
-// What split_entry tests, too many line ends before all else.
+// What split_entry tests, too many line ends before all else, and room, the number for want of space, behind all else.
 fn open_split(
     views: usize,
+    room: u32,
     head: Head,
     leaves: &[u32],
     inners: &[u32],
@@ -35,7 +37,7 @@ fn open_split(
     x: &[u32; 4],
 ) -> Opened
     requires { ⌜ (1 ≤ views) × (views ≤ 3) × (length (now x) ≡ 4) ⌝ }
-    ensures { λ r. ⌜ ((effect : ℕ) → r ≡ openedBy (splitCauses (kind views effect) (state head (now (leaves .entry)) (now (inners .entry)) (now (homes .entry))) at (lengthsIn views (now (x .entry)))) (shapeOf (kind views effect) head)) ⌝ }
+    ensures { λ r. ⌜ ((effect : ℕ) (causes : List Cause) → refusal causes ≡ room → r ≡ openedBy (splitCauses (kind views effect) causes (state head (now (leaves .entry)) (now (inners .entry)) (now (homes .entry))) at (lengthsIn views (now (x .entry)))) (shapeOf (kind views effect) head)) ⌝ }
 {
     if too_many_lines(views, x) {
         return Opened::Refused(10);
@@ -51,8 +53,8 @@ fn open_split(
             if hollow_part(g, x, &own) {
                 return Opened::Refused(17);
             }
-            if full(head) {
-                return Opened::Refused(8);
+            if room != 0 {
+                return Opened::Refused(room);
             }
             Opened::Good(g)
         }
@@ -78,9 +80,11 @@ fn divided_at(id: EntryId, stamp: u64, leaf: LeafNo, slot: u32) -> Divided
     Divided::At(id, first, second)
 }
 
-// The lengths of x leave the entry at a cursor for the entry x, which is the next, just before it or just after.
+// The lengths of x leave the entry at a cursor for the entry x, which is the next, just before it or just after. room: the number
+// for want of space, 0 where there is some.
 pub fn split_entry(
     views: usize,
+    room: u32,
     head: Head,
     leaves: &mut [u32],
     inners: &mut [u32],
@@ -89,10 +93,10 @@ pub fn split_entry(
     x: &[u32; 4],
     before: bool,
 ) -> DividedReply
-    requires { ⌜ (1 ≤ views) × (views ≤ 3) × (getD (now x) 0 0 ≡ head .entries) × (length (now x) ≡ 4) ⌝ }
-    ensures { λ r. ⌜ ((effect : ℕ) → reply (state (r .head) (now (leaves .exit)) (now (inners .exit)) (now (homes .exit))) (r .answer) ≡ calls.splitEntry (kind views effect) (state head (now (leaves .entry)) (now (inners .entry)) (now (homes .entry))) at (lengthsIn views (now (x .entry))) before) ⌝ }
+    requires { ⌜ (1 ≤ views) × (views ≤ 3) × (getD (now x) 0 0 ≡ head .entries) × (length (now x) ≡ 4) × (room ≡ 0 → head .entries < head .limit) ⌝ }
+    ensures { λ r. ⌜ ((effect : ℕ) (causes : List Cause) → refusal causes ≡ room → reply (state (r .head) (now (leaves .exit)) (now (inners .exit)) (now (homes .exit))) (r .answer) ≡ calls.splitBy (kind views effect) causes (state head (now (leaves .entry)) (now (inners .entry)) (now (homes .entry))) at (lengthsIn views (now (x .entry))) before) ⌝ }
 {
-    match open_split(views, head, leaves, inners, homes, at, x) {
+    match open_split(views, room, head, leaves, inners, homes, at, x) {
         Opened::Refused(n) => DividedReply {
             head: head,
             answer: Divided::Refused(n),

@@ -4,6 +4,7 @@ use model::head::Cursor;
 use model::head::Head;
 use model::length::Lengths;
 use model::length::Slot;
+use seating::rule::without;
 ghost use mathlib.Core.Path.{_≡_};
 ghost use Rattle.model.specs.Length.{listOf};
 ghost use Rattle.model.specs.Kind.{base};
@@ -30,5 +31,6 @@ pub fn split_entry(
         slot.effect_len,
         slot.line_ends,
     ];
-    crate::any::split_entry(3, head, leaves, inners, homes, at, &x, before)
+    let room = without(head.limit, head.entries);
+    crate::any::split_entry(3, room, head, leaves, inners, homes, at, &x, before)
 }

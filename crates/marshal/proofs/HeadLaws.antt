@@ -1,27 +1,35 @@
--- The head's nineteen words: tested, and written one after the other. Assumes nothing.
+-- The head's words: tested, and written one after the other. Assumes nothing.
 use mathlib.Core.Path.{_≡_, refl, sym, ap, ap₂, subst, _∙_}
 use mathlib.Core.Bool.{Bool, true, false, cond, not, _||_}
-use mathlib.Core.List.{List, [], _∷_, _++_, append-nil}
-use Prim.Native.Nat.{ℕ, _+_, _*_, _<_, _/_, _%_}
+use mathlib.Core.List.{List, [], _∷_, _++_}
+use Prim.Native.Nat.{ℕ, _+_, _*_, _≤_, _<_, _/_, _%_}
 use native.Mathlib.Omega.{arith}
-use lib.ListN.{length, getD, take, drop, drop-of-length-le}
-use lib.Seq.{sets, sets-eq, lt-length-sets, drop-cons}
+use lib.ListN.{length, getD, take, drop}
+use lib.Seq.{sets, sets-eq, lt-length-sets, drop-cons, drop-drop}
 use lib.Dec.{ltb, eqb}
-use borrow.Author.Tests.{eq-eqb, ne-eqb, eqb-true, ltb-true}
+use borrow.Author.Tests.{eq-eqb, ne-eqb, eqb-true, ltb-true, ltb-false}
 use Rattle.model.specs.Place.{withFinger}
 use Rattle.model.specs.declared.head.Head.{Head}
 use Rattle.model.specs.declared.head.Held.{Held}
 use Rattle.model.specs.declared.head.Finger.{Finger}
-use Rattle.marshal.specs.Flat.{badHead, headFrom, headWords, headAfter, stampFrom, countWords, fingerWords, stampWords, presentOf, fingerOf}
+use Rattle.marshal.specs.Flat.{badHead, badSeats, headFrom, headWords, headAfter, stampFrom, countWords, fingerWords, stampWords, presentOf, fingerOf}
 
 -- whether the words are good
-pub bad-length : (w : List ℕ) → (length w ≡ 19 → ⊥) → true ≡ badHead w
+pub bad-length : (w : List ℕ) → (length w ≡ 36 → ⊥) → true ≡ badHead w
 unfolding badHead
-bad-length w d = sym (ap (λ (t : Bool). not t || ltb 1 (getD w 7 0)) (ne-eqb (length w) 19 d))
+bad-length w d = sym (ap (λ (t : Bool). not t || ltb 1 (getD w 7 0)) (ne-eqb (length w) 36 d))
 
-pub flag-test : (w : List ℕ) → length w ≡ 19 → ltb 1 (getD w 7 0) ≡ badHead w
+pub flag-test : (w : List ℕ) → length w ≡ 36 → ltb 1 (getD w 7 0) ≡ badHead w
 unfolding badHead
-flag-test w e = sym (ap (λ (t : Bool). not t || ltb 1 (getD w 7 0)) (eq-eqb (length w) 19 e))
+flag-test w e = sym (ap (λ (t : Bool). not t || ltb 1 (getD w 7 0)) (eq-eqb (length w) 36 e))
+
+pub seats-test : (w : List ℕ) (t : Bool) → t ≡ badHead w → t ≡ false → ltb 1 (getD w 19 0) ≡ badSeats w
+unfolding badSeats
+seats-test w t e h = sym (ap (λ (q : Bool). q || ltb 1 (getD w 19 0)) (sym e ∙ h))
+
+pub seats-bad : (w : List ℕ) (t : Bool) → t ≡ badHead w → t ≡ true → true ≡ badSeats w
+unfolding badSeats
+seats-bad w t e h = sym (ap (λ (q : Bool). q || ltb 1 (getD w 19 0)) (sym e ∙ h))
 
 or-first : (a b : Bool) → (a || b) ≡ false → a ≡ false
 or-first true b e = e
@@ -31,36 +39,47 @@ not-first : (a b : Bool) → (not a || b) ≡ false → a ≡ true
 not-first true b e = refl
 not-first false b e = sym e
 
-pub good-head : (w : List ℕ) → badHead w ≡ false → length w ≡ 19
-unfolding badHead
-good-head w e = eqb-true (length w) 19 (not-first (eqb (length w) 19) (ltb 1 (getD w 7 0)) e)
+or-last : (a b : Bool) → (a || b) ≡ false → b ≡ false
+or-last true true e = e
+or-last true false e = refl
+or-last false b e = e
 
-pub good-flag : (w : List ℕ) (t : Bool) → (badHead w || t) ≡ false → length w ≡ 19
+pub good-head : (w : List ℕ) → badHead w ≡ false → length w ≡ 36
+unfolding badHead
+good-head w e = eqb-true (length w) 36 (not-first (eqb (length w) 36) (ltb 1 (getD w 7 0)) e)
+
+pub good-flag : (w : List ℕ) (t : Bool) → (badHead w || t) ≡ false → length w ≡ 36
 good-flag w t e = good-head w (or-first (badHead w) t e)
 
--- words written leave as many, and those written up to the end are the last
-pub in-head : (w vs : List ℕ) (i j : ℕ) → ltb j 19 ≡ true → length w ≡ 19 → j < length (sets w i vs)
-in-head w vs i j t e = lt-length-sets w i vs (subst (λ (n : ℕ). j < n) (sym e) (ltb-true j 19 t))
+-- a good head with good seats
+pub good-seats : (w : List ℕ) → badSeats w ≡ false → (length w ≡ 36) × (getD w 19 0 ≤ 1)
+unfolding badSeats
+good-seats w e = (
+  good-flag w (ltb 1 (getD w 19 0)) e,
+  (let z = ltb-false 1 (getD w 19 0) (or-last (badHead w) (ltb 1 (getD w 19 0)) e) in omega (arith, z)),
+)
 
-ended : (l vs : List ℕ) (i : ℕ) → length l ≡ i + length vs → sets l i vs ≡ take i l ++ vs
-ended l vs i e =
-    sets-eq vs l i (omega (arith, e)) ∙ ap (λ (r : List ℕ). take i l ++ vs ++ r) (drop-of-length-le l {i = i + length vs} (omega (arith, e)))
-    ∙ append-nil (take i l ++ vs)
+pub good-seated-flag : (w : List ℕ) (t : Bool) → (badSeats w || t) ≡ false → (length w ≡ 36) × (getD w 19 0 ≤ 1)
+good-seated-flag w t e = good-seats w (or-first (badSeats w) t e)
+
+-- words written leave as many
+pub in-head : (w vs : List ℕ) (i j : ℕ) → ltb j 36 ≡ true → length w ≡ 36 → j < length (sets w i vs)
+in-head w vs i j t e = lt-length-sets w i vs (subst (λ (n : ℕ). j < n) (sym e) (ltb-true j 36 t))
 
 abbrev ten : ℕ → Finger → List ℕ
 ten present f =
     present ∷ f .view ∷ f .leaf ∷ f .start ∷ f .effect ∷ f .slot ∷ f .within ∷ f .«effect_within» ∷ f .prepare ∷ f .«prepare_within» ∷ []
 
-pub finger-written : (w : List ℕ) (t : Held) (present : ℕ) (f : Finger) → length w ≡ 19 → present ≡ presentOf t → f ≡ fingerOf t
+pub finger-written : (w : List ℕ) (t : Held) (present : ℕ) (f : Finger) → length w ≡ 36 → present ≡ presentOf t → f ≡ fingerOf t
     → sets w 7 (ten present f) ≡ take 7 w ++ fingerWords t ++ drop 17 w
 finger-written w t present f e p q =
     sets-eq (ten present f) w 7 (omega (arith, e)) ∙ ap₂ (λ (n : ℕ) (g : Finger). take 7 w ++ ten n g ++ drop 17 w) p q
 
-pub counts-written : (w : List ℕ) (h : Head) → length w ≡ 19 → sets w 2 (countWords h) ≡ take 2 w ++ countWords h ++ drop 7 w
+pub counts-written : (w : List ℕ) (h : Head) → length w ≡ 36 → sets w 2 (countWords h) ≡ take 2 w ++ countWords h ++ drop 7 w
 counts-written w h e = sets-eq (countWords h) w 2 (omega (arith, e))
 
-pub stamp-written : (w : List ℕ) (stamp : ℕ) → length w ≡ 19 → sets w 17 (stampWords stamp) ≡ take 17 w ++ stampWords stamp
-stamp-written w stamp e = ended w (stampWords stamp) 17 e
+pub stamp-written : (w : List ℕ) (stamp : ℕ) → length w ≡ 36 → sets w 17 (stampWords stamp) ≡ take 17 w ++ stampWords stamp ++ drop 19 w
+stamp-written w stamp e = sets-eq (stampWords stamp) w 17 (omega (arith, e))
 
 -- the low word of a stamp and its high one, which a word each are
 low-word : (l n : ℕ) → l < 4294967296 → (l + 4294967296 * n) % 4294967296 ≡ l
@@ -69,45 +88,54 @@ low-word l n h = omega (arith, h)
 high-word : (l n : ℕ) → l < 4294967296 → (l + 4294967296 * n) / 4294967296 ≡ n
 high-word l n h = omega (arith, h)
 
-stamp-read : (w : List ℕ) → length w ≡ 19 → getD w 17 0 < 4294967296 → drop 17 w ≡ stampWords (stampFrom w)
+stamp-read : (w : List ℕ) → length w ≡ 36 → getD w 17 0 < 4294967296 → drop 17 w ≡ stampWords (stampFrom w) ++ drop 19 w
 stamp-read w e h =
     drop-cons w 17 0 (omega (arith, e))
-    ∙ ap (λ (r : List ℕ). getD w 17 0 ∷ r) (drop-cons w 18 0 (omega (arith, e)) ∙ ap (λ (r : List ℕ). getD w 18 0 ∷ r) (drop-of-length-le w {i = 19} (omega (arith, e))))
-    ∙ sym (ap₂ (λ (l n : ℕ). l ∷ n ∷ []) (low-word (getD w 17 0) (getD w 18 0) h) (high-word (getD w 17 0) (getD w 18 0) h))
+    ∙ ap (λ (r : List ℕ). getD w 17 0 ∷ r) (drop-cons w 18 0 (omega (arith, e)))
+    ∙ sym (ap₂ (λ (l n : ℕ). l ∷ n ∷ drop 19 w) (low-word (getD w 17 0) (getD w 18 0) h) (high-word (getD w 17 0) (getD w 18 0) h))
 
--- fan and limit in front, the counts behind them, the finger and the stamp at the end are the head's words
+-- fan and limit in front, the counts behind them, the finger and the stamp are the head's words; the seats' words stay
 module _ (h : Head) where
   abbrev fingered : List ℕ → List ℕ
   fingered v = take 7 v ++ fingerWords (h .finger) ++ drop 17 v
 
   abbrev stamped : List ℕ → List ℕ
-  stamped u = take 17 u ++ stampWords (h .stamp)
+  stamped u = take 17 u ++ stampWords (h .stamp) ++ drop 19 u
 
-  after-counts : (p r v u x : List ℕ) → p ≡ h .fan ∷ h .limit ∷ [] → v ≡ p ++ countWords h ++ r → u ≡ fingered v → x ≡ stamped u → x ≡ headWords h
+  -- r: the words behind the counts
+  after-counts : (p r v u x : List ℕ) → p ≡ h .fan ∷ h .limit ∷ [] → v ≡ p ++ countWords h ++ r → u ≡ fingered v → x ≡ stamped u → x ≡ headWords h ++ drop 12 r
   unfolding headWords
   after-counts p r v u x ep ev eu ex =
-      ex ∙ ap stamped (eu ∙ ap fingered (ev ∙ ap (λ (q : List ℕ). q ++ countWords h ++ r) ep))
+      ex ∙ ap stamped (eu ∙ ap fingered (ev ∙ ap (λ (q : List ℕ). q ++ countWords h ++ r) ep)) ∙ ap (λ (q : List ℕ). headWords h ++ q) (drop-drop 2 10 r)
 
-  new-front : (w : List ℕ) → length w ≡ 19 → take 2 (sets w 0 (h .fan ∷ h .limit ∷ [])) ≡ h .fan ∷ h .limit ∷ []
+  new-front : (w : List ℕ) → length w ≡ 36 → take 2 (sets w 0 (h .fan ∷ h .limit ∷ [])) ≡ h .fan ∷ h .limit ∷ []
   new-front [] e = absurd (omega (arith, e))
   new-front (x ∷ []) e = absurd (omega (arith, e))
   new-front (x ∷ y ∷ w) e = refl
 
-  old-front : (w : List ℕ) → length w ≡ 19 → h .fan ≡ getD w 0 0 → h .limit ≡ getD w 1 0 → take 2 w ≡ h .fan ∷ h .limit ∷ []
+  new-rest : (w : List ℕ) → length w ≡ 36 → drop 12 (drop 7 (sets w 0 (h .fan ∷ h .limit ∷ []))) ≡ drop 19 w
+  new-rest [] e = absurd (omega (arith, e))
+  new-rest (x ∷ []) e = absurd (omega (arith, e))
+  new-rest (x ∷ y ∷ w) e = drop-drop 12 5 w
+
+  old-front : (w : List ℕ) → length w ≡ 36 → h .fan ≡ getD w 0 0 → h .limit ≡ getD w 1 0 → take 2 w ≡ h .fan ∷ h .limit ∷ []
   old-front [] e a b = absurd (omega (arith, e))
   old-front (x ∷ []) e a b = absurd (omega (arith, e))
   old-front (x ∷ y ∷ w) e a b = ap₂ (λ (m n : ℕ). m ∷ n ∷ []) (sym a) (sym b)
 
   -- all written; all but fan and limit; the finger alone, where the low word of the stamp is one
-  pub put-whole : (w v u x : List ℕ) → length w ≡ 19 → (let z = sets w 0 (h .fan ∷ h .limit ∷ []) in v ≡ take 2 z ++ countWords h ++ drop 7 z)
-      → u ≡ fingered v → x ≡ stamped u → x ≡ headWords h
-  put-whole w v u x e ev eu ex = after-counts (take 2 (sets w 0 (h .fan ∷ h .limit ∷ []))) (drop 7 (sets w 0 (h .fan ∷ h .limit ∷ []))) v u x (new-front w e) ev eu ex
+  pub put-whole : (w v u x : List ℕ) → length w ≡ 36 → (let z = sets w 0 (h .fan ∷ h .limit ∷ []) in v ≡ take 2 z ++ countWords h ++ drop 7 z)
+      → u ≡ fingered v → x ≡ stamped u → x ≡ headWords h ++ drop 19 w
+  put-whole w v u x e ev eu ex =
+      let z = sets w 0 (h .fan ∷ h .limit ∷ []) in
+      after-counts (take 2 z) (drop 7 z) v u x (new-front w e) ev eu ex ∙ ap (λ (q : List ℕ). headWords h ++ q) (new-rest w e)
 
-  pub put-grown : (w v u x : List ℕ) → length w ≡ 19 → h .fan ≡ getD w 0 0 → h .limit ≡ getD w 1 0 → v ≡ take 2 w ++ countWords h ++ drop 7 w
-      → u ≡ fingered v → x ≡ stamped u → x ≡ headWords h
-  put-grown w v u x e a b ev eu ex = after-counts (take 2 w) (drop 7 w) v u x (old-front w e a b) ev eu ex
+  pub put-grown : (w v u x : List ℕ) → length w ≡ 36 → h .fan ≡ getD w 0 0 → h .limit ≡ getD w 1 0 → v ≡ take 2 w ++ countWords h ++ drop 7 w
+      → u ≡ fingered v → x ≡ stamped u → x ≡ headWords h ++ drop 19 w
+  put-grown w v u x e a b ev eu ex =
+      after-counts (take 2 w) (drop 7 w) v u x (old-front w e a b) ev eu ex ∙ ap (λ (q : List ℕ). headWords h ++ q) (drop-drop 12 7 w)
 
-  seven : (w : List ℕ) → length w ≡ 19 → take 7 w ≡ getD w 0 0 ∷ getD w 1 0 ∷ getD w 2 0 ∷ getD w 3 0 ∷ getD w 4 0 ∷ getD w 5 0 ∷ getD w 6 0 ∷ []
+  seven : (w : List ℕ) → length w ≡ 36 → take 7 w ≡ getD w 0 0 ∷ getD w 1 0 ∷ getD w 2 0 ∷ getD w 3 0 ∷ getD w 4 0 ∷ getD w 5 0 ∷ getD w 6 0 ∷ []
   seven [] e = absurd (omega (arith, e))
   seven (a ∷ []) e = absurd (omega (arith, e))
   seven (a ∷ b ∷ []) e = absurd (omega (arith, e))
@@ -117,17 +145,17 @@ module _ (h : Head) where
   seven (a ∷ b ∷ c ∷ d ∷ f ∷ g ∷ []) e = absurd (omega (arith, e))
   seven (a ∷ b ∷ c ∷ d ∷ f ∷ g ∷ i ∷ w) e = refl
 
-  pub put-fingered : (w u : List ℕ) → length w ≡ 19 → getD w 17 0 < 4294967296 → h ≡ withFinger (h .finger) (headFrom w) → u ≡ fingered w → u ≡ headWords h
+  pub put-fingered : (w u : List ℕ) → length w ≡ 36 → getD w 17 0 < 4294967296 → h ≡ withFinger (h .finger) (headFrom w) → u ≡ fingered w → u ≡ headWords h ++ drop 19 w
   unfolding headWords headFrom
   put-fingered w u e l eh eu =
-      eu ∙ ap₂ (λ (v x : List ℕ). v ++ fingerWords (h .finger) ++ x) (seven w e) (stamp-read w e l) ∙ sym (ap headWords eh)
+      eu ∙ ap₂ (λ (v x : List ℕ). v ++ fingerWords (h .finger) ++ x) (seven w e) (stamp-read w e l) ∙ sym (ap (λ (k : Head). headWords k ++ drop 19 w) eh)
 
 -- a call's number decides whether they are
 module _ (number : ℕ) (h : Head) (w : List ℕ) where
-  pub after-done : (v : List ℕ) → number ≡ 0 → v ≡ headWords h → v ≡ headAfter number h w
+  pub after-done : (v : List ℕ) → number ≡ 0 → v ≡ headWords h ++ drop 19 w → v ≡ headAfter number h w
   unfolding headAfter
-  after-done v e d = d ∙ sym (ap (λ (t : Bool). cond t (headWords h) w) (eq-eqb number 0 e))
+  after-done v e d = d ∙ sym (ap (λ (t : Bool). cond t (headWords h ++ drop 19 w) w) (eq-eqb number 0 e))
 
   pub after-refused : (number ≡ 0 → ⊥) → w ≡ headAfter number h w
   unfolding headAfter
-  after-refused d = sym (ap (λ (t : Bool). cond t (headWords h) w) (ne-eqb number 0 d))
+  after-refused d = sym (ap (λ (t : Bool). cond t (headWords h ++ drop 19 w) w) (ne-eqb number 0 d))

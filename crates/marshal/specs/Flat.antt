@@ -1,11 +1,12 @@
 -- Heads, cursors, lengths, views and answers as the words that cross the C boundary, and back. Assumes nothing.
 use mathlib.Core.Bool.{Bool, cond, not, _||_}
-use mathlib.Core.List.{List, [], _∷_}
+use mathlib.Core.List.{List, [], _∷_, _++_}
 use Prim.Native.Nat.{ℕ, _+_, _*_, _/_, _%_}
-use lib.ListN.{length, getD}
+use lib.ListN.{length, getD, drop}
 use lib.Dec.{eqb, ltb}
 use Rattle.model.specs.Row.{Answer}
 use Rattle.model.specs.State.{headOf}
+use Rattle.model.specs.Node.{none}
 use Rattle.model.specs.declared.head.Cursor.{Cursor}
 use Rattle.model.specs.declared.head.Finger.{Finger}
 use Rattle.model.specs.declared.head.Head.{Head}
@@ -16,6 +17,8 @@ use Rattle.model.specs.declared.length.View.{View}
 use Rattle.model.specs.declared.length.View.the-variants as view
 use Rattle.model.specs.declared.answer.Target.{Target}
 use Rattle.model.specs.declared.answer.Target.the-variants as target
+use Rattle.model.specs.declared.seats.Seat.{Seat}
+use Rattle.model.specs.declared.seats.Seat.the-variants as seat
 use Rattle.marshal.specs.declared.flat.FlatNumber.{FlatNumber}
 use Rattle.marshal.specs.declared.flat.FlatMeasured.{FlatMeasured}
 use Rattle.marshal.specs.declared.flat.FlatCursor.{FlatCursor}
@@ -26,9 +29,13 @@ use Rattle.marshal.specs.declared.flat.FlatDivided.{FlatDivided}
 
 -- what a host hands over ------------------------------------------------------------------------------------------------------------------
 
--- nineteen words; the eighth says whether there is a finger
+-- thirty-six words; the eighth says whether there is a finger
 unfoldable pub badHead : List ℕ → Bool
-badHead w = not (eqb (length w) 19) || ltb 1 (getD w 7 0)
+badHead w = not (eqb (length w) 36) || ltb 1 (getD w 7 0)
+
+-- the last seventeen are the seats', whose first says whether there are any; only the calls that know seats look at them
+unfoldable pub badSeats : List ℕ → Bool
+badSeats w = badHead w || ltb 1 (getD w 19 0)
 
 abbrev pub fingerFrom : List ℕ → Finger
 fingerFrom w =
@@ -37,7 +44,7 @@ fingerFrom w =
 unfoldable pub heldFrom : List ℕ → Held
 heldFrom w = cond (eqb (getD w 7 0) 0) held.Absent (held.At (fingerFrom w))
 
--- the last two words are the stamp, the low one first
+-- two words are the stamp, the low one first
 abbrev pub stampFrom : List ℕ → ℕ
 stampFrom w = getD w 17 0 + 4294967296 * getD w 18 0
 
@@ -57,6 +64,10 @@ viewFrom n = cond (eqb n 0) view.Prepare (cond (eqb n 1) view.Effect view.Lines)
 -- before a cursor (0) or at the end (1); the calls refuse any other number
 unfoldable pub targetFrom : ℕ → Cursor → Target
 targetFrom n c = cond (eqb n 0) (target.Before c) target.End
+
+-- 4,294,967,295 is nobody; a seat above 7 is refused by the calls
+unfoldable pub seatFrom : ℕ → Seat
+seatFrom n = cond (eqb n none) seat.Nobody (seat.Number n)
 
 -- what it gets back -----------------------------------------------------------------------------------------------------------------------
 
@@ -88,9 +99,9 @@ wordsWith h present f =
 unfoldable pub headWords : Head → List ℕ
 headWords h = wordsWith h (presentOf (h .finger)) (fingerOf (h .finger))
 
--- the lent words after a call with this number: a refused one leaves them
+-- the lent words after a call with this number, which leaves the seats: a refused one leaves them all
 unfoldable pub headAfter : ℕ → Head → List ℕ → List ℕ
-headAfter number h w = cond (eqb number 0) (headWords h) w
+headAfter number h w = cond (eqb number 0) (headWords h ++ drop 19 w) w
 
 -- value i of an answer, 0 where there is none: a refusal has no values
 abbrev pub value : ℕ → Answer → ℕ

@@ -1,6 +1,6 @@
-// What crosses the C boundary: plain numbers in structs of C's layout, and the head as nineteen words that the host lends: fan, limit,
-// root, levels, the counts of leaves, inner nodes and entries in use, 1 or 0 for a finger or none, the finger's nine words, and the
-// stamp's two, the low one first.
+// What crosses the C boundary: plain numbers in structs of C's layout, and the head as thirty-six words that the host lends: fan, limit,
+// root, levels, the counts of leaves, inner nodes and entries in use, 1 or 0 for a finger or none, the finger's nine words, the stamp's
+// two, the low one first; then 1 or 0 for a tree with seats or without, the shares of seats 0 to 7, and what is charged to each.
 // A cursor and lengths cross it as numbers, each an argument of its own: a struct would go through memory.
 
 // The answers: document 01's number, 0 where the call was done, then its values, zeros where it was refused.

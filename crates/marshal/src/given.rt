@@ -4,8 +4,10 @@ use model::head::Cursor;
 use model::length::Lengths;
 use model::length::View;
 use model::number::LeafNo;
+use model::number::NONE;
+use model::seats::Seat;
 ghost use mathlib.Core.Path.{_≡_};
-ghost use Rattle.marshal.specs.Flat.{cursorFrom, lengthsFrom, viewFrom, targetFrom};
+ghost use Rattle.marshal.specs.Flat.{cursorFrom, lengthsFrom, viewFrom, targetFrom, seatFrom};
 
 pub fn cursor_from(leaf: u32, slot: u32, stamp: u64) -> Cursor
     ensures { λ r. ⌜ r ≡ cursorFrom leaf slot stamp ⌝ }
@@ -47,4 +49,14 @@ pub fn target_from(end: u32, before: Cursor) -> Target
         return Target::Before(before);
     }
     Target::End
+}
+
+// A seat, or nobody where none is given.
+pub fn seat_from(seat: u32) -> Seat
+    ensures { λ r. ⌜ r ≡ seatFrom seat ⌝ }
+{
+    if seat == NONE {
+        return Seat::Nobody;
+    }
+    Seat::Number(seat)
 }

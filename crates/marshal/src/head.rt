@@ -1,4 +1,5 @@
-// The head in the nineteen words that a host lends; the last two are the stamp, the low one first.
+// The head in the first nineteen of the thirty-six words that a host lends; its last two are the stamp, the low one first. Behind them
+// stand the seats' seventeen words, the first of them 0 or 1.
 use model::head::Finger;
 use model::head::Head;
 use model::head::Held;
@@ -10,19 +11,39 @@ ghost use lib.Dec.{ltb};
 ghost use mathlib.Core.List.{_++_};
 ghost use lib.ListN.{length, getD, take, drop};
 ghost use Rattle.model.specs.Place.{withFinger};
-ghost use Rattle.marshal.specs.Flat.{badHead, stampFrom, heldFrom, headFrom, presentOf, fingerOf, countWords, fingerWords, stampWords, headWords, headAfter};
+ghost use Rattle.marshal.specs.Flat.{badHead, badSeats, stampFrom, heldFrom, headFrom, presentOf, fingerOf, countWords, fingerWords, stampWords, headWords, headAfter};
 
-// Whether it isn't nineteen words, or has neither 0 nor 1 for its finger.
+// Whether it isn't thirty-six words, or has neither 0 nor 1 for its finger.
 pub fn bad_head(head: &[u32]) -> bool
     ensures { λ r. ⌜ r ≡ badHead (now (head .entry)) ⌝ }
 {
-    if head.len() != 19 {
+    if head.len() != 36 {
         return true;
     }
     1 < head[7]
 }
 
+// The same, or whether the seats' first word is neither 0 nor 1, for the calls that know seats.
+pub fn bad_seats(head: &[u32]) -> bool
+    ensures { λ r. ⌜ r ≡ badSeats (now (head .entry)) ⌝ }
+{
+    if bad_head(head) {
+        return true;
+    }
+    1 < head[19]
+}
+
 // The same, or whether a flag is neither 0 nor 1.
+pub fn bad_seated_flag(head: &[u32], flag: u32) -> bool
+    ensures { λ r. ⌜ r ≡ (badSeats (now (head .entry)) || ltb 1 flag) ⌝ }
+{
+    if bad_seats(head) {
+        return true;
+    }
+    1 < flag
+}
+
+// A bad head, or a flag that is neither 0 nor 1.
 pub fn bad_flag(head: &[u32], flag: u32) -> bool
     ensures { λ r. ⌜ r ≡ (badHead (now (head .entry)) || ltb 1 flag) ⌝ }
 {
@@ -32,7 +53,7 @@ pub fn bad_flag(head: &[u32], flag: u32) -> bool
     1 < flag
 }
 
-// The same of a view, which is 0, 1 or 2.
+// A bad head, or a view that isn't 0, 1 or 2.
 pub fn bad_view(head: &[u32], view: u32) -> bool
     ensures { λ r. ⌜ r ≡ (badHead (now (head .entry)) || ltb 2 view) ⌝ }
 {
@@ -43,7 +64,7 @@ pub fn bad_view(head: &[u32], view: u32) -> bool
 }
 
 fn held_from(head: &[u32]) -> Held
-    requires { ⌜ length (now head) ≡ 19 ⌝ }
+    requires { ⌜ length (now head) ≡ 36 ⌝ }
     ensures { λ r. ⌜ r ≡ heldFrom (now (head .entry)) ⌝ }
 {
     if head[7] == 0 {
@@ -71,14 +92,14 @@ fn wide(x: u32) -> u64
 
 // The low one is a word, which writing the stamp back turns on.
 fn stamp_from(head: &[u32]) -> u64
-    requires { ⌜ length (now head) ≡ 19 ⌝ }
+    requires { ⌜ length (now head) ≡ 36 ⌝ }
     ensures { λ r. ⌜ (r ≡ stampFrom (now (head .entry))) × (getD (now (head .entry)) 17 0 < 4294967296) ⌝ }
 {
     wide(head[17]) + 4294967296 * wide(head[18])
 }
 
 pub fn head_from(head: &[u32]) -> Head
-    requires { ⌜ length (now head) ≡ 19 ⌝ }
+    requires { ⌜ length (now head) ≡ 36 ⌝ }
     ensures { λ r. ⌜ (r ≡ headFrom (now (head .entry))) × (getD (now (head .entry)) 17 0 < 4294967296) ⌝ }
 {
     let finger = held_from(head);
@@ -127,7 +148,7 @@ fn finger_of(finger: Held) -> Finger
 
 // The finger's ten words.
 fn put_finger(head: &mut [u32], finger: Held)
-    requires { ⌜ length (now head) ≡ 19 ⌝ }
+    requires { ⌜ length (now head) ≡ 36 ⌝ }
     ensures { λ _. ⌜ now (head .exit) ≡ take 7 (now (head .entry)) ++ fingerWords finger ++ drop 17 (now (head .entry)) ⌝ }
 {
     let present = present_of(finger);
@@ -146,7 +167,7 @@ fn put_finger(head: &mut [u32], finger: Held)
 
 // Root, levels and the counts.
 fn put_counts(head: &mut [u32], h: Head)
-    requires { ⌜ length (now head) ≡ 19 ⌝ }
+    requires { ⌜ length (now head) ≡ 36 ⌝ }
     ensures { λ _. ⌜ now (head .exit) ≡ take 2 (now (head .entry)) ++ countWords h ++ drop 7 (now (head .entry)) ⌝ }
 {
     let root = h.root;
@@ -158,16 +179,17 @@ fn put_counts(head: &mut [u32], h: Head)
 }
 
 fn put_stamp(head: &mut [u32], stamp: u64)
-    requires { ⌜ length (now head) ≡ 19 ⌝ }
-    ensures { λ _. ⌜ now (head .exit) ≡ take 17 (now (head .entry)) ++ stampWords stamp ⌝ }
+    requires { ⌜ length (now head) ≡ 36 ⌝ }
+    ensures { λ _. ⌜ now (head .exit) ≡ take 17 (now (head .entry)) ++ stampWords stamp ++ drop 19 (now (head .entry)) ⌝ }
 {
     head[17] = (stamp % 4294967296) as u32;
     head[18] = (stamp / 4294967296) as u32;
 }
 
+// The seats' words stay.
 pub fn put_head(head: &mut [u32], h: Head)
-    requires { ⌜ length (now head) ≡ 19 ⌝ }
-    ensures { λ _. ⌜ now (head .exit) ≡ headWords h ⌝ }
+    requires { ⌜ length (now head) ≡ 36 ⌝ }
+    ensures { λ _. ⌜ now (head .exit) ≡ headWords h ++ drop 19 (now (head .entry)) ⌝ }
 {
     let finger = h.finger;
     head[0] = h.fan;
@@ -179,7 +201,7 @@ pub fn put_head(head: &mut [u32], h: Head)
 
 // The head after a call that answered so: a refused one leaves it.
 pub fn settle(head: &mut [u32], number: u32, h: Head)
-    requires { ⌜ length (now head) ≡ 19 ⌝ }
+    requires { ⌜ length (now head) ≡ 36 ⌝ }
     ensures { λ _. ⌜ now (head .exit) ≡ headAfter number h (now (head .entry)) ⌝ }
 {
     if number == 0 {
@@ -189,7 +211,7 @@ pub fn settle(head: &mut [u32], number: u32, h: Head)
 
 // The same after a call that leaves fan and limit: what doesn't change isn't written.
 pub fn settle_grown(head: &mut [u32], number: u32, h: Head)
-    requires { ⌜ (length (now head) ≡ 19) × (number ≡ 0 → (h .fan ≡ getD (now head) 0 0) × (h .limit ≡ getD (now head) 1 0)) ⌝ }
+    requires { ⌜ (length (now head) ≡ 36) × (number ≡ 0 → (h .fan ≡ getD (now head) 0 0) × (h .limit ≡ getD (now head) 1 0)) ⌝ }
     ensures { λ _. ⌜ now (head .exit) ≡ headAfter number h (now (head .entry)) ⌝ }
 {
     if number == 0 {
@@ -202,7 +224,7 @@ pub fn settle_grown(head: &mut [u32], number: u32, h: Head)
 
 // The same after a call that leaves all but the finger.
 pub fn settle_finger(head: &mut [u32], number: u32, h: Head)
-    requires { ⌜ (length (now head) ≡ 19) × (getD (now head) 17 0 < 4294967296) × (number ≡ 0 → h ≡ withFinger (h .finger) (headFrom (now head))) ⌝ }
+    requires { ⌜ (length (now head) ≡ 36) × (getD (now head) 17 0 < 4294967296) × (number ≡ 0 → h ≡ withFinger (h .finger) (headFrom (now head))) ⌝ }
     ensures { λ _. ⌜ now (head .exit) ≡ headAfter number h (now (head .entry)) ⌝ }
 {
     if number == 0 {

@@ -24,6 +24,11 @@ pub opened-none : (g : Shape) → openedBy [] g ≡ Good g
 unfolding refusal
 opened-none g = refl
 
+-- a cause of any number
+pub one-cause : (n : ℕ) → refusal (cause n true ∷ []) ≡ n
+unfolding refusal
+one-cause n = refl
+
 -- the answer of a number
 pub opened-number : (cs : List Cause) (g : Shape) (n : ℕ) → refusal cs ≡ n → (n ≡ 0 → ⊥) → openedBy cs g ≡ Refused n
 opened-number cs g zero e h = absurd (h refl)

@@ -1,19 +1,20 @@
 -- What is written to the seats' words. Assumes nothing.
 use mathlib.Core.Path.{_≡_, refl, sym, ap, ap₂, subst, _∙_}
 use mathlib.Core.Bool.{Bool, true, not, cond}
-use mathlib.Core.List.{List, [], _∷_, _++_, append-nil}
+use mathlib.Core.List.{List, [], _∷_, _++_, append-assoc}
 use Prim.Native.Nat.{ℕ, _+_, _≤_, _<_}
 use native.Mathlib.Omega.{arith}
 use lib.Dec.{ltb, eqb}
 use lib.ListN.{length, getD, set, take, drop, drop-of-length-le}
-use lib.Seq.{sets, sets-eq, lt-length-sets, take-set-lt, take-set-le, drop-set-add, getD-set-other, take-at}
+use lib.Seq.{sets, sets-eq, lt-length-sets, length-sets, take-set-lt, take-set-le, drop-set-add, getD-set-other, take-at, drop-at}
 use borrow.Author.Tests.{ltb-true}
-use Rattle.model.specs.Lists.{part}
+use Rattle.model.specs.Lists.{part, putAt}
 use Rattle.model.specs.Node.{wrap}
 use Rattle.model.specs.declared.seats.Seats.{Seats}
 use Rattle.model.specs.Seats.{seatsOf, noCharges, charge, charged, chargedTo, uncharged}
 use Rattle.model.specs.declared.seats.Seat.{Seat}
 use Rattle.model.specs.declared.seats.Seat.the-variants as seat
+use Rattle.laws.specs.Words.{part-before, part-same, getD-before}
 use Rattle.seating.specs.Words.{seatsFrom}
 use Rattle.seating.proofs.SumLaws.{charge-word}
 
@@ -33,7 +34,7 @@ module _ (w : List ℕ) (i : ℕ) (l : i < 8) (a : ℕ) where
   unfolding part
   charge-set = ap (take 8) (drop-set-add 9 w i a) ∙ take-set-lt 8 (drop 9 w) i a l
 
-  flag-kept : getD (set w (9 + i) a) 0 0 ≡ getD w 0 0
+  pub flag-kept : getD (set w (9 + i) a) 0 0 ≡ getD w 0 0
   flag-kept = getD-set-other w (9 + i) 0 a 0 (λ z. absurd (omega (arith, z)))
 
   set-seats : seatsFrom (set w (9 + i) a) ≡ seatsOf (seatsFrom w .seated) (seatsFrom w .shares) (set (seatsFrom w .charges) i a)
@@ -51,11 +52,18 @@ charged-nobody b t e = rw e
 pub charged-number : (b : Seats) (t : Seat) (i : ℕ) → t ≡ seat.Number i → (a : Seats) → a ≡ charged i b → a ≡ chargedTo t b
 charged-number b t i e a d = rw e d
 
--- eight zeros at the end
-pub cleared : (w : List ℕ) → length w ≡ 17 → sets w 9 noCharges ≡ take 9 w ++ noCharges
-cleared w e =
-    sets-eq noCharges w 9 (omega (arith, e)) ∙ ap (λ (r : List ℕ). take 9 w ++ noCharges ++ r) (drop-of-length-le w {i = 17} (omega (arith, e)))
-    ∙ append-nil (take 9 w ++ noCharges)
+-- eight zeros in the last eight words
+pub cleared : (w : List ℕ) → length w ≡ 17 → sets w 9 noCharges ≡ putAt 9 noCharges w
+unfolding putAt
+cleared w e = sets-eq noCharges w 9 (omega (arith, e)) ∙ append-assoc (take 9 w) noCharges (drop 17 w)
+
+pub flag-cleared : (w : List ℕ) → length w ≡ 17 → getD (putAt 9 noCharges w) 0 0 ≡ getD w 0 0
+flag-cleared w e = getD-before 9 0 noCharges w (omega arith) (omega (arith, e))
+
+pub seats-cleared : (w : List ℕ) → length w ≡ 17 → seatsFrom (putAt 9 noCharges w) ≡ uncharged (seatsFrom w)
+unfolding seatsFrom
+seats-cleared w e =
+    rw (part-before 1 8 9 noCharges w (omega arith) (omega (arith, e)), part-same 9 noCharges w (omega (arith, e)), getD-before 9 0 noCharges w (omega arith) (omega (arith, e)))
 
 -- a new tree's words: nine in front, and no charges
 front-written : (w vs : List ℕ) → length w ≡ 17 → length vs ≡ 9 → take 9 (sets w 0 vs) ≡ vs
@@ -77,7 +85,14 @@ eight (a ∷ b ∷ c ∷ d ∷ e ∷ f ∷ g ∷ h ∷ []) q = refl
 eight (a ∷ b ∷ c ∷ d ∷ e ∷ f ∷ g ∷ h ∷ i ∷ ss) q = absurd (omega (arith, q))
 
 pub begun : (w : List ℕ) (seated : ℕ) (ss u : List ℕ) → length w ≡ 17 → length ss ≡ 8
-    → u ≡ take 9 (sets w 0 (seated ∷ getD ss 0 0 ∷ getD ss 1 0 ∷ getD ss 2 0 ∷ getD ss 3 0 ∷ getD ss 4 0 ∷ getD ss 5 0 ∷ getD ss 6 0 ∷ getD ss 7 0 ∷ [])) ++ noCharges
+    → u ≡ putAt 9 noCharges (sets w 0 (seated ∷ getD ss 0 0 ∷ getD ss 1 0 ∷ getD ss 2 0 ∷ getD ss 3 0 ∷ getD ss 4 0 ∷ getD ss 5 0 ∷ getD ss 6 0 ∷ getD ss 7 0 ∷ []))
     → u ≡ seated ∷ (ss ++ noCharges)
+unfolding putAt
 begun w seated ss u e n h =
-    h ∙ ap (λ (x : List ℕ). x ++ noCharges) (front-written w _ e refl ∙ ap (λ (x : List ℕ). seated ∷ x) (eight ss n))
+    let nine : List ℕ = seated ∷ getD ss 0 0 ∷ getD ss 1 0 ∷ getD ss 2 0 ∷ getD ss 3 0 ∷ getD ss 4 0 ∷ getD ss 5 0 ∷ getD ss 6 0 ∷ getD ss 7 0 ∷ [] in
+    h ∙ ap₂ (λ (x y : List ℕ). x ++ (noCharges ++ y)) (front-written w nine e refl ∙ ap (λ (x : List ℕ). seated ∷ x) (eight ss n))
+    (drop-of-length-le (sets w 0 nine) {i = 17} (omega (arith, e, length-sets w 0 nine)))
+
+pub seats-begun : (seated : ℕ) (ss : List ℕ) → length ss ≡ 8 → seatsFrom (seated ∷ (ss ++ noCharges)) ≡ seatsOf (not (eqb seated 0)) ss noCharges
+unfolding seatsFrom part
+seats-begun seated ss e = ap₂ (seatsOf (not (eqb seated 0))) (take-at ss noCharges 8 e) (ap (take 8) (drop-at ss noCharges 8 e))

@@ -4,7 +4,8 @@ ghost use mathlib.Core.Path.{_≡_};
 ghost use mathlib.Core.Bool.{false};
 ghost use mathlib.Core.List.{_∷_, _++_};
 ghost use Prim.Native.Nat.{_+_, _<_};
-ghost use lib.ListN.{length, getD, set, take};
+ghost use lib.ListN.{length, getD, set};
+ghost use Rattle.model.specs.Lists.{putAt};
 ghost use Rattle.model.specs.Node.{wrap};
 ghost use Rattle.model.specs.Seats.{noCharges, badSeat, chargedTo};
 ghost use Rattle.seating.specs.Words.{seatsFrom};
@@ -19,10 +20,10 @@ fn one_more(seats: &mut [u32], i: usize)
     seats[k] = std::num::wrapping_add_u32(charge, 1);
 }
 
-// The same for the seat that was named; nobody is charged where none was.
+// The same for the seat that was named; nobody is charged where none was. The flag stays.
 pub fn charge(seats: &mut [u32], seat: Seat)
     requires { ⌜ (length (now seats) ≡ 17) × (badSeat (seatsFrom (now seats)) seat ≡ false) ⌝ }
-    ensures { λ _. ⌜ seatsFrom (now (seats .exit)) ≡ chargedTo seat (seatsFrom (now (seats .entry))) ⌝ }
+    ensures { λ _. ⌜ (seatsFrom (now (seats .exit)) ≡ chargedTo seat (seatsFrom (now (seats .entry)))) × (getD (now (seats .exit)) 0 0 ≡ getD (now (seats .entry)) 0 0) ⌝ }
 {
     match seat {
         Seat::Nobody => {}
@@ -33,7 +34,7 @@ pub fn charge(seats: &mut [u32], seat: Seat)
 // No charges.
 pub fn clear(seats: &mut [u32])
     requires { ⌜ length (now seats) ≡ 17 ⌝ }
-    ensures { λ _. ⌜ now (seats .exit) ≡ take 9 (now (seats .entry)) ++ noCharges ⌝ }
+    ensures { λ _. ⌜ now (seats .exit) ≡ putAt 9 noCharges (now (seats .entry)) ⌝ }
 {
     seats[9] = 0;
     seats[10] = 0;

@@ -6,7 +6,8 @@ use Rattle.model.specs.Lists.{Cause, cause}
 use Rattle.model.specs.Kind.{kind}
 use Rattle.model.specs.Length.{lengthsIn}
 use Rattle.model.specs.State.{State, state}
-use Rattle.calls_insert.proofs.TargetLaws.{one-cause, insert-ready, insert-room}
+use Rattle.open.proofs.Causes.{one-cause}
+use Rattle.calls_insert.proofs.TargetLaws.{insert-ready, insert-room}
 use Rattle.calls_insert.proofs.PutLaws.{refused-is, insert-refused, insert-done}
 use borrow.Author.Needs.{needs}
 use Rattle.calls_insert.proofs.any.insert.Statement.{statement}

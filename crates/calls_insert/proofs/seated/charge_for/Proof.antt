@@ -1,4 +1,5 @@
 -- `calls_insert::seated::charge_for`: an entry that was made is charged, a refusal charges nobody.
+use mathlib.Core.Path.{refl}
 use Rattle.calls_insert.proofs.SeatedLaws.{charged-at, charged-none}
 use borrow.Author.Needs.{needs}
 use Rattle.calls_insert.proofs.seated.charge_for.Statement.{statement}
@@ -17,10 +18,10 @@ same-length : tie.Need-same-length
 same-length c = search needs
 
 returns : tie.Need-returns
-returns c = charged-at (c .before .before .before .before .before .before .before .before .args .seat) _ (c .before .before .before .before .before .before .before .before .args .answer) _ _ (c .before .before .before .before .before .answer .given .1) _ (c .before .before .charge .ensures)
+returns c = (charged-at (c .before .before .before .before .before .before .before .before .args .seat) _ (c .before .before .before .before .before .before .before .before .args .answer) _ _ (c .before .before .before .before .before .answer .given .1) _ (c .before .before .charge .ensures .0), c .before .before .charge .ensures .1)
 
 returns-2 : tie.Need-returns-2
-returns-2 c = charged-none (c .before .before .before .before .args .seat) _ (c .before .before .before .before .args .answer) _ (c .before .answer2 .given .1)
+returns-2 c = (charged-none (c .before .before .before .before .args .seat) _ (c .before .before .before .before .args .answer) _ (c .before .answer2 .given .1), refl)
 
 pub charge-for-spec : {M : Type 1} → statement M
 charge-for-spec =

@@ -27,7 +27,7 @@ same-length c = search needs
 returns : tie.Need-returns
 returns c =
     let s = c .before .before .before .before .before .before .before in
-    seated-refused (entry s) (seatsFrom (s .args .seats .now)) (s .args .seat) (s .args .before) (listOf (s .args .lengths)) _ (c .before .bad-seat .ensures) (c .if1 .taken)
+    (seated-refused (entry s) (seatsFrom (s .args .seats .now)) (s .args .seat) (s .args .before) (listOf (s .args .lengths)) _ (c .before .bad-seat .ensures) (c .if1 .taken), refl)
 
 room-requires : tie.Need-room-requires
 room-requires c κs = (c .before .before .before .before .before .before .before .before .pre, sym (c .before .before .bad-seat .ensures) ∙ c .before .if1 .left)
@@ -57,11 +57,13 @@ returns-2 : tie.Need-returns-2
 returns-2 c =
     let s = c .before .before .before .before .before .before .before .before .before .before .before .before .before .before .before .before .before .before .before .before .before .before .before .before .before .before in
     let b = seatsFrom (s .args .seats .now) in
-    let causes = space (entry s) b (s .args .seat) in
-    seated-done (entry s) b (s .args .seat) (s .args .before) (listOf (s .args .lengths)) _ (c .before .before .before .before .before .before .before .before .before .before .before .before .before .before .before .before .before .before .before .before .bad-seat .ensures) (c .before .before .before .before .before .before .before .before .before .before .before .before .before .before .before .before .before .before .before .if1 .left) _ _
-    (c .before .before .before .before .before .before .before .before .before .before .before .insert .ensures causes (sym (c .before .before .before .before .before .before .before .before .before .before .before .before .before .before .before .before .before .room .ensures .0 (entry s) refl refl))
-    ∙ ap (λ (z : Slot). insertBy base causes (entry s) (s .args .before) (z .«prepare_len» ∷ z .«effect_len» ∷ z .«line_ends» ∷ [])) (c .before .before .before .before .before .before .before .before .before .before .before .before .before .before .before .before .new .ensures))
-    _ (c .before .before .charge-for .ensures)
+    let causes = space (entry s) b (s .args .seat) in (
+      seated-done (entry s) b (s .args .seat) (s .args .before) (listOf (s .args .lengths)) _ (c .before .before .before .before .before .before .before .before .before .before .before .before .before .before .before .before .before .before .before .before .bad-seat .ensures) (c .before .before .before .before .before .before .before .before .before .before .before .before .before .before .before .before .before .before .before .if1 .left) _ _
+          (c .before .before .before .before .before .before .before .before .before .before .before .insert .ensures causes (sym (c .before .before .before .before .before .before .before .before .before .before .before .before .before .before .before .before .before .room .ensures .0 (entry s) refl refl))
+          ∙ ap (λ (z : Slot). insertBy base causes (entry s) (s .args .before) (z .«prepare_len» ∷ z .«effect_len» ∷ z .«line_ends» ∷ [])) (c .before .before .before .before .before .before .before .before .before .before .before .before .before .before .before .before .new .ensures))
+          _ (c .before .before .charge-for .ensures .0),
+      c .before .before .charge-for .ensures .1,
+    )
 
 pub insert-spec : {M : Type 1} → statement M
 insert-spec =

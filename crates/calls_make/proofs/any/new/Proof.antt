@@ -1,14 +1,18 @@
 -- `calls_make::any::new`: line ends, fan, limit and areas are tested, then the tree's first words are written.
 use mathlib.Core.Path.{refl}
+use mathlib.Core.Bool.{true}
+use mathlib.Core.List.{List, [], _∷_}
 use borrow.Author.Needs.{needs}
+use Rattle.model.specs.Lists.{Cause, cause}
 use Rattle.model.specs.Kind.{kind}
 use Rattle.model.specs.Length.{lengthsIn}
-use Rattle.calls_make.proofs.BeginLaws.{make-room, make-refused, make-good}
+use Rattle.open.proofs.Causes.{one-cause}
+use Rattle.calls_make.proofs.BeginLaws.{new-room, make-refused, make-good}
 use Rattle.calls_make.proofs.any.new.Statement.{statement}
 use Rattle.calls_make.proofs.any.new.Tie as tie
 
-open-make-requires : tie.Need-open-make-requires
-open-make-requires c κs =
+open-new-requires : tie.Need-open-new-requires
+open-new-requires c κs =
     let pre = c .before .before .before .before .before .before .pre in
     (pre .0, pre .1, pre .3)
 
@@ -22,9 +26,10 @@ begin-requires : tie.Need-begin-requires
 begin-requires c κs =
     let args = c .before .before .before .before .before .before .before .before .before .before .before .before .before .args in
     let pre = c .before .before .before .before .before .before .before .before .before .before .before .before .before .pre in
-    let o = c .before .before .before .before .before .before .open-make .ensures 0 in
+    let more : List Cause = cause (args .high) true ∷ [] in
+    let o = c .before .before .before .before .before .before .open-new .ensures 0 more (one-cause (args .high)) in
     let good = c .before .before .before .before .g .given .1 in
-    let r = make-room (kind (args .views) 0) (pre .0, pre .1) (args .fan) (args .limit) (lengthsIn (args .views) (args .x .now)) (args .leaves .now) (args .inners .now) (args .homes .now) _ o _ good in
+    let r = new-room (kind (args .views) 0) more (args .fan) (args .limit) (lengthsIn (args .views) (args .x .now)) (args .leaves .now) (args .inners .now) (args .homes .now) _ o (pre .0, pre .1) _ good in
     (r .shaped, r .leaves, r .inners, r .homes, pre .2, pre .3)
 
 same-length : tie.Need-same-length
@@ -37,10 +42,10 @@ same-length-3 : tie.Need-same-length-3
 same-length-3 c = refl
 
 returns : tie.Need-returns
-returns c effect =
+returns c effect more high =
     let args = c .before .before .before .before .before .before .before .before .before .before .args in
-    let o = c .before .before .before .open-make .ensures effect in
-    make-refused (kind (args .views) effect) (args .fan) (args .limit) (lengthsIn (args .views) (args .x .now)) (args .leaves .now) (args .inners .now) (args .homes .now) _ o _ (c .before .n .given .1)
+    let o = c .before .before .before .open-new .ensures effect more high in
+    make-refused (kind (args .views) effect) more (args .fan) (args .limit) (lengthsIn (args .views) (args .x .now)) (args .leaves .now) (args .inners .now) (args .homes .now) _ o _ (c .before .n .given .1)
 
 same-length-4 : tie.Need-same-length-4
 same-length-4 c =
@@ -58,20 +63,20 @@ same-length-6 c =
     the-begin .kept .1 .1 .1 .1 .1 .1 .1 .0
 
 returns-2 : tie.Need-returns-2
-returns-2 c effect =
+returns-2 c effect more high =
     let args = c .before .before .before .before .before .before .before .before .before .before .before .before .before .before .before .before .before .before .before .before .args in
     let pre = c .before .before .before .before .before .before .before .before .before .before .before .before .before .before .before .before .before .before .before .before .pre in
-    let o = c .before .before .before .before .before .before .before .before .before .before .before .before .before .open-make .ensures effect in
+    let o = c .before .before .before .before .before .before .before .before .before .before .before .before .before .open-new .ensures effect more high in
     let good = c .before .before .before .before .before .before .before .before .before .before .before .g .given .1 in
     let the-begin = c .before .before .before .before .before .before .begin in
-    let r = make-room (kind (args .views) effect) (pre .0, pre .1) (args .fan) (args .limit) (lengthsIn (args .views) (args .x .now)) (args .leaves .now) (args .inners .now) (args .homes .now) _ o _ good in
-    make-good (kind (args .views) effect) (args .fan) (args .limit) (lengthsIn (args .views) (args .x .now)) (args .leaves .now) (args .inners .now) (args .homes .now) _ o _ good _ (the-begin .ensures (args .views) effect (r .same))
+    let r = new-room (kind (args .views) effect) more (args .fan) (args .limit) (lengthsIn (args .views) (args .x .now)) (args .leaves .now) (args .inners .now) (args .homes .now) _ o (pre .0, pre .1) _ good in
+    make-good (kind (args .views) effect) more (args .fan) (args .limit) (lengthsIn (args .views) (args .x .now)) (args .leaves .now) (args .inners .now) (args .homes .now) _ o _ good _ (the-begin .ensures (args .views) effect (r .same))
 
 pub new-spec : {M : Type 1} → statement M
 new-spec =
     tie.close
     (tie.spec
-    open-make-requires
+    open-new-requires
     enum-known-n
     enum-known-g
     begin-requires

@@ -1,5 +1,5 @@
 -- `calls_split::any::open_split`: too many line ends are tested first, then the tree and its cursor, then what is taken, then whether a part is
--- hollow, then the limit.
+-- hollow, then the want of space.
 use mathlib.Core.Path.{refl}
 use borrow.Author.Needs.{needs}
 use Rattle.model.specs.Kind.{kind}
@@ -16,7 +16,7 @@ returns : tie.Need-returns
 returns c =
     let s = c .before .before .before .before .before in
     let views = s .args .views in
-    λ effect. split-many (kind views effect) _ (s .args .at) (lengthsIn views (s .args .x .now)) _ (c .before .too-many-lines .ensures effect) (c .if1 .taken)
+    λ effect causes room. split-many (kind views effect) causes _ (s .args .at) (lengthsIn views (s .args .x .now)) _ (c .before .too-many-lines .ensures effect) (c .if1 .taken)
 
 open-at-requires : tie.Need-open-at-requires
 open-at-requires c κs =
@@ -52,7 +52,7 @@ returns-2 c =
     let g = c .before .before .before .before .before .before .g in
     let y = c .before .before .before .lengths-at in
     let m = c .before .too-much in
-    λ effect. split-much (kind (s .args .views) effect) _ (s .args .at) (s .args .x .now) _ (lines .ensures effect) few _ (o .ensures effect) _ (g .given .1) (y .last .1 .1 .1 .1 .0) (y .ensures .0) _
+    λ effect causes room. split-much (kind (s .args .views) effect) causes _ (s .args .at) (s .args .x .now) _ (lines .ensures effect) few _ (o .ensures effect) _ (g .given .1) (y .last .1 .1 .1 .1 .0) (y .ensures .0) _
     (m .ensures) (c .if2 .taken)
 
 hollow-part-requires : tie.Need-hollow-part-requires
@@ -71,23 +71,20 @@ returns-3 c =
     let g = c .before .before .before .before .before .before .before .before .before .g in
     let y = c .before .before .before .before .before .before .lengths-at in
     let m = c .before .before .before .before .too-much in
-    λ effect. split-hollow (kind (s .args .views) effect) _ (s .args .at) (s .args .x .now) _ (lines .ensures effect) few _ (o .ensures effect) _ (g .given .1) (y .last .1 .1 .1 .1 .0) (y .ensures .0) _
+    λ effect causes room. split-hollow (kind (s .args .views) effect) causes _ (s .args .at) (s .args .x .now) _ (lines .ensures effect) few _ (o .ensures effect) _ (g .given .1) (y .last .1 .1 .1 .1 .0) (y .ensures .0) _
     (m .ensures) (c .before .before .before .if2 .left) _ (c .before .hollow-part .ensures) (c .if3 .taken)
-
-full-requires : tie.Need-full-requires
-full-requires c κs = tt
 
 returns-4 : tie.Need-returns-4
 returns-4 c =
-    let s = c .before .before .before .before .before .before .before .before .before .before .before .before .before .before .before .before .before .before .before in
-    let lines = c .before .before .before .before .before .before .before .before .before .before .before .before .before .before .before .too-many-lines in
-    let few = c .before .before .before .before .before .before .before .before .before .before .before .before .before .before .if1 .left in
-    let o = c .before .before .before .before .before .before .before .before .before .before .before .before .before .open-at in
-    let g = c .before .before .before .before .before .before .before .before .before .before .before .g in
-    let y = c .before .before .before .before .before .before .before .before .lengths-at in
-    let m = c .before .before .before .before .before .before .too-much in
-    λ effect. split-full (kind (s .args .views) effect) _ (s .args .at) (s .args .x .now) _ (lines .ensures effect) few _ (o .ensures effect) _ (g .given .1) (y .last .1 .1 .1 .1 .0) (y .ensures .0) _
-    (m .ensures) (c .before .before .before .before .before .if2 .left) _ (c .before .before .before .hollow-part .ensures) (c .before .before .if3 .left) _ (c .before .full .ensures) (c .if4 .taken)
+    let s = c .before .before .before .before .before .before .before .before .before .before .before .before .before .before .before .before .before .before in
+    let lines = c .before .before .before .before .before .before .before .before .before .before .before .before .before .before .too-many-lines in
+    let few = c .before .before .before .before .before .before .before .before .before .before .before .before .before .if1 .left in
+    let o = c .before .before .before .before .before .before .before .before .before .before .before .before .open-at in
+    let g = c .before .before .before .before .before .before .before .before .before .before .g in
+    let y = c .before .before .before .before .before .before .before .lengths-at in
+    let m = c .before .before .before .before .before .too-much in
+    λ effect causes room. split-full (kind (s .args .views) effect) causes _ (s .args .at) (s .args .x .now) _ (lines .ensures effect) few _ (o .ensures effect) _ (g .given .1) (y .last .1 .1 .1 .1 .0) (y .ensures .0) _
+    (m .ensures) (c .before .before .before .before .if2 .left) _ (c .before .before .hollow-part .ensures) (c .before .if3 .left) _ room (c .if4 .taken)
 
 returns-5 : tie.Need-returns-5
 returns-5 c =
@@ -95,19 +92,19 @@ returns-5 c =
     let lines = c .before .before .before .before .before .too-many-lines in
     let few = c .before .before .before .before .if1 .left in
     let o = c .before .before .before .open-at in
-    λ effect. split-refused (kind (s .args .views) effect) _ (s .args .at) (s .args .x .now) _ (lines .ensures effect) few _ (o .ensures effect) _ (c .before .n .given .1)
+    λ effect causes room. split-refused (kind (s .args .views) effect) causes _ (s .args .at) (s .args .x .now) _ (lines .ensures effect) few _ (o .ensures effect) _ (c .before .n .given .1)
 
 returns-6 : tie.Need-returns-6
 returns-6 c =
-    let s = c .before .before .before .before .before .before .before .before .before .before .before .before .before .before .before .before .before .before .before in
-    let lines = c .before .before .before .before .before .before .before .before .before .before .before .before .before .before .before .too-many-lines in
-    let few = c .before .before .before .before .before .before .before .before .before .before .before .before .before .before .if1 .left in
-    let o = c .before .before .before .before .before .before .before .before .before .before .before .before .before .open-at in
-    let g = c .before .before .before .before .before .before .before .before .before .before .before .g in
-    let y = c .before .before .before .before .before .before .before .before .lengths-at in
-    let m = c .before .before .before .before .before .before .too-much in
-    λ effect. split-good (kind (s .args .views) effect) _ (s .args .at) (s .args .x .now) _ (lines .ensures effect) few _ (o .ensures effect) _ (g .given .1) (y .last .1 .1 .1 .1 .0) (y .ensures .0) _
-    (m .ensures) (c .before .before .before .before .before .if2 .left) _ (c .before .before .before .hollow-part .ensures) (c .before .before .if3 .left) _ (c .before .full .ensures) (c .if4 .left)
+    let s = c .before .before .before .before .before .before .before .before .before .before .before .before .before .before .before .before .before .before in
+    let lines = c .before .before .before .before .before .before .before .before .before .before .before .before .before .before .too-many-lines in
+    let few = c .before .before .before .before .before .before .before .before .before .before .before .before .before .if1 .left in
+    let o = c .before .before .before .before .before .before .before .before .before .before .before .before .open-at in
+    let g = c .before .before .before .before .before .before .before .before .before .before .g in
+    let y = c .before .before .before .before .before .before .before .lengths-at in
+    let m = c .before .before .before .before .before .too-much in
+    λ effect causes room. split-good (kind (s .args .views) effect) causes _ (s .args .at) (s .args .x .now) _ (lines .ensures effect) few _ (o .ensures effect) _ (g .given .1) (y .last .1 .1 .1 .1 .0) (y .ensures .0) _
+    (m .ensures) (c .before .before .before .before .if2 .left) _ (c .before .before .hollow-part .ensures) (c .before .if3 .left) _ room (c .if4 .left)
 
 pub open-split-spec : {M : Type 1} → statement M
 open-split-spec =
@@ -123,7 +120,6 @@ open-split-spec =
     returns-2
     hollow-part-requires
     returns-3
-    full-requires
     returns-4
     returns-5
     returns-6)

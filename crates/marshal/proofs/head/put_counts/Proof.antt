@@ -10,8 +10,8 @@ use Rattle.marshal.proofs.HeadLaws.{in-head, counts-written}
 use Rattle.marshal.proofs.head.put_counts.Statement.{statement}
 use Rattle.marshal.proofs.head.put_counts.Tie as tie
 
--- a place is within the nineteen words, whatever was written to some of them
-inside : (c : tie.After-root) (vs : List ℕ) (j : ℕ) → ltb j 19 ≡ true → j < length (sets (c .before .args .head .now) 2 vs)
+-- a place is within the words, whatever was written to some of them
+inside : (c : tie.After-root) (vs : List ℕ) (j : ℕ) → ltb j 36 ≡ true → j < length (sets (c .before .args .head .now) 2 vs)
 inside c vs j t = in-head (c .before .args .head .now) vs 2 j t (c .before .pre)
 
 slice-write-head : tie.Need-slice-write-head

@@ -16,8 +16,8 @@ present-of-requires c κs = tt
 finger-of-requires : tie.Need-finger-of-requires
 finger-of-requires c κs = tt
 
--- a place is within the nineteen words, whatever was written to some of them
-inside : (c : tie.After-finger-of) (vs : List ℕ) (j : ℕ) → ltb j 19 ≡ true → j < length (sets (c .before .before .before .args .head .now) 7 vs)
+-- a place is within the words, whatever was written to some of them
+inside : (c : tie.After-finger-of) (vs : List ℕ) (j : ℕ) → ltb j 36 ≡ true → j < length (sets (c .before .before .before .args .head .now) 7 vs)
 inside c vs j t =
     let args = c .before .before .before .args in
     let pre = c .before .before .before .pre in

@@ -1,4 +1,4 @@
--- `marshal::head::put_stamp`: two words written to the last two are those words.
+-- `marshal::head::put_stamp`: two words written are those words, and the others stay.
 use borrow.Author.Needs.{needs}
 use mathlib.Core.Path.{refl}
 use mathlib.Core.List.{[], _∷_}

@@ -1,0 +1,154 @@
+// The calls that begin a tree whose seats stand in seventeen lent words.
+use model::answer::Outcome;
+use model::answer::OutcomeReply;
+use model::head::Head;
+use model::length::Lengths;
+use model::length::Slot;
+use seating::rule::too_high;
+use seating::write::begin;
+use seating::write::clear;
+ghost use mathlib.Core.Path.{_≡_};
+ghost use mathlib.Core.Bool.{not};
+ghost use mathlib.Core.List.{List};
+ghost use Prim.Native.Nat.{_≤_};
+ghost use lib.Dec.{eqb};
+ghost use lib.ListN.{length, getD};
+ghost use Rattle.model.specs.Lists.{Cause, refusal};
+ghost use Rattle.model.specs.Length.{listOf};
+ghost use Rattle.model.specs.Kind.{base};
+ghost use Rattle.model.specs.State.{state};
+ghost use Rattle.model.specs.Seats.{seatsOf, noCharges};
+ghost use Rattle.model.specs.SeatedCalls.{seatedReply, afterReset, resetSeated};
+ghost use Rattle.seating.specs.Words.{seatsFrom};
+ghost use Rattle.calls_make.specs.Made.{makeBy, seatsMade, madeBy, makeWith};
+
+// The seats of a tree that was made, or none where that was refused.
+fn put_made(seats: &mut [u32], seated: u32, shares: &[u32], answer: Outcome)
+    requires { ⌜ (length (now seats) ≡ 17) × (length (now shares) ≡ 8) × (seated ≤ 1) ⌝ }
+    ensures { λ _. ⌜ (seatsFrom (now (seats .exit)) ≡ seatsMade (seatsOf (not (eqb seated 0)) (now (shares .entry)) noCharges) answer) × (getD (now (seats .exit)) 0 0 ≤ 1) ⌝ }
+{
+    match answer {
+        Outcome::Done => begin(seats, seated, shares),
+        Outcome::Refused(n) => {
+            let none: [u32; 8] = [0; 8];
+            begin(seats, 0, &none);
+        }
+    }
+}
+
+// A new tree, seated or not, with eight shares; high is the number where they sum too high.
+fn made(
+    seated: u32,
+    high: u32,
+    fan: u32,
+    limit: u32,
+    shares: &[u32],
+    seats: &mut [u32],
+    lengths: Lengths,
+    leaves: &mut [u32],
+    inners: &mut [u32],
+    homes: &mut [u32],
+) -> OutcomeReply
+    requires { ⌜ (length (now seats) ≡ 17) × (length (now shares) ≡ 8) × (seated ≤ 1) ⌝ }
+    ensures { λ r. ⌜ ((more : List Cause) → refusal more ≡ high → seatedReply (state (r .head) (now (leaves .exit)) (now (inners .exit)) (now (homes .exit))) (seatsFrom (now (seats .exit))) (r .answer) ≡ madeBy (seatsOf (not (eqb seated 0)) (now (shares .entry)) noCharges) (makeBy base more fan limit (listOf lengths) (now (leaves .entry)) (now (inners .entry)) (now (homes .entry)))) × (getD (now (seats .exit)) 0 0 ≤ 1) ⌝ }
+{
+    let slot = Slot::new(0, lengths);
+    let x: [u32; 4] = [
+        slot.child,
+        slot.prepare_len,
+        slot.effect_len,
+        slot.line_ends,
+    ];
+    let r = crate::any::new(3, high, fan, limit, &x, leaves, inners, homes);
+    let after = r.head;
+    let answer = r.answer;
+    put_made(seats, seated, shares, answer);
+    OutcomeReply {
+        head: after,
+        answer: answer,
+    }
+}
+
+// A new tree with the entry 0: with the shares given, or without seats where there are none.
+pub fn new(
+    fan: u32,
+    limit: u32,
+    shares: &[u32],
+    seats: &mut [u32],
+    lengths: Lengths,
+    leaves: &mut [u32],
+    inners: &mut [u32],
+    homes: &mut [u32],
+) -> OutcomeReply
+    requires { ⌜ (length (now seats) ≡ 17) × ((length (now shares) ≡ 0 → ⊥) → length (now shares) ≡ 8) ⌝ }
+    ensures { λ r. ⌜ (seatedReply (state (r .head) (now (leaves .exit)) (now (inners .exit)) (now (homes .exit))) (seatsFrom (now (seats .exit))) (r .answer) ≡ makeWith base fan limit (now (shares .entry)) (listOf lengths) (now (leaves .entry)) (now (inners .entry)) (now (homes .entry))) × (getD (now (seats .exit)) 0 0 ≤ 1) ⌝ }
+{
+    if shares.len() == 0 {
+        let none: [u32; 8] = [0; 8];
+        return made(
+            0,
+            0,
+            fan,
+            limit,
+            &none,
+            seats,
+            lengths,
+            leaves,
+            inners,
+            homes,
+        );
+    }
+    let high = too_high(limit, shares);
+    made(
+        1,
+        high,
+        fan,
+        limit,
+        shares,
+        seats,
+        lengths,
+        leaves,
+        inners,
+        homes,
+    )
+}
+
+// A tree begun anew has no charges.
+fn clear_for(seats: &mut [u32], answer: Outcome)
+    requires { ⌜ length (now seats) ≡ 17 ⌝ }
+    ensures { λ _. ⌜ (seatsFrom (now (seats .exit)) ≡ afterReset (seatsFrom (now (seats .entry))) answer) × (getD (now (seats .exit)) 0 0 ≡ getD (now (seats .entry)) 0 0) ⌝ }
+{
+    match answer {
+        Outcome::Done => clear(seats),
+        Outcome::Refused(n) => {}
+    }
+}
+
+// The tree begun anew, with its own fan, limit and shares.
+pub fn reset(
+    head: Head,
+    seats: &mut [u32],
+    lengths: Lengths,
+    leaves: &mut [u32],
+    inners: &mut [u32],
+    homes: &mut [u32],
+) -> OutcomeReply
+    requires { ⌜ length (now seats) ≡ 17 ⌝ }
+    ensures { λ r. ⌜ (seatedReply (state (r .head) (now (leaves .exit)) (now (inners .exit)) (now (homes .exit))) (seatsFrom (now (seats .exit))) (r .answer) ≡ resetSeated base (state head (now (leaves .entry)) (now (inners .entry)) (now (homes .entry))) (seatsFrom (now (seats .entry))) (listOf lengths)) × (getD (now (seats .exit)) 0 0 ≡ getD (now (seats .entry)) 0 0) ⌝ }
+{
+    let slot = Slot::new(0, lengths);
+    let x: [u32; 4] = [
+        slot.child,
+        slot.prepare_len,
+        slot.effect_len,
+        slot.line_ends,
+    ];
+    let r = crate::any::reset(3, head, &x, leaves, inners, homes);
+    let after = r.head;
+    let answer = r.answer;
+    clear_for(seats, answer);
+    OutcomeReply {
+        head: after,
+        answer: answer,
+    }
+}
