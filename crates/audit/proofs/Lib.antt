@@ -1,2 +1,3 @@
 pub mod SoundLaws
 pub mod TreeLaws
+pub mod FairLaws

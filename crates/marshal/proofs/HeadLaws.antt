@@ -1,6 +1,6 @@
 -- The head's words: tested, and written one after the other. Assumes nothing.
 use mathlib.Core.Path.{_≡_, refl, sym, ap, ap₂, subst, _∙_}
-use mathlib.Core.Bool.{Bool, true, false, cond, not, _||_}
+use mathlib.Core.Bool.{Bool, true, false, cond, not, _&&_, _||_}
 use mathlib.Core.List.{List, [], _∷_, _++_}
 use Prim.Native.Nat.{ℕ, _+_, _*_, _≤_, _<_, _/_, _%_}
 use native.Mathlib.Omega.{arith}
@@ -12,7 +12,7 @@ use Rattle.model.specs.Place.{withFinger}
 use Rattle.model.specs.declared.head.Head.{Head}
 use Rattle.model.specs.declared.head.Held.{Held}
 use Rattle.model.specs.declared.head.Finger.{Finger}
-use Rattle.marshal.specs.Flat.{badHead, badSeats, headFrom, headWords, headAfter, stampFrom, countWords, fingerWords, stampWords, presentOf, fingerOf}
+use Rattle.marshal.specs.Flat.{badHead, badSeats, badShares, headFrom, headWords, headAfter, stampFrom, countWords, fingerWords, stampWords, presentOf, fingerOf}
 
 -- whether the words are good
 pub bad-length : (w : List ℕ) → (length w ≡ 36 → ⊥) → true ≡ badHead w
@@ -44,6 +44,10 @@ or-last true true e = e
 or-last true false e = refl
 or-last false b e = e
 
+eight : (a : Bool) → not a ≡ false → a ≡ true
+eight true e = refl
+eight false e = sym e
+
 pub good-head : (w : List ℕ) → badHead w ≡ false → length w ≡ 36
 unfolding badHead
 good-head w e = eqb-true (length w) 36 (not-first (eqb (length w) 36) (ltb 1 (getD w 7 0)) e)
@@ -61,6 +65,14 @@ good-seats w e = (
 
 pub good-seated-flag : (w : List ℕ) (t : Bool) → (badSeats w || t) ≡ false → (length w ≡ 36) × (getD w 19 0 ≤ 1)
 good-seated-flag w t e = good-seats w (or-first (badSeats w) t e)
+
+-- the words and the shares of a new tree
+pub good-made : (w shares : List ℕ) → (not (eqb (length w) 36) || badShares shares) ≡ false → (length w ≡ 36) × ((length shares ≡ 0 → ⊥) → length shares ≡ 8)
+unfolding badShares
+good-made w shares e = (
+  eqb-true (length w) 36 (not-first (eqb (length w) 36) (badShares shares) e),
+  λ z. eqb-true (length shares) 8 (eight (eqb (length shares) 8) (sym (ap (λ (t : Bool). not t && not (eqb (length shares) 8)) (ne-eqb (length shares) 0 z)) ∙ or-last (not (eqb (length w) 36)) (badShares shares) e)),
+)
 
 -- words written leave as many
 pub in-head : (w vs : List ℕ) (i j : ℕ) → ltb j 36 ≡ true → length w ≡ 36 → j < length (sets w i vs)

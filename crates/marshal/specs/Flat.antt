@@ -1,5 +1,5 @@
 -- Heads, cursors, lengths, views and answers as the words that cross the C boundary, and back. Assumes nothing.
-use mathlib.Core.Bool.{Bool, cond, not, _||_}
+use mathlib.Core.Bool.{Bool, cond, not, _&&_, _||_}
 use mathlib.Core.List.{List, [], _∷_, _++_}
 use Prim.Native.Nat.{ℕ, _+_, _*_, _/_, _%_}
 use lib.ListN.{length, getD, drop}
@@ -68,6 +68,10 @@ targetFrom n c = cond (eqb n 0) (target.Before c) target.End
 -- 4,294,967,295 is nobody; a seat above 7 is refused by the calls
 unfoldable pub seatFrom : ℕ → Seat
 seatFrom n = cond (eqb n none) seat.Nobody (seat.Number n)
+
+-- the shares of a new tree: none, for one without seats, or eight
+unfoldable pub badShares : List ℕ → Bool
+badShares shares = not (eqb (length shares) 0) && not (eqb (length shares) 8)
 
 -- what it gets back -----------------------------------------------------------------------------------------------------------------------
 

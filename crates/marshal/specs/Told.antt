@@ -1,7 +1,10 @@
 -- What a host reads in each answer, by the names of its fields; and what it was given and hands over again is the same. Assumes nothing.
-use mathlib.Core.Path.{_≡_, refl, ap₂}
-use mathlib.Core.Bool.{false}
-use Prim.Native.Nat.{ℕ, _+_, _*_, _/_, _%_}
+use mathlib.Core.Path.{_≡_, refl, ap, ap₂}
+use mathlib.Core.List.{List, _++_}
+use mathlib.Core.Bool.{Bool, false, cond}
+use Prim.Native.Nat.{ℕ, _+_, _*_, _/_, _%_, _<_}
+use lib.ListN.{length}
+use borrow.Author.Tests.{ne-eqb}
 use native.Mathlib.Omega.{arith}
 use Rattle.model.specs.State.{headOf}
 use Rattle.model.specs.Answer.{outcomeAnswer, numberAnswer, verdictAnswer, standingAnswer, nextAnswer, namedAnswer, measuredAnswer, comparedAnswer, locatedAnswer, insertedAnswer, dividedAnswer}
@@ -13,6 +16,7 @@ use Rattle.model.specs.declared.head.Held.the-variants as held
 use Rattle.model.specs.declared.length.Lengths.{Lengths}
 use Rattle.model.specs.declared.length.View.the-variants as view
 use Rattle.model.specs.declared.answer.Target.the-variants as target
+use Rattle.model.specs.declared.seats.Seat.the-variants as seat
 use Rattle.model.specs.declared.answer.Outcome.the-variants as outcome
 use Rattle.model.specs.declared.answer.Number.the-variants as number
 use Rattle.model.specs.declared.answer.Verdict.the-variants as verdict
@@ -25,7 +29,7 @@ use Rattle.model.specs.declared.answer.Located.the-variants as located
 use Rattle.model.specs.declared.answer.Inserted.the-variants as inserted
 use Rattle.model.specs.declared.answer.Divided.the-variants as divided
 use Rattle.marshal.specs.declared.flat.FlatCursor.{FlatCursor}
-use Rattle.marshal.specs.Flat.{headFrom, heldFrom, headWords, wordsWith, presentOf, fingerOf, badHead, cursorFrom, viewFrom, targetFrom, numberOf, measuredOf, standingOf, locatedOf, insertedOf, dividedOf}
+use Rattle.marshal.specs.Flat.{headFrom, heldFrom, headWords, wordsWith, presentOf, fingerOf, badHead, cursorFrom, viewFrom, targetFrom, seatFrom, numberOf, measuredOf, standingOf, locatedOf, insertedOf, dividedOf}
 
 -- answers ---------------------------------------------------------------------------------------------------------------------------------
 
@@ -107,28 +111,34 @@ refuses n = record {
 pub cursor-back : (c : Cursor) → (let r = standingOf (standingAnswer (standing.At c)) in cursorFrom (r .at .leaf) (r .at .slot) (r .at .stamp) ≡ c)
 cursor-back c = refl
 
-held-back : (h : Head) (f : Held) → heldFrom (wordsWith h (presentOf f) (fingerOf f)) ≡ f
+-- the head's words, with the seats' behind them
+held-back : (h : Head) (f : Held) (w : List ℕ) → heldFrom (wordsWith h (presentOf f) (fingerOf f) ++ w) ≡ f
 unfolding heldFrom
-held-back h held.Absent = refl
-held-back h (held.At f) = refl
+held-back h held.Absent w = refl
+held-back h (held.At f) w = refl
 
 stamp-back : (n : ℕ) → n % 4294967296 + 4294967296 * (n / 4294967296) ≡ n
 stamp-back n = omega arith
 
--- the head's words are never refused, and are read as that head
-pub head-back : (h : Head) → headFrom (headWords h) ≡ h
+-- they are never refused, and are read as that head
+pub head-back : (h : Head) (w : List ℕ) → headFrom (headWords h ++ w) ≡ h
 unfolding headFrom headWords
-head-back h =
-    ap₂ (headOf (h .fan) (h .limit) (h .root .0) (h .levels) (h .leaves) (h .inners) (h .entries)) (stamp-back (h .stamp)) (held-back h (h .finger))
+head-back h w =
+    ap₂ (headOf (h .fan) (h .limit) (h .root .0) (h .levels) (h .leaves) (h .inners) (h .entries)) (stamp-back (h .stamp)) (held-back h (h .finger) w)
 
-good-words : (h : Head) (f : Held) → badHead (wordsWith h (presentOf f) (fingerOf f)) ≡ false
+good-words : (h : Head) (f : Held) (w : List ℕ) → length w ≡ 17 → badHead (wordsWith h (presentOf f) (fingerOf f) ++ w) ≡ false
 unfolding badHead
-good-words h held.Absent = refl
-good-words h (held.At f) = refl
+good-words h held.Absent w e = rw e
+good-words h (held.At f) w e = rw e
 
-pub head-good : (h : Head) → badHead (headWords h) ≡ false
+pub head-good : (h : Head) (w : List ℕ) → length w ≡ 17 → badHead (headWords h ++ w) ≡ false
 unfolding headWords
-head-good h = good-words h (h .finger)
+head-good h w e = good-words h (h .finger) w e
+
+-- 4,294,967,295 is nobody, any other number that seat
+pub seats : (n : ℕ) → n < 8 → (seatFrom 4294967295 ≡ seat.Nobody) × (seatFrom n ≡ seat.Number n)
+unfolding seatFrom
+seats n h = (refl, ap (λ (t : Bool). cond t seat.Nobody (seat.Number n)) (ne-eqb n 4294967295 (λ e. absurd (omega (arith, e, h)))))
 
 -- 0 is prepare, 1 is effect, 2 is lines; 1 is at the end
 pub views : (viewFrom 0 ≡ view.Prepare) × (viewFrom 1 ≡ view.Effect) × (viewFrom 2 ≡ view.Lines)

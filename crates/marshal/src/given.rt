@@ -7,7 +7,10 @@ use model::number::LeafNo;
 use model::number::NONE;
 use model::seats::Seat;
 ghost use mathlib.Core.Path.{_≡_};
-ghost use Rattle.marshal.specs.Flat.{cursorFrom, lengthsFrom, viewFrom, targetFrom, seatFrom};
+ghost use mathlib.Core.Bool.{not, _||_};
+ghost use lib.Dec.{eqb};
+ghost use lib.ListN.{length};
+ghost use Rattle.marshal.specs.Flat.{cursorFrom, lengthsFrom, viewFrom, targetFrom, seatFrom, badShares};
 
 pub fn cursor_from(leaf: u32, slot: u32, stamp: u64) -> Cursor
     ensures { λ r. ⌜ r ≡ cursorFrom leaf slot stamp ⌝ }
@@ -59,4 +62,24 @@ pub fn seat_from(seat: u32) -> Seat
         return Seat::Nobody;
     }
     Seat::Number(seat)
+}
+
+// Whether a new tree's shares are neither none nor eight.
+fn bad_shares(shares: &[u32]) -> bool
+    ensures { λ r. ⌜ r ≡ badShares (now (shares .entry)) ⌝ }
+{
+    if shares.len() == 0 {
+        return false;
+    }
+    shares.len() != 8
+}
+
+// The same, or whether its head isn't thirty-six words, whatever they are.
+pub fn bad_made(head: &[u32], shares: &[u32]) -> bool
+    ensures { λ r. ⌜ r ≡ (not (eqb (length (now (head .entry))) 36) || badShares (now (shares .entry))) ⌝ }
+{
+    if head.len() != 36 {
+        return true;
+    }
+    bad_shares(shares)
 }

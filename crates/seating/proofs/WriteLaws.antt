@@ -2,11 +2,11 @@
 use mathlib.Core.Path.{_≡_, refl, sym, ap, ap₂, subst, _∙_}
 use mathlib.Core.Bool.{Bool, true, not, cond}
 use mathlib.Core.List.{List, [], _∷_, _++_, append-assoc}
-use Prim.Native.Nat.{ℕ, _+_, _≤_, _<_}
+use Prim.Native.Nat.{ℕ, zero, suc, _+_, _≤_, _<_}
 use native.Mathlib.Omega.{arith}
 use lib.Dec.{ltb, eqb}
 use lib.ListN.{length, getD, set, take, drop, drop-of-length-le}
-use lib.Seq.{sets, sets-eq, lt-length-sets, length-sets, take-set-lt, take-set-le, drop-set-add, getD-set-other, take-at, drop-at}
+use lib.Seq.{sets, sets-eq, lt-length-sets, length-sets, take-set-lt, take-set-le, drop-set-add, getD-set-other, take-at, drop-at, drop-cons}
 use borrow.Author.Tests.{ltb-true}
 use Rattle.model.specs.Lists.{part, putAt}
 use Rattle.model.specs.Node.{wrap}
@@ -14,8 +14,8 @@ use Rattle.model.specs.declared.seats.Seats.{Seats}
 use Rattle.model.specs.Seats.{seatsOf, noCharges, charge, charged, chargedTo, uncharged}
 use Rattle.model.specs.declared.seats.Seat.{Seat}
 use Rattle.model.specs.declared.seats.Seat.the-variants as seat
-use Rattle.laws.specs.Words.{part-before, part-same, getD-before}
-use Rattle.seating.specs.Words.{seatsFrom}
+use Rattle.laws.specs.Words.{part-before, part-same, part-add, part-end, getD-before}
+use Rattle.seating.specs.Words.{seatsFrom, seatsWords}
 use Rattle.seating.proofs.SumLaws.{charge-word}
 
 -- a place is within the words, whatever was written to some of them
@@ -96,3 +96,15 @@ begun w seated ss u e n h =
 pub seats-begun : (seated : ℕ) (ss : List ℕ) → length ss ≡ 8 → seatsFrom (seated ∷ (ss ++ noCharges)) ≡ seatsOf (not (eqb seated 0)) ss noCharges
 unfolding seatsFrom part
 seats-begun seated ss e = ap₂ (seatsOf (not (eqb seated 0))) (take-at ss noCharges 8 e) (ap (take 8) (drop-at ss noCharges 8 e))
+
+-- good words are those of the seats that they hold
+flag-back : (x : ℕ) → x ≤ 1 → cond (not (eqb x 0)) 1 0 ≡ x
+flag-back zero h = refl
+flag-back (suc zero) h = refl
+flag-back (suc (suc x)) h = absurd (omega (arith, h))
+
+pub seats-back : (w : List ℕ) → length w ≡ 17 → getD w 0 0 ≤ 1 → seatsWords (seatsFrom w) ≡ w
+unfolding seatsFrom
+seats-back w e h =
+    ap₂ (λ (x : ℕ) (r : List ℕ). x ∷ r) (flag-back (getD w 0 0) h) (sym (part-add 1 8 8 w) ∙ part-end 1 16 w (omega (arith, e)))
+    ∙ sym (drop-cons w 0 0 (omega (arith, e)))

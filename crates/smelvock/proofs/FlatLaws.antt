@@ -6,6 +6,8 @@ use Prim.Native.Nat.{ℕ}
 use Rattle.model.specs.Row.{Answer, refused}
 use Rattle.model.specs.State.{state}
 use Rattle.model.specs.Calls.{Reply, reply}
+use Rattle.model.specs.SeatedCalls.{SeatedReply, seatedReply}
+use Rattle.model.specs.declared.seats.Seats.{Seats}
 use Rattle.model.specs.declared.head.Head.{Head}
 use Rattle.model.specs.Answer.{numberAnswer}
 use Rattle.model.specs.declared.answer.Number.{Number}
@@ -13,7 +15,7 @@ use Rattle.marshal.specs.Flat.{headAfter, numberOf}
 use Rattle.marshal.specs.declared.flat.FlatNumber.{FlatNumber}
 use Rattle.smelvock.specs.Reads as reads
 use Rattle.smelvock.specs.Reads.{Given}
-use Rattle.smelvock.specs.Changes.{left, leftBy}
+use Rattle.smelvock.specs.Changes.{left, leftBy, leftSeated}
 use Rattle.smelvock.specs.Prints.{printedBy}
 use Rattle.smelvock.specs.Edits.{listedBy}
 
@@ -45,6 +47,19 @@ module _ {A : Type 0} {R : Type 0} (flat : Answer → R) (answer : A → Answer)
       → reply (state h ls xs hs) a ≡ y → left r w ls xs hs ≡ leftBy flat answer headAfter bad g y
   reply-settled h a w ls xs hs b e f d =
       reply-good flat answer headAfter bad g r y h a w ls xs hs b e (f ∙ ap (λ (n : ℕ). headAfter n h (g .head)) (ap number e ∙ alike (answer a))) d
+
+-- the same with the seats
+module _ {A : Type 0} {R : Type 0} (flat : Answer → R) (answer : A → Answer) (words : ℕ → Head → Seats → List ℕ → List ℕ) (bad : Bool) (g : Given) (r : R) (y : SeatedReply A) where
+  pub seated-refused : bad ≡ true → r ≡ flat (refused 10) → left r (g .head) (g .leaves) (g .inners) (g .homes) ≡ leftSeated flat answer words bad g y
+  unfolding leftSeated
+  seated-refused b e =
+      ap (λ (q : R). left q (g .head) (g .leaves) (g .inners) (g .homes)) e ∙ ap (λ (t : Bool). leftSeated flat answer words t g y) (sym b)
+
+  pub seated-good : (h : Head) (c : Seats) (a : A) (w ls xs hs : List ℕ) → bad ≡ false → r ≡ flat (answer a) → w ≡ words (answer a .number) h c (g .head)
+      → seatedReply (state h ls xs hs) c a ≡ y → left r w ls xs hs ≡ leftSeated flat answer words bad g y
+  unfolding leftSeated
+  seated-good h c a w ls xs hs b e f d =
+      ap₂ (λ (q : R) (v : List ℕ). left q v ls xs hs) e f ∙ ap (leftSeated flat answer words false g) d ∙ ap (λ (t : Bool). leftSeated flat answer words t g y) (sym b)
 
 -- what print leaves of the lent buffer
 module _ (bad : Bool) (f : FlatNumber) (page : List ℕ) (r : Number × List ℕ) where

@@ -1,9 +1,8 @@
--- What a call leaves of the head: a lookup and other lengths all but the finger, one entry more the fan and the limit. Assumes nothing.
+-- What a call leaves of the head: a lookup and other lengths all but the finger. Assumes nothing.
 use mathlib.Core.Path.{_≡_, refl, sym, ap, subst, _∙_}
 use mathlib.Core.Bool.{Bool, true, false, cond}
 use mathlib.Core.List.{List}
 use Prim.Native.Nat.{ℕ}
-use lib.ListN.{getD}
 use lib.Dec.{eqb}
 use Rattle.model.specs.declared.shape.Kind.{Kind}
 use Rattle.model.specs.declared.shape.Shape.{Shape}
@@ -17,7 +16,6 @@ use Rattle.model.specs.Place.{Change, withFinger}
 use Rattle.model.specs.Refuse.{shapeOf, opening}
 use Rattle.model.specs.Calls as calls
 use Rattle.model.specs.Calls.{Reply, reply}
-use Rattle.model.specs.Promise.{Fixed}
 use Rattle.model.specs.declared.head.Head.{Head}
 use Rattle.model.specs.declared.head.Cursor.{Cursor}
 use Rattle.model.specs.declared.way.Sum.{Sum}
@@ -101,10 +99,3 @@ module _ (K : Kind) (s : State) where
 module _ {A : Type 0} (w : List ℕ) (k h : Head) (ls xs hs ls′ xs′ hs′ : List ℕ) (a : A) (y : Reply A) (ek : k ≡ headFrom w) (e : reply (state h ls′ xs′ hs′) a ≡ y) where
   pub finger-alone : Fingered (state k ls xs hs) (y .after) → h ≡ withFinger (h .finger) (headFrom w)
   finger-alone f = subst (λ (z : Reply A). Fingered (state k ls xs hs) (z .after)) (sym e) f ∙ ap (withFinger (h .finger)) ek
-
-  pub sizes-kept : Fixed (state k ls xs hs) (y .after) → (h .fan ≡ getD w 0 0) × (h .limit ≡ getD w 1 0)
-  unfolding headFrom
-  sizes-kept f = (
-    ap (λ (z : Reply A). z .after .head .fan) e ∙ f .fan ∙ ap (λ (x : Head). x .fan) ek,
-    ap (λ (z : Reply A). z .after .head .limit) e ∙ f .limit ∙ ap (λ (x : Head). x .limit) ek,
-  )

@@ -1,3 +1,4 @@
 mod FlatLaws
 mod KeptLaws
 mod ResizeLaws
+pub mod SeatLaws

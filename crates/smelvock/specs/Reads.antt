@@ -1,5 +1,6 @@
 -- The exported calls that read, on the words that a host hands over: model's call between the conversions.
--- A head that isn't nineteen words and a view above 2 are refused by 10 before anything else. Assumes nothing.
+-- A head that isn't thirty-six words, in audit seats whose flag is above 1, and a view above 2 are refused by 10 before anything else.
+-- Assumes nothing.
 use mathlib.Core.Bool.{Bool, cond, _||_}
 use mathlib.Core.List.{List}
 use Prim.Native.Nat.{ℕ}
@@ -11,8 +12,11 @@ use Rattle.model.specs.State.{State, state}
 use Rattle.model.specs.Answer.{numberAnswer, verdictAnswer, standingAnswer, nextAnswer, namedAnswer, comparedAnswer}
 use Rattle.model.specs.Calls as calls
 use Rattle.model.specs.declared.head.Cursor.{Cursor}
-use Rattle.model.specs.Audit as checks
-use Rattle.marshal.specs.Flat.{badHead, headFrom, viewFrom, numberOf, measuredOf, standingOf}
+use Rattle.model.specs.Lists.{part}
+use Rattle.model.specs.SeatedCalls.{auditSeated}
+use Rattle.model.specs.declared.seats.Seats.{Seats}
+use Rattle.seating.specs.Words.{seatsFrom}
+use Rattle.marshal.specs.Flat.{badHead, badSeats, headFrom, viewFrom, numberOf, measuredOf, standingOf}
 use Rattle.marshal.specs.declared.flat.FlatNumber.{FlatNumber}
 use Rattle.marshal.specs.declared.flat.FlatMeasured.{FlatMeasured}
 use Rattle.marshal.specs.declared.flat.FlatStanding.{FlatStanding}
@@ -29,6 +33,10 @@ given w ls xs hs = record { head = w; leaves = ls; inners = xs; homes = hs }
 
 abbrev pub stateOf : Given → State
 stateOf g = state (headFrom (g .head)) (g .leaves) (g .inners) (g .homes)
+
+-- the seats' words are the last seventeen of the head's
+abbrev pub seatsOf : Given → Seats
+seatsOf g = seatsFrom (part 19 17 (g .head))
 
 abbrev pub unlessBad : Bool → Answer → Answer
 unlessBad bad a = cond bad (refused 10) a
@@ -62,4 +70,4 @@ unfoldable pub cmp : Given → Cursor → Cursor → FlatNumber
 cmp g a b = numberOf (unlessBad (badHead (g .head)) (comparedAnswer (calls.cmp base (stateOf g) a b)))
 
 unfoldable pub audit : Given → FlatNumber
-audit g = numberOf (unlessBad (badHead (g .head)) (verdictAnswer (checks.audit base (stateOf g))))
+audit g = numberOf (unlessBad (badSeats (g .head)) (verdictAnswer (auditSeated base (stateOf g) (seatsOf g))))

@@ -1,7 +1,7 @@
 // The exported calls that change lengths or add an entry. Each is the one caller of its call, which is compiled into it.
-use calls_insert::insert::insert;
+use calls_insert::seated::insert;
 use calls_size::size::resize;
-use calls_split::split::split_entry;
+use calls_split::seated::split_entry;
 use marshal::answered::divided_of;
 use marshal::answered::inserted_of;
 use marshal::answered::number_of;
@@ -13,8 +13,10 @@ use marshal::flat::FlatInserted;
 use marshal::flat::FlatNumber;
 use marshal::given::cursor_from;
 use marshal::given::lengths_from;
+use marshal::given::seat_from;
 use marshal::given::target_from;
 use marshal::head::bad_flag;
+use marshal::head::bad_seated_flag;
 use marshal::head::head_from;
 use marshal::head::settle_finger;
 use marshal::head::settle_grown;
@@ -62,12 +64,14 @@ pub extern "C" fn smelvock_resize(
     a
 }
 
+// For the seat, or for nobody where it is 4,294,967,295.
 #[no_mangle]
 pub extern "C" fn smelvock_insert_words(
     head: &mut [u32],
     leaves: &mut [u32],
     inners: &mut [u32],
     homes: &mut [u32],
+    seat: u32,
     end: u32,
     leaf: u32,
     slot: u32,
@@ -76,14 +80,26 @@ pub extern "C" fn smelvock_insert_words(
     effect: u32,
     lines: u32,
 ) -> FlatInserted
-    ensures { λ r. ⌜ left r (now (head .exit)) (now (leaves .exit)) (now (inners .exit)) (now (homes .exit)) ≡ flat.insert (given (now (head .entry)) (now (leaves .entry)) (now (inners .entry)) (now (homes .entry))) end (cursorFrom leaf slot stamp) (lengthsFrom prepare effect lines) ⌝ }
+    ensures { λ r. ⌜ left r (now (head .exit)) (now (leaves .exit)) (now (inners .exit)) (now (homes .exit)) ≡ flat.insert (given (now (head .entry)) (now (leaves .entry)) (now (inners .entry)) (now (homes .entry))) seat end (cursorFrom leaf slot stamp) (lengthsFrom prepare effect lines) ⌝ }
 {
-    if bad_flag(head, end) {
+    if bad_seated_flag(head, end) {
         return refused_inserted(10);
     }
     let before = target_from(end, cursor_from(leaf, slot, stamp));
     let lengths = lengths_from(prepare, effect, lines);
-    let r = insert(head_from(head), leaves, inners, homes, before, lengths);
+    let h = head_from(head);
+    let from: usize = 19;
+    let to: usize = 36;
+    let r = insert(
+        h,
+        &mut head[from..to],
+        leaves,
+        inners,
+        homes,
+        seat_from(seat),
+        before,
+        lengths,
+    );
     let after = r.head;
     let answer = r.answer;
     let a = inserted_of(answer);
@@ -91,12 +107,14 @@ pub extern "C" fn smelvock_insert_words(
     a
 }
 
+// The same.
 #[no_mangle]
 pub extern "C" fn smelvock_split_entry_words(
     head: &mut [u32],
     leaves: &mut [u32],
     inners: &mut [u32],
     homes: &mut [u32],
+    seat: u32,
     leaf: u32,
     slot: u32,
     stamp: u64,
@@ -105,18 +123,23 @@ pub extern "C" fn smelvock_split_entry_words(
     lines: u32,
     before: u32,
 ) -> FlatDivided
-    ensures { λ r. ⌜ left r (now (head .exit)) (now (leaves .exit)) (now (inners .exit)) (now (homes .exit)) ≡ flat.splitEntry (given (now (head .entry)) (now (leaves .entry)) (now (inners .entry)) (now (homes .entry))) (cursorFrom leaf slot stamp) (lengthsFrom prepare effect lines) before ⌝ }
+    ensures { λ r. ⌜ left r (now (head .exit)) (now (leaves .exit)) (now (inners .exit)) (now (homes .exit)) ≡ flat.splitEntry (given (now (head .entry)) (now (leaves .entry)) (now (inners .entry)) (now (homes .entry))) seat (cursorFrom leaf slot stamp) (lengthsFrom prepare effect lines) before ⌝ }
 {
-    if bad_flag(head, before) {
+    if bad_seated_flag(head, before) {
         return refused_divided(10);
     }
     let at = cursor_from(leaf, slot, stamp);
     let lengths = lengths_from(prepare, effect, lines);
+    let h = head_from(head);
+    let from: usize = 19;
+    let to: usize = 36;
     let r = split_entry(
-        head_from(head),
+        h,
+        &mut head[from..to],
         leaves,
         inners,
         homes,
+        seat_from(seat),
         at,
         lengths,
         before == 1,

@@ -1,9 +1,10 @@
 // The exported calls that make a tree.
-use calls_make::begin::new;
-use calls_make::begin::reset;
+use calls_make::seated::new;
+use calls_make::seated::reset;
 use marshal::answered::outcome_of;
+use marshal::given::bad_made;
 use marshal::given::lengths_from;
-use marshal::head::bad_head;
+use marshal::head::bad_seats;
 use marshal::head::head_from;
 use marshal::head::put_head;
 use marshal::head::settle;
@@ -13,7 +14,7 @@ ghost use Rattle.smelvock.specs.Reads.{given};
 ghost use Rattle.smelvock.specs.Changes as flat;
 ghost use Rattle.smelvock.specs.Changes.{left};
 
-// What the lent head holds is of no account; a refused make leaves zeros in it.
+// Without shares a tree without seats, else one with eight. What the lent head holds is of no account; a refused make leaves zeros in it.
 #[no_mangle]
 pub extern "C" fn smelvock_new_words(
     fan: u32,
@@ -21,19 +22,24 @@ pub extern "C" fn smelvock_new_words(
     prepare: u32,
     effect: u32,
     lines: u32,
+    shares: &[u32],
     head: &mut [u32],
     leaves: &mut [u32],
     inners: &mut [u32],
     homes: &mut [u32],
 ) -> u32
-    ensures { λ r. ⌜ left r (now (head .exit)) (now (leaves .exit)) (now (inners .exit)) (now (homes .exit)) ≡ flat.make fan limit (lengthsFrom prepare effect lines) (given (now (head .entry)) (now (leaves .entry)) (now (inners .entry)) (now (homes .entry))) ⌝ }
+    ensures { λ r. ⌜ left r (now (head .exit)) (now (leaves .exit)) (now (inners .exit)) (now (homes .exit)) ≡ flat.make fan limit (now (shares .entry)) (lengthsFrom prepare effect lines) (given (now (head .entry)) (now (leaves .entry)) (now (inners .entry)) (now (homes .entry))) ⌝ }
 {
-    if head.len() != 19 {
+    if bad_made(head, shares) {
         return 10;
     }
+    let from: usize = 19;
+    let to: usize = 36;
     let r = new(
         fan,
         limit,
+        shares,
+        &mut head[from..to],
         lengths_from(prepare, effect, lines),
         leaves,
         inners,
@@ -57,11 +63,15 @@ pub extern "C" fn smelvock_reset_words(
 ) -> u32
     ensures { λ r. ⌜ left r (now (head .exit)) (now (leaves .exit)) (now (inners .exit)) (now (homes .exit)) ≡ flat.reset (given (now (head .entry)) (now (leaves .entry)) (now (inners .entry)) (now (homes .entry))) (lengthsFrom prepare effect lines) ⌝ }
 {
-    if bad_head(head) {
+    if bad_seats(head) {
         return 10;
     }
+    let h = head_from(head);
+    let from: usize = 19;
+    let to: usize = 36;
     let r = reset(
-        head_from(head),
+        h,
+        &mut head[from..to],
         lengths_from(prepare, effect, lines),
         leaves,
         inners,

@@ -1,28 +1,30 @@
--- `smelvock::change::smelvock_split_entry_words`: 10 where head or flag is bad, else the call's answer in words, and what it changed of the head where it was done.
-use borrow.Author.Needs.{needs}
-use mathlib.Core.Path.{refl, sym, _∙_}
-use Rattle.marshal.specs.Flat.{headAfter, dividedOf}
+-- `smelvock::change::smelvock_split_entry_words`: 10 where head, seats or flag are bad, else the call's answer in words, and what it changed of head and seats where it was done.
+use mathlib.Core.Path.{refl, sym, ap, _∙_}
+use native.Mathlib.Omega.{arith}
+use lib.ListN.{length, take, drop}
+use borrow.Rule.Slice.PartMut.{putMid}
 use Rattle.model.specs.Length.{listOf}
-use Rattle.model.specs.Kind.{base}
-use Rattle.model.specs.Answer.{dividedAnswer}
 use Rattle.model.specs.State.{state}
+use Rattle.laws.specs.Words.{lent}
+use Rattle.seating.specs.Words.{seatsFrom}
 use Rattle.smelvock.specs.Reads.{given}
 use Rattle.smelvock.specs.Changes as flat
-use Rattle.smelvock.proofs.FlatLaws.{reply-refused, reply-settled, ap₃}
-use Rattle.smelvock.proofs.KeptLaws.{sizes-kept}
-use Rattle.theory.specs.Fixed.{fixes}
-use Rattle.marshal.proofs.HeadLaws.{good-flag}
-use Rattle.model.specs.Calls as calls
-use Rattle.model.specs.declared.head.Head.{Head}
-use Rattle.model.specs.declared.head.Cursor.{Cursor}
-use Rattle.model.specs.declared.length.Lengths.{Lengths}
 use lib.Dec.{eqb}
+use Rattle.model.specs.Kind.{base}
+use Rattle.model.specs.Answer.{dividedAnswer}
+use Rattle.model.specs.SeatedCalls.{splitSeated}
+use Rattle.marshal.specs.Flat.{dividedOf}
 use Rattle.marshal.specs.declared.flat.FlatDivided.{FlatDivided}
+use Rattle.marshal.proofs.HeadLaws.{good-seated-flag}
+use Rattle.smelvock.specs.Changes.{seatedAfter}
+use Rattle.smelvock.proofs.FlatLaws.{seated-refused, seated-good}
+use Rattle.smelvock.proofs.SeatLaws.{lent-length, head-length, words-there, words-settled, kept-by, split-kept, split-sizes, sizes-since, split-same}
+use borrow.Author.Needs.{needs}
 use Rattle.smelvock.proofs.change.smelvock_split_entry_words.Statement.{statement}
 use Rattle.smelvock.proofs.change.smelvock_split_entry_words.Tie as tie
 
-bad-flag-requires : tie.Need-bad-flag-requires
-bad-flag-requires c κs = search needs
+bad-seated-flag-requires : tie.Need-bad-seated-flag-requires
+bad-seated-flag-requires c κs = search needs
 
 refused-divided-requires : tie.Need-refused-divided-requires
 refused-divided-requires c κs = search needs
@@ -33,9 +35,8 @@ same-length c = search needs
 returns : tie.Need-returns
 unfolding flat.splitEntry
 returns c =
-    let args = c .before .before .before .before .before .before .before .before .args in
-    reply-refused dividedOf dividedAnswer headAfter _ (given (args .head .now) (args .leaves .now) (args .inners .now) (args .homes .now)) _ _
-    (sym (c .before .before .bad-flag .ensures) ∙ c .before .if1 .taken) (c .refused-divided .ensures)
+    let a = c .before .before .before .before .before .before .before .before .args in
+    seated-refused dividedOf dividedAnswer seatedAfter _ (given (a .head .now) (a .leaves .now) (a .inners .now) (a .homes .now)) _ _ (sym (c .before .before .bad-seated-flag .ensures) ∙ c .before .if1 .taken) (c .refused-divided .ensures)
 
 cursor-from-requires : tie.Need-cursor-from-requires
 cursor-from-requires c κs = search needs
@@ -44,30 +45,39 @@ lengths-from-requires : tie.Need-lengths-from-requires
 lengths-from-requires c κs = search needs
 
 head-from-requires : tie.Need-head-from-requires
-head-from-requires c κs =
-    let bad-flag = c .before .before .before .before .bad-flag in
-    let if1 = c .before .before .before .if1 in
-    good-flag _ _ (sym (bad-flag .ensures) ∙ if1 .left)
+head-from-requires c κs = good-seated-flag _ _ (sym (c .before .before .before .before .bad-seated-flag .ensures) ∙ c .before .before .before .if1 .left) .0
+
+mul-split-entry : tie.Need-mul-split-entry
+mul-split-entry c = search needs
+
+sub-split-entry : tie.Need-sub-split-entry
+sub-split-entry c = search needs
+
+part-split-entry-start : tie.Need-part-split-entry-start
+part-split-entry-start c = search needs
+
+part-split-entry-end : tie.Need-part-split-entry-end
+part-split-entry-end c = omega (arith, good-seated-flag (c .before .before .before .before .before .before .before .before .before .before .before .args .head .now) _ (sym (c .before .before .before .before .before .bad-seated-flag .ensures) ∙ c .before .before .before .before .if1 .left) .0)
+
+seat-from-requires : tie.Need-seat-from-requires
+seat-from-requires c κs = search needs
 
 split-entry-requires : tie.Need-split-entry-requires
-split-entry-requires c κs = search needs
+split-entry-requires c κs = lent-length (c .before .before .before .before .before .before .before .before .before .before .before .before .before .before .before .before .args .head .now) (good-seated-flag (c .before .before .before .before .before .before .before .before .before .before .before .before .before .before .before .before .args .head .now) _ (sym (c .before .before .before .before .before .before .before .before .before .before .bad-seated-flag .ensures) ∙ c .before .before .before .before .before .before .before .before .before .if1 .left) .0)
 
 divided-of-requires : tie.Need-divided-of-requires
 divided-of-requires c κs = search needs
 
 settle-grown-requires : tie.Need-settle-grown-requires
 settle-grown-requires c κs =
-    let bad-flag = c .before .before .before .before .before .before .before .before .before .before .before .before .before .before .before .before .before .before .bad-flag in
-    let if1 = c .before .before .before .before .before .before .before .before .before .before .before .before .before .before .before .before .before .if1 in
-    let args = c .before .before .before .before .before .before .before .before .before .before .before .before .before .before .before .before .before .before .before .before .before .before .before .before .args in
-    let head-from = c .before .before .before .before .before .before .before .before .before .before .before .before .before .head-from in
-    let split-entry = c .before .before .before .before .before .before .before .before .before .split-entry in
-    let cursor-from = c .before .before .before .before .before .before .before .before .before .before .before .before .before .before .before .before .cursor-from in
-    let lengths-from = c .before .before .before .before .before .before .before .before .before .before .before .before .before .before .before .lengths-from in (
-      good-flag _ _ (sym (bad-flag .ensures) ∙ if1 .left),
-      λ _. sizes-kept (args .head .now) (head-from .result) _ (args .leaves .now) (args .inners .now) (args .homes .now) _ _ _ _ _
-          (head-from .ensures .0) (split-entry .ensures)
-          (fixes base (state (head-from .result) (args .leaves .now) (args .inners .now) (args .homes .now)) .split (cursor-from .result) (listOf (lengths-from .result)) (eqb (args .before) 1)),
+    let a = c .before .before .before .before .before .before .before .before .before .before .before .before .before .before .before .before .before .before .before .before .before .before .before .before .before .before .before .before .args in
+    let e = good-seated-flag (a .head .now) _ (sym (c .before .before .before .before .before .before .before .before .before .before .before .before .before .before .before .before .before .before .before .before .before .before .bad-seated-flag .ensures) ∙ c .before .before .before .before .before .before .before .before .before .before .before .before .before .before .before .before .before .before .before .before .before .if1 .left) .0 in
+    let r = c .before .before .before .before .before .before .before .before .before .before .before .split-entry in
+    let n = r .kept .1 .0 ∙ lent-length (a .head .now) e in
+    let s = state (c .before .before .before .before .before .before .before .before .before .before .before .before .before .before .before .before .before .head-from .result) (a .leaves .now) (a .inners .now) (a .homes .now) in (
+      head-length (a .head .now) (r .last .1 .0) e n,
+      λ _. sizes-since (a .head .now) (putMid 19 17 (a .head .now) (r .last .1 .0)) (words-there (a .head .now) (r .last .1 .0) e n) (c .before .before .before .before .before .before .before .before .before .before .before .before .before .before .before .before .before .head-from .result) _ (a .leaves .now) (a .inners .now) (a .homes .now) _ _ _ _ _ _ (c .before .before .before .before .before .before .before .before .before .before .before .before .before .before .before .before .before .head-from .ensures .0) (r .ensures .0)
+          (split-sizes s (seatsFrom (take 17 (drop 19 (a .head .now)))) (c .before .before .before .before .before .before .before .before .before .before .before .before .seat-from .result) (c .before .before .before .before .before .before .before .before .before .before .before .before .before .before .before .before .before .before .before .before .cursor-from .result) (listOf (c .before .before .before .before .before .before .before .before .before .before .before .before .before .before .before .before .before .before .before .lengths-from .result)) (eqb (a .before) 1)),
     )
 
 same-length-2 : tie.Need-same-length-2
@@ -85,30 +95,38 @@ same-length-5 c = search needs
 returns-2 : tie.Need-returns-2
 unfolding flat.splitEntry
 returns-2 c =
-    let args = c .before .before .before .before .before .before .before .before .before .before .before .before .before .before .before .before .before .before .before .before .before .before .before .before .before .before .before .args in
-    let bad-flag = c .before .before .before .before .before .before .before .before .before .before .before .before .before .before .before .before .before .before .before .before .before .bad-flag in
-    let if1 = c .before .before .before .before .before .before .before .before .before .before .before .before .before .before .before .before .before .before .before .before .if1 in
-    let divided-of = c .before .before .before .before .divided-of in
-    let split-entry = c .before .before .before .before .before .before .before .before .before .before .before .before .split-entry in
-    let head-from = c .before .before .before .before .before .before .before .before .before .before .before .before .before .before .before .before .head-from in
-    let cursor-from = c .before .before .before .before .before .before .before .before .before .before .before .before .before .before .before .before .before .before .before .cursor-from in
-    let lengths-from = c .before .before .before .before .before .before .before .before .before .before .before .before .before .before .before .before .before .before .lengths-from in
-    reply-settled dividedOf dividedAnswer (λ (q : FlatDivided). q .number) (λ x. refl) _ (given (args .head .now) (args .leaves .now) (args .inners .now) (args .homes .now)) _ _ _ _ _ _ _ _
-    (sym (bad-flag .ensures) ∙ if1 .left) (divided-of .ensures) (c .before .before .settle-grown .ensures)
-    (split-entry .ensures ∙ ap₃ (λ (h : Head) (k : Cursor) (l : Lengths). calls.splitEntry base (state h (args .leaves .now) (args .inners .now) (args .homes .now)) k (listOf l) (eqb (args .before) 1))
-    (head-from .ensures .0) (cursor-from .ensures) (lengths-from .ensures))
+    let a = c .before .before .before .before .before .before .before .before .before .before .before .before .before .before .before .before .before .before .before .before .before .before .before .before .before .before .before .before .before .before .before .args in
+    let w = a .head .now in
+    let bad = sym (c .before .before .before .before .before .before .before .before .before .before .before .before .before .before .before .before .before .before .before .before .before .before .before .before .before .bad-seated-flag .ensures) ∙ c .before .before .before .before .before .before .before .before .before .before .before .before .before .before .before .before .before .before .before .before .before .before .before .before .if1 .left in
+    let good = good-seated-flag w _ bad in
+    let r = c .before .before .before .before .before .before .before .before .before .before .before .before .before .before .split-entry in
+    let number = ap (λ (q : FlatDivided). q .number) (c .before .before .before .before .divided-of .ensures) in
+    let s = state (c .before .before .before .before .before .before .before .before .before .before .before .before .before .before .before .before .before .before .before .before .head-from .result) (a .leaves .now) (a .inners .now) (a .homes .now) in
+    let b = seatsFrom (take 17 (drop 19 w)) in
+    let flag = eqb (a .before) 1 in
+    seated-good dividedOf dividedAnswer seatedAfter _ (given (a .head .now) (a .leaves .now) (a .inners .now) (a .homes .now)) _ _ _ _ _ _ _ _ _ bad (c .before .before .before .before .divided-of .ensures)
+    (words-settled w _ (good .0) (r .kept .1 .0 ∙ lent-length w (good .0)) _ _ _ _ (c .before .before .settle-grown .ensures) number (good .1) (r .ensures .1)
+    (kept-by dividedAnswer (splitSeated base s b (c .before .before .before .before .before .before .before .before .before .before .before .before .before .before .before .seat-from .result) (c .before .before .before .before .before .before .before .before .before .before .before .before .before .before .before .before .before .before .before .before .before .before .before .cursor-from .result) (listOf (c .before .before .before .before .before .before .before .before .before .before .before .before .before .before .before .before .before .before .before .before .before .before .lengths-from .result)) flag) b
+    (split-kept s b (c .before .before .before .before .before .before .before .before .before .before .before .before .before .before .before .seat-from .result) (c .before .before .before .before .before .before .before .before .before .before .before .before .before .before .before .before .before .before .before .before .before .before .before .cursor-from .result) (listOf (c .before .before .before .before .before .before .before .before .before .before .before .before .before .before .before .before .before .before .before .before .before .before .lengths-from .result)) flag) _ _ _ (r .ensures .0) _ number))
+    (r .ensures .0
+    ∙ split-same (a .leaves .now) (a .inners .now) (a .homes .now) (c .before .before .before .before .before .before .before .before .before .before .before .before .before .before .before .before .before .before .before .before .head-from .ensures .0) (ap seatsFrom (lent 19 17 w)) (c .before .before .before .before .before .before .before .before .before .before .before .before .before .before .before .before .before .before .before .before .before .before .lengths-from .ensures) flag (c .before .before .before .before .before .before .before .before .before .before .before .before .before .before .before .seat-from .ensures) (c .before .before .before .before .before .before .before .before .before .before .before .before .before .before .before .before .before .before .before .before .before .before .before .cursor-from .ensures))
 
 pub smelvock-split-entry-words-spec : {M : Type 1} → statement M
 smelvock-split-entry-words-spec =
     tie.close
     (tie.spec
-    bad-flag-requires
+    bad-seated-flag-requires
     refused-divided-requires
     same-length
     returns
     cursor-from-requires
     lengths-from-requires
     head-from-requires
+    mul-split-entry
+    sub-split-entry
+    part-split-entry-start
+    part-split-entry-end
+    seat-from-requires
     split-entry-requires
     divided-of-requires
     settle-grown-requires

@@ -1,46 +1,70 @@
--- `smelvock::make::smelvock_new_words`: 10 where the head is not nineteen words, else the call's head and answer in words.
-use borrow.Author.Needs.{needs}
-use mathlib.Core.Path.{refl, ap, _∙_}
-use mathlib.Core.Bool.{not}
-use mathlib.Core.List.{List}
+-- `smelvock::make::smelvock_new_words`: 10 where the head isn't thirty-six words or the shares are bad, else the call's head, seats and answer in words.
+use mathlib.Core.Path.{refl, sym, ap, _∙_}
+use mathlib.Core.List.{List, _++_}
+use native.Mathlib.Omega.{arith}
 use Prim.Native.Nat.{ℕ}
-use lib.ListN.{length}
-use borrow.Author.Tests.{eq-eqb, ne-eqb}
 use Rattle.model.specs.Length.{listOf}
 use Rattle.model.specs.Kind.{base}
 use Rattle.model.specs.Answer.{outcomeAnswer}
-use Rattle.model.specs.Calls as calls
 use Rattle.model.specs.declared.head.Head.{Head}
 use Rattle.model.specs.declared.length.Lengths.{Lengths}
+use Rattle.model.specs.declared.seats.Seats.{Seats}
+use Rattle.seating.specs.Words.{seatsWords}
+use Rattle.calls_make.specs.Made.{makeWith}
 use Rattle.marshal.specs.Flat.{headWords}
+use Rattle.marshal.proofs.HeadLaws.{good-made}
 use Rattle.smelvock.specs.Reads.{given}
 use Rattle.smelvock.specs.Changes as flat
 use Rattle.smelvock.specs.Changes.{numberAlone}
-use Rattle.smelvock.proofs.FlatLaws.{reply-refused, reply-good}
+use Rattle.smelvock.proofs.FlatLaws.{seated-refused, seated-good}
+use Rattle.smelvock.proofs.SeatLaws.{lent-length, head-length, words-made}
+use borrow.Author.Needs.{needs}
 use Rattle.smelvock.proofs.make.smelvock_new_words.Statement.{statement}
 use Rattle.smelvock.proofs.make.smelvock_new_words.Tie as tie
+
+-- what the lent words are after it
+abbrev made : ℕ → Head → Seats → List ℕ → List ℕ
+made n h b w = headWords h ++ seatsWords b
+
+bad-made-requires : tie.Need-bad-made-requires
+bad-made-requires c κs = search needs
+
+same-length : tie.Need-same-length
+same-length c = search needs
 
 returns : tie.Need-returns
 unfolding flat.make
 returns c =
-    let args = c .before .before .before .before .before .args in
-    reply-refused numberAlone outcomeAnswer (λ (n : ℕ) (h : Head) (w : List ℕ). headWords h) _ (given (args .head .now) (args .leaves .now) (args .inners .now) (args .homes .now)) _ _
-    (ap not (ne-eqb (length (args .head .now)) 19 (c .if1 .taken))) refl
+    let a = c .before .before .before .before .before .before .before .before .args in
+    seated-refused numberAlone outcomeAnswer made _ (given (a .head .now) (a .leaves .now) (a .inners .now) (a .homes .now)) _ _ (sym (c .before .bad-made .ensures) ∙ c .if1 .taken) refl
+
+mul-new : tie.Need-mul-new
+mul-new c = search needs
+
+sub-new : tie.Need-sub-new
+sub-new c = search needs
+
+part-new-start : tie.Need-part-new-start
+part-new-start c = search needs
+
+part-new-end : tie.Need-part-new-end
+part-new-end c = omega (arith, good-made (c .before .before .before .before .before .before .before .before .args .head .now) (c .before .before .before .before .before .before .before .before .args .shares .now) (sym (c .before .bad-made .ensures) ∙ c .if1 .left) .0)
 
 lengths-from-requires : tie.Need-lengths-from-requires
 lengths-from-requires c κs = search needs
 
 new-requires : tie.Need-new-requires
-new-requires c κs = search needs
+new-requires c κs =
+    let good = good-made (c .before .before .before .before .before .before .before .before .before .before .before .before .before .args .head .now) (c .before .before .before .before .before .before .before .before .before .before .before .before .before .args .shares .now) (sym (c .before .before .before .before .before .before .bad-made .ensures) ∙ c .before .before .before .before .before .if1 .left) in
+    (lent-length (c .before .before .before .before .before .before .before .before .before .before .before .before .before .args .head .now) (good .0), good .1)
 
 put-head-requires : tie.Need-put-head-requires
-put-head-requires c κs = search needs
+put-head-requires c κs =
+    let e = good-made (c .before .before .before .before .before .before .before .before .before .before .before .before .before .before .before .before .before .before .before .before .before .before .before .before .args .head .now) (c .before .before .before .before .before .before .before .before .before .before .before .before .before .before .before .before .before .before .before .before .before .before .before .before .args .shares .now) (sym (c .before .before .before .before .before .before .before .before .before .before .before .before .before .before .before .before .before .bad-made .ensures) ∙ c .before .before .before .before .before .before .before .before .before .before .before .before .before .before .before .before .if1 .left) .0 in
+    head-length (c .before .before .before .before .before .before .before .before .before .before .before .before .before .before .before .before .before .before .before .before .before .before .before .before .args .head .now) (c .before .before .before .before .before .before .before .before .before .before .new .last .1 .1 .1 .0) e (c .before .before .before .before .before .before .before .before .before .before .new .kept .1 .1 .1 .0 ∙ lent-length (c .before .before .before .before .before .before .before .before .before .before .before .before .before .before .before .before .before .before .before .before .before .before .before .before .args .head .now) e)
 
 outcome-of-requires : tie.Need-outcome-of-requires
 outcome-of-requires c κs = search needs
-
-same-length : tie.Need-same-length
-same-length c = search needs
 
 same-length-2 : tie.Need-same-length-2
 same-length-2 c = search needs
@@ -51,33 +75,38 @@ same-length-3 c = search needs
 same-length-4 : tie.Need-same-length-4
 same-length-4 c = search needs
 
+same-length-5 : tie.Need-same-length-5
+same-length-5 c = search needs
+
 returns-2 : tie.Need-returns-2
 unfolding flat.make
 returns-2 c =
-    let args = c .before .before .before .before .before .before .before .before .before .before .before .before .before .before .before .before .before .before .before .before .before .before .args in
-    let if1 = c .before .before .before .before .before .before .before .before .before .before .before .before .before .before .before .before .before .if1 in
-    let put-head = c .before .before .before .put-head in
-    let new = c .before .before .before .before .before .before .before .before .before .before .before .before .new in
-    let lengths-from = c .before .before .before .before .before .before .before .before .before .before .before .before .before .before .before .before .lengths-from in
-    reply-good numberAlone outcomeAnswer (λ (n : ℕ) (h : Head) (w : List ℕ). headWords h) _ (given (args .head .now) (args .leaves .now) (args .inners .now) (args .homes .now)) _ _ _ _ _ _ _ _
-    (ap not (eq-eqb (length (args .head .now)) 19
-    (if1 .left)))
-    (c .outcome-of .ensures) (put-head .ensures)
-    (new .ensures
-    ∙ ap (λ (l : Lengths). calls.make base (args .fan) (args .limit) (listOf l) (args .leaves .now) (args .inners .now) (args .homes .now))
-    (lengths-from .ensures))
+    let a = c .before .before .before .before .before .before .before .before .before .before .before .before .before .before .before .before .before .before .before .before .before .before .before .before .before .before .before .before .args in
+    let w = a .head .now in
+    let bad = sym (c .before .before .before .before .before .before .before .before .before .before .before .before .before .before .before .before .before .before .before .before .before .bad-made .ensures) ∙ c .before .before .before .before .before .before .before .before .before .before .before .before .before .before .before .before .before .before .before .before .if1 .left in
+    let e = good-made w (a .shares .now) bad .0 in
+    let r = c .before .before .before .before .before .before .before .before .before .before .before .before .before .before .new in
+    seated-good numberAlone outcomeAnswer made _ (given (a .head .now) (a .leaves .now) (a .inners .now) (a .homes .now)) _ _ _ _ _ _ _ _ _ bad (c .outcome-of .ensures)
+    (words-made w _ e (r .kept .1 .1 .1 .0 ∙ lent-length w e) _ _ (c .before .before .before .put-head .ensures) (r .ensures .1))
+    (r .ensures .0 ∙ ap (λ (l : Lengths). makeWith base (a .fan) (a .limit) (a .shares .now) (listOf l) (a .leaves .now) (a .inners .now) (a .homes .now)) (c .before .before .before .before .before .before .before .before .before .before .before .before .before .before .before .before .before .before .lengths-from .ensures))
 
 pub smelvock-new-words-spec : {M : Type 1} → statement M
 smelvock-new-words-spec =
     tie.close
     (tie.spec
+    bad-made-requires
+    same-length
     returns
+    mul-new
+    sub-new
+    part-new-start
+    part-new-end
     lengths-from-requires
     new-requires
     put-head-requires
     outcome-of-requires
-    same-length
     same-length-2
     same-length-3
     same-length-4
+    same-length-5
     returns-2)

@@ -1,25 +1,27 @@
--- `smelvock::make::smelvock_reset_words`: 10 where head or flag is bad, else the call's answer in words, and its head where it was done.
-use borrow.Author.Needs.{needs}
-use Prim.Native.Nat.{ℕ}
-use mathlib.Core.Path.{refl, sym, ap₂, _∙_}
-use Rattle.marshal.specs.Flat.{headAfter}
+-- `smelvock::make::smelvock_reset_words`: 10 where head or seats are bad, else the call's answer in words, and its head and seats where it was done.
+use mathlib.Core.Path.{refl, sym, ap, _∙_}
+use native.Mathlib.Omega.{arith}
+use lib.ListN.{length, take, drop}
 use Rattle.model.specs.Length.{listOf}
-use Rattle.model.specs.Kind.{base}
-use Rattle.model.specs.Answer.{outcomeAnswer}
 use Rattle.model.specs.State.{state}
+use Rattle.laws.specs.Words.{lent}
+use Rattle.seating.specs.Words.{seatsFrom}
 use Rattle.smelvock.specs.Reads.{given}
 use Rattle.smelvock.specs.Changes as flat
-use Rattle.smelvock.specs.Changes.{numberAlone}
-use Rattle.smelvock.proofs.FlatLaws.{reply-refused, reply-settled}
-use Rattle.marshal.proofs.HeadLaws.{good-head}
-use Rattle.model.specs.Calls as calls
-use Rattle.model.specs.declared.head.Head.{Head}
-use Rattle.model.specs.declared.length.Lengths.{Lengths}
+use Prim.Native.Nat.{ℕ}
+use Rattle.model.specs.Kind.{base}
+use Rattle.model.specs.Answer.{outcomeAnswer}
+use Rattle.model.specs.SeatedCalls.{resetSeated}
+use Rattle.marshal.proofs.HeadLaws.{good-seats}
+use Rattle.smelvock.specs.Changes.{numberAlone, seatedAfter}
+use Rattle.smelvock.proofs.FlatLaws.{seated-refused, seated-good}
+use Rattle.smelvock.proofs.SeatLaws.{lent-length, head-length, words-settled, kept-by, reset-kept, reset-same}
+use borrow.Author.Needs.{needs}
 use Rattle.smelvock.proofs.make.smelvock_reset_words.Statement.{statement}
 use Rattle.smelvock.proofs.make.smelvock_reset_words.Tie as tie
 
-bad-head-requires : tie.Need-bad-head-requires
-bad-head-requires c κs = search needs
+bad-seats-requires : tie.Need-bad-seats-requires
+bad-seats-requires c κs = search needs
 
 same-length : tie.Need-same-length
 same-length c = search needs
@@ -27,28 +29,37 @@ same-length c = search needs
 returns : tie.Need-returns
 unfolding flat.reset
 returns c =
-    let args = c .before .before .before .before .before .before .before .args in
-    reply-refused numberAlone outcomeAnswer headAfter _ (given (args .head .now) (args .leaves .now) (args .inners .now) (args .homes .now)) _ _ (sym (c .before .bad-head .ensures) ∙ c .if1 .taken) refl
+    let a = c .before .before .before .before .before .before .before .args in
+    seated-refused numberAlone outcomeAnswer seatedAfter _ (given (a .head .now) (a .leaves .now) (a .inners .now) (a .homes .now)) _ _ (sym (c .before .bad-seats .ensures) ∙ c .if1 .taken) refl
 
 head-from-requires : tie.Need-head-from-requires
-head-from-requires c κs = good-head _ (sym (c .before .before .bad-head .ensures) ∙ c .before .if1 .left)
+head-from-requires c κs = good-seats _ (sym (c .before .before .bad-seats .ensures) ∙ c .before .if1 .left) .0
+
+mul-reset : tie.Need-mul-reset
+mul-reset c = search needs
+
+sub-reset : tie.Need-sub-reset
+sub-reset c = search needs
+
+part-reset-start : tie.Need-part-reset-start
+part-reset-start c = search needs
+
+part-reset-end : tie.Need-part-reset-end
+part-reset-end c = omega (arith, good-seats (c .before .before .before .before .before .before .before .before .before .args .head .now) (sym (c .before .before .before .bad-seats .ensures) ∙ c .before .before .if1 .left) .0)
 
 lengths-from-requires : tie.Need-lengths-from-requires
 lengths-from-requires c κs = search needs
 
 reset-requires : tie.Need-reset-requires
-reset-requires c κs = search needs
+reset-requires c κs = lent-length (c .before .before .before .before .before .before .before .before .before .before .before .before .before .before .args .head .now) (good-seats (c .before .before .before .before .before .before .before .before .before .before .before .before .before .before .args .head .now) (sym (c .before .before .before .before .before .before .before .before .bad-seats .ensures) ∙ c .before .before .before .before .before .before .before .if1 .left) .0)
 
 outcome-of-requires : tie.Need-outcome-of-requires
 outcome-of-requires c κs = search needs
 
 settle-requires : tie.Need-settle-requires
 settle-requires c κs =
-    let the-bad-head = c .before .before .before .before .before .before .before .before .before .before .before .before .before .before .before .before .before .bad-head in
-    let the-if1 = c .before .before .before .before .before .before .before .before .before .before .before .before .before .before .before .before .if1 in
-    let bad-head = the-bad-head in
-    let if1 = the-if1 in
-    good-head _ (sym (bad-head .ensures) ∙ if1 .left)
+    let e = good-seats (c .before .before .before .before .before .before .before .before .before .before .before .before .before .before .before .before .before .before .before .before .before .before .before .before .before .before .args .head .now) (sym (c .before .before .before .before .before .before .before .before .before .before .before .before .before .before .before .before .before .before .before .before .bad-seats .ensures) ∙ c .before .before .before .before .before .before .before .before .before .before .before .before .before .before .before .before .before .before .before .if1 .left) .0 in
+    head-length (c .before .before .before .before .before .before .before .before .before .before .before .before .before .before .before .before .before .before .before .before .before .before .before .before .before .before .args .head .now) (c .before .before .before .before .before .before .before .before .before .before .before .reset .last .1 .0) e (c .before .before .before .before .before .before .before .before .before .before .before .reset .kept .1 .0 ∙ lent-length (c .before .before .before .before .before .before .before .before .before .before .before .before .before .before .before .before .before .before .before .before .before .before .before .before .before .before .args .head .now) e)
 
 same-length-2 : tie.Need-same-length-2
 same-length-2 c = search needs
@@ -65,24 +76,31 @@ same-length-5 c = search needs
 returns-2 : tie.Need-returns-2
 unfolding flat.reset
 returns-2 c =
-    let args = c .before .before .before .before .before .before .before .before .before .before .before .before .before .before .before .before .before .before .before .before .before .before .before .before .before .before .args in
-    let bad-head = c .before .before .before .before .before .before .before .before .before .before .before .before .before .before .before .before .before .before .before .before .bad-head in
-    let if1 = c .before .before .before .before .before .before .before .before .before .before .before .before .before .before .before .before .before .before .before .if1 in
-    let outcome-of = c .before .before .before .before .outcome-of in
-    let reset = c .before .before .before .before .before .before .before .before .before .before .before .before .reset in
-    let head-from = c .before .before .before .before .before .before .before .before .before .before .before .before .before .before .before .before .before .head-from in
-    let lengths-from = c .before .before .before .before .before .before .before .before .before .before .before .before .before .before .before .before .lengths-from in
-    reply-settled numberAlone outcomeAnswer (λ (q : ℕ). q) (λ x. refl) _ (given (args .head .now) (args .leaves .now) (args .inners .now) (args .homes .now)) _ _ _ _ _ _ _ _
-    (sym (bad-head .ensures) ∙ if1 .left) (outcome-of .ensures) (c .before .before .settle .ensures) (reset .ensures ∙ ap₂ (λ (h : Head) (l : Lengths). calls.reset base (state h (args .leaves .now) (args .inners .now) (args .homes .now)) (listOf l)) (head-from .ensures .0) (lengths-from .ensures))
+    let a = c .before .before .before .before .before .before .before .before .before .before .before .before .before .before .before .before .before .before .before .before .before .before .before .before .before .before .before .before .before .args in
+    let w = a .head .now in
+    let bad = sym (c .before .before .before .before .before .before .before .before .before .before .before .before .before .before .before .before .before .before .before .before .before .before .before .bad-seats .ensures) ∙ c .before .before .before .before .before .before .before .before .before .before .before .before .before .before .before .before .before .before .before .before .before .before .if1 .left in
+    let good = good-seats w bad in
+    let r = c .before .before .before .before .before .before .before .before .before .before .before .before .before .before .reset in
+    let s = state (c .before .before .before .before .before .before .before .before .before .before .before .before .before .before .before .before .before .before .before .before .head-from .result) (a .leaves .now) (a .inners .now) (a .homes .now) in
+    let b = seatsFrom (take 17 (drop 19 w)) in
+    let l = listOf (c .before .before .before .before .before .before .before .before .before .before .before .before .before .before .before .before .before .before .lengths-from .result) in
+    seated-good numberAlone outcomeAnswer seatedAfter _ (given (a .head .now) (a .leaves .now) (a .inners .now) (a .homes .now)) _ _ _ _ _ _ _ _ _ bad (c .before .before .before .before .outcome-of .ensures)
+    (words-settled w _ (good .0) (r .kept .1 .0 ∙ lent-length w (good .0)) _ _ _ _ (c .before .before .settle .ensures) (c .before .before .before .before .outcome-of .ensures) (good .1) (r .ensures .1)
+    (kept-by outcomeAnswer (resetSeated base s b l) b (reset-kept s b l) _ _ _ (r .ensures .0) _ (c .before .before .before .before .outcome-of .ensures)))
+    (r .ensures .0 ∙ reset-same (a .leaves .now) (a .inners .now) (a .homes .now) (c .before .before .before .before .before .before .before .before .before .before .before .before .before .before .before .before .before .before .before .before .head-from .ensures .0) (ap seatsFrom (lent 19 17 w)) (c .before .before .before .before .before .before .before .before .before .before .before .before .before .before .before .before .before .before .lengths-from .ensures))
 
 pub smelvock-reset-words-spec : {M : Type 1} → statement M
 smelvock-reset-words-spec =
     tie.close
     (tie.spec
-    bad-head-requires
+    bad-seats-requires
     same-length
     returns
     head-from-requires
+    mul-reset
+    sub-reset
+    part-reset-start
+    part-reset-end
     lengths-from-requires
     reset-requires
     outcome-of-requires
