@@ -39,8 +39,9 @@ pub fn resizes<A: Calls, B: Calls, C: Calls>(table: &mut Table, trees: &mut Tree
 pub fn growth<const N: usize>(table: &mut Table, entries: u32) {
     let rust = |first| PrepareEffectTree::<N>::new(pair(first));
     let called = |first| Called::<N>::new(first);
-    let port =
-        |first| Port(smelvock::PrepareEffectTree::<N>::with_limit(entries, port::three(first)).expect("a good limit"));
+    let port = |first| {
+        Port(smelvock::PrepareEffectTree::<N>::with_limit(entries, port::three(first)).expect("a good limit"), None)
+    };
     let (first, shares) = ([3, 3, 0], shares(entries));
     let mut filling = |name: &str, way: Way, first: [u32; 3]| {
         table.call(
@@ -54,6 +55,7 @@ pub fn growth<const N: usize>(table: &mut Table, entries: u32) {
     filling("insert, random + cursor", Way::Insert, first);
     filling("split_entry, random + cursor", Way::Split, [entries, 3, 0]);
     filling("locate, split, update, insert", Way::Edit, first);
+    seats::<N>(table, entries, &shares);
     let mut trees = (rust(first), called(first), port(first));
     table.call(
         "reset",
@@ -67,6 +69,25 @@ pub fn growth<const N: usize>(table: &mut Table, entries: u32) {
         || each(0..100, |_| called(first)),
         || each(0..100, |_| port(first)),
     );
+}
+
+/// Trees of the port filled for one of their seats, which has a share of all entries or of none: beside lib.rs as it is.
+fn seats<const N: usize>(table: &mut Table, entries: u32, lengths: &[u32]) {
+    let rust = |first| PrepareEffectTree::<N>::new(pair(first));
+    let port = |first, share| {
+        let shares = [share, 0, 0, 0, 0, 0, 0, 0];
+        let tree = smelvock::PrepareEffectTree::<N>::with_shares(entries, port::three(first), shares);
+        Port(tree.expect("a good limit and good shares"), Some(0))
+    };
+    for (name, way, first) in [("insert", Way::Insert, [3, 3, 0]), ("split_entry", Way::Split, [entries, 3, 0])] {
+        for (place, share) in [("below", entries - 1), ("at", 0)] {
+            table.kind(
+                &format!("{name}, {place} its share"),
+                || fill(&mut rust(first), entries, way, lengths),
+                || fill(&mut port(first, share), entries, way, lengths),
+            );
+        }
+    }
 }
 
 #[derive(Clone, Copy)]

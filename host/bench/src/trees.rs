@@ -17,7 +17,7 @@ pub struct Trees<A, B, C> {
 
 pub fn trees<const N: usize>(entries: u32) -> Trees<PrepareEffectTree<N>, Called<N>, Port<N>> {
     let rust: PrepareEffectTree<N> = grown(N, entries, |lengths| PrepareEffectTree::new(pair(lengths)));
-    let port = Port(tree_of(rust.state(entries, &[])));
+    let port = Port(tree_of(rust.state(entries, &[])), None);
     Trees { rust, called: grown(N, entries, Called::new), port }
 }
 

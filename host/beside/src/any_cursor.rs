@@ -1,6 +1,6 @@
 //! The port beside lib.rs on calls with any cursors, one by one or in lists that keep old and mangled ones in play.
 
-use crate::cursors::{answer, entry_at, issued, tested, wanted, GIVING};
+use crate::cursors::{answer, entry_at, issued, malformed, tested, wanted};
 use crate::exports::{Answer, Export, Given};
 use crate::met::Met;
 use crate::plays::Plays;
@@ -8,6 +8,7 @@ use crate::words::raw_of;
 use oracle::driver::Parted;
 use oracle::lined::Lined;
 use oracle::random::Random;
+use oracle::row::Row;
 use oracle::state::{State, MOST_LINES};
 use smelvock::raw::{Cursor, Lengths};
 use std::rc::Rc;
@@ -31,6 +32,15 @@ impl<const N: usize, P: Plays> Beside<N, P> {
     pub fn stamped(port: P, limit: u32, lengths: [u32; 3], stamp: u64) -> Self {
         let mut rust = Lined::make(limit, lengths);
         rust.made = stamp;
+        Self::with(port, rust)
+    }
+
+    /// The same of a port with seats, whose row this is.
+    pub fn seated(port: P, row: Row) -> Self {
+        Self::with(port, Lined::beside(row))
+    }
+
+    fn with(port: P, rust: Lined<N>) -> Self {
         let (state, words) = (Rc::new(rust.state()), port.words());
         Beside { rust, port, state, words }
     }
@@ -180,7 +190,7 @@ impl<const N: usize, P: Plays> List<N, P> {
     /// may be anything.
     fn by_count(&self, export: Export, given: &Given, drawn: [Drawn; 2], number: u32) -> Result<(), Parted> {
         let cursors = tested(export, given).len();
-        if cursors == 0 || GIVING.contains(&export) && given.lengths.lines > MOST_LINES {
+        if cursors == 0 || malformed(&self.beside.state, export, given) {
             return Ok(());
         }
         let parted = |what| Err(format!("N {N}, {export:?} {given:?}: {what} after {} entries: {number}", self.made));
@@ -297,6 +307,18 @@ impl<const N: usize, P: Plays> List<N, P> {
             before: self.below(2),
             fan: state.head.fan,
             limit: state.head.limit,
+            shares: None,
+            seat: state.head.seats.and_then(|_| self.seat()),
+        }
+    }
+
+    /// Mostly one of the first three; seldom none, or one that there isn't.
+    fn seat(&mut self) -> Option<u32> {
+        match self.random.below(40) {
+            0 => None,
+            1 => Some([8, 9, 255, u32::MAX - 1][self.random.below(4) as usize]),
+            2..=9 => Some(self.below(8)),
+            _ => Some(self.below(3)),
         }
     }
 

@@ -32,7 +32,7 @@ impl<const N: usize> Both<N> {
     pub fn make(limit: u32, lengths: [u32; 3]) -> Self {
         let port = on_zeros(limit, lengths);
         let before = words(&port).map(|area| vec![0; area.len()]);
-        let mut both = Both { rust: Rust::make(limit, lengths), port: Port(port), held: Held::default(), before };
+        let mut both = Both { rust: Rust::make(limit, lengths), port: Port(port, None), held: Held::default(), before };
         both.same_words("make");
         both
     }
@@ -63,7 +63,7 @@ impl<const N: usize> Both<N> {
     pub fn spoil(&mut self, spoil: impl Fn(&mut Head, [&mut [u32]; 3])) {
         let State { mut head, mut leaves, mut inners, mut homes } = self.state();
         spoil(&mut head, [&mut leaves, &mut inners, &mut homes]);
-        self.port = Port(PrepareEffectTree::from_words(raw_of(head), leaves, inners, homes));
+        self.port = Port(PrepareEffectTree::from_words(raw_of(head), leaves, inners, homes), None);
     }
 
     /// The port's held cursors with other words in their place, likewise.

@@ -1,5 +1,5 @@
 //! A call on cursors that may be any, by lib.rs: the number by which lib.rs's own state wants it refused, and lib.rs's answer where
-//! that is 0. Line ends are the row's.
+//! that is 0. Line ends and seats are the row's.
 
 use crate::exports::{Export, Given};
 use crate::words::{self, cursor_of};
@@ -71,16 +71,25 @@ pub fn entry_at(state: &State, at: Cursor) -> Option<u32> {
     Some(slot[0])
 }
 
-/// The number of a call on lib.rs's state; 0 where lib.rs may be called. Too many line ends come first.
+/// The number of a call on lib.rs's state; 0 where lib.rs may be called. Too many line ends and a bad seat come first.
 pub fn wanted(state: &State, export: Export, given: &Given) -> u32 {
-    if GIVING.contains(&export) && given.lengths.lines > MOST_LINES {
+    if malformed(state, export, given) {
         return 10;
     }
     let failed = tested(export, given).into_iter().map(|at| fault(state, at)).find(|&number| number != 0);
     failed.unwrap_or_else(|| behind_cursors(state, export, given))
 }
 
-/// The causes behind the cursors, 4 to 8 and 17, of a call whose cursors are current.
+/// Whether a call is refused by 10: too many line ends, or an insert or split that doesn't name one of a seated tree's eight seats, or names
+/// a seat in another tree.
+pub fn malformed(state: &State, export: Export, given: &Given) -> bool {
+    let seated = state.head.seats.is_some();
+    let named = given.seat.map_or(!seated, |seat| seated && seat < 8);
+    GIVING.contains(&export) && given.lengths.lines > MOST_LINES
+        || [Export::Insert, Export::SplitEntry].contains(&export) && !named
+}
+
+/// The causes behind the cursors, 4 to 8, 17 and 18, of a call whose cursors are current.
 fn behind_cursors(state: &State, export: Export, given: &Given) -> u32 {
     let head = &state.head;
     let totals = state.inner(head.root).total();
@@ -98,8 +107,19 @@ fn behind_cursors(state: &State, export: Export, given: &Given) -> u32 {
         Export::SplitEntry if hollow(own()) => 17,
         Export::Insert if past([0; 3]) => 7,
         Export::SetLengths | Export::Update if past(own()) => 7,
-        Export::Insert | Export::SplitEntry if head.entry_count >= head.limit => 8,
+        Export::Insert | Export::SplitEntry => without_space(state, given.seat),
         _ => 0,
+    }
+}
+
+/// 8 in a tree that holds its limit; in a seated one 18 where the seat may not take an entry.
+fn without_space(state: &State, seat: Option<u32>) -> u32 {
+    let free = state.head.limit - state.head.entry_count;
+    match state.head.seats.zip(seat) {
+        Some((seats, seat)) if seats.may_take(seat as usize, free) => 0,
+        Some(_) => 18,
+        None if free > 0 => 0,
+        None => 8,
     }
 }
 
@@ -119,6 +139,7 @@ pub fn answer<const N: usize>(tree: &mut Lined<N>, export: Export, given: &Given
     let at = tree::Cursor::standing(given.at.leaf, given.at.slot);
     let before = (given.end == 0).then_some(at);
     let lengths = lengths(given);
+    tree.seat = given.seat;
     match export {
         Export::Reset => tree.reset(lengths),
         Export::SetLengths => tree.set_lengths(at, lengths),

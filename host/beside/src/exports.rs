@@ -1,7 +1,7 @@
 //! Every export on words that may be any, in a head, areas and a buffer with guards around them.
 
 use crate::words::{joined, parted, standing};
-use smelvock::raw::{self, word, Areas, AreasMut, Cursor, Lengths};
+use smelvock::raw::{self, word, Areas, AreasMut, Cursor, Lengths, NOBODY};
 use smelvock::{PAGE_BYTES, PAGE_LINES};
 
 /// What is lent, words or bytes, and what stands around it.
@@ -134,6 +134,9 @@ pub struct Given {
     pub before: u32,
     pub fan: u32,
     pub limit: u32,
+    pub shares: Option<[u32; 8]>,
+    /// Nobody where there is none.
+    pub seat: Option<u32>,
 }
 
 #[derive(Clone, Copy, PartialEq, Eq, PartialOrd, Ord, Debug)]
@@ -220,19 +223,20 @@ impl Export {
 
     fn change(self, tree: &mut Tree, given: &Given) -> Option<Answer> {
         let (head, areas) = tree.changed();
-        let Given { at, lengths, end, before, fan, limit, .. } = *given;
+        let Given { at, lengths, end, before, fan, limit, shares, seat, .. } = *given;
+        let (shares, seat) = (shares.as_ref().map_or(&[][..], |shares| shares), seat.unwrap_or(NOBODY));
         let number = |r: raw::Number| answer(r.number, &[r.value]);
         Some(match self {
-            Export::New => answer(raw::new(fan, limit, lengths, head, areas), &[]),
+            Export::New => answer(raw::new(fan, limit, lengths, shares, head, areas), &[]),
             Export::Reset => answer(raw::reset(head, areas, lengths), &[]),
             Export::SetLengths => answer(raw::set_lengths(head, areas, at, lengths), &[]),
             Export::Update => number(raw::update(head, areas, at, lengths)),
             Export::Insert => {
-                let r = raw::insert(head, areas, end, at, lengths);
+                let r = raw::insert(head, areas, seat, end, at, lengths);
                 answer(r.number, &[r.id, r.position])
             }
             Export::SplitEntry => {
-                let r = raw::split_entry(head, areas, at, lengths, before);
+                let r = raw::split_entry(head, areas, seat, at, lengths, before);
                 answer(r.number, &[&[r.id][..], &standing(r.first), &standing(r.second)].concat())
             }
             _ => return None,

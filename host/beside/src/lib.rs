@@ -9,4 +9,5 @@ pub mod met;
 pub mod plays;
 pub mod port;
 pub mod program;
+pub mod seated;
 pub mod words;

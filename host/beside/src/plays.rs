@@ -50,14 +50,28 @@ fn standing(at: Cursor) -> Vec<u32> {
     words::standing(at.into()).to_vec()
 }
 
+/// A seat as `host/smelvock` takes it; one that isn't a byte is none of the eight either way.
+fn byte(seat: u32) -> u8 {
+    seat.try_into().unwrap_or(u8::MAX)
+}
+
 fn change<const N: usize>(tree: &mut PrepareEffectTree<N>, export: Export, given: &Given) -> Done {
     let (at, lengths) = (given.at.into(), given.lengths.into());
     let before = (given.end == 0).then_some(at);
     match export {
         Export::Reset => tree.reset(lengths).map(|()| vec![]),
-        Export::Insert => tree.insert(before, lengths).map(|(id, position)| vec![id, position]),
+        Export::Insert => {
+            let done = match given.seat {
+                None => tree.insert(before, lengths),
+                Some(seat) => tree.insert_for(byte(seat), before, lengths),
+            };
+            done.map(|(id, position)| vec![id, position])
+        }
         Export::SplitEntry => {
-            let (id, parts) = tree.split_entry(at, lengths, given.before == 1)?;
+            let (id, parts) = match given.seat {
+                None => tree.split_entry(at, lengths, given.before == 1)?,
+                Some(seat) => tree.split_entry_for(byte(seat), at, lengths, given.before == 1)?,
+            };
             Ok([vec![id], parts.map(standing).concat()].concat())
         }
         Export::SetLengths => tree.set_lengths(at, lengths).map(|()| vec![]),

@@ -4,8 +4,9 @@ use oracle::calls::Calls;
 use smelvock::{Cursor, Lengths, PrepareEffectTree, Refusal, View};
 use std::cmp::Ordering;
 
+/// The tree, and the seat that its inserts and splits name.
 #[derive(Clone)]
-pub struct Port<const N: usize>(pub PrepareEffectTree<N>);
+pub struct Port<const N: usize>(pub PrepareEffectTree<N>, pub Option<u8>);
 
 fn done<T>(answer: Result<T, Refusal>) -> T {
     answer.expect("the row does not refuse the call")
@@ -70,9 +71,15 @@ impl<const N: usize> Calls for Port<N> {
         done(self.0.update(at, three(lengths)))
     }
     fn insert(&mut self, before: Option<Cursor>, lengths: [u32; 3]) -> (u32, u32) {
-        done(self.0.insert(before, three(lengths)))
+        done(match self.1 {
+            None => self.0.insert(before, three(lengths)),
+            Some(seat) => self.0.insert_for(seat, before, three(lengths)),
+        })
     }
     fn split_entry(&mut self, at: Cursor, lengths: [u32; 3], before: bool) -> (u32, [Cursor; 2]) {
-        done(self.0.split_entry(at, three(lengths), before))
+        done(match self.1 {
+            None => self.0.split_entry(at, three(lengths), before),
+            Some(seat) => self.0.split_entry_for(seat, at, three(lengths), before),
+        })
     }
 }

@@ -7,6 +7,7 @@ use oracle::driver::Driver;
 use oracle::patterns::giving;
 use oracle::record::{Call, Record};
 use oracle::row::Row;
+use oracle::seats::Seats;
 use oracle::state::{Head, NONE};
 use smelvock::raw::Cursor;
 use std::panic::{catch_unwind, AssertUnwindSafe};
@@ -45,6 +46,7 @@ fn a_changed_word_is_found_out() {
     }
     assert!(found_out(located, |head, _| head.root += 1) && found_out(located, |head, _| head.levels += 1));
     assert!(found_out(located, |head, _| head.leaf_count += 1) && found_out(located, |head, _| head.inner_count -= 1));
+    assert!(found_out(located, |head, _| head.seats = Some(Seats::new([0; 8]))));
     for looked in [located, Call::Select { view: 0, index: 5 }, Call::Lookup { view: 2, index: 16 }] {
         assert!(!found_out(looked, |_, _| ()));
         assert!(found_out(looked, |head, _| head.finger = None));
@@ -56,7 +58,7 @@ fn a_changed_word_is_found_out() {
         assert!(found_out(looked, |head, _| head.finger.as_mut().unwrap().prepare_within += 1));
     }
     let _ = std::panic::take_hook();
-    println!("{words} words of the areas, line ends among them, and 25 changes of the head, each found out");
+    println!("{words} words of the areas, line ends among them, and 26 changes of the head, each found out");
 }
 
 /// Whether a call of that kind is found out that is handed the cursor of such a call, changed in the port.

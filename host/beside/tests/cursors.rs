@@ -33,7 +33,7 @@ fn made<const N: usize>(limit: u32) -> PrepareEffectTree<N> {
 /// The tree with another stamp in its head.
 fn stamped<const N: usize>(tree: &PrepareEffectTree<N>, stamp: u64) -> PrepareEffectTree<N> {
     let mut head = tree.head();
-    head[word::STAMP..].copy_from_slice(&parted(stamp));
+    head[word::STAMP..word::SEATED].copy_from_slice(&parted(stamp));
     let Areas { leaves, inners, homes } = tree.areas();
     PrepareEffectTree::from_words(head, leaves.to_vec(), inners.to_vec(), homes.to_vec())
 }

@@ -1,24 +1,24 @@
 //! Unsound trees: every export ends on them, writes in its areas and its buffer only (guards stand around each), answers a number
-//! of document 01, 12 to 14 or 17, and audit's verdict is that of oracle's audit, which is written from the paper.
+//! of document 01, 12 to 14 or 17 to 19, and audit's verdict is that of oracle's audit, which is written from the paper.
 
 use beside::exports::{unprinted, Area, Export, Given, Tree, EXPORTS, UNPRINTED};
 use beside::port::three;
-use beside::words::{head_of, on_zeros, parted};
+use beside::words::{head_of, on_zeros, parted, seated};
 use oracle::at_fan;
 use oracle::audit::{audit, Verdict};
 use oracle::fans::FANS;
 use oracle::random::Random;
 use oracle::state::{node_words, State, MOST_LINES, NONE};
-use smelvock::raw::word::{ENTRIES, FAN, LEAVES, LIMIT, PRESENT};
+use smelvock::raw::word::{CHARGES, ENTRIES, FAN, LEAVES, LIMIT, PRESENT, SEATED, SHARES};
 use smelvock::raw::{Cursor, Lengths};
 use smelvock::{View, PAGE_BYTES};
 
 const SCALE: u64 = if cfg!(debug_assertions) { 1 } else { 10 };
 
-/// How often each number was answered, by 0 to 17, and how often audit said yes and no.
+/// How often each number was answered, by 0 to 19, and how often audit said yes and no.
 #[derive(Default, Debug)]
 struct Met {
-    numbers: [u64; 18],
+    numbers: [u64; 20],
     sound: u64,
     unsound: u64,
     /// How often print wrote lines and then met 9.
@@ -28,7 +28,7 @@ struct Met {
 impl Met {
     /// Notes the number of a tree's call; those of records and of files of edits are none.
     fn number(&mut self, number: u32) {
-        assert!(number <= 17 && ![11, 15, 16].contains(&number), "{number}");
+        assert!(number <= 19 && ![11, 15, 16].contains(&number), "{number}");
         self.numbers[number as usize] += 1;
     }
 }
@@ -43,13 +43,27 @@ fn sound<const N: usize>(entries: u32) -> Tree {
     Tree::of(&tree)
 }
 
-/// The port's verdict is the paper's; a flag of the finger that is neither 0 nor 1 is refused by 10.
+/// The same with seats: of each three entries the first two are seat 1's, the third is seat 6's; seats 0 and 7 have shares that they
+/// haven't used, and three entries are free.
+fn sound_seated<const N: usize>(entries: u32) -> Tree {
+    let shares = [1, entries / 3, 0, 0, 0, 0, 2, 2];
+    let mut tree = seated::<N>(entries + 3, [1, 7, 2], shares);
+    for id in 1..entries {
+        let before = (id % 3 != 0).then(|| tree.cursor(id * 7 % id).unwrap());
+        let seat = if id % 3 == 0 { 6 } else { 1 };
+        tree.insert_for(seat, before, three([1 + id % 5, 3 + id % 11, 2 + id % 7])).unwrap();
+    }
+    tree.locate(View::Prepare, entries).unwrap();
+    Tree::of(&tree)
+}
+
+/// The port's verdict is the paper's; a flag of the finger or of the seats that is neither 0 nor 1 is refused by 10.
 fn audited(tree: &Tree, given: &Given, met: &mut Met) {
     let answer = Export::Audit.play(&mut tree.clone(), given);
     let [leaves, inners, homes] = [&tree.leaves, &tree.inners, &tree.homes].map(|area| area.words().to_vec());
-    let head = tree.head.words().try_into().expect("nineteen words");
+    let head = tree.head.words().try_into().expect("thirty-six words");
     let wanted = match audit(&State { head: head_of(head), leaves, inners, homes }) {
-        _ if tree.word(PRESENT) > 1 => [10, 0],
+        _ if tree.word(PRESENT) > 1 || tree.word(SEATED) > 1 => [10, 0],
         Verdict::Refused(number) => [number as u32, 0],
         Verdict::Yes => [0, 1],
         Verdict::No(_) => [0, 0],
@@ -94,7 +108,8 @@ fn every_export(tree: &Tree, random: &mut Random, met: &mut Met) {
     audited(tree, &given(tree, random), met);
 }
 
-/// Arguments that are often good: a place within the areas, mostly the stamp of the head, a position near by.
+/// Arguments that are often good: a place within the areas, mostly the stamp of the head, a position near by, mostly a seat where the
+/// head has any.
 fn given(tree: &Tree, random: &mut Random) -> Given {
     let mut small = |end: u32| random.below(end.clamp(1, 1 << 20) as u64 + 1) as u32;
     let mut at = || Cursor {
@@ -114,6 +129,8 @@ fn given(tree: &Tree, random: &mut Random) -> Given {
         before: small(1),
         fan: tree.word(FAN),
         limit: tree.word(LIMIT),
+        shares: (small(3) == 0).then(|| [0; 8].map(|_: u32| small(2))),
+        seat: ((tree.word(SEATED) == 0) == (small(15) == 0)).then(|| small(8)),
     }
 }
 
@@ -128,7 +145,7 @@ fn flip_every_word(mut tree: Tree, met: &mut Met) {
     let mut random = Random::new(3);
     let mut flips = 0;
     let areas = [tree.leaves.words().len(), tree.inners.words().len(), tree.homes.words().len()];
-    let places = (0..19).map(|at| (3, at)).chain((0..3).flat_map(|area| (0..areas[area]).map(move |at| (area, at))));
+    let places = (0..36).map(|at| (3, at)).chain((0..3).flat_map(|area| (0..areas[area]).map(move |at| (area, at))));
     for (area, at) in places {
         let word = *word(&mut tree, area, at);
         for other in others(word) {
@@ -155,13 +172,18 @@ fn every_single_flipped_word() {
     let mut met = Met::default();
     flip_every_word(sound::<4>(9), &mut met);
     flip_every_word(sound::<5>(12), &mut met);
+    flip_every_word(sound_seated::<4>(9), &mut met);
     if SCALE > 1 {
         flip_every_word(sound::<4>(30), &mut met);
         flip_every_word(sound::<8>(30), &mut met);
         flip_every_word(sound::<32>(40), &mut met);
+        flip_every_word(sound_seated::<8>(30), &mut met);
     }
     println!("{met:?}");
-    assert!(met.unsound > 1_000 && [0, 1, 2, 3, 9, 10, 12, 13, 14, 17].iter().all(|&number| met.numbers[number] > 0));
+    assert!(
+        met.unsound > 1_000
+            && [0, 1, 2, 3, 9, 10, 12, 13, 14, 17, 18, 19].iter().all(|&number| met.numbers[number] > 0)
+    );
 }
 
 /// Gives an entry those line ends, in its leaf and in every sum above it: where there are too many, nothing else is wrong.
@@ -209,17 +231,85 @@ fn too_many_line_ends_in_a_leaf_slot() {
     assert_eq!([met.sound, met.unsound], [2 * slots; 2]);
 }
 
+/// Whether both audits say yes to the tree with those words in its head.
+fn both_say<const K: usize>(tree: &Tree, words: [(usize, u32); K]) -> bool {
+    let damaged = words.into_iter().fold(tree.clone(), |tree, (word, value)| tree.with(word, value));
+    let mut met = Met::default();
+    audited(&damaged, &Given::default(), &mut met);
+    met.sound == 1
+}
+
+/// Each of the three things that are asked of seats: a charge too many or too few, a share that the free entries don't cover, shares
+/// that sum too high. Charges that move from seat to seat are sound while what is unused is covered. In a tree without seats their words
+/// are of no account.
+#[test]
+fn damaged_shares_and_charges() {
+    for fan in FANS {
+        let tree = at_fan!(fan, N => sound_seated::<N>(9));
+        let charges: Vec<u32> = (0..8).map(|seat| tree.word(CHARGES + seat)).collect();
+        assert_eq!((tree.word(LIMIT), &charges[..]), (12, &[0, 6, 0, 0, 0, 0, 2, 0][..]));
+        assert!(both_say(&tree, []));
+        for seat in 0..8 {
+            let (share, charge) = (tree.word(SHARES + seat), charges[seat]);
+            for other in others(charge) {
+                assert!(!both_say(&tree, [(CHARGES + seat, other)]), "seat {seat}, charge {other}");
+                let plain = [(SEATED, 0), (CHARGES + seat, other)];
+                assert!(both_say(&tree, plain), "seat {seat}, charge {other}, without seats");
+            }
+            for other in others(share) {
+                // the three entries are free for one of seat 0 and two of seat 7
+                let unused = other.saturating_sub(charge) <= share.saturating_sub(charge);
+                assert_eq!(both_say(&tree, [(SHARES + seat, other)]), unused, "seat {seat}, share {other}");
+                assert!(both_say(&tree, [(SEATED, 0), (SHARES + seat, other)]), "seat {seat}, share {other}");
+            }
+        }
+        // one of seat 1's six charged to seat 3, to seat 0, to seat 7; one of seat 6's, which is at its share, to seat 1
+        for (from, to, sound) in [(1, 3, true), (1, 0, true), (1, 7, true), (6, 1, false), (6, 0, true)] {
+            let moved = [(CHARGES + from, charges[from] - 1), (CHARGES + to, charges[to] + 1)];
+            assert_eq!(both_say(&tree, moved), sound, "from {from} to {to}");
+        }
+        let sums = [(SHARES + 1, u32::MAX), (SHARES + 2, u32::MAX), (SHARES + 3, 2)];
+        assert!(!both_say(&tree, sums), "shares that sum to 2^33 and a little");
+        let wrapped = [(CHARGES, u32::MAX), (CHARGES + 2, 1)];
+        assert!(!both_say(&tree, wrapped), "charges that sum to 8 in 32 bits");
+    }
+}
+
+/// A damaged head whose seats are below their shares although the tree holds its limit: 18 says nothing of it, so that it is 9.
+#[test]
+fn a_full_tree_below_its_shares_is_9() {
+    for fan in FANS {
+        let mut tree = at_fan!(fan, N => sound_seated::<N>(9));
+        let end = Given { end: 1, lengths: Lengths { prepare: 1, effect: 1, lines: 1 }, ..Given::default() };
+        for seat in [0, 7, 7] {
+            assert_eq!(Export::Insert.play(&mut tree, &Given { seat: Some(seat), ..end }).number, 0);
+        }
+        for seat in 0..8 {
+            let at = Cursor { leaf: 0, slot: 0, stamp: tree.stamp() };
+            let lengths = Lengths { prepare: 0, effect: 1, lines: 0 };
+            let given = Given { at, seat: Some(seat), ..end };
+            let entitled = tree.with(SHARES + seat as usize, 100);
+            for (tree, number) in [(&tree, 18), (&entitled, 9)] {
+                let played = |export: Export, given: Given| export.play(&mut tree.clone(), &given).number;
+                assert_eq!(played(Export::Insert, given), number, "seat {seat}");
+                assert_eq!(played(Export::SplitEntry, Given { lengths, ..given }), number, "seat {seat}");
+            }
+        }
+    }
+}
+
 /// Several words at once; then a chain of calls, each on what the one before left.
 #[test]
 fn chains_of_calls_on_damaged_trees() {
     let mut met = Met::default();
     let mut random = Random::new(4);
-    let trees = FANS.map(|fan| at_fan!(fan, N => sound::<N>(34 + N as u32 * 3 / 2)));
+    let mut trees = FANS.map(|fan| at_fan!(fan, N => sound::<N>(34 + N as u32 * 3 / 2))).to_vec();
+    trees.extend(FANS.map(|fan| at_fan!(fan, N => sound_seated::<N>(34 + N as u32 * 3 / 2))));
     for _ in 0..3_000 * SCALE {
         let mut tree = trees[random.below(trees.len() as u64) as usize].clone();
         for _ in 0..1 + random.below(6) {
             let area = random.below(4) as usize;
-            let length = [tree.leaves.words().len(), tree.inners.words().len(), tree.homes.words().len(), 19][area];
+            let length = [tree.leaves.words().len(), tree.inners.words().len(), tree.homes.words().len(), 36][area];
             let at = random.below(length as u64) as usize;
             let value = [0, 1, 2, 4, 19, u32::MAX, random.word() as u32][random.below(7) as usize];
             *word(&mut tree, area, at) = value;
@@ -259,7 +349,9 @@ fn random_words() {
         let (levels, entries) = (random.below(6) as u32, random.below(limit as u64 + 2) as u32);
         let (present, view) = (random.below(2) as u32, random.below(4) as u32);
         let counts = [fan, limit, root, levels, used, inners_used, entries, present, view];
-        let head = Area::new(&[&counts[..], &finger, &parted(random.word())].concat());
+        let seats: [u32; 16] = [0; 16].map(|_: u32| random.below(4) as u32);
+        let seated = [random.below(2) as u32];
+        let head = Area::new(&[&counts[..], &finger, &parted(random.word()), &seated, &seats].concat());
         let page = unprinted(random.below(3) as usize * PAGE_BYTES);
         every_export(&Tree { head, leaves, inners, homes, page }, &mut random, &mut met);
     }

@@ -1,5 +1,6 @@
 //! Each cause of a refusal on the exports themselves: its number, zeros for values, head, areas and buffer as they were. The numbers
-//! wanted are document 01's ("When a call cannot be done") and document 02's 10 of line ends, 12 to 14 and 17, written down here.
+//! wanted are document 01's ("When a call cannot be done") and document 02's 10 of line ends and seats, 12 to 14 and 17 to 19, written
+//! down here.
 
 use beside::exports::{unprinted, Area, Export, Given, Tree, EXPORTS};
 use beside::port::three;
@@ -12,6 +13,8 @@ use smelvock::raw::{Cursor, Lengths};
 use smelvock::{View, PAGE_BYTES};
 use std::sync::atomic::{AtomicU64, Ordering};
 
+#[path = "refusals/seats.rs"]
+mod seats;
 #[path = "refusals/split.rs"]
 mod split;
 
@@ -46,6 +49,8 @@ fn whole<const N: usize>() -> (Tree, Given) {
         before: 1,
         fan: N as u32,
         limit: 31,
+        shares: None,
+        seat: None,
     };
     let tree = Tree::of(&tree);
     for export in EXPORTS {
@@ -60,14 +65,14 @@ fn totals(tree: &Tree) -> [u32; 3] {
     [1, 2, 3].map(|view| root[3..].chunks_exact(4).take(root[0] as usize).map(|slot| slot[view]).sum())
 }
 
-/// The export is refused by that number; nothing changes. A refused make gives a head of zeros instead, if it is one of nineteen words.
+/// The export is refused by that number; nothing changes. A refused make gives a head of zeros instead, if it is one of thirty-six words.
 fn refused(number: u32, export: Export, tree: &Tree, given: &Given) {
     let mut after = tree.clone();
     let answer = export.play(&mut after, given);
     assert_eq!(answer.number, number, "{export:?} {given:?} on {:?}", tree.head);
     assert!(answer.values.iter().all(|&value| value == 0), "{export:?} {answer:?}");
-    let made = export == New && tree.head.words().len() == 19;
-    let head = if made { Area::new(&[0; 19]) } else { tree.head.clone() };
+    let made = export == New && tree.head.words().len() == 36;
+    let head = if made { Area::new(&[0; 36]) } else { tree.head.clone() };
     assert_eq!(after, Tree { head, ..tree.clone() }, "{export:?}");
     PLAYED.fetch_add(1, Ordering::Relaxed);
 }
@@ -274,9 +279,9 @@ fn more_than_65535_line_ends_are_10() {
 
 /// A head of fewer words, of more, and of none.
 #[test]
-fn a_head_that_is_not_nineteen_words_is_10() {
+fn a_head_that_is_not_thirty_six_words_is_10() {
     at_each_fan(|tree, given| {
-        for words in [0, 1, 7, 8, 17, 18, 20, 38] {
+        for words in [0, 1, 7, 8, 19, 20, 28, 35, 37, 72] {
             let head = tree.head.words().iter().copied().cycle().take(words).collect::<Vec<_>>();
             let tree = Tree { head: Area::new(&head), ..tree.clone() };
             EXPORTS.iter().for_each(|&export| refused(10, export, &tree, &given));

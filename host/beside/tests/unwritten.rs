@@ -62,7 +62,7 @@ impl<const N: usize> Three<N> {
     fn make(limit: u32, lengths: [u32; 3]) -> Self {
         let both = Both::make(limit, lengths);
         let before = FILLED.load(Relaxed);
-        let own = Port(PrepareEffectTree::with_limit(limit, three(lengths)).expect("fan and limit are good"));
+        let own = Port(PrepareEffectTree::with_limit(limit, three(lengths)).expect("fan and limit are good"), None);
         let all = both.port().areas();
         let words = all.leaves.len() + all.inners.len() + all.homes.len();
         assert!(FILLED.load(Relaxed) - before >= words, "the new tree's {words} words held garbage");

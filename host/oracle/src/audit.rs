@@ -1,6 +1,8 @@
 //! The audit of document 01, on arbitrary words: it ends and never panics. Each check is one phrase
-//! of the paragraph "Audit", or document 02's on line ends, and [`sound`] names them in the order in which they can be trusted.
+//! of the paragraph "Audit", or document 02's on line ends and on seats, and [`sound`] names them in the order in which they can be
+//! trusted.
 
+use crate::seats::Seats;
 use crate::state::{added, Head, Node, State, EFFECT, LINES, MOST_LINES, NONE, PREPARE};
 
 #[derive(Clone, Copy, PartialEq, Eq, Debug)]
@@ -55,7 +57,12 @@ fn sound(state: &State) -> Result<(), &'static str> {
     holds(sums_right(state, &levels), "inner sums")?;
     holds(totals_within_u32(state), "totals within u32")?;
     holds(unused_slots_empty(state), "unused slots empty")?;
-    holds(finger_right(state, leaves), "finger")
+    holds(finger_right(state, leaves), "finger")?;
+    let Head { limit, entry_count, .. } = state.head;
+    let of_seats = |asked: &dyn Fn(Seats) -> bool| state.head.seats.is_none_or(asked);
+    holds(of_seats(&|seats| seats.within(limit)), "shares sum to at most limit - 1")?;
+    holds(of_seats(&|seats| seats.charged(entry_count)), "charges sum to the entries less one")?;
+    holds(of_seats(&|seats| seats.covered(limit - entry_count)), "free entries cover all unused shares")
 }
 
 /// "counts within limit": entries within the limit, nodes within what the limit needs; none is 0.

@@ -18,6 +18,7 @@ pub mod record;
 pub mod row;
 pub mod runs;
 pub mod rust;
+pub mod seats;
 pub mod sheet;
 pub mod state;
 pub mod stored;

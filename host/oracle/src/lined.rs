@@ -1,5 +1,5 @@
-//! lib.rs with line ends: it is played without them, and the plain row settles them. The entries made are counted, for the port's
-//! stamp.
+//! lib.rs with line ends and seats: it is played without them, and the plain row settles them. The entries made are counted, for the
+//! port's stamp.
 
 use crate::calls::Calls;
 use crate::record::Call;
@@ -15,6 +15,8 @@ pub struct Lined<const N: usize> {
     pub row: Row,
     /// How many entries were made, over every reset; it goes round.
     pub made: u64,
+    /// Whom the next inserts and splits are for.
+    pub seat: Option<u32>,
     /// Whether the last lookup was in view 2. lib.rs's finger then stands at the entry found in the prepare view, and goes the way of
     /// every finger when something changes.
     by_line: bool,
@@ -22,12 +24,18 @@ pub struct Lined<const N: usize> {
 
 impl<const N: usize> Lined<N> {
     pub fn make(limit: u32, lengths: [u32; 3]) -> Self {
-        Lined { rust: PrepareEffectTree::new(pair(lengths)), row: Row::make(limit, lengths), made: 1, by_line: false }
+        Self::beside(Row::make(limit, lengths))
     }
 
-    /// The head that the port holds for this tree: lib.rs's, but for the stamp and the sums of a finger in view 2.
+    /// lib.rs's tree of the one entry of a row.
+    pub fn beside(row: Row) -> Self {
+        let rust = PrepareEffectTree::new(pair(row.entries[0].lengths));
+        Lined { rust, row, made: 1, seat: None, by_line: false }
+    }
+
+    /// The head that the port holds for this tree: lib.rs's, but for the stamp, the seats and the sums of a finger in view 2.
     pub fn head(&self) -> Head {
-        let mut head = Head { stamp: self.made, ..self.rust.head(self.row.limit) };
+        let mut head = Head { stamp: self.made, seats: self.row.seats, ..self.rust.head(self.row.limit) };
         if let Some(finger) = head.finger.as_mut().filter(|_| self.by_line) {
             let rank = |slot: u32| self.rank(LINES, Cursor::standing(finger.leaf, slot));
             let (start, found) = (rank(0), rank(finger.slot));
@@ -55,7 +63,7 @@ impl<const N: usize> Lined<N> {
 
     /// What the row answers to a call that it doesn't refuse. Each entry made is counted, the first one after a reset too.
     fn settled(&mut self, call: Call) -> [u32; 4] {
-        let answer = self.row.answer(Some(call));
+        let answer = self.row.answer_for(self.seat, Some(call));
         assert_eq!(answer.number, 0, "the row refuses {call:?}");
         if matches!(call, Call::Reset { .. } | Call::Insert { .. } | Call::Split { .. }) {
             self.made = self.made.wrapping_add(1);

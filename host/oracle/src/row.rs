@@ -1,7 +1,8 @@
-//! The plain row of document 01, with document 02's line ends and its refusal of hollow splits, written from the papers and not from
-//! lib.rs.
+//! The plain row of document 01, with document 02's line ends, its refusal of hollow splits, and its seats, written from the papers and
+//! not from lib.rs.
 
 use crate::record::{Answer, Call, Record};
+use crate::seats::Seats;
 use crate::state::{EFFECT, LINES, MOST_LINES, NONE, PREPARE};
 
 #[derive(Clone, Copy, PartialEq, Eq, Debug)]
@@ -11,11 +12,12 @@ pub struct Entry {
     pub lengths: [u32; 3],
 }
 
-/// A limit and a list of entries.
+/// A limit, a list of entries, and the seats to which they are charged, where there are any.
 #[derive(Clone, PartialEq, Eq, Debug)]
 pub struct Row {
     pub limit: u32,
     pub entries: Vec<Entry>,
+    pub seats: Option<Seats>,
 }
 
 /// The fields of an answer, or the number of a refusal.
@@ -23,7 +25,13 @@ type Reply = Result<[u32; 4], u8>;
 
 impl Row {
     pub fn make(limit: u32, lengths: [u32; 3]) -> Row {
-        Row { limit, entries: vec![Entry { id: 0, lengths }] }
+        Row { limit, entries: vec![Entry { id: 0, lengths }], seats: None }
+    }
+
+    /// A row with seats; 19 where the shares sum too high.
+    pub fn seated(limit: u32, lengths: [u32; 3], shares: [u32; 8]) -> Result<Row, u8> {
+        let seats = Some(Seats::new(shares)).filter(|seats| seats.within(limit)).ok_or(19)?;
+        Ok(Row { seats: Some(seats), ..Row::make(limit, lengths) })
     }
 
     /// Plays one record. A refused call changes nothing and answers its number.
@@ -31,22 +39,27 @@ impl Row {
         self.answer(record.call())
     }
 
-    /// Plays the call of a record; a record with a bad field asks for none.
+    /// Plays the call of a record; a record with a bad field asks for none. No record names a seat.
     pub fn answer(&mut self, call: Option<Call>) -> Answer {
-        match call.ok_or(10).and_then(|call| self.call(call)) {
+        self.answer_for(None, call)
+    }
+
+    /// Plays a call of which an insert or split names that seat, or none.
+    pub fn answer_for(&mut self, seat: Option<u32>, call: Option<Call>) -> Answer {
+        match call.ok_or(10).and_then(|call| self.call(seat, call)) {
             Ok(fields) => Answer { number: 0, fields },
             Err(number) => Answer { number, fields: [0; 4] },
         }
     }
 
-    fn call(&mut self, call: Call) -> Reply {
+    fn call(&mut self, seat: Option<u32>, call: Call) -> Reply {
         if call.lengths().is_some_and(|lengths| lengths[LINES] > MOST_LINES) {
             return Err(10);
         }
         match call {
             Call::Reset { lengths } => self.reset(lengths),
-            Call::Insert { before, lengths } => self.insert(before, lengths),
-            Call::Split { id, lengths, before } => self.split(id, lengths, before),
+            Call::Insert { before, lengths } => self.insert(self.named(seat)?, before, lengths),
+            Call::Split { id, lengths, before } => self.split(self.named(seat)?, id, lengths, before),
             Call::Set { id, lengths } => self.update(id, lengths).map(|_| [0; 4]),
             Call::Update { id, lengths } => self.update(id, lengths),
             Call::Lookup { view, index } => self.lookup(view, index),
@@ -64,19 +77,21 @@ impl Row {
 
     fn reset(&mut self, lengths: [u32; 3]) -> Reply {
         self.entries = vec![Entry { id: 0, lengths }];
+        self.seats = self.seats.map(|seats| Seats::new(seats.shares));
         Ok([0; 4])
     }
 
-    fn insert(&mut self, before: u32, lengths: [u32; 3]) -> Reply {
+    fn insert(&mut self, seat: Option<usize>, before: u32, lengths: [u32; 3]) -> Reply {
         let place = if before == NONE { self.entries.len() } else { self.place(before)? };
         self.totals_fit([0; 3], lengths)?;
-        self.room()?;
+        self.room(seat)?;
         let id = self.count();
         self.entries.insert(place, Entry { id, lengths });
+        self.charge(seat);
         Ok([id, self.before(EFFECT, place), 0, 0])
     }
 
-    fn split(&mut self, id: u32, lengths: [u32; 3], before: bool) -> Reply {
+    fn split(&mut self, seat: Option<usize>, id: u32, lengths: [u32; 3], before: bool) -> Reply {
         let place = self.place(id)?;
         let own = self.entries[place].lengths;
         let views = [PREPARE, EFFECT, LINES];
@@ -87,10 +102,11 @@ impl Row {
         if [lengths, left].contains(&[0; 3]) {
             return Err(17);
         }
-        self.room()?;
+        self.room(seat)?;
         let new = self.count();
         self.entries[place].lengths = left;
         self.entries.insert(if before { place } else { place + 1 }, Entry { id: new, lengths });
+        self.charge(seat);
         Ok([new, 0, 0, 0])
     }
 
@@ -163,12 +179,34 @@ impl Row {
         }
     }
 
-    /// Number 8 if the row holds its limit.
-    fn room(&self) -> Result<(), u8> {
-        if self.count() < self.limit {
-            Ok(())
-        } else {
-            Err(8)
+    /// The entries that may still be made.
+    pub fn free(&self) -> u32 {
+        self.limit - self.count()
+    }
+
+    /// Number 10: "a seat above 7, a seat in a tree without seats, or none in a seated one".
+    fn named(&self, seat: Option<u32>) -> Result<Option<usize>, u8> {
+        match (self.seats, seat) {
+            (None, None) => Ok(None),
+            (Some(_), Some(seat @ 0..=7)) => Ok(Some(seat as usize)),
+            _ => Err(10),
+        }
+    }
+
+    /// Number 8 if a row without seats holds its limit; number 18 if the seat's entry would be over the rules.
+    fn room(&self, seat: Option<usize>) -> Result<(), u8> {
+        match self.seats.zip(seat) {
+            Some((seats, seat)) if seats.may_take(seat, self.free()) => Ok(()),
+            Some(_) => Err(18),
+            None if self.free() > 0 => Ok(()),
+            None => Err(8),
+        }
+    }
+
+    /// "The new entry is charged to it."
+    fn charge(&mut self, seat: Option<usize>) {
+        if let Some((seats, seat)) = self.seats.as_mut().zip(seat) {
+            seats.charges[seat] += 1;
         }
     }
 }

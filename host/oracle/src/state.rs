@@ -1,6 +1,8 @@
 //! A tree as plain words, in document 01's layout ("Lengths, slots, nodes"): the head and three
 //! areas. It holds arbitrary words as well as those of a sound tree.
 
+use crate::seats::Seats;
+
 /// The child of an unused slot, the root's missing parent, "none" and "at the end".
 pub const NONE: u32 = u32::MAX;
 
@@ -43,6 +45,7 @@ pub struct Head {
     /// How many entries were made since make, over every reset; it goes round.
     pub stamp: u64,
     pub finger: Option<Finger>,
+    pub seats: Option<Seats>,
 }
 
 #[derive(Clone, PartialEq, Eq, Debug)]

@@ -76,6 +76,7 @@ impl<const N: usize> PrepareEffectTree<N> {
             inner_count: self.nodes.len() as u32,
             stamp: self.leaf_of_entry.len() as u64,
             finger: self.finger.map(|finger| self.finger_words(finger)),
+            seats: None,
         }
     }
 

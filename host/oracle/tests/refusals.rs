@@ -110,7 +110,8 @@ fn one_entry_past_the_limit_is_8() {
 #[test]
 fn a_total_of_line_ends_is_never_7() {
     let full = Entry { id: 0, lengths: [0, 0, MOST_LINES] };
-    let mut row = Row { limit: 65_536, entries: (0..65_536).map(|id| Entry { id, ..full }).collect() };
+    let entries = (0..65_536).map(|id| Entry { id, ..full }).collect();
+    let mut row = Row { entries, ..Row::make(65_536, full.lengths) };
     assert_eq!(row.total(LINES), 4_294_901_760);
     for kind in [2, 3] {
         assert_eq!(row.play(&Record::new(kind, 0, NONE, 0, 0).with_lines(u16::MAX)).number, 8);

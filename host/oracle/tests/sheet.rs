@@ -12,6 +12,7 @@ fn five() -> Row {
     Row {
         limit: 5,
         entries: [(2, [0, 5, 9]), (3, [1, 1, 0]), (0, [2, 2, 1]), (4, [1, 1, 0]), (1, [2, 0, 7])].map(entry).to_vec(),
+        seats: None,
     }
 }
 
@@ -33,7 +34,7 @@ fn numbers_of_ten_digits_fill_their_columns() {
     let widest = Row::make(1, [u32::MAX, u32::MAX, 65_535]);
     assert!(of_row(&widest).starts_with("         0          0          0 4294967295 4294967295\n"));
     let last = Entry { id: 1, lengths: [0; 3] };
-    let two = Row { limit: 2, entries: vec![widest.entries[0], last] };
+    let two = Row { entries: vec![widest.entries[0], last], ..Row::make(2, [0; 3]) };
     assert_eq!(&of_row(&two)[55..110], "         1 4294967295 4294967295          0          0\n");
 }
 
@@ -41,7 +42,8 @@ fn numbers_of_ten_digits_fill_their_columns() {
 #[test]
 fn pages_by_the_number_of_entries() {
     for (entries, pages, blank) in [(1, 1, 49), (49, 1, 1), (50, 1, 0), (51, 2, 49), (100, 2, 0), (101, 3, 49)] {
-        let row = Row { limit: entries, entries: (0..entries).map(|id| Entry { id, lengths: [1; 3] }).collect() };
+        let every = (0..entries).map(|id| Entry { id, lengths: [1; 3] }).collect();
+        let row = Row { entries: every, ..Row::make(entries, [1; 3]) };
         let sheet = of_row(&row);
         assert_eq!(sheet.len(), pages * PAGE_BYTES);
         assert_eq!(sheet.lines().count(), pages * PAGE_LINES);

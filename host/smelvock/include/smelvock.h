@@ -1,6 +1,6 @@
 /* PrepareEffectTree through C linkage: libsmelvock.a, which `rt staticlib smelvock` writes, for x86-64 Linux.
  *
- * The caller lends a head of nineteen words and three areas of words, each as a pointer and its count. Fan 4 to 32, limit 1 to
+ * The caller lends a head of thirty-six words and three areas of words, each as a pointer and its count. Fan 4 to 32, limit 1 to
  * 65,536. The leaf area and the inner area each need max(1, limit / (fan / 2)) nodes of 3 + 4 * fan words, homes needs limit
  * words. A buffer to print in needs 2,750 bytes a page, a page for every 50 entries. Head, areas and buffer may not overlap. A
  * tree's head is made by smelvock_new or smelvock_reset and written by the calls. The two calls on files of edits, at the end, take
@@ -11,13 +11,17 @@
  *    2  an area is too short                  8  the tree holds its limit
  *    3  the cursor's stamp is wrong           9  a link of an unsound tree leads outside
  *    4  no such entry or edit                10  more than 65,535 line ends, a view above 2, a flag above 1, or a
- *    5  position at or past the total            head that is not nineteen words
- *    6  a split moves more than the entry    12  the buffer is below 2,750 bytes a page
- *       has                                  13  the cursor's leaf is not in use
- *   17  a split moves nothing, or leaves     14  the cursor's slot is at or past its leaf's len
- *       nothing behind, in every length
- * A tree's call tests 10 before all others, and a cursor for 3, 13 and 14 in this order, before 4 to 8 and 17; smelvock_cmp tests the
- * first cursor whole, then the second. 17 stands between 6 and 8.
+ *    5  position at or past the total            head that is not thirty-six words; a seat above 7, a seat in a
+ *    6  a split moves more than the entry        tree without seats, or none in a seated one
+ *       has                                  12  the buffer is below 2,750 bytes a page
+ *   17  a split moves nothing, or leaves     13  the cursor's leaf is not in use
+ *       nothing behind, in every length      14  the cursor's slot is at or past its leaf's len
+ *   18  the seat is at or over its share,    19  the shares sum to the limit or more
+ *       and the free entries don't
+ *       outnumber the other seats' unused
+ *       shares
+ * A tree's call tests 10 before all others, and a cursor for 3, 13 and 14 in this order, before 4 to 8, 17 and 18; smelvock_cmp tests
+ * the first cursor whole, then the second. 17 stands between 6 and 8; 18 stands for 8 in a seated tree; 19 comes after 1 and 2.
  * Of a file of edits: 10 the rest of a record isn't zero, 11 the file's length isn't a multiple of 16, 12 the list area is below
  * 512 words, 15 a parent isn't smaller than its edit, 16 more than 512 edits.
  * Refused: the other values are 0 and, but for 9, head, areas and buffer are as they were. */
@@ -36,6 +40,9 @@ extern "C" {
 #define SMELVOCK_LINES 2u
 /* The leaf of the cursor after the last entry, and the parent of an edit that has none. */
 #define SMELVOCK_NONE 4294967295u
+/* The seats of a seated tree, 0 to 7, and the seat of a call that names none. */
+#define SMELVOCK_SEATS 8u
+#define SMELVOCK_NOBODY 4294967295u
 /* The lines of a page of the sheet, an entry each, and its bytes. */
 #define SMELVOCK_PAGE_LINES 50u
 #define SMELVOCK_PAGE_BYTES 2750u
@@ -44,10 +51,12 @@ extern "C" {
 
 /* The words of a head. The finger (present 0 or 1, then nine words) is a tree's memory of its last lookup; its words are of no
  * account where absent. The stamp, two words, the low one first, counts the entries made since smelvock_new, over every reset; it
- * goes round. */
+ * goes round. Seated is 0 or 1; the shares of seats 0 to 7 and the entries charged to each follow, and are of no account where it is
+ * 0. */
 enum {
     SMELVOCK_FAN, SMELVOCK_LIMIT, SMELVOCK_ROOT, SMELVOCK_LEVELS, SMELVOCK_LEAVES, SMELVOCK_INNERS, SMELVOCK_ENTRIES,
-    SMELVOCK_PRESENT, SMELVOCK_FINGER, SMELVOCK_STAMP = 17, SMELVOCK_HEAD_WORDS = 19
+    SMELVOCK_PRESENT, SMELVOCK_FINGER, SMELVOCK_STAMP = 17, SMELVOCK_SEATED = 19, SMELVOCK_SHARES = 20,
+    SMELVOCK_CHARGES = 28, SMELVOCK_HEAD_WORDS = 36
 };
 
 /* An entry's place, current until the next insertion, split or reset; the stamp is that of the head at issue. */
@@ -109,22 +118,33 @@ typedef struct {
 
 /* The library's calls. Those whose names end in _words take cursors and lengths number by number, for a struct that is handed over by
  * value goes through memory, which costs time; below, each has a function with structs. */
-uint32_t smelvock_new_words(uint32_t fan, uint32_t limit, SMELVOCK_LENGTHS, SMELVOCK_HEAD_WRITTEN, SMELVOCK_AREAS_WRITTEN);
+uint32_t smelvock_new_words(
+    uint32_t fan, uint32_t limit, SMELVOCK_LENGTHS, const uint32_t *shares, size_t share_words, SMELVOCK_HEAD_WRITTEN, SMELVOCK_AREAS_WRITTEN);
 uint32_t smelvock_reset_words(SMELVOCK_HEAD_WRITTEN, SMELVOCK_AREAS_WRITTEN, SMELVOCK_LENGTHS);
 smelvock_number smelvock_id_words(SMELVOCK_HEAD, SMELVOCK_AREAS, SMELVOCK_CURSOR);
 smelvock_measured smelvock_lengths_words(SMELVOCK_HEAD, SMELVOCK_AREAS, SMELVOCK_CURSOR);
 smelvock_number smelvock_entry_to_char_index_words(SMELVOCK_HEAD, SMELVOCK_AREAS, uint32_t view, SMELVOCK_CURSOR);
 smelvock_standing smelvock_next_words(SMELVOCK_HEAD, SMELVOCK_AREAS, SMELVOCK_CURSOR);
 smelvock_number smelvock_cmp_words(SMELVOCK_HEAD, SMELVOCK_AREAS, SMELVOCK_CURSOR, uint32_t other_leaf, uint32_t other_slot, uint64_t other_stamp);
-smelvock_inserted smelvock_insert_words(SMELVOCK_HEAD_WRITTEN, SMELVOCK_AREAS_WRITTEN, uint32_t end, SMELVOCK_CURSOR, SMELVOCK_LENGTHS);
-smelvock_divided smelvock_split_entry_words(SMELVOCK_HEAD_WRITTEN, SMELVOCK_AREAS_WRITTEN, SMELVOCK_CURSOR, SMELVOCK_LENGTHS, uint32_t before);
+smelvock_inserted smelvock_insert_words(
+    SMELVOCK_HEAD_WRITTEN, SMELVOCK_AREAS_WRITTEN, uint32_t seat, uint32_t end, SMELVOCK_CURSOR, SMELVOCK_LENGTHS);
+smelvock_divided smelvock_split_entry_words(
+    SMELVOCK_HEAD_WRITTEN, SMELVOCK_AREAS_WRITTEN, uint32_t seat, SMELVOCK_CURSOR, SMELVOCK_LENGTHS, uint32_t before);
 /* update where summed is 1; where it is 0, set_lengths, with 0 for the position. */
 smelvock_number smelvock_resize(SMELVOCK_HEAD_WRITTEN, SMELVOCK_AREAS_WRITTEN, SMELVOCK_CURSOR, SMELVOCK_LENGTHS, uint32_t summed);
 
-/* A tree of one entry, id 0; what the head holds before is of no account to new. A refused new leaves zeros in a head of nineteen
- * words. */
+/* A tree of one entry, id 0, without seats; what the head holds before is of no account to new. A refused new leaves zeros in a head of
+ * thirty-six words. */
 static inline uint32_t smelvock_new(uint32_t fan, uint32_t limit, smelvock_length lengths, SMELVOCK_HEAD_WRITTEN, SMELVOCK_AREAS_WRITTEN) {
-    return smelvock_new_words(fan, limit, lengths.prepare, lengths.effect, lengths.lines, SMELVOCK_GIVEN);
+    return smelvock_new_words(fan, limit, lengths.prepare, lengths.effect, lengths.lines, NULL, 0, SMELVOCK_GIVEN);
+}
+
+/* The same with eight seats, each with a share of the entries; the shares may sum to limit - 1. Every entry but the first is charged to
+ * the seat that smelvock_insert_for or smelvock_split_entry_for names, until a reset. A seat below its share always gets its entry; one
+ * that isn't gets it while the free entries outnumber the other seats' unused shares. */
+static inline uint32_t smelvock_new_with_shares(
+    uint32_t fan, uint32_t limit, smelvock_length lengths, const uint32_t shares[SMELVOCK_SEATS], SMELVOCK_HEAD_WRITTEN, SMELVOCK_AREAS_WRITTEN) {
+    return smelvock_new_words(fan, limit, lengths.prepare, lengths.effect, lengths.lines, shares, SMELVOCK_SEATS, SMELVOCK_GIVEN);
 }
 static inline uint32_t smelvock_reset(SMELVOCK_HEAD_WRITTEN, SMELVOCK_AREAS_WRITTEN, smelvock_length lengths) {
     return smelvock_reset_words(SMELVOCK_GIVEN, lengths.prepare, lengths.effect, lengths.lines);
@@ -174,17 +194,26 @@ static inline smelvock_number smelvock_update(SMELVOCK_HEAD_WRITTEN, SMELVOCK_AR
     return smelvock_resize(SMELVOCK_GIVEN, at.leaf, at.slot, at.stamp, lengths.prepare, lengths.effect, lengths.lines, 1);
 }
 
-/* A new entry before a cursor, or at the end where end is 1 and the cursor is of no account: its id, and its effect position. */
+/* A new entry before a cursor, or at the end where end is 1 and the cursor is of no account: its id, and its effect position. In a
+ * seated tree for a seat. */
+static inline smelvock_inserted smelvock_insert_for(
+    SMELVOCK_HEAD_WRITTEN, SMELVOCK_AREAS_WRITTEN, uint32_t seat, uint32_t end, smelvock_cursor_at before, smelvock_length lengths) {
+    return smelvock_insert_words(SMELVOCK_GIVEN, seat, end, before.leaf, before.slot, before.stamp, lengths.prepare, lengths.effect, lengths.lines);
+}
 static inline smelvock_inserted smelvock_insert(
     SMELVOCK_HEAD_WRITTEN, SMELVOCK_AREAS_WRITTEN, uint32_t end, smelvock_cursor_at before, smelvock_length lengths) {
-    return smelvock_insert_words(SMELVOCK_GIVEN, end, before.leaf, before.slot, before.stamp, lengths.prepare, lengths.effect, lengths.lines);
+    return smelvock_insert_for(SMELVOCK_GIVEN, SMELVOCK_NOBODY, end, before, lengths);
 }
 
 /* Takes lengths out of an entry into a new one just before it (before 1) or after it (0): its id, and both cursors in order. Each of
- * the two keeps or gets some length, line ends among them, else it is 17. */
+ * the two keeps or gets some length, line ends among them, else it is 17. In a seated tree for a seat. */
+static inline smelvock_divided smelvock_split_entry_for(
+    SMELVOCK_HEAD_WRITTEN, SMELVOCK_AREAS_WRITTEN, uint32_t seat, smelvock_cursor_at at, smelvock_length lengths, uint32_t before) {
+    return smelvock_split_entry_words(SMELVOCK_GIVEN, seat, at.leaf, at.slot, at.stamp, lengths.prepare, lengths.effect, lengths.lines, before);
+}
 static inline smelvock_divided smelvock_split_entry(
     SMELVOCK_HEAD_WRITTEN, SMELVOCK_AREAS_WRITTEN, smelvock_cursor_at at, smelvock_length lengths, uint32_t before) {
-    return smelvock_split_entry_words(SMELVOCK_GIVEN, at.leaf, at.slot, at.stamp, lengths.prepare, lengths.effect, lengths.lines, before);
+    return smelvock_split_entry_for(SMELVOCK_GIVEN, SMELVOCK_NOBODY, at, lengths, before);
 }
 
 /* Prints the entries in order from the start of the buffer on; value: the number of pages. A line is 55 bytes: id, prepare position,

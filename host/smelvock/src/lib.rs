@@ -45,6 +45,9 @@ pub struct Cursor {
 /// The most entries of a tree that [`new`](PrepareEffectTree::new) makes.
 pub const LIMIT: u32 = 65_536;
 
+/// The seats of a tree that [`with_shares`](PrepareEffectTree::with_shares) makes, numbered from 0.
+pub const SEATS: usize = 8;
+
 /// The lines of a page of the sheet, an entry each, and its bytes.
 pub const PAGE_LINES: usize = 50;
 pub const PAGE_BYTES: usize = 2_750;
@@ -82,16 +85,47 @@ impl<const N: usize> PrepareEffectTree<N> {
 
     /// Creates a tree of one entry that holds at most `limit`.
     pub fn with_limit(limit: u32, lengths: Lengths) -> Result<Self, Refusal> {
+        Self::made(limit, lengths, &[])
+    }
+
+    /// Creates a tree of one entry that holds at most `limit` and has eight seats with those shares, which may sum to `limit` - 1.
+    /// Every other entry is charged to the seat that [`insert_for`](Self::insert_for) or
+    /// [`split_entry_for`](Self::split_entry_for) names. A seat below its share always gets its entry; one that isn't gets it while
+    /// the free entries outnumber the other seats' unused shares, and is refused by 18 then. Refused by 19 where the shares sum to
+    /// more.
+    ///
+    /// ```
+    /// use smelvock::{Lengths, PrepareEffectTree, Refusal};
+    ///
+    /// # fn main() -> Result<(), Refusal> {
+    /// let lengths = Lengths { prepare: 1, effect: 1, lines: 0 };
+    /// let mut tree = PrepareEffectTree::<8>::with_shares(6, lengths, [1, 2, 0, 0, 0, 0, 0, 0])?;
+    /// // six entries less the first, less the two that seat 1 has a right to
+    /// for _ in 0..3 {
+    ///     tree.insert_for(0, None, lengths)?;
+    /// }
+    /// assert_eq!(tree.insert_for(0, None, lengths), Err(Refusal::OVER));
+    /// assert_eq!(tree.insert_for(1, None, lengths), Ok((4, 4)));
+    /// assert_eq!(tree.insert(None, lengths), Err(Refusal::FIELD));
+    /// assert_eq!(tree.charges(), Some([3, 1, 0, 0, 0, 0, 0, 0]));
+    /// # Ok(())
+    /// # }
+    /// ```
+    pub fn with_shares(limit: u32, lengths: Lengths, shares: [u32; SEATS]) -> Result<Self, Refusal> {
+        Self::made(limit, lengths, &shares)
+    }
+
+    fn made(limit: u32, lengths: Lengths, shares: &[u32]) -> Result<Self, Refusal> {
         let fan = u32::try_from(N).unwrap_or(0);
         let [nodes, homes] = words(fan, limit);
         let mut tree = PrepareEffectTree {
-            head: [0; 19],
+            head: [0; 36],
             leaves: Area::unwritten(nodes),
             inners: Area::unwritten(nodes),
             homes: Area::unwritten(homes),
         };
         let (head, areas) = tree.parts();
-        let number = raw::new(fan, limit, lengths.into(), head, areas);
+        let number = raw::new(fan, limit, lengths.into(), shares, head, areas);
         Refusal::unless(number, || tree)
     }
 
@@ -128,7 +162,22 @@ impl<const N: usize> PrepareEffectTree<N> {
         (head, AreasMut { leaves: &mut leaves.words, inners: &mut inners.words, homes: &mut homes.words })
     }
 
-    /// Makes this a tree of one entry again, reusing its memory. No cursor from before is current.
+    /// The shares of the seats, where the tree has any.
+    pub fn shares(&self) -> Option<[u32; SEATS]> {
+        self.of_seats(word::SHARES)
+    }
+
+    /// How many entries are charged to each seat, where the tree has any.
+    pub fn charges(&self) -> Option<[u32; SEATS]> {
+        self.of_seats(word::CHARGES)
+    }
+
+    /// Eight words of the head, from that one on.
+    fn of_seats(&self, from: usize) -> Option<[u32; SEATS]> {
+        (self.head[word::SEATED] != 0).then(|| std::array::from_fn(|seat| self.head[from + seat]))
+    }
+
+    /// Makes this a tree of one entry again, reusing its memory. No cursor from before is current, and nothing is charged to a seat.
     pub fn reset(&mut self, lengths: Lengths) -> Result<(), Refusal> {
         let (head, areas) = self.parts();
         let number = raw::reset(head, areas, lengths.into());
@@ -214,9 +263,24 @@ impl<const N: usize> PrepareEffectTree<N> {
     /// Inserts an entry before `before`, or at the end for `None`, returning its id and its
     /// position in the effect version.
     pub fn insert(&mut self, before: Option<Cursor>, lengths: Lengths) -> Result<(EntryId, u32), Refusal> {
+        self.inserted(raw::NOBODY, before, lengths)
+    }
+
+    /// Inserts as [`insert`](Self::insert) does, in a tree with seats, and charges the entry to one of them.
+    pub fn insert_for(
+        &mut self,
+        seat: u8,
+        before: Option<Cursor>,
+        lengths: Lengths,
+    ) -> Result<(EntryId, u32), Refusal> {
+        self.inserted(seat.into(), before, lengths)
+    }
+
+    #[inline]
+    fn inserted(&mut self, seat: u32, before: Option<Cursor>, lengths: Lengths) -> Result<(EntryId, u32), Refusal> {
         let (end, before) = target(before);
         let (head, areas) = self.parts();
-        let reply = raw::insert(head, areas, end, before, lengths.into());
+        let reply = raw::insert(head, areas, seat, end, before, lengths.into());
         Refusal::unless(reply.number, || (reply.id, reply.position))
     }
 
@@ -229,8 +293,30 @@ impl<const N: usize> PrepareEffectTree<N> {
         lengths: Lengths,
         before: bool,
     ) -> Result<(EntryId, [Cursor; 2]), Refusal> {
+        self.divided(raw::NOBODY, at, lengths, before)
+    }
+
+    /// Splits as [`split_entry`](Self::split_entry) does, in a tree with seats, and charges the new entry to one of them.
+    pub fn split_entry_for(
+        &mut self,
+        seat: u8,
+        at: Cursor,
+        lengths: Lengths,
+        before: bool,
+    ) -> Result<(EntryId, [Cursor; 2]), Refusal> {
+        self.divided(seat.into(), at, lengths, before)
+    }
+
+    #[inline]
+    fn divided(
+        &mut self,
+        seat: u32,
+        at: Cursor,
+        lengths: Lengths,
+        before: bool,
+    ) -> Result<(EntryId, [Cursor; 2]), Refusal> {
         let (head, areas) = self.parts();
-        let reply = raw::split_entry(head, areas, at.into(), lengths.into(), before as u32);
+        let reply = raw::split_entry(head, areas, seat, at.into(), lengths.into(), before as u32);
         Refusal::unless(reply.number, || (reply.id, [reply.first.into(), reply.second.into()]))
     }
 

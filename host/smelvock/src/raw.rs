@@ -4,8 +4,9 @@
 use crate::area::Word;
 
 /// What a tree keeps beside its areas, as the words that the exports are lent: fan, limit, root, levels, the counts of leaves, inner
-/// nodes and entries in use, 1 or 0 for a finger or none, the finger's nine words, and the stamp's two, the low one first.
-pub type Head = [u32; 19];
+/// nodes and entries in use, 1 or 0 for a finger or none, the finger's nine words, the stamp's two, the low one first, 1 or 0 for seats
+/// or none, and the seats' shares and charges.
+pub type Head = [u32; 36];
 
 /// Where a head has its fan, limit, root and so on.
 pub mod word {
@@ -17,8 +18,12 @@ pub mod word {
     pub const INNERS: usize = 5;
     pub const ENTRIES: usize = 6;
     pub const PRESENT: usize = 7;
-    /// The low word; the high one is the head's last.
+    /// The low word, before the high one.
     pub const STAMP: usize = 17;
+    pub const SEATED: usize = 19;
+    /// Seat 0's, before the others'.
+    pub const SHARES: usize = 20;
+    pub const CHARGES: usize = 28;
 }
 
 #[repr(C)]
@@ -97,6 +102,9 @@ pub struct Divided {
 /// The leaf of "none" after the last entry.
 pub const NONE: u32 = u32::MAX;
 
+/// The seat of an insert or split that names none.
+pub const NOBODY: u32 = u32::MAX;
+
 /// The three areas, lent to a call that only reads them.
 #[derive(Clone, Copy, PartialEq, Eq, Debug)]
 pub struct Areas<'a, W = u32> {
@@ -167,10 +175,9 @@ exports! {
 
 exports! {
     changing: AreasMut, &mut [u32], as_mut_ptr, *mut u32, as_mut_ptr, *mut u32;
-    new_words as smelvock_new_words(fan: u32, limit: u32, prepare: u32, effect: u32, lines: u32;) -> u32;
     reset_words as smelvock_reset_words(; prepare: u32, effect: u32, lines: u32) -> u32;
-    insert_words as smelvock_insert_words(; end: u32, leaf: u32, slot: u32, stamp: u64, prepare: u32, effect: u32, lines: u32) -> Inserted;
-    split_entry_words as smelvock_split_entry_words(; leaf: u32, slot: u32, stamp: u64, prepare: u32, effect: u32, lines: u32, before: u32) -> Divided;
+    insert_words as smelvock_insert_words(; seat: u32, end: u32, leaf: u32, slot: u32, stamp: u64, prepare: u32, effect: u32, lines: u32) -> Inserted;
+    split_entry_words as smelvock_split_entry_words(; seat: u32, leaf: u32, slot: u32, stamp: u64, prepare: u32, effect: u32, lines: u32, before: u32) -> Divided;
     resize as smelvock_resize(; leaf: u32, slot: u32, stamp: u64, prepare: u32, effect: u32, lines: u32, summed: u32) -> Number;
 }
 
@@ -192,17 +199,68 @@ calls! {
     next(&[u32], Areas; at: Cursor) -> Standing = next_words(at.leaf, at.slot, at.stamp);
     cmp(&[u32], Areas; a: Cursor, b: Cursor) -> Number = cmp_words(a.leaf, a.slot, a.stamp, b.leaf, b.slot, b.stamp);
     reset(&mut [u32], AreasMut; lengths: Lengths) -> u32 = reset_words(lengths.prepare, lengths.effect, lengths.lines);
-    insert(&mut [u32], AreasMut; end: u32, before: Cursor, lengths: Lengths) -> Inserted =
-        insert_words(end, before.leaf, before.slot, before.stamp, lengths.prepare, lengths.effect, lengths.lines);
-    split_entry(&mut [u32], AreasMut; at: Cursor, lengths: Lengths, before: u32) -> Divided =
-        split_entry_words(at.leaf, at.slot, at.stamp, lengths.prepare, lengths.effect, lengths.lines, before);
+    insert(&mut [u32], AreasMut; seat: u32, end: u32, before: Cursor, lengths: Lengths) -> Inserted =
+        insert_words(seat, end, before.leaf, before.slot, before.stamp, lengths.prepare, lengths.effect, lengths.lines);
+    split_entry(&mut [u32], AreasMut; seat: u32, at: Cursor, lengths: Lengths, before: u32) -> Divided =
+        split_entry_words(seat, at.leaf, at.slot, at.stamp, lengths.prepare, lengths.effect, lengths.lines, before);
     update(&mut [u32], AreasMut; at: Cursor, lengths: Lengths) -> Number =
         resize(at.leaf, at.slot, at.stamp, lengths.prepare, lengths.effect, lengths.lines, 1);
 }
 
-#[inline(always)]
-pub fn new<W: Word>(fan: u32, limit: u32, lengths: Lengths, head: &mut [u32], areas: AreasMut<'_, W>) -> u32 {
-    new_words(fan, limit, lengths.prepare, lengths.effect, lengths.lines, head, areas)
+mod making {
+    extern "C" {
+        pub fn smelvock_new_words(
+            fan: u32,
+            limit: u32,
+            prepare: u32,
+            effect: u32,
+            lines: u32,
+            shares: *const u32,
+            share_words: usize,
+            head: *mut u32,
+            head_words: usize,
+            leaves: *mut u32,
+            leaf_words: usize,
+            inners: *mut u32,
+            inner_words: usize,
+            homes: *mut u32,
+            home_words: usize,
+        ) -> u32;
+    }
+}
+
+/// A tree whose seats have those eight shares, or one without seats where there are none.
+#[inline]
+pub fn new<W: Word>(
+    fan: u32,
+    limit: u32,
+    lengths: Lengths,
+    shares: &[u32],
+    head: &mut [u32],
+    areas: AreasMut<'_, W>,
+) -> u32 {
+    let AreasMut { leaves, inners, homes } = areas;
+    // SAFETY: the export is proved to read the shares, to write head and areas, and to touch no other words, whatever they hold. Of
+    // areas that weren't written yet it reads none.
+    unsafe {
+        making::smelvock_new_words(
+            fan,
+            limit,
+            lengths.prepare,
+            lengths.effect,
+            lengths.lines,
+            shares.as_ptr(),
+            shares.len(),
+            head.as_mut_ptr(),
+            head.len(),
+            leaves.as_mut_ptr().cast(),
+            leaves.len(),
+            inners.as_mut_ptr().cast(),
+            inners.len(),
+            homes.as_mut_ptr().cast(),
+            homes.len(),
+        )
+    }
 }
 
 #[inline(always)]

@@ -3,7 +3,7 @@ use std::{error, fmt};
 /// Why a call was not done. Head, areas and a lent buffer are as they were, but for [`LINK`](Refusal::LINK).
 #[derive(Clone, Copy, PartialEq, Eq, Debug)]
 pub struct Refusal {
-    /// Document 01's number, 1 to 11, or document 02's 12 to 17.
+    /// Document 01's number, 1 to 11, or document 02's 12 to 19.
     pub number: u32,
 }
 
@@ -34,7 +34,7 @@ refusals! {
     TOTAL = 7: "a total would pass 4,294,967,295";
     FULL = 8: "the tree holds its limit";
     LINK = 9: "a link of the tree leads outside";
-    FIELD = 10: "more than 65,535 line ends, a head that is not nineteen words, a view above 2, a flag above 1, or an edit whose rest is not zero";
+    FIELD = 10: "more than 65,535 line ends, a head that is not thirty-six words, a view above 2, a flag above 1, a seat above 7, a seat in a tree without seats, none in a seated one, or an edit whose rest is not zero";
     RECORDS = 11: "records and output are unequally long, or a length is not a multiple of 16";
     BUFFER = 12: "the buffer is below 2,750 bytes a page, or the list area below 512 words";
     LEAF = 13: "the cursor's leaf is not in use";
@@ -42,6 +42,8 @@ refusals! {
     PARENT = 15: "a parent of an edit is not smaller than the edit";
     EDITS = 16: "the file has more than 512 edits";
     HOLLOW = 17: "the split moves nothing, or leaves nothing behind";
+    OVER = 18: "the seat is at or over its share, and the free entries don't outnumber the other seats' unused shares";
+    SHARES = 19: "the shares sum to the limit or more";
 }
 
 impl Refusal {

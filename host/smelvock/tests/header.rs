@@ -50,7 +50,7 @@ cmp of bad cursors: 14 3 13
 view 3: 10
 flag 2: 10
 65536 line ends: 10 10 10 10 10 10, then 0
-18 words: 10
+35 words: 10
 short: 2
 reset 0 1 0
 insert 0 1 0
@@ -61,6 +61,13 @@ insert 0 3 1
 insert 0 4 2
 stamp 10 0: 3
 stamp 1: 0 0, then 0 0: 3 0
+new_with_shares 0 1 2
+seat 0: 0 18 18
+seat 7: 0 2, then 0
+seat 7: 18, seat 1: 0, charges 1 1 2, audit 1
+seat 8: 10, nobody: 10, reset 0: charge 0, share 2
+shares of the limit: 19, then 0
+new 0 0, seat 0: 10
 edits_check 0 11
 511 words: 12 0 0
 edits_difference 0 2: 1 2, then 7

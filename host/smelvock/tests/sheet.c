@@ -76,6 +76,33 @@ static void stamps(smelvock_cursor_at before) {
            smelvock_id(HEAD, AREAS, at(0)).number);
 }
 
+static uint32_t insert_for(uint32_t seat) {
+    return smelvock_insert_for(HEAD, AREAS, seat, 1, nowhere, (smelvock_length){2, 2, 0}).number;
+}
+
+/* Five entries of which seat 1 has a right to one and seat 7 to two; a seat too many, none, and shares that sum too high. */
+static void seats(void) {
+    static const uint32_t shares[SMELVOCK_SEATS] = {0, 1, 0, 0, 0, 0, 0, 2}, all[SMELVOCK_SEATS] = {LIMIT};
+    static const smelvock_length one = {2, 2, 0}, half = {1, 1, 0};
+    const uint32_t *charges = head + SMELVOCK_CHARGES;
+    uint32_t made = smelvock_new_with_shares(FAN, LIMIT, one, shares, HEAD, AREAS);
+    printf("new_with_shares %u %u %u\n", made, head[SMELVOCK_SEATED], head[SMELVOCK_SHARES + 7]);
+    printf("seat 0: %u", insert_for(0));
+    printf(" %u %u\n", insert_for(0), smelvock_split_entry_for(HEAD, AREAS, 0, at(0), half, 0).number);
+    smelvock_divided parted = smelvock_split_entry_for(HEAD, AREAS, 7, at(0), half, 0);
+    printf("seat 7: %u %u, then %u\n", parted.number, parted.id, insert_for(7));
+    printf("seat 7: %u", insert_for(7));
+    printf(", seat 1: %u", insert_for(1));
+    printf(", charges %u %u %u, audit %u\n", charges[0], charges[1], charges[7], smelvock_audit(HEAD, AREAS).value);
+    printf("seat 8: %u, nobody: %u", insert_for(SMELVOCK_SEATS), smelvock_insert(HEAD, AREAS, 1, nowhere, one).number);
+    uint32_t reset = smelvock_reset(HEAD, AREAS, one);
+    printf(", reset %u: charge %u, share %u\n", reset, charges[7], head[SMELVOCK_SHARES + 7]);
+    made = smelvock_new_with_shares(FAN, LIMIT, one, all, HEAD, AREAS);
+    printf("shares of the limit: %u, then %u\n", made, head[SMELVOCK_FAN]);
+    made = smelvock_new(FAN, LIMIT, one, HEAD, AREAS);
+    printf("new %u %u, seat 0: %u\n", made, head[SMELVOCK_SEATED], insert_for(0));
+}
+
 /* Edit 1 rests on 0, 2 on 0 and 1, 3 on nothing else. */
 static void edits(void) {
     static const uint32_t parents[4][2] = {{SMELVOCK_NONE, SMELVOCK_NONE}, {0, SMELVOCK_NONE}, {1, 1}, {SMELVOCK_NONE, SMELVOCK_NONE}};
@@ -149,7 +176,7 @@ int main(void) {
     printf("view 3: %u\n", smelvock_locate(HEAD, AREAS, 3, 0).number);
     printf("flag 2: %u\n", smelvock_split_entry(HEAD, AREAS, good, (smelvock_length){0, 0, 0}, 2).number);
     overlong(old);
-    printf("18 words: %u\n", smelvock_len(head, SMELVOCK_HEAD_WORDS - 1).number);
+    printf("35 words: %u\n", smelvock_len(head, SMELVOCK_HEAD_WORDS - 1).number);
     printf("short: %u\n", smelvock_first(HEAD, leaves, WORDS - 1, inners, WORDS, homes, LIMIT).number);
     uint32_t reset = smelvock_reset(HEAD, AREAS, (smelvock_length){1, 0, SMELVOCK_LINE_ENDS});
     printf("reset %u %u %u\n", reset, head[SMELVOCK_ENTRIES], head[SMELVOCK_PRESENT]);
@@ -158,6 +185,7 @@ int main(void) {
     lengths(2);
     lengths(0);
     stamps(good);
+    seats();
     edits();
     return 0;
 }
