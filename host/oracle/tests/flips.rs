@@ -4,7 +4,9 @@ use oracle::audit::{audit, Verdict};
 use oracle::calls::Calls;
 use oracle::lined::Lined;
 use oracle::random::Random;
+use oracle::row::Row;
 use oracle::rust::pair;
+use oracle::seats::Seats;
 use oracle::state::{State, EFFECT, LINES, MOST_LINES, PREPARE};
 use oracle::tree::PrepareEffectTree;
 use std::collections::BTreeMap;
@@ -12,7 +14,18 @@ use std::collections::BTreeMap;
 /// A sound tree that holds exactly its limit, with a finger in the midst of a leaf. Lengths differ
 /// from entry to entry and from view to view, so that no other finger has the same sums.
 fn sound<const N: usize>(entries: u32, view: usize) -> State {
-    let mut tree = Lined::<N>::make(entries, [1, 7, 2]);
+    grown(Lined::<N>::make(entries, [1, 7, 2]), entries, view, None)
+}
+
+/// The same for a seat, with shares that are all used.
+fn sound_seated<const N: usize>(entries: u32, view: usize) -> State {
+    let row = Row::seated(entries, [1, 7, 2], [0, 0, entries - 1, 0, 0, 0, 0, 0])
+        .expect("they sum to one less than the limit");
+    grown(Lined::<N>::beside(row), entries, view, Some(2))
+}
+
+fn grown<const N: usize>(mut tree: Lined<N>, entries: u32, view: usize, seat: Option<u32>) -> State {
+    tree.seat = seat;
     for id in 1..entries {
         let before = (id % 3 != 0).then(|| tree.cursor(id * 7 % id));
         let lines = if id % 17 == 0 { MOST_LINES } else { 2 + id % 13 };
@@ -68,6 +81,18 @@ fn flip_head(state: &mut State, met: &mut Verdicts) {
     flip(state, "finger's effect within", met, |state| &mut finger(state).effect_within);
     flip(state, "finger's prepare", met, |state| &mut finger(state).prepare);
     flip(state, "finger's prepare within", met, |state| &mut finger(state).prepare_within);
+    let seated = state.head.seats.is_some();
+    for seat in (0..8).filter(|_| seated) {
+        flip(state, "charge", met, |state| &mut seats(state).charges[seat]);
+        // a share below its charge leaves nothing unused
+        if seat != 2 {
+            flip(state, "share", met, |state| &mut seats(state).shares[seat]);
+        }
+    }
+}
+
+fn seats(state: &mut State) -> &mut Seats {
+    state.head.seats.as_mut().expect("there are seats")
 }
 
 fn flip_everything(mut state: State, met: &mut Verdicts) {
@@ -91,8 +116,8 @@ fn flip_everything(mut state: State, met: &mut Verdicts) {
     assert_eq!(audit(&state), Verdict::Refused(2), "homes too short");
 }
 
-/// Both refusals and every phrase but "totals within u32" are met; no single word can bring that one
-/// about, and `outside` shows it.
+/// Both refusals and every phrase but "totals within u32" and "free entries cover all unused shares" are met; no single word
+/// can bring the first about, and `outside` shows it; the second is shown below.
 #[test]
 fn every_flip_of_a_word_in_use_is_caught() {
     let states = [
@@ -103,6 +128,7 @@ fn every_flip_of_a_word_in_use_is_caught() {
         sound::<32>(70, EFFECT),
         sound::<4>(60, LINES),
         sound::<8>(90, LINES),
+        sound_seated::<4>(60, PREPARE),
     ];
     let mut met = Verdicts::new();
     for state in states {
@@ -113,7 +139,35 @@ fn every_flip_of_a_word_in_use_is_caught() {
         assert!(flips > 33 * head.node_words() as u64 * (head.leaf_count + head.inner_count) as u64);
     }
     println!("{met:?}");
-    assert_eq!(met.len(), 12);
+    assert_eq!(met.len(), 14);
+}
+
+/// Limit 12 and nine entries: three free ones cover one unused entry of seat 0 and two of seat 7.
+#[test]
+fn each_thing_that_is_asked_of_seats() {
+    let mut tree = Lined::<4>::make(12, [1; 3]);
+    (1..9).for_each(|id| assert_eq!(tree.insert(None, [1; 3]).0, id));
+    let (shares, charges) = ([1, 3, 0, 0, 0, 0, 2, 2], [0, 6, 0, 0, 0, 0, 2, 0]);
+    let audited = |shares, charges| {
+        let mut state = tree.state();
+        state.head.seats = Some(Seats { shares, charges });
+        audit(&state)
+    };
+    assert_eq!(audited(shares, charges), Verdict::Yes);
+    assert_eq!(audited([0; 8], charges), Verdict::Yes);
+    assert_eq!(audited([11, 0, 0, 0, 0, 0, 0, 0], [8, 0, 0, 0, 0, 0, 0, 0]), Verdict::Yes);
+    let high = Verdict::No("shares sum to at most limit - 1");
+    assert_eq!(audited([12, 0, 0, 0, 0, 0, 0, 0], [8, 0, 0, 0, 0, 0, 0, 0]), high);
+    assert_eq!(audited([1 << 31, 1 << 31, 0, 0, 0, 0, 0, 0], charges), high);
+    let charged = Verdict::No("charges sum to the entries less one");
+    assert_eq!(audited(shares, [0, 6, 0, 0, 0, 0, 2, 1]), charged);
+    assert_eq!(audited(shares, [0, 5, 0, 0, 0, 0, 2, 0]), charged);
+    assert_eq!(audited(shares, [u32::MAX, 9, 0, 0, 0, 0, 0, 0]), charged);
+    let covered = Verdict::No("free entries cover all unused shares");
+    assert_eq!(audited([1, 3, 0, 0, 0, 0, 2, 3], charges), covered);
+    assert_eq!(audited([1, 3, 1, 0, 0, 0, 2, 2], charges), covered);
+    assert_eq!(audited(shares, [0, 7, 0, 0, 0, 0, 1, 0]), covered);
+    assert_eq!(audited([0, 0, 0, 0, 0, 0, 0, 4], charges), covered);
 }
 
 /// The stamp of a head is of no account.
