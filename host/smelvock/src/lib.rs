@@ -13,6 +13,7 @@ use raw::{word, Areas, AreasMut};
 pub use refusal::Refusal;
 use std::cmp::Ordering;
 use std::fmt;
+use std::ptr;
 
 /// An entry's permanent id, numbered from 0 in creation order.
 pub type EntryId = u32;
@@ -198,12 +199,12 @@ impl<const N: usize> PrepareEffectTree<N> {
 
     pub fn first(&self) -> Result<Cursor, Refusal> {
         let reply = raw::first(&self.head, self.lent());
-        Refusal::unless(reply.number, || reply.at.into())
+        Refusal::unless(reply.number, || word_by_word(&reply.at))
     }
 
     pub fn next(&self, at: Cursor) -> Result<Option<Cursor>, Refusal> {
         let reply = raw::next(&self.head, self.lent(), at.into());
-        Refusal::unless(reply.number, || (reply.at.leaf != raw::NONE).then(|| reply.at.into()))
+        Refusal::unless(reply.number, || Some(word_by_word(&reply.at)).filter(|at| at.leaf != raw::NONE))
     }
 
     pub fn id(&self, at: Cursor) -> Result<EntryId, Refusal> {
@@ -218,7 +219,7 @@ impl<const N: usize> PrepareEffectTree<N> {
 
     pub fn cursor(&self, id: EntryId) -> Result<Cursor, Refusal> {
         let reply = raw::cursor(&self.head, self.lent(), id);
-        Refusal::unless(reply.number, || reply.at.into())
+        Refusal::unless(reply.number, || word_by_word(&reply.at))
     }
 
     pub fn cmp(&self, a: Cursor, b: Cursor) -> Result<Ordering, Refusal> {
@@ -317,7 +318,7 @@ impl<const N: usize> PrepareEffectTree<N> {
     ) -> Result<(EntryId, [Cursor; 2]), Refusal> {
         let (head, areas) = self.parts();
         let reply = raw::split_entry(head, areas, seat, at.into(), lengths.into(), before as u32);
-        Refusal::unless(reply.number, || (reply.id, [reply.first.into(), reply.second.into()]))
+        Refusal::unless(reply.number, || (reply.id, [word_by_word(&reply.first), word_by_word(&reply.second)]))
     }
 
     /// Prints the entries in order from the start of `page` on, returning the number of pages: a line of 55 bytes each, which is
@@ -377,6 +378,20 @@ impl From<Cursor> for raw::Cursor {
     #[inline]
     fn from(Cursor { leaf, slot, stamp }: Cursor) -> Self {
         raw::Cursor { leaf, slot, stamp }
+    }
+}
+
+/// A cursor that was just answered. Its fields were written one by one, and a load of several at once would wait for them
+/// (docs/BENCHMARKS.md, What was done): each is read by a load of its own.
+#[inline]
+fn word_by_word(at: &raw::Cursor) -> Cursor {
+    // SAFETY: each pointer is that of a field of `at`.
+    unsafe {
+        Cursor {
+            leaf: ptr::read_volatile(&at.leaf),
+            slot: ptr::read_volatile(&at.slot),
+            stamp: ptr::read_volatile(&at.stamp),
+        }
     }
 }
 
