@@ -1,13 +1,13 @@
 -- Make with more causes behind its own, and the tree that a host asks for: with seats or without. Assumes nothing.
-use mathlib.Core.Bool.{cond}
-use mathlib.Core.List.{List, _++_}
+use mathlib.Core.Bool.{true, cond}
+use mathlib.Core.List.{List, [], _∷_, _++_}
 use Prim.Native.Nat.{ℕ}
 use lib.Dec.{eqb}
 use lib.ListN.{length}
 use Rattle.model.specs.Lists.{Cause}
 use Rattle.model.specs.State.{state, headOf}
 use Rattle.model.specs.Calls.{Reply, reply, unless, makeCauses, begun, make}
-use Rattle.model.specs.Seats.{noSeats}
+use Rattle.model.specs.Seats.{seatsOf, noCharges, noSeats, tooHigh}
 use Rattle.model.specs.SeatedCalls.{SeatedReply, seatedReply, makeSeated}
 use Rattle.model.specs.declared.shape.Kind.{Kind}
 use Rattle.model.specs.declared.seats.Seats.{Seats}
@@ -26,6 +26,13 @@ seatsMade b (outcome.Refused n) = noSeats
 
 abbrev pub madeBy : Seats → Reply Outcome → SeatedReply Outcome
 madeBy b r = seatedReply (r .after) (seatsMade b (r .answer)) (r .answer)
+
+-- what shares that are given add to make's causes, and the seats that they ask for: without shares there are none
+abbrev pub sharesCauses : ℕ → List ℕ → List Cause
+sharesCauses limit shares = cond (eqb (length shares) 0) [] (tooHigh limit shares ∷ [])
+
+abbrev pub seatsGiven : List ℕ → Seats
+seatsGiven shares = cond (eqb (length shares) 0) noSeats (seatsOf true shares noCharges)
 
 -- without shares a tree without seats
 unfoldable pub makeWith : Kind → ℕ → ℕ → List ℕ → List ℕ → List ℕ → List ℕ → List ℕ → SeatedReply Outcome

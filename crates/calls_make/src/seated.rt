@@ -8,64 +8,56 @@ use seating::rule::too_high;
 use seating::write::begin;
 use seating::write::clear;
 ghost use mathlib.Core.Path.{_≡_};
-ghost use mathlib.Core.Bool.{not};
-ghost use mathlib.Core.List.{List};
 ghost use Prim.Native.Nat.{_≤_};
-ghost use lib.Dec.{eqb};
 ghost use lib.ListN.{length, getD};
-ghost use Rattle.model.specs.Lists.{Cause, refusal};
+ghost use Rattle.model.specs.Lists.{refusal};
 ghost use Rattle.model.specs.Length.{listOf};
 ghost use Rattle.model.specs.Kind.{base};
 ghost use Rattle.model.specs.State.{state};
-ghost use Rattle.model.specs.Seats.{seatsOf, noCharges};
+ghost use Rattle.model.specs.Seats.{noSeats};
 ghost use Rattle.model.specs.SeatedCalls.{seatedReply, afterReset, resetSeated};
 ghost use Rattle.seating.specs.Words.{seatsFrom};
-ghost use Rattle.calls_make.specs.Made.{makeBy, seatsMade, madeBy, makeWith};
+ghost use Rattle.calls_make.specs.Made.{sharesCauses, seatsGiven, seatsMade, makeWith};
 
-// The seats of a tree that was made, or none where that was refused.
-fn put_made(seats: &mut [u32], seated: u32, shares: &[u32], answer: Outcome)
-    requires { ⌜ (length (now seats) ≡ 17) × (length (now shares) ≡ 8) × (seated ≤ 1) ⌝ }
-    ensures { λ _. ⌜ (seatsFrom (now (seats .exit)) ≡ seatsMade (seatsOf (not (eqb seated 0)) (now (shares .entry)) noCharges) answer) × (getD (now (seats .exit)) 0 0 ≤ 1) ⌝ }
+// 19 where there are shares and they sum too high, else 0.
+fn high_for(limit: u32, shares: &[u32]) -> u32
+    requires { ⌜ ((length (now shares) ≡ 0 → ⊥) → length (now shares) ≡ 8) ⌝ }
+    ensures { λ r. ⌜ refusal (sharesCauses limit (now (shares .entry))) ≡ r ⌝ }
 {
-    match answer {
-        Outcome::Done => begin(seats, seated, shares),
-        Outcome::Refused(n) => {
-            let none: [u32; 8] = [0; 8];
-            begin(seats, 0, &none);
-        }
+    if shares.len() == 0 {
+        return 0;
     }
+    too_high(limit, shares)
 }
 
-// A new tree, seated or not, with eight shares; high is the number where they sum too high.
-fn made(
-    seated: u32,
-    high: u32,
-    fan: u32,
-    limit: u32,
-    shares: &[u32],
-    seats: &mut [u32],
-    lengths: Lengths,
-    leaves: &mut [u32],
-    inners: &mut [u32],
-    homes: &mut [u32],
-) -> OutcomeReply
-    requires { ⌜ (length (now seats) ≡ 17) × (length (now shares) ≡ 8) × (seated ≤ 1) ⌝ }
-    ensures { λ r. ⌜ ((more : List Cause) → refusal more ≡ high → seatedReply (state (r .head) (now (leaves .exit)) (now (inners .exit)) (now (homes .exit))) (seatsFrom (now (seats .exit))) (r .answer) ≡ madeBy (seatsOf (not (eqb seated 0)) (now (shares .entry)) noCharges) (makeBy base more fan limit (listOf lengths) (now (leaves .entry)) (now (inners .entry)) (now (homes .entry)))) × (getD (now (seats .exit)) 0 0 ≤ 1) ⌝ }
+// No seats.
+fn put_none(seats: &mut [u32])
+    requires { ⌜ length (now seats) ≡ 17 ⌝ }
+    ensures { λ _. ⌜ (seatsFrom (now (seats .exit)) ≡ noSeats) × (getD (now (seats .exit)) 0 0 ≤ 1) ⌝ }
 {
-    let slot = Slot::new(0, lengths);
-    let x: [u32; 4] = [
-        slot.child,
-        slot.prepare_len,
-        slot.effect_len,
-        slot.line_ends,
-    ];
-    let r = crate::any::new(3, high, fan, limit, &x, leaves, inners, homes);
-    let after = r.head;
-    let answer = r.answer;
-    put_made(seats, seated, shares, answer);
-    OutcomeReply {
-        head: after,
-        answer: answer,
+    let none: [u32; 8] = [0; 8];
+    begin(seats, 0, &none);
+}
+
+// The seats of a new tree with these shares, or none where there are none.
+fn put_seats(seats: &mut [u32], shares: &[u32])
+    requires { ⌜ (length (now seats) ≡ 17) × ((length (now shares) ≡ 0 → ⊥) → length (now shares) ≡ 8) ⌝ }
+    ensures { λ _. ⌜ (seatsFrom (now (seats .exit)) ≡ seatsGiven (now (shares .entry))) × (getD (now (seats .exit)) 0 0 ≤ 1) ⌝ }
+{
+    if shares.len() == 0 {
+        return put_none(seats);
+    }
+    begin(seats, 1, shares);
+}
+
+// The same of a tree that was made, and none where that was refused.
+fn put_made(seats: &mut [u32], shares: &[u32], answer: Outcome)
+    requires { ⌜ (length (now seats) ≡ 17) × ((length (now shares) ≡ 0 → ⊥) → length (now shares) ≡ 8) ⌝ }
+    ensures { λ _. ⌜ (seatsFrom (now (seats .exit)) ≡ seatsMade (seatsGiven (now (shares .entry))) answer) × (getD (now (seats .exit)) 0 0 ≤ 1) ⌝ }
+{
+    match answer {
+        Outcome::Done => put_seats(seats, shares),
+        Outcome::Refused(n) => put_none(seats),
     }
 }
 
@@ -83,34 +75,22 @@ pub fn new(
     requires { ⌜ (length (now seats) ≡ 17) × ((length (now shares) ≡ 0 → ⊥) → length (now shares) ≡ 8) ⌝ }
     ensures { λ r. ⌜ (seatedReply (state (r .head) (now (leaves .exit)) (now (inners .exit)) (now (homes .exit))) (seatsFrom (now (seats .exit))) (r .answer) ≡ makeWith base fan limit (now (shares .entry)) (listOf lengths) (now (leaves .entry)) (now (inners .entry)) (now (homes .entry))) × (getD (now (seats .exit)) 0 0 ≤ 1) ⌝ }
 {
-    if shares.len() == 0 {
-        let none: [u32; 8] = [0; 8];
-        return made(
-            0,
-            0,
-            fan,
-            limit,
-            &none,
-            seats,
-            lengths,
-            leaves,
-            inners,
-            homes,
-        );
+    let high = high_for(limit, shares);
+    let slot = Slot::new(0, lengths);
+    let x: [u32; 4] = [
+        slot.child,
+        slot.prepare_len,
+        slot.effect_len,
+        slot.line_ends,
+    ];
+    let r = crate::any::new(3, high, fan, limit, &x, leaves, inners, homes);
+    let after = r.head;
+    let answer = r.answer;
+    put_made(seats, shares, answer);
+    OutcomeReply {
+        head: after,
+        answer: answer,
     }
-    let high = too_high(limit, shares);
-    made(
-        1,
-        high,
-        fan,
-        limit,
-        shares,
-        seats,
-        lengths,
-        leaves,
-        inners,
-        homes,
-    )
 }
 
 // A tree begun anew has no charges.

@@ -4,11 +4,9 @@
 use std::collections::BTreeSet;
 use std::process::Command;
 
-/// What isn't compiled into its callers: audit's test of a node's children, what makes a tree, with seats or without, and what is done
-/// once in many insertions.
-const OUT_OF_LINE: [&str; 5] = [
+/// What isn't compiled into its callers: audit's test of a node's children, and what is done once in many insertions.
+const OUT_OF_LINE: [&str; 4] = [
     "audit_link::link::are_children",
-    "calls_make::seated::made",
     "grow::grow::add_child",
     "links::split::grow_root",
     "place::room::split_leaf",

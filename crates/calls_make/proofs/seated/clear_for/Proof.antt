@@ -31,7 +31,9 @@ returns c =
     )
 
 returns-2 : tie.Need-returns-2
-returns-2 c = (reset-kept _ (c .before .before .before .before .args .answer) _ (c .before .answer .given .1), refl)
+returns-2 c =
+    let args = c .before .before .before .before .args in
+    (reset-kept _ (args .answer) _ (c .before .answer .given .1), refl)
 
 pub clear-for-spec : {M : Type 1} → statement M
 clear-for-spec =

@@ -1,20 +1,29 @@
--- `calls_make::seated::new`: without shares a tree without seats; else their sum is tested behind all else.
-use mathlib.Core.Path.{sym, _∙_}
+-- `calls_make::seated::new`: the tree is made with the causes that its shares add, and its seats by the answer.
+use mathlib.Core.Path.{refl, ap, _∙_}
 use mathlib.Core.List.{[], _∷_}
 use native.Mathlib.Omega.{arith}
+use Rattle.model.specs.Kind.{base}
 use Rattle.model.specs.Length.{listOf}
-use Rattle.model.specs.Seats.{tooHigh}
-use Rattle.calls_make.proofs.BeginLaws.{no-more}
-use Rattle.calls_make.proofs.SeatedLaws.{with-none, with-shares}
+use Rattle.model.specs.declared.length.Slot.{Slot}
+use Rattle.calls_make.specs.Made.{makeBy, sharesCauses}
+use Rattle.calls_make.proofs.SeatedLaws.{made-reply, made-given}
 use borrow.Author.Needs.{needs}
 use Rattle.calls_make.proofs.seated.new.Statement.{statement}
 use Rattle.calls_make.proofs.seated.new.Tie as tie
 
-slice-aggregate-made : tie.Need-slice-aggregate-made
-slice-aggregate-made c = search needs
+high-for-requires : tie.Need-high-for-requires
+high-for-requires c κs = search needs
 
-made-requires : tie.Need-made-requires
-made-requires c κs = search needs
+new-requires : tie.Need-new-requires
+new-requires c κs = search needs
+
+new-requires-2 : tie.Need-new-requires-2
+new-requires-2 c κs =
+    let the-new = c .before .before .before .before .new in
+    (omega arith, omega arith, ap (λ (z : Slot). z .child) (the-new .ensures), refl)
+
+put-made-requires : tie.Need-put-made-requires
+put-made-requires c κs = search needs
 
 same-length : tie.Need-same-length
 same-length c = search needs
@@ -30,49 +39,22 @@ same-length-4 c = search needs
 
 returns : tie.Need-returns
 returns c =
-    let a = c .before .before .before .before .before .before .before .before .before .before .before .before .before .before .before .before .before .before .before .before .args in
-    let made = c .before .before .before .before .before .before .before .before .made in
-    (made .ensures .0 [] no-more ∙ with-none (a .fan) (a .limit) (a .shares .now) (listOf (a .lengths)) (a .leaves .now) (a .inners .now) (a .homes .now) (c .before .before .before .before .before .before .before .before .before .before .before .before .before .before .if1 .taken), made .ensures .1)
-
-too-high-requires : tie.Need-too-high-requires
-too-high-requires c κs = c .before .before .before .before .before .before .pre .1 (c .if1 .left)
-
-made-requires-2 : tie.Need-made-requires-2
-made-requires-2 c κs = (c .before .before .before .before .before .before .before .before .before .before .before .pre .0, c .before .before .before .before .before .before .before .before .before .before .before .pre .1 (c .before .before .before .before .before .if1 .left), omega arith)
-
-same-length-5 : tie.Need-same-length-5
-same-length-5 c = search needs
-
-same-length-6 : tie.Need-same-length-6
-same-length-6 c = search needs
-
-same-length-7 : tie.Need-same-length-7
-same-length-7 c = search needs
-
-same-length-8 : tie.Need-same-length-8
-same-length-8 c = search needs
-
-returns-2 : tie.Need-returns-2
-returns-2 c =
-    let a = c .before .before .before .before .before .before .before .before .before .before .before .before .before .before .before .before .before .before .before .before .args in
-    let made = c .before .before .before .before .before .before .before .before .made2 in
-    (made .ensures .0 (tooHigh (a .limit) (a .shares .now) ∷ []) (sym (c .before .before .before .before .before .before .before .before .before .before .before .before .before .too-high .ensures)) ∙ with-shares (a .fan) (a .limit) (a .shares .now) (listOf (a .lengths)) (a .leaves .now) (a .inners .now) (a .homes .now) (c .before .before .before .before .before .before .before .before .before .before .before .before .before .before .if1 .left), made .ensures .1)
+    let a = c .before .before .before .before .before .before .before .before .before .before .before .before .before .before .before .before .before .before .before .before .before .before .before .args in
+    let more = sharesCauses (a .limit) (a .shares .now) in
+    let made = c .before .before .before .before .before .before .before .before .before .before .before .new2 .ensures 1 more (c .before .before .before .before .before .before .before .before .before .before .before .before .before .before .before .before .before .high-for .ensures) in
+    let slot = ap (λ (z : Slot). makeBy base more (a .fan) (a .limit) (z .«prepare_len» ∷ z .«effect_len» ∷ z .«line_ends» ∷ []) (a .leaves .now) (a .inners .now) (a .homes .now)) (c .before .before .before .before .before .before .before .before .before .before .before .before .before .before .before .before .new .ensures) in
+    (made-reply _ _ _ _ _ (made ∙ slot) (c .before .before .put-made .ensures .0) ∙ made-given (a .fan) (a .limit) (a .shares .now) (listOf (a .lengths)) (a .leaves .now) (a .inners .now) (a .homes .now), c .before .before .put-made .ensures .1)
 
 pub new-spec : {M : Type 1} → statement M
 new-spec =
     tie.close
     (tie.spec
-    slice-aggregate-made
-    made-requires
+    high-for-requires
+    new-requires
+    new-requires-2
+    put-made-requires
     same-length
     same-length-2
     same-length-3
     same-length-4
-    returns
-    too-high-requires
-    made-requires-2
-    same-length-5
-    same-length-6
-    same-length-7
-    same-length-8
-    returns-2)
+    returns)

@@ -17,7 +17,9 @@ new-requires : tie.Need-new-requires
 new-requires c κs = search needs
 
 reset-requires : tie.Need-reset-requires
-reset-requires c κs = (omega arith, omega arith, ap (λ (z : Slot). z .child) (c .before .before .before .before .new .ensures), refl)
+reset-requires c κs =
+    let new = c .before .before .before .before .new in
+    (omega arith, omega arith, ap (λ (z : Slot). z .child) (new .ensures), refl)
 
 clear-for-requires : tie.Need-clear-for-requires
 clear-for-requires c κs = search needs
