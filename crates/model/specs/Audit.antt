@@ -7,7 +7,7 @@ use lib.ListN.{getD}
 use lib.Dec.{ltb, leb, eqb}
 use Rattle.model.specs.Lists.{sumBy, range}
 use Rattle.model.specs.Node.{Node, none, child, lengths, lengthIn, total, used, start}
-use Rattle.model.specs.Kind.{stride, prepare, tooManyLines}
+use Rattle.model.specs.Kind.{stride, prepare, tooManyLines, crossed}
 use Rattle.model.specs.declared.shape.Kind.{Kind}
 use Rattle.model.specs.State.{State}
 use Rattle.model.specs.Climb.{rankUp}
@@ -78,11 +78,11 @@ module _ (K : Kind) (t : State) where
       && cond (eqb k (t .head .root .0)) (eqb (n .parent) none && eqb (n .at) 0) (isHeld k n)
       && every (λ i. isChild (cond lowest (leafIn (stride K) t) (innerIn (stride K) t)) (cond lowest (t .head .leaves) (t .head .inners)) k i (getD (n .slots) i [])) 0 (n .len)
 
-  -- slot i of leaf k: its id is below the count, lives here, and stands in no earlier slot; its line ends aren't too many
+  -- slot i of leaf k: its id is below the count, lives here, and stands in no earlier slot; its line ends aren't too many, nor its bounds crossed
   unfoldable pub isEntry : ℕ → Node → ℕ → Bool
   isEntry k n i =
       let x = getD (n .slots) i [] in
-      ltb (child x) (t .head .entries) && eqb (getD (t .homes) (child x) 0) k && not (tooManyLines K (lengths x)) && every (isOther n (child x)) 0 i
+      ltb (child x) (t .head .entries) && eqb (getD (t .homes) (child x) 0) k && not (tooManyLines K (lengths x)) && not (crossed K (lengths x)) && every (isOther n (child x)) 0 i
 
   unfoldable pub isLeaf : ℕ → Bool
   isLeaf k =

@@ -14,7 +14,7 @@ use Rattle.model.specs.State.{State, state, headOf, nextStamp, shape, no
 use Rattle.model.specs.Climb.{leafNo, rankUp, stepsUp, firstDown, lastDown, nextUp}
 use Rattle.model.specs.Locate.{servedBy, fromRoot, effectAt, prepareAt}
 use Rattle.model.specs.Place.{Change, change, withFinger, place, divide, replace, climb}
-use Rattle.model.specs.Refuse.{shapeOf, manyLines, badSize, tooShort, opening, stale, atCursor, noSuchId, tooMuch, hollowPart, past, full}
+use Rattle.model.specs.Refuse.{shapeOf, manyLines, badSize, tooShort, opening, stale, atCursor, noSuchId, tooMuch, hollowPart, crossedBounds, crossedParts, past, full}
 use Rattle.model.specs.declared.shape.Place.{Place}
 use Rattle.model.specs.declared.shape.Place.the-variants as slot
 use Rattle.model.specs.declared.number.EntryId.{EntryId}
@@ -97,7 +97,7 @@ abbrev pub areaCauses : Kind → ℕ → ℕ → List ℕ → List ℕ → List 
 areaCauses K fan limit ls xs hs = badSize fan limit ∷ tooShort (shape (stride K) fan limit) limit ls xs hs ∷ []
 
 abbrev pub makeCauses : Kind → ℕ → ℕ → List ℕ → List ℕ → List ℕ → List ℕ → List Cause
-makeCauses K fan limit l ls xs hs = manyLines K l ∷ areaCauses K fan limit ls xs hs
+makeCauses K fan limit l ls xs hs = manyLines K l ∷ (areaCauses K fan limit ls xs hs ++ crossedBounds K l ∷ [])
 
 -- the stamp is 1 at make; a refused make returns a head of zeros without finger
 unfoldable pub make : Kind → ℕ → ℕ → List ℕ → List ℕ → List ℕ → List ℕ → Reply Outcome
@@ -239,7 +239,7 @@ resized K s c l =
     climb g (K .effect) (minus l (lengths (slotAt K s c))) (replace g s (c .leaf .0) (c .slot) l)
 
 abbrev pub resizeCauses : Kind → State → Cursor → List ℕ → List Cause
-resizeCauses K s c l = manyLines K l ∷ (opening K s ++ atCursor K s c ++ past K s (lengths (slotAt K s c)) l ∷ [])
+resizeCauses K s c l = manyLines K l ∷ (opening K s ++ atCursor K s c ++ crossedBounds K l ∷ past K s (lengths (slotAt K s c)) l ∷ [])
 
 unfoldable pub setLengths : Kind → State → Cursor → List ℕ → Reply Outcome
 setLengths K s c l = unless (resizeCauses K s c l) (λ n. reply s (outcome.Refused n)) (settled s (resized K s c l .0) outcome.Refused outcome.Done)
@@ -271,7 +271,7 @@ targetCauses K s target.End = []
 
 -- room is why one entry more has no space: the tree holds its limit, or, with seats, their rules
 abbrev pub insertCauses : Kind → List Cause → State → Target → List ℕ → List Cause
-insertCauses K room s t l = manyLines K l ∷ (opening K s ++ targetCauses K s t ++ past K s [] l ∷ room)
+insertCauses K room s t l = manyLines K l ∷ (opening K s ++ targetCauses K s t ++ crossedBounds K l ∷ past K s [] l ∷ room)
 
 unfoldable pub insertBy : Kind → List Cause → State → Target → List ℕ → Reply Inserted
 insertBy K room s t l =
@@ -286,7 +286,7 @@ abbrev pub dividedAt : ℕ → ℕ → ℕ → ℕ → Divided
 dividedAt n stamp k i = divided.At (entryId n) (cursorAt stamp k i) (cursorAt stamp k (i + 1))
 
 abbrev pub splitCauses : Kind → List Cause → State → Cursor → List ℕ → List Cause
-splitCauses K room s c l = manyLines K l ∷ (opening K s ++ atCursor K s c ++ tooMuch K l (lengths (slotAt K s c)) ∷ hollowPart K l (lengths (slotAt K s c)) ∷ room)
+splitCauses K room s c l = manyLines K l ∷ (opening K s ++ atCursor K s c ++ tooMuch K l (lengths (slotAt K s c)) ∷ hollowPart K l (lengths (slotAt K s c)) ∷ crossedParts K l (lengths (slotAt K s c)) ∷ room)
 
 unfoldable pub splitBy : Kind → List Cause → State → Cursor → List ℕ → Bool → Reply Divided
 splitBy K room s c l flag =

@@ -204,8 +204,8 @@ Adds row.malformed = ⊥
 
 -- the row's refusal before the limit is asked: 0 where the earlier checks are passed
 abbrev pub earlier : Kind → Row → Call → ℕ
-earlier K r (row.insert i l) = refusal (cause 10 (tooManyLines K l) ∷ row.noSuchPlace r i ∷ row.past K (row.inserted i (row.newEntry r l) (r .entries)) ∷ [])
-earlier K r (row.split flag i l) = refusal (cause 10 (tooManyLines K l) ∷ row.noSuchId r i ∷ row.tooMuch K l (row.lengthsOf i (r .entries)) ∷ row.hollowPart K l (row.lengthsOf i (r .entries)) ∷ [])
+earlier K r (row.insert i l) = refusal (cause 10 (tooManyLines K l) ∷ row.noSuchPlace r i ∷ row.crossedBounds K l ∷ row.past K (row.inserted i (row.newEntry r l) (r .entries)) ∷ [])
+earlier K r (row.split flag i l) = refusal (cause 10 (tooManyLines K l) ∷ row.noSuchId r i ∷ row.tooMuch K l (row.lengthsOf i (r .entries)) ∷ row.hollowPart K l (row.lengthsOf i (r .entries)) ∷ row.crossedParts K l (row.lengthsOf i (r .entries)) ∷ [])
 earlier K r (row.reset l) = 0
 earlier K r (row.setLengths i l) = 0
 earlier K r (row.update i l) = 0

@@ -5,7 +5,7 @@ use Prim.Native.Nat.{ℕ, _+_, _-_, _*_}
 use lib.ListN.{length, getD}
 use lib.Dec.{ltb, leb, eqb}
 use Rattle.model.specs.Lists.{Cause, cause, some}
-use Rattle.model.specs.Kind.{stride, viewsOf, tooManyLines, hollow}
+use Rattle.model.specs.Kind.{stride, viewsOf, tooManyLines, hollow, crossed}
 use Rattle.model.specs.declared.shape.Kind.{Kind}
 use Rattle.model.specs.Node.{total, used}
 use Rattle.model.specs.State.{State, shape, nodeAt}
@@ -68,6 +68,13 @@ tooMuch K given ls = cause 6 (some (λ v. ltb (getD ls v 0) (getD given v 0)) (v
 -- 17: the moved part, or the part left behind, has zero in every length
 abbrev pub hollowPart : Kind → List ℕ → List ℕ → Cause
 hollowPart K given ls = cause 17 (hollow K given || hollow K (zipWith _-_ ls given))
+
+-- 20: a lowest above a highest, given, or given or left by a split
+abbrev pub crossedBounds : Kind → List ℕ → Cause
+crossedBounds K l = cause 20 (crossed K l)
+
+abbrev pub crossedParts : Kind → List ℕ → List ℕ → Cause
+crossedParts K given ls = cause 20 (crossed K given || crossed K (zipWith _-_ ls given))
 
 -- the total in view v, as the root's slots have it
 abbrev pub totalOf : Kind → State → ℕ → ℕ

@@ -5,7 +5,7 @@ use Prim.Native.Nat.{ℕ, _+_, _-_}
 use lib.ListN.{length, getD, drop}
 use lib.Dec.{ltb, leb, eqb}
 use Rattle.model.specs.Lists.{sumBy, some, Cause, cause, refusal}
-use Rattle.model.specs.Kind.{viewsOf, prepare, tooManyLines, hollow}
+use Rattle.model.specs.Kind.{viewsOf, prepare, tooManyLines, hollow, crossed}
 use Rattle.model.specs.declared.shape.Kind.{Kind}
 
 -- an entry: its id and a length in each view
@@ -133,6 +133,13 @@ tooMuch K given ls = cause 6 (some (λ v. ltb (getD ls v 0) (getD given v 0)) (v
 abbrev pub hollowPart : Kind → List ℕ → List ℕ → Cause
 hollowPart K given ls = cause 17 (hollow K given || hollow K (zipWith _-_ ls given))
 
+-- 20: a lowest above a highest, given, or given or left by a split
+abbrev pub crossedBounds : Kind → List ℕ → Cause
+crossedBounds K l = cause 20 (crossed K l)
+
+abbrev pub crossedParts : Kind → List ℕ → List ℕ → Cause
+crossedParts K given ls = cause 20 (crossed K given || crossed K (zipWith _-_ ls given))
+
 abbrev pub past : Kind → List Entry → Cause
 past K es = cause 7 (some (λ v. ltb 4294967295 (total v es)) (viewsOf K))
 
@@ -171,23 +178,23 @@ overlong K malformed = false
 abbrev pub insertBy : Kind → List Cause → Row → ℕ → List ℕ → Moved Row
 insertBy K room r i l =
     let es = inserted i (newEntry r l) (r .entries) in
-    unless r (noSuchPlace r i ∷ past K es ∷ room) es (done (length (r .entries) ∷ total (K .effect) (before i (r .entries)) ∷ []))
+    unless r (noSuchPlace r i ∷ crossedBounds K l ∷ past K es ∷ room) es (done (length (r .entries) ∷ total (K .effect) (before i (r .entries)) ∷ []))
 
 abbrev pub splitBy : Kind → List Cause → Row → Bool → ℕ → List ℕ → Moved Row
 splitBy K room r flag i l =
-    unless r (noSuchId r i ∷ tooMuch K l (lengthsOf i (r .entries)) ∷ hollowPart K l (lengthsOf i (r .entries)) ∷ room) (divided flag i (newEntry r l) (r .entries)) (done (length (r .entries) ∷ []))
+    unless r (noSuchId r i ∷ tooMuch K l (lengthsOf i (r .entries)) ∷ hollowPart K l (lengthsOf i (r .entries)) ∷ crossedParts K l (lengthsOf i (r .entries)) ∷ room) (divided flag i (newEntry r l) (r .entries)) (done (length (r .entries) ∷ []))
 
 -- what any other call does; and every call, 10 before all else
 unfoldable pub rowMove : Kind → Row → Call → Moved Row
-rowMove K r (reset l) = moved (madeRow (r .limit) l) (done [])
+rowMove K r (reset l) = unless r (crossedBounds K l ∷ []) (madeRow (r .limit) l .entries) (done [])
 rowMove K r (insert i l) = insertBy K (full r ∷ []) r i l
 rowMove K r (split flag i l) = splitBy K (full r ∷ []) r flag i l
 rowMove K r (setLengths i l) =
     let es = changed i l (r .entries) in
-    unless r (noSuchId r i ∷ past K es ∷ []) es (done [])
+    unless r (noSuchId r i ∷ crossedBounds K l ∷ past K es ∷ []) es (done [])
 rowMove K r (update i l) =
     let es = changed i l (r .entries) in
-    unless r (noSuchId r i ∷ past K es ∷ []) es (done (total (K .effect) (before i (r .entries)) ∷ []))
+    unless r (noSuchId r i ∷ crossedBounds K l ∷ past K es ∷ []) es (done (total (K .effect) (before i (r .entries)) ∷ []))
 rowMove K r (lookup v index) = unless r (noSuchPosition r v index ∷ []) (r .entries) (done (found K v index 0 0 0 (r .entries)))
 rowMove K r (rank v i) = unless r (noSuchId r i ∷ []) (r .entries) (done (total v (before i (r .entries)) ∷ []))
 rowMove K r (next i) = unless r (noSuchId r i ∷ []) (r .entries) (done (firstId (after i (r .entries)) ∷ []))

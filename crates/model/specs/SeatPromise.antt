@@ -6,7 +6,7 @@ use mathlib.Core.Bool.{Bool, true, false}
 use mathlib.Core.List.{List, [], _∷_}
 use Prim.Native.Nat.{ℕ, _+_, _%_, _^_, _≤_, _<_}
 use lib.ListN.{length}
-use Rattle.model.specs.Kind.{tooManyLines}
+use Rattle.model.specs.Kind.{tooManyLines, crossed}
 use Rattle.model.specs.Lists.{All, refusal}
 use Rattle.model.specs.declared.shape.Kind.{Kind}
 use Rattle.model.specs.State.{State, state, headOf}
@@ -173,9 +173,9 @@ pub record SeatedDemand3 (K : Kind) (fan : ℕ) (s : Seated State) (r : Seated R
   -- the same on cursors
   pub by-cursor : (cs : List (Naming CursorCall)) → All (CursorNamingInWords K) cs → answers (seatedCursor K) s cs ≡ answers (seatedEntry K) r (seatedMeantAll K s cs)
   pub each-by-cursor : (cs : List (Naming CursorCall)) → All (CursorNamingInWords K) cs → AlongSeatedCursors K fan s r cs
-  -- and the stamp counts as without seats: no cursor passes a reset until 2 ^ 64 entries were made since its issue; one with too many line ends is refused
+  -- and the stamp counts as without seats: no cursor passes a reset until 2 ^ 64 entries were made since its issue; one with too many line ends or crossed bounds is refused
   pub counts : (cs : List (Naming CursorCall)) → SeatedCounts K (finally (seatedCursor K) s cs)
-  pub resets : (cs : List (Naming CursorCall)) → All (CursorNamingInWords K) cs → (x : Seat) (l : List ℕ) → tooManyLines K l ≡ false
+  pub resets : (cs : List (Naming CursorCall)) → All (CursorNamingInWords K) cs → (x : Seat) (l : List ℕ) → tooManyLines K l ≡ false → crossed K l ≡ false
       → seatedMakes K (finally (seatedCursor K) s cs) x (list.resets l) ≡ 1
 
 -- of every make that isn't refused, with shares or without seats

@@ -9,7 +9,7 @@ use Rattle.model.specs.Lists.{Cause}
 use Rattle.model.specs.declared.shape.Kind.{Kind}
 use Rattle.model.specs.State.{State}
 use Rattle.model.specs.Row as row
-use Rattle.model.specs.Row.{Row, Call, Answer, done, refused, Moved, moved, madeRow, rowMove, overlong}
+use Rattle.model.specs.Row.{Row, Call, Answer, refused, Moved, moved, rowMove, overlong}
 use Rattle.model.specs.Answer.{outcomeAnswer, insertedAnswer}
 use Rattle.model.specs.Calls as calls
 use Rattle.model.specs.ById.{withCursor, atTarget, dividedAnswer, treeMove}
@@ -83,9 +83,13 @@ rowSpace r b (seat.Number i) = over (r .limit) (length (r .entries)) b i ∷ []
 abbrev pub charging : {S : Type 0} → Seat → Seats → Moved S → Moved (Seated S)
 charging seat b m = moved (seated (m .after) (cond (eqb (m .answer .number) 0) (chargedTo seat b) b)) (m .answer)
 
+-- a reset clears the charges; a refused one leaves them
+abbrev pub clearing : {S : Type 0} → Seats → Moved S → Moved (Seated S)
+clearing b m = moved (seated (m .after) (cond (eqb (m .answer .number) 0) (uncharged b) b)) (m .answer)
+
 -- the row of a seated list
 unfoldable pub seatedRowMove : Kind → Row → Seats → Seat → Call → Deed ℕ ℕ → Moved (Seated Row)
-seatedRowMove K r b seat c (resets l) = moved (seated (madeRow (r .limit) l) (uncharged b)) (done [])
+seatedRowMove K r b seat c (resets l) = clearing b (rowMove K r (row.reset l))
 seatedRowMove K r b seat c (inserts i l) = charging seat b (row.insertBy K (rowSpace r b seat) r i l)
 seatedRowMove K r b seat c (splits flag i l) = charging seat b (row.splitBy K (rowSpace r b seat) r flag i l)
 seatedRowMove K r b seat c nothing = beside b (rowMove K r c)

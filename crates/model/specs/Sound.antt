@@ -1,5 +1,5 @@
 -- A sound tree, field by field as document 01's paragraph on audit has it, and its entries in order ("The plain row", last paragraph).
--- s is the words of a slot, e the effect view; Coherent takes both from a kind, and Sound asks of the line ends too. Assumes nothing.
+-- s is the words of a slot, e the effect view; Coherent takes both from a kind, and Sound asks of the line ends and bounds too. Assumes nothing.
 use mathlib.Core.Path.{_≡_}
 use mathlib.Core.Bool.{false, cond}
 use mathlib.Core.List.{List, [], _∷_, map, flatMap}
@@ -8,7 +8,7 @@ use lib.ListN.{length, getD, take}
 use lib.Dec.{eqb}
 use Rattle.model.specs.Lists.{All, times, range}
 use Rattle.model.specs.Node.{Node, none, child, lengths, lengthIn, total, used, emptySlot, half}
-use Rattle.model.specs.Kind.{stride, prepare, tooManyLines}
+use Rattle.model.specs.Kind.{stride, prepare, tooManyLines, crossed}
 use Rattle.model.specs.declared.shape.Kind.{Kind}
 use Rattle.model.specs.Row.{Entry, entry}
 use Rattle.model.specs.State.{State, shape, nodeAt}
@@ -124,10 +124,11 @@ module _ (s : ℕ) (t : State) where
 abbrev pub Coherent : Kind → State → Type 0
 Coherent K t = CoherentAt (stride K) t (K .effect)
 
--- and no leaf slot in use has more than 65,535 line ends
+-- and no leaf slot in use has more than 65,535 line ends, nor a lowest above a highest length
 pub record Sound (K : Kind) (t : State) : Type 0 where
   pub coherent : Coherent K t
   pub lines : (k i : ℕ) → k < t .head .leaves → i < leafIn (stride K) t k .len → tooManyLines K (lengths (getD (leafIn (stride K) t k .slots) i [])) ≡ false
+  pub bounds : (k i : ℕ) → k < t .head .leaves → i < leafIn (stride K) t k .len → crossed K (lengths (getD (leafIn (stride K) t k .slots) i [])) ≡ false
 
 -- the entries in order: the slots in use of the leaves, reached from the root with earlier slots first
 unfoldable pub entriesOf : Kind → State → List Entry

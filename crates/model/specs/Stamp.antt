@@ -6,7 +6,7 @@ use mathlib.Core.List.{List, [], _∷_, _++_}
 use Prim.Native.Nat.{ℕ, _+_, _%_, _^_, _<_}
 use lib.Dec.{eqb}
 use lib.ListN.{replicate}
-use Rattle.model.specs.Kind.{tooManyLines}
+use Rattle.model.specs.Kind.{tooManyLines, crossed}
 use Rattle.model.specs.Lists.{All, refusal}
 use Rattle.model.specs.declared.shape.Kind.{Kind}
 use Rattle.model.specs.State.{State, state, headOf}
@@ -68,11 +68,11 @@ pub record GoesRound (K : Kind) (s : State) (l : List ℕ) : Type 0 where
 
 -- of a tree that stands for a row, whose stamp is a u64
 pub record AcrossReset (K : Kind) (s : State) : Type 0 where
-  -- no cursor with the stamp of s passes after a list with a reset in it that makes less than 2 ^ 64 entries; one with too many line ends is refused
-  pub shut : (c : Cursor) → c .stamp ≡ s .head .stamp → (xs ys : List CursorCall) (l : List ℕ) → All (CursorInWords K) xs → tooManyLines K l ≡ false
+  -- no cursor with the stamp of s passes after a list with a reset in it that makes less than 2 ^ 64 entries; one with too many line ends or crossed bounds is refused
+  pub shut : (c : Cursor) → c .stamp ≡ s .head .stamp → (xs ys : List CursorCall) (l : List ℕ) → All (CursorInWords K) xs → tooManyLines K l ≡ false → crossed K l ≡ false
       → makesAll K s (xs ++ by.reset l ∷ ys) < 2 ^ 64 → refusal (stale K (finally (cursorStep K) s (xs ++ by.reset l ∷ ys)) c) ≡ 3
   -- and with 2 ^ 64 entries one does, so that the bound is exact
-  pub round : (l : List ℕ) → Words K l → tooManyLines K l ≡ false → GoesRound K s l
+  pub round : (l : List ℕ) → Words K l → tooManyLines K l ≡ false → crossed K l ≡ false → GoesRound K s l
 
 -- of the tree that a make leaves: 1 at make, and the above after every list of calls, so wherever a cursor is issued
 pub record Stamped (K : Kind) (fan limit : ℕ) (l ls xs hs : List ℕ) : Type 0 where

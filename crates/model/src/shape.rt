@@ -25,10 +25,12 @@ pub fn shape_for(views: usize, fan: usize, nodes: usize) -> Shape
     }
 }
 
-// The kind of a tree: how many lengths a slot has, and the view in which calls answer positions.
+// The kind of a tree: how many lengths a slot has, the view in which calls answer positions, and whether the first length is a lowest
+// and the second a highest one.
 pub struct Kind {
     pub views: usize,
     pub effect: usize,
+    pub ordered: bool,
 }
 
 // The slot that holds a position: slot, offset into it, and the effect and the prepare lengths before it.

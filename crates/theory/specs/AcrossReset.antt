@@ -6,7 +6,7 @@ use Prim.Native.Nat.{ℕ, zero, suc, _+_, _^_, _<_}
 use native.Mathlib.Omega.{arith}
 use lib.ListN.{replicate}
 use borrow.Author.Tests.{ne-eqb}
-use Rattle.model.specs.Kind.{tooManyLines}
+use Rattle.model.specs.Kind.{tooManyLines, crossed}
 use Rattle.model.specs.declared.shape.Kind.{Kind}
 use Rattle.model.specs.Lists.{All, refusal}
 use Rattle.model.specs.State.{State}
@@ -46,38 +46,38 @@ still-small K s small cs = subst (λ (n : ℕ). n < 2 ^ 64) (sym (made-by K s sm
 
 -- a tree that stands for a row ----------------------------------------------------------------------------------------------------------------
 
-module _ (K : Kind) (l : List ℕ) (few : tooManyLines K l ≡ false) where
+module _ (K : Kind) (l : List ℕ) (few : tooManyLines K l ≡ false) (level : crossed K l ≡ false) where
   -- no other cause refuses a reset there
   pub reset-makes : (s : State) → Coherent K s → makes K s (by.reset l) ≡ 1
   unfolding makes
-  reset-makes s w = ap (λ (r : calls.Reply Outcome). one (outcomeAnswer (r .answer))) (reset-is K s w l few)
+  reset-makes s w = ap (λ (r : calls.Reply Outcome). one (outcomeAnswer (r .answer))) (reset-is K s w l few level)
 
   reset-lone : (s : State) → Coherent K s → cursorStep K s (by.reset l) .after .head .leaves ≡ 1
   unfolding cursorStep begun
-  reset-lone s w = ap (λ (r : calls.Reply Outcome). r .after .head .leaves) (reset-is K s w l few)
+  reset-lone s w = ap (λ (r : calls.Reply Outcome). r .after .head .leaves) (reset-is K s w l few level)
 
 module _ (K : Kind) (ok : K .effect < K .views) where
   -- what a call leaves stands for a row again
   stands-after : (s : State) (r : Row) → Stands K s r → (c : CursorCall) → CursorInWords K c → Stands K (cursorStep K s c .after) (entryStep K r (meant K s c) .after)
   stands-after s r h c k = cursor-step K ok s (h .sound .coherent) r h c k .kept
 
-  reset-in : (s : State) (r : Row) → Stands K s r → (xs ys : List CursorCall) (l : List ℕ) → All (CursorInWords K) xs → tooManyLines K l ≡ false → 0 < makesAll K s (xs ++ by.reset l ∷ ys)
+  reset-in : (s : State) (r : Row) → Stands K s r → (xs ys : List CursorCall) (l : List ℕ) → All (CursorInWords K) xs → tooManyLines K l ≡ false → crossed K l ≡ false → 0 < makesAll K s (xs ++ by.reset l ∷ ys)
   unfolding makesAll All
-  reset-in s r h [] ys l k few = (let z = reset-makes K l few s (h .sound .coherent) in omega arith)
-  reset-in s r h (x ∷ xs) ys l k few = (let z = reset-in (cursorStep K s x .after) (entryStep K r (meant K s x) .after) (stands-after s r h x (k .0)) xs ys l (k .1) few in omega arith)
+  reset-in s r h [] ys l k few level = (let z = reset-makes K l few level s (h .sound .coherent) in omega arith)
+  reset-in s r h (x ∷ xs) ys l k few level = (let z = reset-in (cursorStep K s x .after) (entryStep K r (meant K s x) .after) (stands-after s r h x (k .0)) xs ys l (k .1) few level in omega arith)
 
   pub across-reset : (s : State) (r : Row) → Stands K s r → s .head .stamp < 2 ^ 64 → (c : Cursor) → c .stamp ≡ s .head .stamp → (xs ys : List CursorCall) (l : List ℕ)
-      → All (CursorInWords K) xs → tooManyLines K l ≡ false
+      → All (CursorInWords K) xs → tooManyLines K l ≡ false → crossed K l ≡ false
       → makesAll K s (xs ++ by.reset l ∷ ys) < 2 ^ 64 → refusal (stale K (finally (cursorStep K) s (xs ++ by.reset l ∷ ys)) c) ≡ 3
-  across-reset s r h small c issued xs ys l k few less = never-again K s small c issued (xs ++ by.reset l ∷ ys) (reset-in s r h xs ys l k few) less
+  across-reset s r h small c issued xs ys l k few level less = never-again K s small c issued (xs ++ by.reset l ∷ ys) (reset-in s r h xs ys l k few level) less
 
   -- n resets in a row
-  module _ (l : List ℕ) (words : Words K l) (few : tooManyLines K l ≡ false) where
+  module _ (l : List ℕ) (words : Words K l) (few : tooManyLines K l ≡ false) (level : crossed K l ≡ false) where
     resets-make : (n : ℕ) (s : State) (r : Row) → Stands K s r → makesAll K s (replicate n (by.reset l)) ≡ n
     unfolding makesAll
     resets-make zero s r h = refl
     resets-make (suc n) s r h =
-        let a = reset-makes K l few s (h .sound .coherent) in
+        let a = reset-makes K l few level s (h .sound .coherent) in
         let b = resets-make n (cursorStep K s (by.reset l) .after) (entryStep K r (meant K s (by.reset l)) .after) (stands-after s r h (by.reset l) words) in
         omega arith
 
@@ -88,7 +88,7 @@ module _ (K : Kind) (ok : K .effect < K .views) where
     resets-lone : (n : ℕ) (s : State) (r : Row) → Stands K s r → 0 < n → Lone (finally (cursorStep K) s (replicate n (by.reset l)))
     unfolding finally
     resets-lone zero s r h more = absurd (omega arith)
-    resets-lone (suc zero) s r h more = (stands-after s r h (by.reset l) words .sound .coherent, reset-lone K l few s (h .sound .coherent))
+    resets-lone (suc zero) s r h more = (stands-after s r h (by.reset l) words .sound .coherent, reset-lone K l few level s (h .sound .coherent))
     resets-lone (suc (suc n)) s r h more = resets-lone (suc n) (cursorStep K s (by.reset l) .after) (entryStep K r (meant K s (by.reset l)) .after) (stands-after s r h (by.reset l) words) (omega arith)
 
     lone-passes : (t : State) → Lone t → (m : ℕ) → t .head .stamp ≡ m → refusal (stale K t (cursorAt m 0 0)) ≡ 0
@@ -112,7 +112,7 @@ module _ (K : Kind) (ok : K .effect < K .views) where
       goes-round = record { made = resets-make (2 ^ 64) s r h; stamp = round-stamp (2 ^ 64) refl; passes = round-passes (2 ^ 64) refl }
 
   pub across : (s : State) (r : Row) → Stands K s r → s .head .stamp < 2 ^ 64 → AcrossReset K s
-  across s r h small = record { shut = across-reset s r h small; round = λ l words few. goes-round l words few s r h small }
+  across s r h small = record { shut = across-reset s r h small; round = λ l words few level. goes-round l words few level s r h small }
 
   -- after every list of calls
   across-after : (s : State) (r : Row) → Stands K s r → s .head .stamp < 2 ^ 64 → (cs : List CursorCall) → All (CursorInWords K) cs → AcrossReset K (finally (cursorStep K) s cs)

@@ -124,6 +124,7 @@ module _ (K : Kind) (t : State) (s : Sound K t) where
             record {
               below = subst (λ (x : List ℕ). child x < t .head .entries) (sym e) (slots-all (λ x. x .child < t .head .entries) (used n) (b .below k lk) i lu);
               few = s .lines k i lk li;
+              level = s .bounds k i lk li;
               home = subst (λ (x : List ℕ). getD (t .homes) (child x) 0 ≡ k) (sym e) (slots-all (λ x. getD (t .homes) (x .child) 0 ≡ k) (used n) (b .homed k lk) i lu);
               alone = λ j lj q. index-before (child (getD (used n) i [])) j (used n) (omega (arith, ix)) (ap child (sym (slot-used (stride K) (t .head .fan) n td j [] (omega arith))) ∙ q ∙ ap child e);
             });
@@ -188,7 +189,7 @@ audit-yes K t e = go (refusal (areaCauses K (t .head .fan) (t .head .limit) (t .
         let z : Sizes K (t .head .fan) (t .head .limit) (t .leaves) (t .inners) (t .homes) = sizes-of K (t .head .fan) (t .head .limit) (t .leaves) (t .inners) (t .homes) q in
         let s : isSound K t ≡ true = true-of (isSound K t) (sym (passed (areaCauses K (t .head .fan) (t .head .limit) (t .leaves) (t .inners) (t .homes)) verdict.Refused (cond (isSound K t) verdict.Yes verdict.No) q) ∙ e) in
         let f : SoundBy K t = sound-by K t (λ k lt. formed-at (shapeIn (stride K) t) k (t .inners) refl (fits (shapeIn (stride K) t) k (t .inners) lt (z .inner-area))) (λ k lt. formed-at (shapeIn (stride K) t) k (t .leaves) refl (fits (shapeIn (stride K) t) k (t .leaves) lt (z .leaf-area))) s in
-        record { coherent = facts-sound K t z f; lines = λ k i lk li. f .leaf k lk .entries i li .few }
+        record { coherent = facts-sound K t z f; lines = λ k i lk li. f .leaf k lk .entries i li .few; bounds = λ k i lk li. f .leaf k lk .entries i li .level }
     go (suc n) q = absurd (let r : verdict.Refused (suc n) ≡ verdict.Yes = sym (stopped (areaCauses K (t .head .fan) (t .head .limit) (t .leaves) (t .inners) (t .homes)) verdict.Refused (cond (isSound K t) verdict.Yes verdict.No) n q) ∙ e in
         let z : _≡_ {A = ℕ} 0 1 = cc in omega arith)
 

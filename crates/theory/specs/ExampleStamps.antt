@@ -78,7 +78,7 @@ issued = refl
 
 pub old-shut : refusal (stale base (finally (cursorStep base) (finally (cursorStep base) start sheet) (by.reset (pair 1 1) ∷ next)) (cursorAt 2 0 1)) ≡ 3
 unfolding All
-old-shut = from-make .across sheet sheet-in-words .shut (cursorAt 2 0 1) issued [] next (pair 1 1) tt refl (let z = entries-made in omega arith)
+old-shut = from-make .across sheet sheet-in-words .shut (cursorAt 2 0 1) issued [] next (pair 1 1) tt refl refl (let z = entries-made in omega arith)
 
 -- on a tree that is not sound a reset shuts a cursor out too
 loose-made : makesAll base loose (by.reset (pair 1 1) ∷ []) ≡ 1
@@ -93,7 +93,7 @@ small-start : start .head .stamp < 2 ^ 64
 small-start = (let z = from-make .first in omega arith)
 
 pub round-start : GoesRound base start (pair 1 1)
-round-start = goes-round base (omega arith) (pair 1 1) (three 1 1 0 (omega arith) (omega arith) (omega arith)) refl start (madeRow 5 (pair 3 3)) stands-start small-start
+round-start = goes-round base (omega arith) (pair 1 1) (three 1 1 0 (omega arith) (omega arith) (omega arith)) refl refl start (madeRow 5 (pair 3 3)) stands-start small-start
 
 -- the last stamp is sound, and 0 comes after it
 abbrev last : State

@@ -9,7 +9,7 @@ use native.Mathlib.Omega.{arith}
 use lib.Dec.{ltb, leb, eqb}
 use lib.ListN.{getD}
 use borrow.Author.Tests.{eqb-true, eq-eqb, ne-eqb, le-leb, leb-true, lt-ltb, ltb-true}
-use Rattle.model.specs.Kind.{stride, tooManyLines}
+use Rattle.model.specs.Kind.{stride, tooManyLines, crossed}
 use Rattle.model.specs.declared.shape.Kind.{Kind}
 use Rattle.model.specs.Lists.{sumBy, range}
 use Rattle.model.specs.Node.{Node, none, child, lengths, lengthIn, total, used}
@@ -82,6 +82,7 @@ module _ (K : Kind) (t : State) where
     pub below : child (getD (n .slots) i []) < t .head .entries
     pub home : getD (t .homes) (child (getD (n .slots) i [])) 0 ≡ k
     pub few : tooManyLines K (lengths (getD (n .slots) i [])) ≡ false
+    pub level : crossed K (lengths (getD (n .slots) i [])) ≡ false
     pub alone : (j : ℕ) → j < i → child (getD (n .slots) j []) ≢ child (getD (n .slots) i [])
 
   pub record LeafBy (k : ℕ) : Type 0 where
@@ -197,16 +198,19 @@ module _ (K : Kind) (t : State) where
       let id : ℕ = child x in
       let a : Bool = ltb id (t .head .entries) in
       let b : Bool = eqb (getD (t .homes) id 0) k in
-      let r = both (a && b && not (tooManyLines K (lengths x))) (every (isOther n id) 0 i) e in
-      let s = both (a && b) (not (tooManyLines K (lengths x))) (r .0) in
+      let c : Bool = not (tooManyLines K (lengths x)) in
+      let d : Bool = not (crossed K (lengths x)) in
+      let r = both (a && b && c && d) (every (isOther n id) 0 i) e in
+      let q = both (a && b && c) d (r .0) in
+      let s = both (a && b) c (q .0) in
       let u = both a b (s .0) in
-      record { below = ltb-true id (t .head .entries) (u .0); home = eqb-true (getD (t .homes) id 0) k (u .1); few = not-so (tooManyLines K (lengths x)) (s .1); alone = new-at n i id (r .1) }
+      record { below = ltb-true id (t .head .entries) (u .0); home = eqb-true (getD (t .homes) id 0) k (u .1); few = not-so (tooManyLines K (lengths x)) (s .1); level = not-so (crossed K (lengths x)) (q .1); alone = new-at n i id (r .1) }
 
   entry-test : (k : ℕ) (n : Node) (i : ℕ) → EntryBy k n i → isEntry K t k n i ≡ true
   unfolding isEntry
   entry-test k n i h =
       let id : ℕ = child (getD (n .slots) i []) in
-      rw (lt-ltb id (t .head .entries) (h .below), eq-eqb (getD (t .homes) id 0) k (h .home), h .few) (new-of n i id (h .alone))
+      rw (lt-ltb id (t .head .entries) (h .below), eq-eqb (getD (t .homes) id 0) k (h .home), h .few, h .level) (new-of n i id (h .alone))
 
   leaf-by : (k : ℕ) → Formed (stride K) (t .head .fan) (leafIn (stride K) t k) → isLeaf K t k ≡ true → LeafBy k
   unfolding isLeaf

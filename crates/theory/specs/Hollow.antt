@@ -22,7 +22,7 @@ use Rattle.abstract_tree.specs.Row.{Without, from-at}
 use Rattle.theory.specs.Views.{or-false, none-in, one-in}
 use Rattle.theory.specs.Open.{clear}
 use Rattle.theory.specs.Agree.{row-passed}
-use Rattle.theory.specs.Lines.{before-all}
+use Rattle.theory.specs.Each.{before-all}
 use Rattle.theory.specs.Numbers.{number-is, comes-only, comes-then}
 
 -- what the test says ------------------------------------------------------------------------------------------------------------------------
@@ -86,11 +86,11 @@ module _ (K : Kind) (r : Row) (flag : Bool) (i : ℕ) (l : List ℕ) where
   abbrev first : List Cause
   first = cause 10 (tooManyLines K l) ∷ row.noSuchId r i ∷ row.tooMuch K l own ∷ []
 
-  number : call .answer .number ≡ refusal (first ++ row.hollowPart K l own ∷ row.full r ∷ [])
+  number : call .answer .number ≡ refusal (first ++ row.hollowPart K l own ∷ row.crossedParts K l own ∷ row.full r ∷ [])
   unfolding rowMove rowStep refusal
   number = go (tooManyLines K l)
     where
-      go : (b : Bool) → cond b (moved r (refused 10)) (rowMove K r (row.split flag i l)) .answer .number ≡ cond b 10 (refusal (row.noSuchId r i ∷ row.tooMuch K l own ∷ row.hollowPart K l own ∷ row.full r ∷ []))
+      go : (b : Bool) → cond b (moved r (refused 10)) (rowMove K r (row.split flag i l)) .answer .number ≡ cond b 10 (refusal (row.noSuchId r i ∷ row.tooMuch K l own ∷ row.hollowPart K l own ∷ row.crossedParts K l own ∷ row.full r ∷ []))
       go true = refl
       go false = number-is r _ _ _
 
@@ -112,16 +112,16 @@ module _ (K : Kind) (r : Row) (flag : Bool) (i : ℕ) (l : List ℕ) where
   only : call .answer .number ≡ 17 → (upToSix K r i l ≡ 0) × HollowPart K r i l
   unfolding All
   only e =
-      let y = comes-only 17 first (row.full r ∷ []) (row.hollowPart K l own .applies) (λ z. omega arith) ((λ z. omega arith), ((λ z. omega arith), ((λ z. omega arith), tt))) ((λ z. omega arith), tt) (sym number ∙ e) in
+      let y = comes-only 17 first (row.crossedParts K l own ∷ row.full r ∷ []) (row.hollowPart K l own .applies) (λ z. omega arith) ((λ z. omega arith), ((λ z. omega arith), ((λ z. omega arith), tt))) ((λ z. omega arith), ((λ z. omega arith), tt)) (sym number ∙ e) in
       (y .0, part-yes (y .1))
 
   exactly : upToSix K r i l ≡ 0 → HollowPart K r i l → call .answer .number ≡ 17
   unfolding All
-  exactly z h = number ∙ comes-then 17 first (row.full r ∷ []) (row.hollowPart K l own .applies) ((λ z. omega arith), ((λ z. omega arith), ((λ z. omega arith), tt))) (yes-part h) z
+  exactly z h = number ∙ comes-then 17 first (row.crossedParts K l own ∷ row.full r ∷ []) (row.hollowPart K l own .applies) ((λ z. omega arith), ((λ z. omega arith), ((λ z. omega arith), tt))) (yes-part h) z
 
   -- a split that is answered
   module _ (below : All (λ e. e .id < length (r .entries)) (r .entries)) (answered : call .answer .number ≡ 0) where
-    few : (tooManyLines K l ≡ false) × (refusal (row.noSuchId r i ∷ row.tooMuch K l own ∷ row.hollowPart K l own ∷ row.full r ∷ []) ≡ 0)
+    few : (tooManyLines K l ≡ false) × (refusal (row.noSuchId r i ∷ row.tooMuch K l own ∷ row.hollowPart K l own ∷ row.crossedParts K l own ∷ row.full r ∷ []) ≡ 0)
     few = clear 10 (tooManyLines K l) _ (λ z. omega arith) (sym number ∙ answered)
 
     known : i < length (r .entries)

@@ -9,7 +9,7 @@ use native.Mathlib.Omega.{arith}
 use lib.Dec.{ltb, leb, eqb}
 use lib.ListN.{length, getD, List·getD-eq-default}
 use borrow.Author.Tests.{eqb-true, ltb-false}
-use Rattle.model.specs.Kind.{stride, viewsOf, tooManyLines}
+use Rattle.model.specs.Kind.{stride, viewsOf, tooManyLines, crossed}
 use Rattle.model.specs.declared.shape.Kind.{Kind}
 use Rattle.model.specs.Lists.{sumBy, some, Cause, refusal}
 use Rattle.model.specs.Node.{used}
@@ -20,7 +20,7 @@ use Rattle.model.specs.Place.{Change, change, climb}
 use Rattle.model.specs.Row as row
 use Rattle.model.specs.Row.{Entry, entry, Answer, done, refused, Moved, noEntry, newEntry, noSuchPlace, unless, before, from, inserted, rowMove}
 use Rattle.model.specs.Sound.{leafIn, innerIn, shapeIn, Coherent, entriesOf}
-use Rattle.model.specs.Refuse.{opening, atCursor, past, totalOf}
+use Rattle.model.specs.Refuse.{opening, atCursor, crossedBounds, past, totalOf}
 use Rattle.model.specs.Refuse as refuse′
 use Rattle.model.specs.Calls as calls
 use Rattle.model.specs.Calls.{cursorAt, entryId, placed, insertCauses}
@@ -52,12 +52,22 @@ use Rattle.theory.specs.Resize.{ltb-same}
 use Rattle.theory.specs.Placed.{Placed, placed-is}
 use Rattle.theory.specs.Agree.{Agrees, Mirrors, rowOf, Space, by-limit, row-passed, row-stopped, own, entries-are, count-is, below, by-id, before-is, from-is, total-before}
 
+-- the causes behind the target, the row's behind the place, with those for want of space; and the number of two tests and, behind them, of want of space
+abbrev behindTarget : Kind → List Cause → State → List ℕ → List Cause
+behindTarget K room t l = crossedBounds K l ∷ past K t [] l ∷ room
+
+abbrev behindPlace : Kind → List Cause → State → ℕ → List ℕ → List Cause
+behindPlace K rowRoom t i l = row.crossedBounds K l ∷ row.past K (inserted i (newEntry (rowOf K t) l) (entriesOf K t)) ∷ rowRoom
+
+abbrev numberOf : Bool → Bool → ℕ → ℕ
+numberOf a b n = cond a 20 (cond b 7 n)
+
 -- an insertion at a place between R₁ and R₂ of the row, by a call that answers X where the row answers a
 module _ (K : Kind) (t : State) (w : Coherent K t) (room rowRoom : List Cause) (space : Space t room rowRoom) (i : ℕ) (l : List ℕ) (wl : length l ≡ K .views) (tg : Target) (k j : ℕ) (R₁ R₂ : List Slot)
     (whole : tree.row (treeOf (stride K) t) ≡ R₁ ++ R₂)
     (ins : inserted i (newEntry (rowOf K t) l) (entriesOf K t) ≡ map (entryFrom (K .views)) R₁ ++ entry (t .head .entries) l ∷ map (entryFrom (K .views)) R₂)
     (aimed : placed K t tg l ≡ climb (shapeIn (stride K) t) (K .effect) l (place.place (shapeIn (stride K) t) t k j l))
-    (causes : refusal (insertCauses K room t tg l) ≡ refusal (past K t [] l ∷ room))
+    (causes : refusal (insertCauses K room t tg l) ≡ refusal (behindTarget K room t l))
     (pl : t .head .entries < t .head .limit → ((v : ℕ) → sumBy (len v) (R₁ ++ insert.slotOf (t .head .entries) (λ u. getD l u 0) ∷ R₂) < 4294967296) → Placed K t k j R₁ R₂ l) where
   abbrev es′ : List Entry
   es′ = inserted i (newEntry (rowOf K t) l) (entriesOf K t)
@@ -89,9 +99,9 @@ module _ (K : Kind) (t : State) (w : Coherent K t) (room rowRoom : List Cause) (
       let e : totalOf K t v ≡ sumBy (len v) (tree.row (treeOf (stride K) t)) = sym (sum-slots v (used (innerIn (stride K) t (t .head .root .0)))) ∙ total-is (treeOf (stride K) t) (body-of (stride K) t (K .effect) w) v in
       ltb-same (4294967295 + getD [] v 0) (totalOf K t v + getD l v 0) 4294967295 (row.total v es′) (λ h. omega arith) (λ h. omega arith)))
 
-  both-causes : refusal (insertCauses K room t tg l) ≡ refusal (row.past K es′ ∷ rowRoom)
+  both-causes : refusal (insertCauses K room t tg l) ≡ refusal (behindPlace K rowRoom t i l)
   unfolding refusal
-  both-causes = causes ∙ ap₂ (λ (a : Bool) (n : ℕ). cond a 7 n) past-is (space .same)
+  both-causes = causes ∙ ap₂ (numberOf (crossed K l)) past-is (space .same)
 
   small : over ≡ false → (v : ℕ) → sumBy (len v) R′ < 4294967296
   small ok v = go (decLt v (K .views))
@@ -101,27 +111,31 @@ module _ (K : Kind) (t : State) (w : Coherent K t) (room rowRoom : List Cause) (
       go (no ge) = (let z : getD l v 0 ≡ 0 = List·getD-eq-default l 0 {n = v} (omega arith) in let y = sum-after v in omega (arith, body-of (stride K) t (K .effect) w .totals v))
 
   module _ {X : Type 0} (refuse : ℕ → X) (answer : ℕ → X) (say : X → Answer) (a : Answer) (says : (n : ℕ) → say (refuse n) ≡ refused n) (right : say (answer (sumBy (len (K .effect)) R₁)) ≡ a) where
-    pub insert-step : Agrees (Mirrors K)
-        (told (calls.unless (insertCauses K room t tg l) (λ n. calls.reply t (refuse n)) (calls.settled t (placed K t tg l .0) refuse (answer (placed K t tg l .1)))) say)
-        (unless (rowOf K t) (row.past K es′ ∷ rowRoom) es′ a)
+    abbrev answered : calls.Reply X
+    answered = calls.settled t (placed K t tg l .0) refuse (answer (placed K t tg l .1))
+
+    abbrev refusing : ℕ → calls.Reply X
+    refusing n = calls.reply t (refuse n)
+
+    pub insert-step : Agrees (Mirrors K) (told (calls.unless (insertCauses K room t tg l) refusing answered) say) (unless (rowOf K t) (behindPlace K rowRoom t i l) es′ a)
     unfolding refusal
-    insert-step = go over refl (refusal rowRoom) refl
+    insert-step = go (crossed K l) refl over refl (refusal rowRoom) refl
       where
-        go : (p : Bool) → over ≡ p → (n : ℕ) → refusal rowRoom ≡ n → Agrees (Mirrors K)
-            (told (calls.unless (insertCauses K room t tg l) (λ n. calls.reply t (refuse n)) (calls.settled t (placed K t tg l .0) refuse (answer (placed K t tg l .1)))) say)
-            (unless (rowOf K t) (row.past K es′ ∷ rowRoom) es′ a)
-        go true e n f =
-            let z : refusal (row.past K es′ ∷ rowRoom) ≡ 7 = ap₂ (λ (a : Bool) (n : ℕ). cond a 7 n) e f in
-            rw (stopped (insertCauses K room t tg l) (λ n. calls.reply t (refuse n)) (calls.settled t (placed K t tg l .0) refuse (answer (placed K t tg l .1))) 6 (both-causes ∙ z), row-stopped (rowOf K t) (row.past K es′ ∷ rowRoom) es′ a 6 z)
-            (record { same = says 7; kept = own K t w })
-        go false e (suc n) f =
-            let z : refusal (row.past K es′ ∷ rowRoom) ≡ suc n = ap₂ (λ (a : Bool) (n : ℕ). cond a 7 n) e f in
-            rw (stopped (insertCauses K room t tg l) (λ n. calls.reply t (refuse n)) (calls.settled t (placed K t tg l .0) refuse (answer (placed K t tg l .1))) n (both-causes ∙ z), row-stopped (rowOf K t) (row.past K es′ ∷ rowRoom) es′ a n z)
-            (record { same = says (suc n); kept = own K t w })
-        go false e zero f =
-            let z : refusal (row.past K es′ ∷ rowRoom) ≡ 0 = ap₂ (λ (a : Bool) (n : ℕ). cond a 7 n) e f in
+        number : {p q : Bool} {n : ℕ} → crossed K l ≡ p → over ≡ q → refusal rowRoom ≡ n → refusal (behindPlace K rowRoom t i l) ≡ numberOf p q n
+        number d e f = rw (d, e, f)
+
+        stop : (n : ℕ) → refusal (behindPlace K rowRoom t i l) ≡ suc n → Agrees (Mirrors K) (told (calls.unless (insertCauses K room t tg l) refusing answered) say) (unless (rowOf K t) (behindPlace K rowRoom t i l) es′ a)
+        stop n z = rw (stopped (insertCauses K room t tg l) refusing answered n (both-causes ∙ z), row-stopped (rowOf K t) (behindPlace K rowRoom t i l) es′ a n z) (record { same = says (suc n); kept = own K t w })
+
+        go : (p : Bool) → crossed K l ≡ p → (q : Bool) → over ≡ q → (n : ℕ) → refusal rowRoom ≡ n
+            → Agrees (Mirrors K) (told (calls.unless (insertCauses K room t tg l) refusing answered) say) (unless (rowOf K t) (behindPlace K rowRoom t i l) es′ a)
+        go true d q e n f = stop 19 (number d e f)
+        go false d true e n f = stop 6 (number d e f)
+        go false d false e (suc n) f = stop n (number d e f)
+        go false d false e zero f =
+            let z : refusal (behindPlace K rowRoom t i l) ≡ 0 = number d e f in
             let p = pl (space .free f) (small e) in
-            rw (passed (insertCauses K room t tg l) (λ n. calls.reply t (refuse n)) (calls.settled t (placed K t tg l .0) refuse (answer (placed K t tg l .1))) (both-causes ∙ z), row-passed (rowOf K t) (row.past K es′ ∷ rowRoom) es′ a z, aimed, p .is)
+            rw (passed (insertCauses K room t tg l) refusing answered (both-causes ∙ z), row-passed (rowOf K t) (behindPlace K rowRoom t i l) es′ a z, aimed, p .is)
             (record { same = right; kept = record { coherent = p .sound; entries = p .entries ∙ sym ins; limit = p .limit } })
 
 and-true : (a : Bool) → (a && not false) ≡ a
@@ -137,16 +151,13 @@ module _ (K : Kind) (ok : K .effect < K .views) (t : State) (w : Coherent K t) (
   abbrev call : Target → Moved State
   call tg = told (calls.unless (insertCauses K room t tg l) (λ n. calls.reply t (refuse n)) (calls.settled t (placed K t tg l .0) refuse (answer (placed K t tg l .1)))) say
 
-  abbrev rowCauses : List Cause
-  rowCauses = row.past K (inserted i (newEntry (rowOf K t) l) (entriesOf K t)) ∷ rowRoom
-
-  before-step : (c : Seat K t w i) → say (answer (sumBy (len (K .effect)) (front (c .cur)))) ≡ a → Agrees (Mirrors K) (call (target.Before (cursorAt (t .head .stamp) (c .leaf) (c .slot)))) (unless (rowOf K t) rowCauses (inserted i (newEntry (rowOf K t) l) (entriesOf K t)) a)
+  before-step : (c : Seat K t w i) → say (answer (sumBy (len (K .effect)) (front (c .cur)))) ≡ a → Agrees (Mirrors K) (call (target.Before (cursorAt (t .head .stamp) (c .leaf) (c .slot)))) (unless (rowOf K t) (behindPlace K rowRoom t i l) (inserted i (newEntry (rowOf K t) l) (entriesOf K t)) a)
   before-step c right =
       insert-step K t w room rowRoom space i l wl (target.Before (cursorAt (t .head .stamp) (c .leaf) (c .slot))) (c .leaf) (c .slot) (front (c .cur)) (c .cur .e ∷ behind (c .cur)) (c .cur .row)
       (ap₂ (λ (b : List Entry) (n : ℕ). b ++ entry n l ∷ from i (entriesOf K t)) (before-is K t w i c) (count-is K t w) ∙ ap (λ (b : List Entry). map (entryFrom (K .views)) (front (c .cur)) ++ entry (t .head .entries) l ∷ b) (from-is K t w i c))
       refl
-      (few-lines K l _ lines ∙ ap refusal (append-assoc (opening K t) (atCursor K t (cursorAt (t .head .stamp) (c .leaf) (c .slot))) (past K t [] l ∷ room))
-      ∙ opens K t w (atCursor K t (cursorAt (t .head .stamp) (c .leaf) (c .slot)) ++ past K t [] l ∷ room) ∙ fresh-at K t w (c .leaf) (c .slot) (past K t [] l ∷ room) (c .leaf-in) (c .slot-in))
+      (few-lines K l _ lines ∙ ap refusal (append-assoc (opening K t) (atCursor K t (cursorAt (t .head .stamp) (c .leaf) (c .slot))) (behindTarget K room t l))
+      ∙ opens K t w (atCursor K t (cursorAt (t .head .stamp) (c .leaf) (c .slot)) ++ behindTarget K room t l) ∙ fresh-at K t w (c .leaf) (c .slot) (behindTarget K room t l) (c .leaf-in) (c .slot-in))
       (λ few tot. placed-is K t w (c .cur .A) (c .leaf) (c .cur .B) (c .cur .body) (c .slot) (let z = c .cur .inside in omega arith) (front (c .cur)) (c .cur .e ∷ behind (c .cur)) (c .cur .made) l wl few tot)
       refuse answer say a says right
 
@@ -173,30 +184,30 @@ module _ (K : Kind) (ok : K .effect < K .views) (t : State) (w : Coherent K t) (
   without e = subst (plain.Without i) (sym (entries-are K t w)) (without-entries (K .views) i (tree.row (treeOf (stride K) t))
       (All-map (λ (x : Slot). x .child < t .head .entries) (λ (x : Slot). x .child ≢ i) (λ x lt q. let z = w .entry-count in let y = w .limit-most in omega arith) (tree.row (treeOf (stride K) t)) (below K t w)))
 
-  end-step : i ≡ noEntry → say (answer (sumBy (len (K .effect)) (tree.row (treeOf (stride K) t)))) ≡ a → Agrees (Mirrors K) (call target.End) (unless (rowOf K t) rowCauses (inserted i (newEntry (rowOf K t) l) (entriesOf K t)) a)
+  end-step : i ≡ noEntry → say (answer (sumBy (len (K .effect)) (tree.row (treeOf (stride K) t)))) ≡ a → Agrees (Mirrors K) (call target.End) (unless (rowOf K t) (behindPlace K rowRoom t i l) (inserted i (newEntry (rowOf K t) l) (entriesOf K t)) a)
   unfolding refusal
   end-step e right =
       insert-step K t w room rowRoom space i l wl target.End last (length (slotsOf (leafIn (stride K) t last))) (tree.row (treeOf (stride K) t)) [] (sym (append-nil (tree.row (treeOf (stride K) t))))
       (ap₂ (λ (b f : List Entry). b ++ newEntry (rowOf K t) l ∷ f) (before-end i (entriesOf K t) (without e)) (from-end i (entriesOf K t) (without e)) ∙ ap₂ (λ (b : List Entry) (n : ℕ). b ++ entry n l ∷ []) (entries-are K t w) (count-is K t w))
       (ap (λ (r : Change). climb (shapeIn (stride K) t) (K .effect) l (cond (eqb (r .number) 0) (place.place (shapeIn (stride K) t) t (r .leaf) (r .slot) l) r)) aim-end)
-      (few-lines K l (opening K t ++ [] ++ past K t [] l ∷ room) lines ∙ ap refusal (append-assoc (opening K t) [] (past K t [] l ∷ room)) ∙ opens K t w (past K t [] l ∷ room))
+      (few-lines K l (opening K t ++ [] ++ behindTarget K room t l) lines ∙ ap refusal (append-assoc (opening K t) [] (behindTarget K room t l)) ∙ opens K t w (behindTarget K room t l))
       (λ few tot. placed-is K t w (last-at .0) last [] last-body (length (slotsOf (leafIn (stride K) t last))) (omega arith) (tree.row (treeOf (stride K) t)) [] (end-made (K .effect) (treeOf (stride K) t) (sound-of (stride K) t (K .effect) w)) l wl few tot)
       refuse answer say a says right
 
   -- either target
   pub target-step : ((n : ℕ) → row.total (K .effect) (before i (entriesOf K t)) ≡ n → say (answer n) ≡ a)
-      → Agrees (Mirrors K) (withTarget K t i call) (unless (rowOf K t) (noSuchPlace (rowOf K t) i ∷ rowCauses) (inserted i (newEntry (rowOf K t) l) (entriesOf K t)) a)
+      → Agrees (Mirrors K) (withTarget K t i call) (unless (rowOf K t) (noSuchPlace (rowOf K t) i ∷ behindPlace K rowRoom t i l) (inserted i (newEntry (rowOf K t) l) (entriesOf K t)) a)
   unfolding refusal unless
   target-step right = go (eqb i noEntry) refl
     where
-      go : (b : Bool) → eqb i noEntry ≡ b → Agrees (Mirrors K) (withTarget K t i call) (unless (rowOf K t) (noSuchPlace (rowOf K t) i ∷ rowCauses) (inserted i (newEntry (rowOf K t) l) (entriesOf K t)) a)
+      go : (b : Bool) → eqb i noEntry ≡ b → Agrees (Mirrors K) (withTarget K t i call) (unless (rowOf K t) (noSuchPlace (rowOf K t) i ∷ behindPlace K rowRoom t i l) (inserted i (newEntry (rowOf K t) l) (entriesOf K t)) a)
       go true e =
           let q : i ≡ noEntry = eqb-true i noEntry e in
           rw (e, and-false (leb (length (entriesOf K t)) i))
           (end-step q (right (sumBy (len (K .effect)) (tree.row (treeOf (stride K) t))) (ap (row.total (K .effect)) (before-end i (entriesOf K t) (without q) ∙ entries-are K t w) ∙ total-entries (K .views) (K .effect) (tree.row (treeOf (stride K) t)) (ok))))
       go false e =
           rw (e, and-true (leb (length (entriesOf K t)) i))
-          (by-id K t w i (λ c. call (target.Before c)) rowCauses (inserted i (newEntry (rowOf K t) l) (entriesOf K t)) a (λ c. before-step c (right (sumBy (len (K .effect)) (front (c .cur))) (total-before K t w i c (K .effect) (ok)))))
+          (by-id K t w i (λ c. call (target.Before c)) (behindPlace K rowRoom t i l) (inserted i (newEntry (rowOf K t) l) (entriesOf K t)) a (λ c. before-step c (right (sumBy (len (K .effect)) (front (c .cur))) (total-before K t w i c (K .effect) (ok)))))
 
 module _ (K : Kind) (ok : K .effect < K .views) (t : State) (w : Coherent K t) where
   pub step-insert-by : (room rowRoom : List Cause) (space : Space t room rowRoom) (i : ℕ) (l : List ℕ) (wl : length l ≡ K .views) → tooManyLines K l ≡ false

@@ -36,7 +36,9 @@ pub mod Placed
 pub mod Inserts
 pub mod Halved
 pub mod Splits
+pub mod Each
 pub mod Lines
+pub mod Bounds
 pub mod Step
 pub mod Numbers
 pub mod Hollow

@@ -1,7 +1,7 @@
 -- Make and reset leave a sound state that stands for the row of one entry.
-use mathlib.Core.Path.{_≡_, refl, sym, ap, _∙_, subst}
+use mathlib.Core.Path.{_≡_, refl, ap, _∙_}
 use mathlib.Core.Bool.{Bool, true, false, cond, _||_}
-use mathlib.Core.List.{List, [], _∷_, map}
+use mathlib.Core.List.{List, [], _∷_, _++_, map}
 use Prim.Native.Nat.{ℕ, zero, suc, _*_, _/_, _≤_, _<_}
 use native.Mathlib.Nat.{not-suc-le-zero}
 use native.Mathlib.Numerals.{add-one}
@@ -10,13 +10,14 @@ use lib.Dec.{ltb}
 use lib.ListN.{length, length-set}
 use lib.Seq.{getD-set-same}
 use borrow.Author.Tests.{ltb-false}
-use Rattle.model.specs.Kind.{stride, tooManyLines}
+use Rattle.model.specs.Kind.{stride, tooManyLines, crossed}
 use Rattle.model.specs.declared.shape.Kind.{Kind}
-use Rattle.model.specs.Lists.{All, refusal}
+use Rattle.model.specs.Lists.{All, Cause, refusal}
 use Rattle.model.specs.Node.{Node, none, half, newNode}
 use Rattle.model.specs.State.{State, nextStamp, nodesFor, shape, nodeAt, putNode}
 use Rattle.model.specs.Row as row
-use Rattle.model.specs.Row.{Entry, madeRow, rowMove}
+use Rattle.model.specs.Row.{Entry, done, unless, madeRow, rowMove}
+use Rattle.model.specs.Refuse.{badSize, tooShort, crossedBounds}
 use Rattle.model.specs.Sound.{Coherent}
 use Rattle.model.specs.Calls as calls
 use Rattle.model.specs.Calls.{begun, areaCauses, makeCauses}
@@ -36,8 +37,8 @@ use Rattle.theory.specs.Up.{sound-up}
 use Rattle.theory.specs.Put.{Keeps, put-next}
 use Rattle.theory.specs.Entries.{firsts, entryFrom, entry-is}
 use Rattle.theory.specs.Views.{each-small}
-use Rattle.theory.specs.Open.{passed, few-lines, good-areas}
-use Rattle.theory.specs.Agree.{Agrees, Mirrors, rowOf, entries-are}
+use Rattle.theory.specs.Open.{passed, stopped, few-lines, level-bounds, crossed-bounds, good-areas}
+use Rattle.theory.specs.Agree.{Agrees, Mirrors, rowOf, row-passed, row-stopped, own, entries-are}
 
 -- what the causes of a make leave
 pub record Sizes (K : Kind) (fan limit : ℕ) (ls xs hs : List ℕ) : Type 0 where
@@ -78,6 +79,17 @@ sizes-of K fan limit ls xs hs e =
     none-of true b e = absurd (omega arith)
     none-of false true e = absurd (omega arith)
     none-of false false e = (refl, refl)
+
+-- and the last of them
+pub level-made : (K : Kind) (fan limit : ℕ) (l ls xs hs : List ℕ) → refusal (areaCauses K fan limit ls xs hs ++ crossedBounds K l ∷ []) ≡ 0 → (refusal (areaCauses K fan limit ls xs hs) ≡ 0) × (crossed K l ≡ false)
+unfolding refusal
+level-made K fan limit l ls xs hs e = go (badSize fan limit .applies) (tooShort (shape (stride K) fan limit) limit ls xs hs .applies) (crossed K l) e
+  where
+    go : (a b c : Bool) → _≡_ {A = ℕ} (cond a 1 (cond b 2 (cond c 20 0))) 0 → (_≡_ {A = ℕ} (cond a 1 (cond b 2 0)) 0) × (c ≡ false)
+    go true b c e = absurd (omega arith)
+    go false true c e = absurd (omega arith)
+    go false false true e = absurd (omega arith)
+    go false false false e = (refl, refl)
 
 pub nodes-least : (fan limit : ℕ) → 1 ≤ nodesFor fan limit
 nodes-least fan limit = go (ltb (limit / half fan) 1) refl
@@ -155,26 +167,46 @@ module _ (K : Kind) (fan limit stamp : ℕ) (l : List ℕ) (ls xs hs : List ℕ)
   unfolding begun firsts x
   begun-stands = record { coherent = start-sound; entries = entries-are K start start-sound ∙ ap (map (entryFrom (K .views))) (fresh-row (treeOf (stride K) start) (slotOf x) (slotOf x) fresh) ∙ ap (λ (y : Entry). y ∷ []) (entry-is (K .views) x (ap suc (small .long))); limit = refl }
 
--- reset on a tree with good areas
-pub reset-is : (K : Kind) (t : State) (w : Coherent K t) (l : List ℕ) → tooManyLines K l ≡ false
-    → calls.reset K t l ≡ calls.reply (begun K (t .head .fan) (t .head .limit) (nextStamp (t .head .stamp)) l (t .leaves) (t .inners) (t .homes)) outcome.Done
-unfolding calls.reset refusal
-reset-is K t w l few =
-    let h = t .head in
-    passed (makeCauses K (h .fan) (h .limit) l (t .leaves) (t .inners) (t .homes)) (λ n. calls.reply t (outcome.Refused n)) _ (few-lines K l (areaCauses K (h .fan) (h .limit) (t .leaves) (t .inners) (t .homes)) few ∙ good-areas K t w [])
+-- reset on a tree with good areas: crossed bounds alone refuse it
+module _ (K : Kind) (t : State) (w : Coherent K t) (l : List ℕ) (few : tooManyLines K l ≡ false) where
+  abbrev cs : List Cause
+  cs = makeCauses K (t .head .fan) (t .head .limit) l (t .leaves) (t .inners) (t .homes)
 
-pub step-reset : (K : Kind) (t : State) (w : Coherent K t) (l : List ℕ) → Words K l → tooManyLines K l ≡ false → Agrees (Mirrors K) (treeMove K t (row.reset l)) (rowMove K (rowOf K t) (row.reset l))
-unfolding treeMove rowMove
-step-reset K t w l small few =
-    let h = t .head in
-    let z : Sizes K (h .fan) (h .limit) (t .leaves) (t .inners) (t .homes) = record {
-      fan-low = w .fan-least;
-      fan-high = w .fan-most;
-      limit-low = w .limit-least;
-      limit-high = w .limit-most;
-      leaf-area = w .leaf-area;
-      inner-area = w .inner-area;
-      home-area = w .home-area;
-    } in
-    subst (λ (r : calls.Reply Outcome). Agrees (Mirrors K) (told r outcomeAnswer) (rowMove K (rowOf K t) (row.reset l))) (sym (reset-is K t w l few))
-    (record { same = refl; kept = begun-stands K (h .fan) (h .limit) (nextStamp (h .stamp)) l (t .leaves) (t .inners) (t .homes) z small })
+  abbrev refuse : ℕ → calls.Reply Outcome
+  refuse n = calls.reply t (outcome.Refused n)
+
+  abbrev answered : calls.Reply Outcome
+  answered = calls.reply (begun K (t .head .fan) (t .head .limit) (nextStamp (t .head .stamp)) l (t .leaves) (t .inners) (t .homes)) outcome.Done
+
+  causes : refusal cs ≡ refusal (crossedBounds K l ∷ [])
+  unfolding refusal
+  causes = few-lines K l (areaCauses K (t .head .fan) (t .head .limit) (t .leaves) (t .inners) (t .homes) ++ crossedBounds K l ∷ []) few ∙ good-areas K t w (crossedBounds K l ∷ [])
+
+  pub reset-is : crossed K l ≡ false → calls.reset K t l ≡ answered
+  unfolding calls.reset refusal
+  reset-is level = passed cs refuse answered (causes ∙ level-bounds K l [] level)
+
+  pub reset-stops : crossed K l ≡ true → calls.reset K t l ≡ calls.reply t (outcome.Refused 20)
+  unfolding calls.reset refusal
+  reset-stops e = stopped cs refuse answered 19 (causes ∙ crossed-bounds K l [] e)
+
+  pub step-reset : Words K l → Agrees (Mirrors K) (treeMove K t (row.reset l)) (rowMove K (rowOf K t) (row.reset l))
+  unfolding treeMove rowMove refusal
+  step-reset small = go (crossed K l) refl
+    where
+      sizes : Sizes K (t .head .fan) (t .head .limit) (t .leaves) (t .inners) (t .homes)
+      sizes = record {
+        fan-low = w .fan-least;
+        fan-high = w .fan-most;
+        limit-low = w .limit-least;
+        limit-high = w .limit-most;
+        leaf-area = w .leaf-area;
+        inner-area = w .inner-area;
+        home-area = w .home-area;
+      }
+
+      go : (b : Bool) → crossed K l ≡ b → Agrees (Mirrors K) (told (calls.reset K t l) outcomeAnswer) (unless (rowOf K t) (row.crossedBounds K l ∷ []) (madeRow (t .head .limit) l .entries) (done []))
+      go true e = rw (reset-stops e, row-stopped (rowOf K t) (row.crossedBounds K l ∷ []) (madeRow (t .head .limit) l .entries) (done []) 19 (crossed-bounds K l [] e)) (record { same = refl; kept = own K t w })
+      go false e =
+          rw (reset-is e, row-passed (rowOf K t) (row.crossedBounds K l ∷ []) (madeRow (t .head .limit) l .entries) (done []) (level-bounds K l [] e))
+          (record { same = refl; kept = begun-stands K (t .head .fan) (t .head .limit) (nextStamp (t .head .stamp)) l (t .leaves) (t .inners) (t .homes) sizes small })

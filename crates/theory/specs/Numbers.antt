@@ -70,18 +70,18 @@ never-done (c ∷ cs) b h q e = go (c .applies) (never-done cs b (h .1) q) e
 
 -- the row's causes before its limit is asked
 abbrev inserting : Kind → Row → ℕ → List ℕ → List Cause
-inserting K r i l = row.noSuchPlace r i ∷ row.past K (row.inserted i (row.newEntry r l) (r .entries)) ∷ []
+inserting K r i l = row.noSuchPlace r i ∷ row.crossedBounds K l ∷ row.past K (row.inserted i (row.newEntry r l) (r .entries)) ∷ []
 
 abbrev splitting : Kind → Row → ℕ → List ℕ → List Cause
-splitting K r i l = row.noSuchId r i ∷ row.tooMuch K l (row.lengthsOf i (r .entries)) ∷ row.hollowPart K l (row.lengthsOf i (r .entries)) ∷ []
+splitting K r i l = row.noSuchId r i ∷ row.tooMuch K l (row.lengthsOf i (r .entries)) ∷ row.hollowPart K l (row.lengthsOf i (r .entries)) ∷ row.crossedParts K l (row.lengthsOf i (r .entries)) ∷ []
 
 move-eight : (K : Kind) (r : Row) (c : Call) → rowMove K r c .answer .number ≡ 8 → r .limit ≤ length (r .entries)
 unfolding rowMove All
-move-eight K r (row.reset l) e = absurd (omega arith)
-move-eight K r (row.insert i l) e = leb-true (r .limit) (length (r .entries)) (comes-only 8 (inserting K r i l) [] (leb (r .limit) (length (r .entries))) (λ z. omega arith) ((λ z. omega arith), ((λ z. omega arith), tt)) tt (sym (number-is r _ _ _) ∙ e) .1)
-move-eight K r (row.split flag i l) e = leb-true (r .limit) (length (r .entries)) (comes-only 8 (splitting K r i l) [] (leb (r .limit) (length (r .entries))) (λ z. omega arith) ((λ z. omega arith), ((λ z. omega arith), ((λ z. omega arith), tt))) tt (sym (number-is r _ _ _) ∙ e) .1)
-move-eight K r (row.setLengths i l) e = absurd (no-cause 8 _ (λ z. omega arith) ((λ z. omega arith), ((λ z. omega arith), tt)) (sym (number-is r _ _ _) ∙ e))
-move-eight K r (row.update i l) e = absurd (no-cause 8 _ (λ z. omega arith) ((λ z. omega arith), ((λ z. omega arith), tt)) (sym (number-is r _ _ _) ∙ e))
+move-eight K r (row.reset l) e = absurd (no-cause 8 _ (λ z. omega arith) ((λ z. omega arith), tt) (sym (number-is r _ _ _) ∙ e))
+move-eight K r (row.insert i l) e = leb-true (r .limit) (length (r .entries)) (comes-only 8 (inserting K r i l) [] (leb (r .limit) (length (r .entries))) (λ z. omega arith) ((λ z. omega arith), ((λ z. omega arith), ((λ z. omega arith), tt))) tt (sym (number-is r _ _ _) ∙ e) .1)
+move-eight K r (row.split flag i l) e = leb-true (r .limit) (length (r .entries)) (comes-only 8 (splitting K r i l) [] (leb (r .limit) (length (r .entries))) (λ z. omega arith) ((λ z. omega arith), ((λ z. omega arith), ((λ z. omega arith), ((λ z. omega arith), tt)))) tt (sym (number-is r _ _ _) ∙ e) .1)
+move-eight K r (row.setLengths i l) e = absurd (no-cause 8 _ (λ z. omega arith) ((λ z. omega arith), ((λ z. omega arith), ((λ z. omega arith), tt))) (sym (number-is r _ _ _) ∙ e))
+move-eight K r (row.update i l) e = absurd (no-cause 8 _ (λ z. omega arith) ((λ z. omega arith), ((λ z. omega arith), ((λ z. omega arith), tt))) (sym (number-is r _ _ _) ∙ e))
 move-eight K r (row.lookup v x) e = absurd (no-cause 8 _ (λ z. omega arith) ((λ z. omega arith), tt) (sym (number-is r _ _ _) ∙ e))
 move-eight K r (row.rank v i) e = absurd (no-cause 8 _ (λ z. omega arith) ((λ z. omega arith), tt) (sym (number-is r _ _ _) ∙ e))
 move-eight K r (row.next i) e = absurd (no-cause 8 _ (λ z. omega arith) ((λ z. omega arith), tt) (sym (number-is r _ _ _) ∙ e))
@@ -94,11 +94,11 @@ move-eight K r row.malformed e = absurd (omega arith)
 -- never 9
 move-nine : (K : Kind) (r : Row) (c : Call) → rowMove K r c .answer .number ≢ 9
 unfolding rowMove All
-move-nine K r (row.reset l) e = absurd (omega arith)
-move-nine K r (row.insert i l) e = no-cause 9 _ (λ z. omega arith) ((λ z. omega arith), ((λ z. omega arith), ((λ z. omega arith), tt))) (sym (number-is r _ _ _) ∙ e)
-move-nine K r (row.split flag i l) e = no-cause 9 _ (λ z. omega arith) ((λ z. omega arith), ((λ z. omega arith), ((λ z. omega arith), ((λ z. omega arith), tt)))) (sym (number-is r _ _ _) ∙ e)
-move-nine K r (row.setLengths i l) e = no-cause 9 _ (λ z. omega arith) ((λ z. omega arith), ((λ z. omega arith), tt)) (sym (number-is r _ _ _) ∙ e)
-move-nine K r (row.update i l) e = no-cause 9 _ (λ z. omega arith) ((λ z. omega arith), ((λ z. omega arith), tt)) (sym (number-is r _ _ _) ∙ e)
+move-nine K r (row.reset l) e = no-cause 9 _ (λ z. omega arith) ((λ z. omega arith), tt) (sym (number-is r _ _ _) ∙ e)
+move-nine K r (row.insert i l) e = no-cause 9 _ (λ z. omega arith) ((λ z. omega arith), ((λ z. omega arith), ((λ z. omega arith), ((λ z. omega arith), tt)))) (sym (number-is r _ _ _) ∙ e)
+move-nine K r (row.split flag i l) e = no-cause 9 _ (λ z. omega arith) ((λ z. omega arith), ((λ z. omega arith), ((λ z. omega arith), ((λ z. omega arith), ((λ z. omega arith), tt))))) (sym (number-is r _ _ _) ∙ e)
+move-nine K r (row.setLengths i l) e = no-cause 9 _ (λ z. omega arith) ((λ z. omega arith), ((λ z. omega arith), ((λ z. omega arith), tt))) (sym (number-is r _ _ _) ∙ e)
+move-nine K r (row.update i l) e = no-cause 9 _ (λ z. omega arith) ((λ z. omega arith), ((λ z. omega arith), ((λ z. omega arith), tt))) (sym (number-is r _ _ _) ∙ e)
 move-nine K r (row.lookup v x) e = no-cause 9 _ (λ z. omega arith) ((λ z. omega arith), tt) (sym (number-is r _ _ _) ∙ e)
 move-nine K r (row.rank v i) e = no-cause 9 _ (λ z. omega arith) ((λ z. omega arith), tt) (sym (number-is r _ _ _) ∙ e)
 move-nine K r (row.next i) e = no-cause 9 _ (λ z. omega arith) ((λ z. omega arith), tt) (sym (number-is r _ _ _) ∙ e)
@@ -110,8 +110,8 @@ move-nine K r row.malformed e = absurd (omega arith)
 
 move-full : (K : Kind) (r : Row) (c : Call) → Adds c → r .limit ≤ length (r .entries) → rowMove K r c .answer .number ≢ 0
 unfolding rowMove All
-move-full K r (row.insert i l) h f e = never-done (inserting K r i l) (leb (r .limit) (length (r .entries))) ((λ z. omega arith), ((λ z. omega arith), tt)) (le-leb (r .limit) (length (r .entries)) f) (sym (number-is r _ _ _) ∙ e)
-move-full K r (row.split flag i l) h f e = never-done (splitting K r i l) (leb (r .limit) (length (r .entries))) ((λ z. omega arith), ((λ z. omega arith), ((λ z. omega arith), tt))) (le-leb (r .limit) (length (r .entries)) f) (sym (number-is r _ _ _) ∙ e)
+move-full K r (row.insert i l) h f e = never-done (inserting K r i l) (leb (r .limit) (length (r .entries))) ((λ z. omega arith), ((λ z. omega arith), ((λ z. omega arith), tt))) (le-leb (r .limit) (length (r .entries)) f) (sym (number-is r _ _ _) ∙ e)
+move-full K r (row.split flag i l) h f e = never-done (splitting K r i l) (leb (r .limit) (length (r .entries))) ((λ z. omega arith), ((λ z. omega arith), ((λ z. omega arith), ((λ z. omega arith), tt)))) (le-leb (r .limit) (length (r .entries)) f) (sym (number-is r _ _ _) ∙ e)
 move-full K r (row.reset l) h f e = absurd h
 move-full K r (row.setLengths i l) h f e = absurd h
 move-full K r (row.update i l) h f e = absurd h
@@ -147,10 +147,10 @@ row-exactly : (K : Kind) (r : Row) (c : Call) → Adds c → earlier K r c ≡ 0
 unfolding rowMove rowStep All
 row-exactly K r (row.insert i l) h z f =
     let y = clear 10 (tooManyLines K l) _ (λ z. omega arith) z in
-    rw (y .0) (number-is r _ _ _ ∙ comes-then 8 (inserting K r i l) [] (leb (r .limit) (length (r .entries))) ((λ z. omega arith), ((λ z. omega arith), tt)) (le-leb (r .limit) (length (r .entries)) f) (y .1))
+    rw (y .0) (number-is r _ _ _ ∙ comes-then 8 (inserting K r i l) [] (leb (r .limit) (length (r .entries))) ((λ z. omega arith), ((λ z. omega arith), ((λ z. omega arith), tt))) (le-leb (r .limit) (length (r .entries)) f) (y .1))
 row-exactly K r (row.split flag i l) h z f =
     let y = clear 10 (tooManyLines K l) _ (λ z. omega arith) z in
-    rw (y .0) (number-is r _ _ _ ∙ comes-then 8 (splitting K r i l) [] (leb (r .limit) (length (r .entries))) ((λ z. omega arith), ((λ z. omega arith), ((λ z. omega arith), tt))) (le-leb (r .limit) (length (r .entries)) f) (y .1))
+    rw (y .0) (number-is r _ _ _ ∙ comes-then 8 (splitting K r i l) [] (leb (r .limit) (length (r .entries))) ((λ z. omega arith), ((λ z. omega arith), ((λ z. omega arith), ((λ z. omega arith), tt)))) (le-leb (r .limit) (length (r .entries)) f) (y .1))
 row-exactly K r (row.reset l) h z f = absurd h
 row-exactly K r (row.setLengths i l) h z f = absurd h
 row-exactly K r (row.update i l) h z f = absurd h

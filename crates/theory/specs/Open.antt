@@ -9,13 +9,13 @@ use native.Mathlib.Decide.{ℕ-discrete}
 use native.Mathlib.Omega.{arith}
 use lib.ListN.{length, getD, length-map}
 use borrow.Author.Tests.{eq-eqb, ne-eqb, lt-ltb, le-ltb, le-leb, lt-leb}
-use Rattle.model.specs.Kind.{stride, tooManyLines}
+use Rattle.model.specs.Kind.{stride, tooManyLines, crossed}
 use Rattle.model.specs.declared.shape.Kind.{Kind}
 use Rattle.model.specs.Lists.{Cause, cause, refusal}
 use Rattle.model.specs.Node.{Node, child, used, indexFrom}
 use Rattle.model.specs.State.{State}
 use Rattle.model.specs.Sound.{shapeIn, leafIn, Coherent}
-use Rattle.model.specs.Refuse.{opening, manyLines, badSize, tooShort, astray, stale, overfull, atCursor, noSuchId}
+use Rattle.model.specs.Refuse.{opening, manyLines, crossedBounds, badSize, tooShort, astray, stale, overfull, atCursor, noSuchId}
 use Rattle.model.specs.Calls as calls
 use Rattle.model.specs.Calls.{unless, cursorAt}
 use Rattle.model.specs.declared.shape.Place.the-variants as slot
@@ -45,6 +45,15 @@ few-lines K l cs e = rw e
 pub many-lines : (K : Kind) (l : List ℕ) (cs : List Cause) → tooManyLines K l ≡ true → refusal (manyLines K l ∷ cs) ≡ 10
 unfolding refusal
 many-lines K l cs e = rw e
+
+-- no lowest above a highest length
+pub level-bounds : (K : Kind) (l : List ℕ) (cs : List Cause) → crossed K l ≡ false → refusal (crossedBounds K l ∷ cs) ≡ refusal cs
+unfolding refusal
+level-bounds K l cs e = rw e
+
+pub crossed-bounds : (K : Kind) (l : List ℕ) (cs : List Cause) → crossed K l ≡ true → refusal (crossedBounds K l ∷ cs) ≡ 20
+unfolding refusal
+crossed-bounds K l cs e = rw e
 
 -- a cause that doesn't apply
 pub clear : (n : ℕ) (b : Bool) (cs : List Cause) → n ≢ 0 → refusal (cause n b ∷ cs) ≡ 0 → (b ≡ false) × (refusal cs ≡ 0)

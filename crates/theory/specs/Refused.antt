@@ -19,7 +19,7 @@ use Rattle.model.specs.Place as place
 use Rattle.model.specs.Place.{Change}
 use Rattle.model.specs.Grow.{areas}
 use Rattle.model.specs.Answer.{outcomeAnswer, numberAnswer, selectedAnswer, locatedAnswer, insertedAnswer, dividedAnswer}
-use Rattle.model.specs.Refuse.{shapeOf, manyLines, opening, atCursor, tooMuch, hollowPart, past, full}
+use Rattle.model.specs.Refuse.{shapeOf, manyLines, opening, atCursor, tooMuch, hollowPart, crossedBounds, crossedParts, past, full}
 use Rattle.model.specs.Row as row
 use Rattle.model.specs.Row.{Call, Answer, Moved, noEntry, overlong}
 use Rattle.model.specs.ById as byId
@@ -52,7 +52,7 @@ use Rattle.laws.specs.Lists.{length-zip}
 use Rattle.laws.specs.Lens.{by-test, Roomy}
 use Rattle.laws.specs.Formed.{formed-new}
 use Rattle.theory.specs.Open.{passed, clear}
-use Rattle.theory.specs.Make.{Sizes, sizes-of, nodes-least}
+use Rattle.theory.specs.Make.{Sizes, sizes-of, level-made, nodes-least}
 use Rattle.theory.specs.Fixed.{fixes}
 use Rattle.theory.specs.Bare.{bares}
 use Rattle.theory.specs.Printed.{print-leaves}
@@ -172,7 +172,7 @@ module _ (K : Kind) (s : State) where
   reset-leaves l w =
       let h = s .head in
       unless-leaves outcomeAnswer outcome.Refused (λ n. refl) s (calls.makeCauses K (h .fan) (h .limit) l (s .leaves) (s .inners) (s .homes)) (calls.reply (calls.begun K (h .fan) (h .limit) (nextStamp (h .stamp)) l (s .leaves) (s .inners) (s .homes)) outcome.Done)
-      (λ e. let b = begun-spans (h .fan) (h .limit) (nextStamp (h .stamp)) l (s .leaves) (s .inners) (s .homes) (sizes-of K (h .fan) (h .limit) (s .leaves) (s .inners) (s .homes) (few K l _ e)) w in
+      (λ e. let b = begun-spans (h .fan) (h .limit) (nextStamp (h .stamp)) l (s .leaves) (s .inners) (s .homes) (sizes-of K (h .fan) (h .limit) (s .leaves) (s .inners) (s .homes) (level-made K (h .fan) (h .limit) l (s .leaves) (s .inners) (s .homes) (few K l _ e) .0)) w in
       finished 0 s (calls.begun K (h .fan) (h .limit) (nextStamp (h .stamp)) l (s .leaves) (s .inners) (s .homes)) refl (b .0) (b .1) (b .2))
 
   end-left : (k : Leaf) → Left s (calls.endOf K s k .number) (calls.endOf K s k .state)
@@ -207,26 +207,26 @@ module _ (K : Kind) (s : State) where
   unfolding calls.insertBy opening
   insert-leaves room t l w = let r = calls.placed K s t l in let a = inserted.At (calls.entryId (s .head .entries)) (r .1) in
       unless-leaves insertedAnswer inserted.Refused (λ n. refl) s (calls.insertCauses K room s t l) (calls.settled s (r .0) inserted.Refused a)
-      (λ e. settled-leaves insertedAnswer inserted.Refused (λ n. refl) s (r .0) a refl (placed-left t l w (opened K s (calls.targetCauses K s t ++ past K s [] l ∷ room) (few K l _ e) .0)))
+      (λ e. settled-leaves insertedAnswer inserted.Refused (λ n. refl) s (r .0) a refl (placed-left t l w (opened K s (calls.targetCauses K s t ++ crossedBounds K l ∷ past K s [] l ∷ room) (few K l _ e) .0)))
 
   set-leaves : (c : Cursor) (l : List ℕ) → Words K l → Leaves (outcomeAnswer (calls.setLengths K s c l .answer) .number) s (calls.setLengths K s c l .after)
   unfolding calls.setLengths opening
   set-leaves c l w = let r = calls.resized K s c l in
       unless-leaves outcomeAnswer outcome.Refused (λ n. refl) s (calls.resizeCauses K s c l) (calls.settled s (r .0) outcome.Refused outcome.Done)
-      (λ e. let o = opened K s (atCursor K s c ++ past K s (lengths (calls.slotAt K s c)) l ∷ []) (few K l _ e) in settled-leaves outcomeAnswer outcome.Refused (λ n. refl) s (r .0) outcome.Done refl (resized-left c l w (o .0) (current-of K s c (past K s (lengths (calls.slotAt K s c)) l ∷ []) (o .1))))
+      (λ e. let o = opened K s (atCursor K s c ++ crossedBounds K l ∷ past K s (lengths (calls.slotAt K s c)) l ∷ []) (few K l _ e) in settled-leaves outcomeAnswer outcome.Refused (λ n. refl) s (r .0) outcome.Done refl (resized-left c l w (o .0) (current-of K s c (crossedBounds K l ∷ past K s (lengths (calls.slotAt K s c)) l ∷ []) (o .1))))
 
   update-leaves : (c : Cursor) (l : List ℕ) → Words K l → Leaves (numberAnswer (calls.update K s c l .answer) .number) s (calls.update K s c l .after)
   unfolding calls.update opening
   update-leaves c l w = let r = calls.resized K s c l in
       unless-leaves numberAnswer number.Refused (λ n. refl) s (calls.resizeCauses K s c l) (calls.settled s (r .0) number.Refused (number.Is (r .1)))
-      (λ e. let o = opened K s (atCursor K s c ++ past K s (lengths (calls.slotAt K s c)) l ∷ []) (few K l _ e) in settled-leaves numberAnswer number.Refused (λ n. refl) s (r .0) (number.Is (r .1)) refl (resized-left c l w (o .0) (current-of K s c (past K s (lengths (calls.slotAt K s c)) l ∷ []) (o .1))))
+      (λ e. let o = opened K s (atCursor K s c ++ crossedBounds K l ∷ past K s (lengths (calls.slotAt K s c)) l ∷ []) (few K l _ e) in settled-leaves numberAnswer number.Refused (λ n. refl) s (r .0) (number.Is (r .1)) refl (resized-left c l w (o .0) (current-of K s c (crossedBounds K l ∷ past K s (lengths (calls.slotAt K s c)) l ∷ []) (o .1))))
 
   pub split-leaves : (room : List Cause) (c : Cursor) (l : List ℕ) (flag : Bool) → Words K l → Leaves (dividedAnswer (calls.splitBy K room s c l flag .answer) .number) s (calls.splitBy K room s c l flag .after)
   unfolding calls.splitBy opening
   split-leaves room c l flag w = let r = place.divide (shapeOf K (s .head)) flag s (c .leaf .0) (c .slot) l in
       let a = calls.dividedAt (s .head .entries) (nextStamp (s .head .stamp)) (r .leaf) (r .slot) in
       unless-leaves dividedAnswer divided.Refused (λ m. refl) s (calls.splitCauses K room s c l) (calls.settled s r divided.Refused a)
-      (λ e. settled-leaves dividedAnswer divided.Refused (λ m. refl) s r a refl (divide-left (shapeOf K (s .head)) flag s (c .leaf .0) (c .slot) l (opened K s (atCursor K s c ++ tooMuch K l (lengths (calls.slotAt K s c)) ∷ hollowPart K l (lengths (calls.slotAt K s c)) ∷ room) (few K l _ e) .0) (let z = w .long in omega arith)))
+      (λ e. settled-leaves dividedAnswer divided.Refused (λ m. refl) s r a refl (divide-left (shapeOf K (s .head)) flag s (c .leaf .0) (c .slot) l (opened K s (atCursor K s c ++ tooMuch K l (lengths (calls.slotAt K s c)) ∷ hollowPart K l (lengths (calls.slotAt K s c)) ∷ crossedParts K l (lengths (calls.slotAt K s c)) ∷ room) (few K l _ e) .0) (let z = w .long in omega arith)))
 
   -- a lookup writes no area, and keeps a finger only where it finds an entry
   search-leaves : (b : Search) → Leaves (locatedAnswer (calls.bySearch s b .answer) .number) s (calls.bySearch s b .after)
@@ -339,7 +339,7 @@ make-leaves K fan limit l ls xs hs w = go (eqb (refusal (calls.makeCauses K fan 
   where
     go : (b : Bool) → eqb (refusal (calls.makeCauses K fan limit l ls xs hs)) 0 ≡ b → Made K fan limit l ls xs hs
     go true e =
-        let b = begun-spans K (state (headOf 0 0 0 0 0 0 0 0 held.Absent) ls xs hs) fan limit 1 l ls xs hs (sizes-of K fan limit ls xs hs (few K l _ (eqb-true _ _ e))) w in
+        let b = begun-spans K (state (headOf 0 0 0 0 0 0 0 0 held.Absent) ls xs hs) fan limit 1 l ls xs hs (sizes-of K fan limit ls xs hs (level-made K fan limit l ls xs hs (few K l _ (eqb-true _ _ e)) .0)) w in
         record { refused = rw e (λ d. absurd (d refl)); leaves = rw e (b .0); inners = rw e (b .1); homes = rw e (b .2) }
     go false e = record { refused = rw e (λ d. refl); leaves = rw e refl; inners = rw e refl; homes = rw e refl }
 

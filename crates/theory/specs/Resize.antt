@@ -2,14 +2,14 @@
 use mathlib.Core.Path.{_≡_, refl, sym, ap, ap₂, _∙_, subst, fun-ext}
 use mathlib.Core.Bool.{Bool, true, false, cond}
 use mathlib.Core.List.{List, [], _∷_, _++_, map, append-assoc}
-use Prim.Native.Nat.{ℕ, _+_, _-_, _%_, _^_, _≤_, _<_}
+use Prim.Native.Nat.{ℕ, suc, _+_, _-_, _%_, _^_, _≤_, _<_}
 use native.Mathlib.Decide.{decLt}
 use native.Mathlib.Omega.{arith}
 use lib.Dec.{ltb, eqb}
 use lib.ListN.{length, getD, drop, set, length-map, length-drop, List·getD-eq-default}
 use lib.Seq.{take-set-le}
 use borrow.Author.Tests.{lt-ltb, le-ltb, ltb-false}
-use Rattle.model.specs.Kind.{stride, viewsOf, tooManyLines}
+use Rattle.model.specs.Kind.{stride, viewsOf, tooManyLines, crossed}
 use Rattle.model.specs.declared.shape.Kind.{Kind}
 use Rattle.model.specs.Lists.{sumBy, some, Cause, refusal}
 use Rattle.model.specs.Node as node
@@ -21,8 +21,9 @@ use Rattle.model.specs.Place.{Change, change, withFinger, replace, climb, summe
 use Rattle.model.specs.Row as row
 use Rattle.model.specs.Row.{Entry, entry, Answer, done, refused, unless, before, changed, rowMove}
 use Rattle.model.specs.Sound.{leafIn, innerIn, shapeIn, Coherent, entriesOf}
-use Rattle.model.specs.Refuse.{opening, atCursor, past, totalOf}
+use Rattle.model.specs.Refuse.{opening, atCursor, crossedBounds, past, totalOf}
 use Rattle.model.specs.Calls as calls
+use Rattle.model.specs.declared.head.Cursor.{Cursor}
 use Rattle.model.specs.Calls.{cursorAt, resized, resizeCauses}
 use Rattle.model.specs.ById.{told, treeMove}
 use Rattle.model.specs.Answer.{outcomeAnswer, numberAnswer}
@@ -78,6 +79,13 @@ ltb-same a b c d f g = go (decLt a b)
         later : Dec (c < d) → d ≤ c
         later (yes h) = absurd (n (g h))
         later (no m) = omega arith
+
+-- the row's causes behind the id, and the first number of their tests
+abbrev behindId : Kind → State → ℕ → List ℕ → List Cause
+behindId K t i l = row.crossedBounds K l ∷ row.past K (changed i l (entriesOf K t)) ∷ []
+
+abbrev numberOf : Bool → Bool → ℕ
+numberOf a b = cond a 20 (cond b 7 0)
 
 module _ (K : Kind) (t : State) (w : Coherent K t) (i : ℕ) (c : Seat K t w i) (l : List ℕ) (wl : length l ≡ K .views) (lines : tooManyLines K l ≡ false) where
   -- the slot, its lengths, the difference
@@ -253,53 +261,53 @@ module _ (K : Kind) (t : State) (w : Coherent K t) (i : ℕ) (c : Seat K t w i) 
       ∙ ap (λ (m : ℕ). (change 0 (state (r .state .head) (r .state .leaves) (carried .words) (r .state .homes)) (c .leaf) (c .slot), m)) small
 
   -- the causes of both calls come to the same
-  resize-causes : refusal (resizeCauses K t (cursorAt (t .head .stamp) (c .leaf) (c .slot)) l) ≡ refusal (row.past K (changed i l (entriesOf K t)) ∷ [])
+  abbrev at : Cursor
+  at = cursorAt (t .head .stamp) (c .leaf) (c .slot)
+
+  abbrev over : Bool
+  over = some (λ v. ltb 4294967295 (row.total v (changed i l (entriesOf K t)))) (viewsOf K)
+
+  resize-causes : refusal (resizeCauses K t at l) ≡ refusal (behindId K t i l)
   unfolding refusal x
   resize-causes =
-      few-lines K l (opening K t ++ atCursor K t (cursorAt (t .head .stamp) (c .leaf) (c .slot)) ++ past K t (lengths x) l ∷ []) lines
-      ∙ ap refusal (append-assoc (opening K t) (atCursor K t (cursorAt (t .head .stamp) (c .leaf) (c .slot))) (past K t (lengths x) l ∷ []))
-      ∙ opens K t w (atCursor K t (cursorAt (t .head .stamp) (c .leaf) (c .slot)) ++ past K t (lengths x) l ∷ []) ∙ fresh-at K t w (c .leaf) (c .slot) (past K t (lengths x) l ∷ []) (c .leaf-in) (c .slot-in)
-      ∙ ap (λ (b : Bool). cond b 7 0) past-is
+      few-lines K l (opening K t ++ atCursor K t at ++ crossedBounds K l ∷ past K t (lengths x) l ∷ []) lines
+      ∙ ap refusal (append-assoc (opening K t) (atCursor K t at) (crossedBounds K l ∷ past K t (lengths x) l ∷ []))
+      ∙ opens K t w (atCursor K t at ++ crossedBounds K l ∷ past K t (lengths x) l ∷ []) ∙ fresh-at K t w (c .leaf) (c .slot) (crossedBounds K l ∷ past K t (lengths x) l ∷ []) (c .leaf-in) (c .slot-in)
+      ∙ ap (numberOf (crossed K l)) past-is
 
   -- a call that answers A, where the row answers a
   module _ {A : Type 0} (refuse : ℕ → A) (answer : ℕ → A) (say : A → Answer) (a : Answer) (says : (n : ℕ) → say (refuse n) ≡ refused n) (right : say (answer (sumBy (len (K .effect)) (front (c .cur)))) ≡ a) where
-    resize-step : Agrees (Mirrors K)
-        (told (calls.unless (resizeCauses K t (cursorAt (t .head .stamp) (c .leaf) (c .slot)) l) (λ n. calls.reply t (refuse n))
-        (calls.settled t (resized K t (cursorAt (t .head .stamp) (c .leaf) (c .slot)) l .0) refuse (answer (resized K t (cursorAt (t .head .stamp) (c .leaf) (c .slot)) l .1)))) say)
-        (unless (rowOf K t) (row.past K (changed i l (entriesOf K t)) ∷ []) (changed i l (entriesOf K t)) a)
-    unfolding refusal
-    resize-step = go (some (λ v. ltb 4294967295 (row.total v (changed i l (entriesOf K t)))) (viewsOf K)) refl
-      where
-        cs : List Cause
-        cs = resizeCauses K t (cursorAt (t .head .stamp) (c .leaf) (c .slot)) l
+    abbrev answered : calls.Reply A
+    answered = calls.settled t (resized K t at l .0) refuse (answer (resized K t at l .1))
 
-        go : (b : Bool) → some (λ v. ltb 4294967295 (row.total v (changed i l (entriesOf K t)))) (viewsOf K) ≡ b → Agrees (Mirrors K)
-            (told (calls.unless (resizeCauses K t (cursorAt (t .head .stamp) (c .leaf) (c .slot)) l) (λ n. calls.reply t (refuse n))
-            (calls.settled t (resized K t (cursorAt (t .head .stamp) (c .leaf) (c .slot)) l .0) refuse (answer (resized K t (cursorAt (t .head .stamp) (c .leaf) (c .slot)) l .1)))) say)
-            (unless (rowOf K t) (row.past K (changed i l (entriesOf K t)) ∷ []) (changed i l (entriesOf K t)) a)
-        go true q =
-            let e : refusal (row.past K (changed i l (entriesOf K t)) ∷ []) ≡ 7 = ap (λ (b : Bool). cond b 7 0) q in
-            rw (
-              stopped cs (λ n. calls.reply t (refuse n)) (calls.settled t (resized K t (cursorAt (t .head .stamp) (c .leaf) (c .slot)) l .0) refuse (answer (resized K t (cursorAt (t .head .stamp) (c .leaf) (c .slot)) l .1))) 6 (resize-causes ∙ e),
-              row-stopped (rowOf K t) (row.past K (changed i l (entriesOf K t)) ∷ []) (changed i l (entriesOf K t)) a 6 e,
-            )
-            (record { same = says 7; kept = own K t w })
-        go false q =
-            let e : refusal (row.past K (changed i l (entriesOf K t)) ∷ []) ≡ 0 = ap (λ (b : Bool). cond b 7 0) q in
-            rw (
-              passed cs (λ n. calls.reply t (refuse n)) (calls.settled t (resized K t (cursorAt (t .head .stamp) (c .leaf) (c .slot)) l .0) refuse (answer (resized K t (cursorAt (t .head .stamp) (c .leaf) (c .slot)) l .1))) (resize-causes ∙ e),
-              row-passed (rowOf K t) (row.past K (changed i l (entriesOf K t)) ∷ []) (changed i l (entriesOf K t)) a e,
-              resized-is,
-            )
-            (record { same = right; kept = stands′ q })
+    abbrev refusing : ℕ → calls.Reply A
+    refusing n = calls.reply t (refuse n)
+
+    resize-step : Agrees (Mirrors K) (told (calls.unless (resizeCauses K t at l) refusing answered) say) (unless (rowOf K t) (behindId K t i l) (changed i l (entriesOf K t)) a)
+    unfolding refusal
+    resize-step = go (crossed K l) refl over refl
+      where
+        number : {p q : Bool} → crossed K l ≡ p → over ≡ q → refusal (behindId K t i l) ≡ numberOf p q
+        number d e = rw (d, e)
+
+        stop : (n : ℕ) → refusal (behindId K t i l) ≡ suc n → Agrees (Mirrors K) (told (calls.unless (resizeCauses K t at l) refusing answered) say) (unless (rowOf K t) (behindId K t i l) (changed i l (entriesOf K t)) a)
+        stop n z = rw (stopped (resizeCauses K t at l) refusing answered n (resize-causes ∙ z), row-stopped (rowOf K t) (behindId K t i l) (changed i l (entriesOf K t)) a n z) (record { same = says (suc n); kept = own K t w })
+
+        go : (p : Bool) → crossed K l ≡ p → (q : Bool) → over ≡ q → Agrees (Mirrors K) (told (calls.unless (resizeCauses K t at l) refusing answered) say) (unless (rowOf K t) (behindId K t i l) (changed i l (entriesOf K t)) a)
+        go true d q e = stop 19 (number d e)
+        go false d true e = stop 6 (number d e)
+        go false d false e =
+            let z : refusal (behindId K t i l) ≡ 0 = number d e in
+            rw (passed (resizeCauses K t at l) refusing answered (resize-causes ∙ z), row-passed (rowOf K t) (behindId K t i l) (changed i l (entriesOf K t)) a z, resized-is)
+            (record { same = right; kept = stands′ e })
 
 module _ (K : Kind) (ok : K .effect < K .views) (t : State) (w : Coherent K t) where
   pub step-set : (i : ℕ) (l : List ℕ) (wl : length l ≡ K .views) → tooManyLines K l ≡ false → Agrees (Mirrors K) (treeMove K t (row.setLengths i l)) (rowMove K (rowOf K t) (row.setLengths i l))
   unfolding treeMove rowMove calls.setLengths
-  step-set i l wl lines = by-id K t w i (λ c. told (calls.setLengths K t c l) outcomeAnswer) (row.past K (changed i l (entriesOf K t)) ∷ []) (changed i l (entriesOf K t)) (done [])
+  step-set i l wl lines = by-id K t w i (λ c. told (calls.setLengths K t c l) outcomeAnswer) (behindId K t i l) (changed i l (entriesOf K t)) (done [])
       (λ c. resize-step K t w i c l wl lines outcome.Refused (λ n. outcome.Done) outcomeAnswer (done []) (λ n. refl) refl)
 
   pub step-update : (i : ℕ) (l : List ℕ) (wl : length l ≡ K .views) → tooManyLines K l ≡ false → Agrees (Mirrors K) (treeMove K t (row.update i l)) (rowMove K (rowOf K t) (row.update i l))
   unfolding treeMove rowMove calls.update
-  step-update i l wl lines = by-id K t w i (λ c. told (calls.update K t c l) numberAnswer) (row.past K (changed i l (entriesOf K t)) ∷ []) (changed i l (entriesOf K t)) (done (row.total (K .effect) (before i (entriesOf K t)) ∷ []))
+  step-update i l wl lines = by-id K t w i (λ c. told (calls.update K t c l) numberAnswer) (behindId K t i l) (changed i l (entriesOf K t)) (done (row.total (K .effect) (before i (entriesOf K t)) ∷ []))
       (λ c. resize-step K t w i c l wl lines number.Refused number.Is numberAnswer (done (row.total (K .effect) (before i (entriesOf K t)) ∷ [])) (λ n. refl) (ap (λ (n : ℕ). done (n ∷ [])) (sym (total-before K t w i c (K .effect) (ok)))))

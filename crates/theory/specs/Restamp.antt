@@ -152,7 +152,7 @@ module _ (K : Kind) (m : ℕ) (s : State) where
   insert-moves t t′ l h e =
       let c = placed-twins t t′ l h in
       unless-moves m s insertedAnswer inserted′.Refused (calls.insertCauses K (refuse′.full s ∷ []) s t l) (calls.insertCauses K (refuse′.full s′ ∷ []) s′ t′ l)
-      (ap₂ (λ (a b : List Cause). refuse′.manyLines K l ∷ (a ++ b ++ refuse′.past K s [] l ∷ refuse′.full s ∷ [])) opening-same e) _ _
+      (ap₂ (λ (a b : List Cause). refuse′.manyLines K l ∷ (a ++ b ++ refuse′.crossedBounds K l ∷ refuse′.past K s [] l ∷ refuse′.full s ∷ [])) opening-same e) _ _
       (settled-moves m s insertedAnswer inserted′.Refused (calls.placed K s t l .0) (calls.placed K s′ t′ l .0) (c .twins) _ _ (ap (λ (n : ℕ). insertedAnswer (inserted′.At (calls.entryId (s .head .entries)) n)) (c .same)))
 
   end-twins : (k : Leaf) → Twins (calls.endOf K s k) (calls.endOf K s′ k)
@@ -170,14 +170,14 @@ module _ (K : Kind) (m : ℕ) (s : State) where
   unfolding calls.splitBy
   split-moves flag l k j =
       unless-moves m s dividedAnswer divided.Refused (calls.splitCauses K (refuse′.full s ∷ []) s (here k j) l) (calls.splitCauses K (refuse′.full s′ ∷ []) s′ (there k j) l)
-      (ap₂ (λ (a b : List Cause). let ls = lengths (calls.slotAt K s (here k j)) in refuse′.manyLines K l ∷ (a ++ b ++ refuse′.tooMuch K l ls ∷ refuse′.hollowPart K l ls ∷ refuse′.full s ∷ [])) opening-same (at-same k j)) _ _
+      (ap₂ (λ (a b : List Cause). let ls = lengths (calls.slotAt K s (here k j)) in refuse′.manyLines K l ∷ (a ++ b ++ refuse′.tooMuch K l ls ∷ refuse′.hollowPart K l ls ∷ refuse′.crossedParts K l ls ∷ refuse′.full s ∷ [])) opening-same (at-same k j)) _ _
       (settled-moves m s dividedAnswer divided.Refused (place.divide (shapeOf K (s .head)) flag s k j l) (place.divide (shapeOf K (s .head)) flag s′ k j l) (divide-twins (shapeOf K (s .head)) m flag s k j l) _ _ refl)
 
   resized-twins : (l : List ℕ) (k j : ℕ) → Climbed (shapeOf K (s .head)) (calls.resized K s (here k j) l) (calls.resized K s′ (there k j) l)
   resized-twins l k j = climb-twins (shapeOf K (s .head)) (K .effect) (minus l (lengths (calls.slotAt K s (here k j)))) _ _ (replace-twins (shapeOf K (s .head)) m s k j l)
 
   resize-same : (l : List ℕ) (k j : ℕ) → calls.resizeCauses K s′ (there k j) l ≡ calls.resizeCauses K s (here k j) l
-  resize-same l k j = ap₂ (λ (a b : List Cause). refuse′.manyLines K l ∷ (a ++ b ++ refuse′.past K s (lengths (calls.slotAt K s (here k j))) l ∷ [])) opening-same (at-same k j)
+  resize-same l k j = ap₂ (λ (a b : List Cause). refuse′.manyLines K l ∷ (a ++ b ++ refuse′.crossedBounds K l ∷ refuse′.past K s (lengths (calls.slotAt K s (here k j))) l ∷ [])) opening-same (at-same k j)
 
   set-moves : (l : List ℕ) (k j : ℕ) → Moves (told (calls.setLengths K s (here k j) l) outcomeAnswer) (told (calls.setLengths K s′ (there k j) l) outcomeAnswer)
   unfolding calls.setLengths
@@ -326,6 +326,7 @@ sound-restamped K m s w =
           })
           (sound-of (stride K) s (K .effect) (w .coherent));
       lines = w .lines;
+      bounds = w .bounds;
     }
 
 pub stands-restamped : (K : Kind) (m : ℕ) (s : State) (r : Row) → Stands K s r → Stands K (restamped m s) r

@@ -2,21 +2,22 @@
 -- row becomes, with the same charges. A call that names a seat is the call without seats with other causes for want of space, and then a charge.
 use mathlib.Core.Path.{_≡_, refl, sym, ap, ap₂, _∙_, subst}
 use mathlib.Core.Bool.{Bool, true, false, cond, not, _||_}
-use mathlib.Core.List.{List, []}
+use mathlib.Core.List.{List, [], _∷_}
 use Prim.Native.Nat.{ℕ, zero, suc, _+_, _<_}
 use native.Mathlib.Decide.{decLt}
 use native.Mathlib.Omega.{arith}
 use lib.Dec.{eqb, ltb, leb}
 use lib.ListN.{length, length-set}
 use borrow.Author.Tests.{ne-eqb, ltb-false, lt-leb}
+use Rattle.model.specs.Kind.{crossed}
 use Rattle.model.specs.declared.shape.Kind.{Kind}
 use Rattle.model.specs.Lists.{Cause, refusal}
 use Rattle.model.specs.State.{State}
 use Rattle.model.specs.Place.{Change, divide}
 use Rattle.model.specs.Refuse.{shapeOf}
 use Rattle.model.specs.Row as row
-use Rattle.model.specs.Row.{Row, Call, Entry, Answer, done, refused, Moved, moved, noEntry, newEntry, inserted, divided, overlong, rowMove, rowStep}
-use Rattle.model.specs.Answer.{insertedAnswer}
+use Rattle.model.specs.Row.{Row, Call, Entry, Answer, done, refused, Moved, moved, noEntry, newEntry, inserted, divided, madeRow, overlong, rowMove, rowStep}
+use Rattle.model.specs.Answer.{outcomeAnswer, insertedAnswer}
 use Rattle.model.specs.Sound.{Sound, entriesOf}
 use Rattle.model.specs.Calls as calls
 use Rattle.model.specs.ById.{told, withCursor, withTarget, atTarget, dividedAnswer, treeMove, treeStep}
@@ -24,7 +25,7 @@ use Rattle.model.specs.Promise.{InWords, Words, Stands}
 use Rattle.model.specs.Seats.{badSeat, over, chargedTo, Fair}
 use Rattle.model.specs.SeatedCalls.{space, afterInsert, afterSplit, insertSeated, splitSeated, resetSeated}
 use Rattle.model.specs.SeatedList as list
-use Rattle.model.specs.SeatedList.{Seated, seated, Naming, deed, misnamed, charging, rowSpace, toldSeated, seatedRowMove, seatedRow, seatedTreeMove, seatedTree}
+use Rattle.model.specs.SeatedList.{Seated, seated, Naming, deed, misnamed, charging, clearing, rowSpace, toldSeated, seatedRowMove, seatedRow, seatedTreeMove, seatedTree}
 use Rattle.model.specs.declared.seats.Seats.{Seats}
 use Rattle.model.specs.declared.seats.Seat.{Seat}
 use Rattle.model.specs.declared.seats.Seat.the-variants as seat′
@@ -34,10 +35,12 @@ use Rattle.model.specs.declared.answer.Target.the-variants as target
 use Rattle.model.specs.declared.answer.Inserted.the-variants as insertion
 use Rattle.model.specs.declared.answer.Divided.the-variants as division
 use Rattle.theory.specs.Views.{or-false}
-use Rattle.theory.specs.Open.{clear, seat, no-seat}
+use Rattle.theory.specs.Open.{clear, level-bounds, crossed-bounds, seat, no-seat}
 use Rattle.theory.specs.Agree.{Agrees, Mirrors, Space, rowOf, row-passed, row-stopped, count-is, by-limit}
-use Rattle.theory.specs.Lines.{FewLines, inserted-few, divided-few, stands-few, stands-of}
-use Rattle.theory.specs.Make.{reset-is}
+use Rattle.theory.specs.Each.{inserted-all}
+use Rattle.theory.specs.Lines.{FewIn, FewLines, divided-few, stands-few}
+use Rattle.theory.specs.Bounds.{Level, inserted-level, divided-level, stands-level, stands-of}
+use Rattle.theory.specs.Make.{reset-is, reset-stops}
 use Rattle.theory.specs.Inserts.{step-insert-by}
 use Rattle.theory.specs.Splits.{step-split-by}
 use Rattle.theory.specs.Step.{step}
@@ -85,6 +88,9 @@ module _ (K : Kind) (ok : K .effect < K .views) (t : State) (w : Sound K t) (b :
   few : FewLines K (entriesOf K t)
   few = stands-few K t (rowOf K t) (record { sound = w; entries = refl; limit = refl })
 
+  level : Level K (entriesOf K t)
+  level = stands-level K t (rowOf K t) (record { sound = w; entries = refl; limit = refl })
+
   -- why one entry more has no space -----------------------------------------------------------------------------------------------------------
 
   pub spaces : (x : Seat) → badSeat b x ≡ false → Space t (space t b x) (rowSpace (rowOf K t) b x)
@@ -111,9 +117,9 @@ module _ (K : Kind) (ok : K .effect < K .views) (t : State) (w : Sound K t) (b :
 
   -- a call that names a seat ----------------------------------------------------------------------------------------------------------------
 
-  charged-step : (x : Seat) (cs : List Cause) (es : List Entry) (vs : List ℕ) (m : Moved State) → Agrees (Mirrors K) m (row.unless (rowOf K t) cs es (done vs)) → FewLines K es
+  charged-step : (x : Seat) (cs : List Cause) (es : List Entry) (vs : List ℕ) (m : Moved State) → Agrees (Mirrors K) m (row.unless (rowOf K t) cs es (done vs)) → FewLines K es → (refusal cs ≡ 0 → Level K es)
       → (refusal cs ≡ 0 → Fair (t .head .limit) (length es) (chargedTo x b)) → Agrees (SeatedStands K) (charging x b m) (charging x b (row.unless (rowOf K t) cs es (done vs)))
-  charged-step x cs es vs m a f more = go (refusal cs) refl
+  charged-step x cs es vs m a f g more = go (refusal cs) refl
     where
       go : (n : ℕ) → refusal cs ≡ n → Agrees (SeatedStands K) (charging x b m) (charging x b (row.unless (rowOf K t) cs es (done vs)))
       go zero e =
@@ -121,13 +127,13 @@ module _ (K : Kind) (ok : K .effect < K .views) (t : State) (w : Sound K t) (b :
           let same : m .answer ≡ done vs = a .same ∙ ap (λ (z : Moved Row). z .answer) n in
           let kept : Mirrors K (m .after) (row.row (t .head .limit) es) = subst (λ (z : Moved Row). Mirrors K (m .after) (z .after)) n (a .kept) in
           subst (λ (z : Moved Row). Agrees (SeatedStands K) (charging x b m) (charging x b z)) (sym n)
-          (rw same (record { same = refl; kept = record { stands = stands-of K (m .after) (row.row (t .head .limit) es) kept f; seats = refl; eight = eight-charged b x eight; fair = more e } }))
+          (rw same (record { same = refl; kept = record { stands = stands-of K (m .after) (row.row (t .head .limit) es) kept f (g e); seats = refl; eight = eight-charged b x eight; fair = more e } }))
       go (suc k) e =
           let n = row-stopped (rowOf K t) cs es (done vs) k e in
           let same : m .answer ≡ refused (suc k) = a .same ∙ ap (λ (z : Moved Row). z .answer) n in
           let kept : Mirrors K (m .after) (rowOf K t) = subst (λ (z : Moved Row). Mirrors K (m .after) (z .after)) n (a .kept) in
           subst (λ (z : Moved Row). Agrees (SeatedStands K) (charging x b m) (charging x b z)) (sym n)
-          (rw (same, ne-eqb (suc k) 0 (λ z. omega arith)) (record { same = refl; kept = record { stands = stands-of K (m .after) (rowOf K t) kept few; seats = refl; eight = eight; fair = fair } }))
+          (rw (same, ne-eqb (suc k) 0 (λ z. omega arith)) (record { same = refl; kept = record { stands = stands-of K (m .after) (rowOf K t) kept few level; seats = refl; eight = eight; fair = fair } }))
 
   -- the calls by id: those of the library, then the charge
   one-insert : (x : Seat) (l : List ℕ) → badSeat b x ≡ false → (tg : Target) → toldSeated (insertSeated K t b x tg l) insertedAnswer ≡ charging x b (told (calls.insertBy K (space t b x) t tg l) insertedAnswer)
@@ -163,9 +169,9 @@ module _ (K : Kind) (ok : K .effect < K .views) (t : State) (w : Sound K t) (b :
       let es : List Entry = inserted i (newEntry (rowOf K t) l) (entriesOf K t) in
       subst (λ (m : Moved (Seated State)). Agrees (SeatedStands K) m (charging x b (row.insertBy K (rowSpace (rowOf K t) b x) (rowOf K t) i l)))
       (sym (at-target x i (λ tg. toldSeated (insertSeated K t b x tg l) insertedAnswer) (λ tg. told (calls.insertBy K (space t b x) t tg l) insertedAnswer) (one-insert x l e)))
-      (charged-step x _ es _ _ (step-insert-by K ok t (w .coherent) (space t b x) (rowSpace (rowOf K t) b x) (spaces x e) i l wl o) (inserted-few K i (newEntry (rowOf K t) l) (entriesOf K t) o few)
+      (charged-step x _ es _ _ (step-insert-by K ok t (w .coherent) (space t b x) (rowSpace (rowOf K t) b x) (spaces x e) i l wl o) (inserted-all (FewIn K) i (newEntry (rowOf K t) l) (entriesOf K t) o few) (inserted-level K _ (rowOf K t) i l level)
       (λ z. subst (λ (n : ℕ). Fair (t .head .limit) n (chargedTo x b)) (let y = one-more i (newEntry (rowOf K t) l) (entriesOf K t) in omega arith)
-      (takes x e (clear 7 (row.past K es .applies) _ (λ z. omega arith) (clear 4 (row.noSuchPlace (rowOf K t) i .applies) _ (λ z. omega arith) z .1) .1))))
+      (takes x e (clear 7 (row.past K es .applies) _ (λ z. omega arith) (clear 20 (crossed K l) _ (λ z. omega arith) (clear 4 (row.noSuchPlace (rowOf K t) i .applies) _ (λ z. omega arith) z .1) .1) .1))))
 
   split-seated : (x : Seat) (flag : Bool) (i : ℕ) (l : List ℕ) → length l ≡ K .views → overlong K (row.split flag i l) ≡ false → badSeat b x ≡ false
       → Agrees (SeatedStands K) (seatedTreeMove K t b x (row.split flag i l) (list.splits flag i l)) (seatedRowMove K (rowOf K t) b x (row.split flag i l) (list.splits flag i l))
@@ -175,19 +181,32 @@ module _ (K : Kind) (ok : K .effect < K .views) (t : State) (w : Sound K t) (b :
       let ls : List ℕ = row.lengthsOf i (entriesOf K t) in
       subst (λ (m : Moved (Seated State)). Agrees (SeatedStands K) m (charging x b (row.splitBy K (rowSpace (rowOf K t) b x) (rowOf K t) flag i l)))
       (sym (at-cursor x i (λ c. toldSeated (splitSeated K t b x c l flag) dividedAnswer) (λ c. told (calls.splitBy K (space t b x) t c l flag) dividedAnswer) (one-split x l flag e)))
-      (charged-step x _ es _ _ (step-split-by K t (w .coherent) (space t b x) (rowSpace (rowOf K t) b x) (spaces x e) flag i l wl o) (divided-few K flag i (newEntry (rowOf K t) l) (entriesOf K t) o few)
+      (charged-step x _ es _ _ (step-split-by K t (w .coherent) (space t b x) (rowSpace (rowOf K t) b x) (spaces x e) flag i l wl o) (divided-few K flag i (newEntry (rowOf K t) l) (entriesOf K t) o few) (divided-level K _ (rowOf K t) flag i l level)
       (λ z. let behind = clear 4 (row.noSuchId (rowOf K t) i .applies) _ (λ z. omega arith) z .1 in
       subst (λ (n : ℕ). Fair (t .head .limit) n (chargedTo x b)) (let y = divided-count flag i (newEntry (rowOf K t) l) (entriesOf K t) (is-there K t (w .coherent) i _ z) in omega arith)
-      (takes x e (clear 17 (row.hollowPart K l ls .applies) _ (λ z. omega arith) (clear 6 (row.tooMuch K l ls .applies) _ (λ z. omega arith) behind .1) .1))))
+      (takes x e (clear 20 (row.crossedParts K l ls .applies) _ (λ z. omega arith) (clear 17 (row.hollowPart K l ls .applies) _ (λ z. omega arith) (clear 6 (row.tooMuch K l ls .applies) _ (λ z. omega arith) behind .1) .1) .1))))
 
   -- the others ----------------------------------------------------------------------------------------------------------------------------------
 
   reset-seated : (x : Seat) (l : List ℕ) → Words K l → overlong K (row.reset l) ≡ false
       → Agrees (SeatedStands K) (seatedTreeMove K t b x (row.reset l) (list.resets l)) (seatedRowMove K (rowOf K t) b x (row.reset l) (list.resets l))
-  unfolding seatedTreeMove seatedRowMove resetSeated treeStep rowStep treeMove rowMove
-  reset-seated x l k o =
-      let a : Agrees (Stands K) (treeMove K t (row.reset l)) (rowMove K (rowOf K t) (row.reset l)) = rw o at (step K ok t (rowOf K t) (record { sound = w; entries = refl; limit = refl }) (row.reset l) k) in
-      rw (reset-is K t (w .coherent) l o) (record { same = refl; kept = record { stands = rw (reset-is K t (w .coherent) l o) at (a .kept); seats = refl; eight = refl; fair = λ s. fair-begun (t .head .limit) (b .seated) (b .shares) (fair s .shares) } })
+  unfolding seatedTreeMove seatedRowMove resetSeated treeStep rowStep treeMove rowMove refusal
+  reset-seated x l k o = go (crossed K l) refl
+    where
+      es : List Entry
+      es = madeRow (t .head .limit) l .entries
+
+      a : Agrees (Stands K) (treeMove K t (row.reset l)) (rowMove K (rowOf K t) (row.reset l))
+      a = rw o at (step K ok t (rowOf K t) (record { sound = w; entries = refl; limit = refl }) (row.reset l) k)
+
+      go : (p : Bool) → crossed K l ≡ p → Agrees (SeatedStands K) (toldSeated (resetSeated K t b l) outcomeAnswer) (clearing b (row.unless (rowOf K t) (row.crossedBounds K l ∷ []) es (done [])))
+      go true e =
+          rw (reset-stops K t (w .coherent) l o e, row-stopped (rowOf K t) (row.crossedBounds K l ∷ []) es (done []) 19 (crossed-bounds K l [] e))
+          (record { same = refl; kept = record { stands = record { sound = w; entries = refl; limit = refl }; seats = refl; eight = eight; fair = fair } })
+      go false e =
+          let n = row-passed (rowOf K t) (row.crossedBounds K l ∷ []) es (done []) (level-bounds K l [] e) in
+          rw (reset-is K t (w .coherent) l o e, n)
+          (record { same = refl; kept = record { stands = rw (reset-is K t (w .coherent) l o e, n) at (a .kept); seats = refl; eight = refl; fair = λ s. fair-begun (t .head .limit) (b .seated) (b .shares) (fair s .shares) } })
 
   other-seated : (x : Seat) (c : Call) → deed c ≡ list.nothing → overlong K c ≡ false → InWords K c → Agrees (SeatedStands K) (seatedTreeMove K t b x c (deed c)) (seatedRowMove K (rowOf K t) b x c (deed c))
   unfolding seatedTreeMove seatedRowMove treeStep rowStep

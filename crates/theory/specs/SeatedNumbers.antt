@@ -43,22 +43,23 @@ pub record Apart (y : ℕ) : Type 0 where
   pub seven : 7 ≢ y
   pub ten : 10 ≢ y
   pub seventeen : 17 ≢ y
+  pub twenty : 20 ≢ y
 
 pub eight-apart : Apart 8
-eight-apart = record { done = λ z. omega arith; four = λ z. omega arith; five = λ z. omega arith; six = λ z. omega arith; seven = λ z. omega arith; ten = λ z. omega arith; seventeen = λ z. omega arith }
+eight-apart = record { done = λ z. omega arith; four = λ z. omega arith; five = λ z. omega arith; six = λ z. omega arith; seven = λ z. omega arith; ten = λ z. omega arith; seventeen = λ z. omega arith; twenty = λ z. omega arith }
 
 pub nine-apart : Apart 9
-nine-apart = record { done = λ z. omega arith; four = λ z. omega arith; five = λ z. omega arith; six = λ z. omega arith; seven = λ z. omega arith; ten = λ z. omega arith; seventeen = λ z. omega arith }
+nine-apart = record { done = λ z. omega arith; four = λ z. omega arith; five = λ z. omega arith; six = λ z. omega arith; seven = λ z. omega arith; ten = λ z. omega arith; seventeen = λ z. omega arith; twenty = λ z. omega arith }
 
 pub eighteen-apart : Apart 18
-eighteen-apart = record { done = λ z. omega arith; four = λ z. omega arith; five = λ z. omega arith; six = λ z. omega arith; seven = λ z. omega arith; ten = λ z. omega arith; seventeen = λ z. omega arith }
+eighteen-apart = record { done = λ z. omega arith; four = λ z. omega arith; five = λ z. omega arith; six = λ z. omega arith; seven = λ z. omega arith; ten = λ z. omega arith; seventeen = λ z. omega arith; twenty = λ z. omega arith }
 
 module _ (K : Kind) (r : Seated Row) (x : Seat) where
   -- the causes of an insert or a split before want of space
   abbrev front : Deed ℕ ℕ → List Cause
-  front (list.inserts i l) = cause 10 (tooManyLines K l) ∷ row.noSuchPlace (r .of) i ∷ row.past K (row.inserted i (row.newEntry (r .of) l) (r .of .entries)) ∷ []
+  front (list.inserts i l) = cause 10 (tooManyLines K l) ∷ row.noSuchPlace (r .of) i ∷ row.crossedBounds K l ∷ row.past K (row.inserted i (row.newEntry (r .of) l) (r .of .entries)) ∷ []
   front (list.splits flag i l) =
-      cause 10 (tooManyLines K l) ∷ row.noSuchId (r .of) i ∷ row.tooMuch K l (row.lengthsOf i (r .of .entries)) ∷ row.hollowPart K l (row.lengthsOf i (r .of .entries)) ∷ []
+      cause 10 (tooManyLines K l) ∷ row.noSuchId (r .of) i ∷ row.tooMuch K l (row.lengthsOf i (r .of .entries)) ∷ row.hollowPart K l (row.lengthsOf i (r .of .entries)) ∷ row.crossedParts K l (row.lengthsOf i (r .of .entries)) ∷ []
   front (list.resets l) = []
   front list.nothing = []
 
@@ -82,12 +83,12 @@ module _ (K : Kind) (r : Seated Row) (x : Seat) where
       (λ flag i l h. ten-or (charging x (r .seats) (row.splitBy K (rowSpace (r .of) (r .seats) x) (r .of) flag i l)) (tooManyLines K l) (badSeat (r .seats) x) _ (λ p q. number-is (r .of) _ _ _))
       (λ c e h. absurd (nothing-added c e h))
 
-  front-not : (y : ℕ) → 4 ≢ y → 6 ≢ y → 7 ≢ y → 10 ≢ y → 17 ≢ y → (d : Deed ℕ ℕ) → All (λ z. z .number ≢ y) (front d)
+  front-not : (y : ℕ) → 4 ≢ y → 6 ≢ y → 7 ≢ y → 10 ≢ y → 17 ≢ y → 20 ≢ y → (d : Deed ℕ ℕ) → All (λ z. z .number ≢ y) (front d)
   unfolding All
-  front-not y f s v t e (list.inserts i l) = (t, (f, (v, tt)))
-  front-not y f s v t e (list.splits flag i l) = (t, (f, (s, (e, tt))))
-  front-not y f s v t e (list.resets l) = tt
-  front-not y f s v t e list.nothing = tt
+  front-not y f s v t e w (list.inserts i l) = (t, (f, (w, (v, tt))))
+  front-not y f s v t e w (list.splits flag i l) = (t, (f, (s, (e, (w, tt)))))
+  front-not y f s v t e w (list.resets l) = tt
+  front-not y f s v t e w list.nothing = tt
 
   -- a call that names no seat has no such number
   module _ (y : ℕ) (a : Apart y) where
@@ -95,9 +96,9 @@ module _ (K : Kind) (r : Seated Row) (x : Seat) where
     unfolding seatedRowMove rowMove All
     move-or (row.insert i l) = inl tt
     move-or (row.split flag i l) = inl tt
-    move-or (row.reset l) = inr (λ e. a .done (sym e))
-    move-or (row.setLengths i l) = inr (λ e. no-cause y _ (a .done) (a .four, (a .seven, tt)) (sym (number-is (r .of) _ _ _) ∙ e))
-    move-or (row.update i l) = inr (λ e. no-cause y _ (a .done) (a .four, (a .seven, tt)) (sym (number-is (r .of) _ _ _) ∙ e))
+    move-or (row.reset l) = inr (λ e. no-cause y _ (a .done) (a .twenty, tt) (sym (number-is (r .of) _ _ _) ∙ e))
+    move-or (row.setLengths i l) = inr (λ e. no-cause y _ (a .done) (a .four, (a .twenty, (a .seven, tt))) (sym (number-is (r .of) _ _ _) ∙ e))
+    move-or (row.update i l) = inr (λ e. no-cause y _ (a .done) (a .four, (a .twenty, (a .seven, tt))) (sym (number-is (r .of) _ _ _) ∙ e))
     move-or (row.lookup v index) = inr (λ e. no-cause y _ (a .done) (a .five, tt) (sym (number-is (r .of) _ _ _) ∙ e))
     move-or (row.rank v i) = inr (λ e. no-cause y _ (a .done) (a .four, tt) (sym (number-is (r .of) _ _ _) ∙ e))
     move-or (row.next i) = inr (λ e. no-cause y _ (a .done) (a .four, tt) (sym (number-is (r .of) _ _ _) ∙ e))
@@ -125,7 +126,7 @@ module _ (K : Kind) (r : Seated Row) (x : Seat) where
       where
         go : (p : Bool) → badSeat (r .seats) x ≡ p → cond p 10 (refusal (front (deed c) ++ rowSpace (r .of) (r .seats) x)) ≢ y
         go true q z = a .ten z
-        go false q z = no-cause y _ (a .done) (All-append (λ z. z .number ≢ y) (front (deed c)) (rowSpace (r .of) (r .seats) x) (front-not y (a .four) (a .six) (a .seven) (a .ten) (a .seventeen) (deed c)) (room q)) z
+        go false q z = no-cause y _ (a .done) (All-append (λ z. z .number ≢ y) (front (deed c)) (rowSpace (r .of) (r .seats) x) (front-not y (a .four) (a .six) (a .seven) (a .ten) (a .seventeen) (a .twenty) (deed c)) (room q)) z
 
   -- 18 is answered only by the rules
   pub eighteen-only : (c : Call) → numberOf c ≡ 18 → (i : ℕ) × Asks r (naming x c) i × Over r i
@@ -133,10 +134,10 @@ module _ (K : Kind) (r : Seated Row) (x : Seat) where
   eighteen-only c e = go (adds-or 18 eighteen-apart c)
     where
       by : (y : Seat) → x ≡ y → badSeat (r .seats) y ≡ false → Adds c → refusal (front (deed c) ++ rowSpace (r .of) (r .seats) y) ≡ 18 → (i : ℕ) × Asks r (naming x c) i × Over r i
-      by seat.Nobody q ok h z = absurd (no-cause 18 _ (λ z. omega arith) (All-append (λ z. z .number ≢ 18) (front (deed c)) _ (front-not 18 (eighteen-apart .four) (eighteen-apart .six) (eighteen-apart .seven) (eighteen-apart .ten) (eighteen-apart .seventeen) (deed c)) ((λ z. omega arith), tt)) z)
+      by seat.Nobody q ok h z = absurd (no-cause 18 _ (λ z. omega arith) (All-append (λ z. z .number ≢ 18) (front (deed c)) _ (front-not 18 (eighteen-apart .four) (eighteen-apart .six) (eighteen-apart .seven) (eighteen-apart .ten) (eighteen-apart .seventeen) (eighteen-apart .twenty) (deed c)) ((λ z. omega arith), tt)) z)
       by (seat.Number i) q ok h z =
           let n = number-in (r .seats) i ok in
-          let o = comes-only 18 (front (deed c)) [] (over (r .of .limit) (length (r .of .entries)) (r .seats) i .applies) (λ z. omega arith) (front-not 18 (eighteen-apart .four) (eighteen-apart .six) (eighteen-apart .seven) (eighteen-apart .ten) (eighteen-apart .seventeen) (deed c)) tt z in
+          let o = comes-only 18 (front (deed c)) [] (over (r .of .limit) (length (r .of .entries)) (r .seats) i .applies) (λ z. omega arith) (front-not 18 (eighteen-apart .four) (eighteen-apart .six) (eighteen-apart .seven) (eighteen-apart .ten) (eighteen-apart .seventeen) (eighteen-apart .twenty) (deed c)) tt z in
           (i, record { adds = h; names = q; below = n .1; seated = n .0 }, over-when (r .of .limit) (length (r .of .entries)) (r .seats) i (o .1))
 
       bad : (p : Bool) → badSeat (r .seats) x ≡ p → Adds c → cond p 10 (refusal (front (deed c) ++ rowSpace (r .of) (r .seats) x)) ≡ 18 → (i : ℕ) × Asks r (naming x c) i × Over r i
@@ -159,7 +160,7 @@ module _ (K : Kind) (r : Seated Row) (x : Seat) where
     earlier-is = by-deed (λ c. Adds c → earlier K (r .of) c ≡ refusal (front (deed c))) (λ l h. absurd h) (λ i l h. refl) (λ flag i l h. refl) (λ c e h. absurd (nothing-added c e h)) c (a .adds)
 
     eighteen : refusal (front (deed c)) ≡ 0 → Over r i → numberOf c ≡ 18
-    eighteen z o = asked ∙ comes-then 18 (front (deed c)) [] _ (front-not 0 (λ z. omega arith) (λ z. omega arith) (λ z. omega arith) (λ z. omega arith) (λ z. omega arith) (deed c)) (over-then (r .of .limit) (length (r .of .entries)) (r .seats) i o) z
+    eighteen z o = asked ∙ comes-then 18 (front (deed c)) [] _ (front-not 0 (λ z. omega arith) (λ z. omega arith) (λ z. omega arith) (λ z. omega arith) (λ z. omega arith) (λ z. omega arith) (deed c)) (over-then (r .of .limit) (length (r .of .entries)) (r .seats) i o) z
 
     not-made : Over r i → numberOf c ≢ 0
     not-made o e = go (refusal (front (deed c))) refl

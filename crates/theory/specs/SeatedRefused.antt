@@ -179,7 +179,8 @@ shares-within K fan limit shares l ls xs hs given = go (refusal causes) refl giv
         let a = clear 10 _ _ (λ z. omega arith) e in
         let b = clear 1 _ _ (λ z. omega arith) (a .1) in
         let c = clear 2 _ _ (λ z. omega arith) (b .1) in
-        ltb-true (sum shares) limit (within (withinLimit limit shares) (clear 19 (not (withinLimit limit shares)) [] (λ z. omega arith) (c .1) .0))
+        let f = clear 20 _ _ (λ z. omega arith) (c .1) in
+        ltb-true (sum shares) limit (within (withinLimit limit shares) (clear 19 (not (withinLimit limit shares)) [] (λ z. omega arith) (f .1) .0))
     go (suc n) e d = absurd (let y : outcome.Refused (suc n) ≡ outcome.Done = sym (ap (λ (r : SeatedReply Outcome). r .answer) (stopped causes (λ m. seatedReply (state (headOf 0 0 0 0 0 0 0 0 held.Absent) ls xs hs) noSeats (outcome.Refused m)) _ n e)) ∙ d in
         let z : _≡_ {A = ℕ} 0 1 = cc in omega arith)
 

@@ -5,7 +5,7 @@ use mathlib.Core.List.{List, [], _∷_}
 use Prim.Native.Nat.{ℕ, _+_, _%_, _^_, _<_}
 use native.Mathlib.Omega.{arith}
 use borrow.Author.Tests.{ne-eqb}
-use Rattle.model.specs.Kind.{tooManyLines}
+use Rattle.model.specs.Kind.{tooManyLines, crossed}
 use Rattle.model.specs.declared.shape.Kind.{Kind}
 use Rattle.model.specs.Lists.{refusal}
 use Rattle.model.specs.State.{State}
@@ -101,6 +101,6 @@ pub still-small : (K : Kind) (s : Seated State) → s .of .head .stamp < 2 ^ 64 
 still-small K s small cs = subst (λ (n : ℕ). n < 2 ^ 64) (sym (seated-by K s small cs)) (below-64 (s .of .head .stamp + seatedMakesAll K s cs))
 
 -- a reset of a sound tree makes one
-pub reset-one : (K : Kind) (s : Seated State) → Coherent K (s .of) → (x : Seat) (l : List ℕ) → tooManyLines K l ≡ false → seatedMakes K s x (list.resets l) ≡ 1
+pub reset-one : (K : Kind) (s : Seated State) → Coherent K (s .of) → (x : Seat) (l : List ℕ) → tooManyLines K l ≡ false → crossed K l ≡ false → seatedMakes K s x (list.resets l) ≡ 1
 unfolding seatedMakes resetSeated makes
-reset-one K s w x l few = reset-makes K l few (s .of) w
+reset-one K s w x l few level = reset-makes K l few level (s .of) w

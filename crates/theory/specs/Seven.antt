@@ -10,16 +10,17 @@ use lib.Dec.{ltb, eqb}
 use lib.ListN.{length, drop, length-append}
 use borrow.Author.Tests.{le-ltb, ltb-true, ltb-false}
 use Rattle.model.specs.Kind.{base, tooManyLines}
-use Rattle.model.specs.Lists.{All, sumBy, some, range, cause, refusal}
+use Rattle.model.specs.Lists.{All, sumBy, some, range}
 use Rattle.model.specs.State.{State}
 use Rattle.model.specs.Row as row
-use Rattle.model.specs.Row.{Row, Entry, entry, Call, Answer, before, from, after, total, overlong, rowMove, rowStep}
+use Rattle.model.specs.Row.{Row, Entry, entry, Call, Answer, done, unless, before, from, after, total, overlong, rowMove, rowStep}
 use Rattle.model.specs.ById.{treeStep}
 use Rattle.model.specs.Promise.{InWords, Stands}
 use Rattle.theory.specs.Agree.{count-is}
-use Rattle.theory.specs.Lines.{FewLines, inserted-few, changed-few, stands-few}
+use Rattle.theory.specs.Each.{inserted-all, changed-all}
+use Rattle.theory.specs.Lines.{FewIn, FewLines, stands-few}
 use Rattle.theory.specs.Step.{step}
-use Rattle.theory.specs.Numbers.{number-is, no-cause}
+use Rattle.theory.specs.Numbers.{number-is, no-cause, comes-only}
 
 at-most : (es : List Entry) → FewLines base es → total 2 es ≤ 65535 * length es
 unfolding All sumBy
@@ -85,20 +86,6 @@ wanted r row.count = r .entries
 wanted r row.first = r .entries
 wanted r row.malformed = r .entries
 
--- the cause that is 7
-seven-last : (a b : Bool) → refusal (cause 4 a ∷ cause 7 b ∷ []) ≡ 7 → b ≡ true
-unfolding refusal
-seven-last true b e = absurd (omega arith)
-seven-last false true e = refl
-seven-last false false e = absurd (omega arith)
-
-seven-first : (a b c : Bool) → refusal (cause 4 a ∷ cause 7 b ∷ cause 8 c ∷ []) ≡ 7 → b ≡ true
-unfolding refusal
-seven-first true b c e = absurd (omega arith)
-seven-first false true c e = refl
-seven-first false false true e = absurd (omega arith)
-seven-first false false false e = absurd (omega arith)
-
 -- a tree that stands for a row: an insertion, a change, and every call
 module _ (t : State) (r : Row) (h : Stands base t r) where
   few : length (r .entries) ≤ 65536
@@ -107,22 +94,27 @@ module _ (t : State) (r : Row) (h : Stands base t r) where
   pub insert-seven : (i : ℕ) (l : List ℕ) → tooManyLines base l ≡ false
       → row.past base (row.inserted i (row.newEntry r l) (r .entries)) .applies ≡ pastOld (row.inserted i (row.newEntry r l) (r .entries))
   insert-seven i l o =
-      old-views (row.inserted i (row.newEntry r l) (r .entries)) (inserted-few base i (row.newEntry r l) (r .entries) o (stands-few base t r h))
+      old-views (row.inserted i (row.newEntry r l) (r .entries)) (inserted-all (FewIn base) i (row.newEntry r l) (r .entries) o (stands-few base t r h))
       (let z = one-more i (row.newEntry r l) (r .entries) in let y = few in omega arith)
 
   pub set-seven : (i : ℕ) (l : List ℕ) → tooManyLines base l ≡ false → row.past base (row.changed i l (r .entries)) .applies ≡ pastOld (row.changed i l (r .entries))
   set-seven i l o =
-      old-views (row.changed i l (r .entries)) (changed-few base i l (r .entries) o (stands-few base t r h))
+      old-views (row.changed i l (r .entries)) (changed-all (FewIn base) i l (r .entries) o (stands-few base t r h))
       (let z = no-less i l (r .entries) in let y = few in omega arith)
+
+  set-by : (i : ℕ) (l vs : List ℕ) → unless r (row.noSuchId r i ∷ row.crossedBounds base l ∷ row.past base (row.changed i l (r .entries)) ∷ []) (row.changed i l (r .entries)) (done vs) .answer .number ≡ 7
+      → row.past base (row.changed i l (r .entries)) .applies ≡ true
+  unfolding All
+  set-by i l vs e = comes-only 7 (row.noSuchId r i ∷ row.crossedBounds base l ∷ []) [] (row.past base (row.changed i l (r .entries)) .applies) (λ z. omega arith) ((λ z. omega arith), ((λ z. omega arith), tt)) tt (sym (number-is r _ _ _) ∙ e) .1
 
   -- every call that answers 7 would pass a u32 in prepare or in effect
   move-seven : (c : Call) → overlong base c ≡ false → rowMove base r c .answer .number ≡ 7 → Passes (wanted r c)
   unfolding rowMove All
-  move-seven (row.reset l) o e = absurd (omega arith)
-  move-seven (row.insert i l) o e = passes-of (wanted r (row.insert i l)) (sym (insert-seven i l o) ∙ seven-first _ _ _ (sym (number-is r _ _ _) ∙ e))
-  move-seven (row.split flag i l) o e = absurd (no-cause 7 _ (λ z. omega arith) ((λ z. omega arith), ((λ z. omega arith), ((λ z. omega arith), ((λ z. omega arith), tt)))) (sym (number-is r _ _ _) ∙ e))
-  move-seven (row.setLengths i l) o e = passes-of (wanted r (row.setLengths i l)) (sym (set-seven i l o) ∙ seven-last _ _ (sym (number-is r _ _ _) ∙ e))
-  move-seven (row.update i l) o e = passes-of (wanted r (row.update i l)) (sym (set-seven i l o) ∙ seven-last _ _ (sym (number-is r _ _ _) ∙ e))
+  move-seven (row.reset l) o e = absurd (no-cause 7 _ (λ z. omega arith) ((λ z. omega arith), tt) (sym (number-is r _ _ _) ∙ e))
+  move-seven (row.insert i l) o e = passes-of (wanted r (row.insert i l)) (sym (insert-seven i l o) ∙ comes-only 7 (row.noSuchPlace r i ∷ row.crossedBounds base l ∷ []) (row.full r ∷ []) (row.past base (wanted r (row.insert i l)) .applies) (λ z. omega arith) ((λ z. omega arith), ((λ z. omega arith), tt)) ((λ z. omega arith), tt) (sym (number-is r _ _ _) ∙ e) .1)
+  move-seven (row.split flag i l) o e = absurd (no-cause 7 _ (λ z. omega arith) ((λ z. omega arith), ((λ z. omega arith), ((λ z. omega arith), ((λ z. omega arith), ((λ z. omega arith), tt))))) (sym (number-is r _ _ _) ∙ e))
+  move-seven (row.setLengths i l) o e = passes-of (wanted r (row.setLengths i l)) (sym (set-seven i l o) ∙ set-by i l _ e)
+  move-seven (row.update i l) o e = passes-of (wanted r (row.update i l)) (sym (set-seven i l o) ∙ set-by i l _ e)
   move-seven (row.lookup v x) o e = absurd (no-cause 7 _ (λ z. omega arith) ((λ z. omega arith), tt) (sym (number-is r _ _ _) ∙ e))
   move-seven (row.rank v i) o e = absurd (no-cause 7 _ (λ z. omega arith) ((λ z. omega arith), tt) (sym (number-is r _ _ _) ∙ e))
   move-seven (row.next i) o e = absurd (no-cause 7 _ (λ z. omega arith) ((λ z. omega arith), tt) (sym (number-is r _ _ _) ∙ e))

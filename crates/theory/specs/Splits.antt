@@ -10,7 +10,7 @@ use lib.Dec.{ltb}
 use lib.ListN.{length, getD, take, drop, length-append, List·getD-eq-default}
 use lib.Seq.{drop-cons, getD-append-add, length-take-le}
 use borrow.Author.Tests.{lt-ltb, le-leb, ltb-false}
-use Rattle.model.specs.Kind.{stride, viewsOf, tooManyLines, hollow}
+use Rattle.model.specs.Kind.{stride, viewsOf, tooManyLines, hollow, crossed}
 use Rattle.model.specs.declared.shape.Kind.{Kind}
 use Rattle.model.specs.Lists.{sumBy, some, Cause, refusal}
 use Rattle.model.specs.Node.{Node, lengths, lengthIn, used, childSplit}
@@ -57,7 +57,7 @@ use Rattle.theory.specs.Agree.{Agrees, Mirrors, rowOf, Space, by-limit, 
 
 -- the row's causes behind the id
 abbrev pub behindId : Kind → List Cause → Row → ℕ → List ℕ → List Cause
-behindId K room r i l = row.tooMuch K l (row.lengthsOf i (r .entries)) ∷ row.hollowPart K l (row.lengthsOf i (r .entries)) ∷ room
+behindId K room r i l = row.tooMuch K l (row.lengthsOf i (r .entries)) ∷ row.hollowPart K l (row.lengthsOf i (r .entries)) ∷ row.crossedParts K l (row.lengthsOf i (r .entries)) ∷ room
 
 -- the children of a divided entry's two parts
 first-part : (flag : Bool) (e : Slot) (u : ℕ → ℕ) (n : ℕ) (S : List Slot) → getD (ops.divided flag e u n S) 0 noSlot .child ≡ cond flag n (e .child)
@@ -241,18 +241,21 @@ module _ (K : Kind) (t : State) (w : Coherent K t) (i : ℕ) (c : Seat K t w i) 
   abbrev empty : Bool
   empty = hollow K l || hollow K (zipWith _-_ (row.lengthsOf i (entriesOf K t)) l)
 
+  abbrev fallen : Bool
+  fallen = crossed K l || crossed K (zipWith _-_ (row.lengthsOf i (entriesOf K t)) l)
+
   -- with the causes for want of space
   module _ (room rowRoom : List Cause) (space : Space t room rowRoom) where
-    -- the number of two tests and, behind them, of want of space
-    abbrev numberOf : Bool → Bool → ℕ → ℕ
-    numberOf a b n = cond a 6 (cond b 17 n)
+    -- the number of three tests and, behind them, of want of space
+    abbrev numberOf : Bool → Bool → Bool → ℕ → ℕ
+    numberOf a b x n = cond a 6 (cond b 17 (cond x 20 n))
 
     abbrev causes : List Cause
     causes = splitCauses K room t (cursorAt (t .head .stamp) (c .leaf) (c .slot)) l
 
     -- those behind the cursor's, for an entry of the lengths ls
     abbrev partCauses : List ℕ → List Cause
-    partCauses ls = refuse′.tooMuch K l ls ∷ refuse′.hollowPart K l ls ∷ room
+    partCauses ls = refuse′.tooMuch K l ls ∷ refuse′.hollowPart K l ls ∷ refuse′.crossedParts K l ls ∷ room
 
     abbrev rowCauses : List Cause
     rowCauses = behindId K rowRoom (rowOf K t) i l
@@ -266,7 +269,7 @@ module _ (K : Kind) (t : State) (w : Coherent K t) (i : ℕ) (c : Seat K t w i) 
         ∙ opens K t w (atCursor K t (cursorAt (t .head .stamp) (c .leaf) (c .slot)) ++ partCauses ls)
         ∙ fresh-at K t w (c .leaf) (c .slot) (partCauses ls) (c .leaf-in) (c .slot-in)
         ∙ ap (λ (ls : List ℕ). refusal (partCauses ls)) (slot-lengths K t w i c)
-        ∙ ap (numberOf short empty) (space .same)
+        ∙ ap (numberOf short empty fallen) (space .same)
 
     abbrev entries′ : List Entry
     entries′ = divided flag i (newEntry (rowOf K t) l) (entriesOf K t)
@@ -280,7 +283,7 @@ module _ (K : Kind) (t : State) (w : Coherent K t) (i : ℕ) (c : Seat K t w i) 
         → P (calls.reply s (dividedAt (t .head .entries) (nextStamp (t .head .stamp)) k j)) (moved (row.row (t .head .limit) entries′) rowAnswer))
         → P (calls.splitBy K room t (cursorAt (t .head .stamp) (c .leaf) (c .slot)) l flag) (unless (rowOf K t) rowCauses entries′ rowAnswer)
     unfolding refusal calls.splitBy
-    split-by P refusing parting = go short refl empty refl (refusal rowRoom) refl
+    split-by P refusing parting = go short refl empty refl fallen refl (refusal rowRoom) refl
       where
         answered : calls.Reply Divided
         answered = let r = place.divide (shapeIn (stride K) t) flag t (c .leaf) (c .slot) l in
@@ -292,15 +295,16 @@ module _ (K : Kind) (t : State) (w : Coherent K t) (i : ℕ) (c : Seat K t w i) 
         stop : (n : ℕ) → refusal rowCauses ≡ suc n → P (calls.unless causes refuse answered) (unless (rowOf K t) rowCauses entries′ rowAnswer)
         stop n z = rw (stopped causes refuse answered n (both-causes ∙ z), row-stopped (rowOf K t) rowCauses entries′ rowAnswer n z) (refusing (suc n))
 
-        number : {a b : Bool} {n : ℕ} → short ≡ a → empty ≡ b → refusal rowRoom ≡ n → refusal rowCauses ≡ numberOf a b n
-        number p q r = rw (p, q, r)
+        number : {a b x : Bool} {n : ℕ} → short ≡ a → empty ≡ b → fallen ≡ x → refusal rowRoom ≡ n → refusal rowCauses ≡ numberOf a b x n
+        number p q u r = rw (p, q, u, r)
 
-        go : (p : Bool) → short ≡ p → (h : Bool) → empty ≡ h → (n : ℕ) → refusal rowRoom ≡ n → P (calls.unless causes refuse answered) (unless (rowOf K t) rowCauses entries′ rowAnswer)
-        go true e′ h d n f = stop 5 (number e′ d f)
-        go false e′ true d n f = stop 16 (number e′ d f)
-        go false e′ false d (suc n) f = stop n (number e′ d f)
-        go false e′ false d zero f =
-            let z : refusal rowCauses ≡ 0 = number e′ d f in
+        go : (p : Bool) → short ≡ p → (h : Bool) → empty ≡ h → (x : Bool) → fallen ≡ x → (n : ℕ) → refusal rowRoom ≡ n → P (calls.unless causes refuse answered) (unless (rowOf K t) rowCauses entries′ rowAnswer)
+        go true e′ h d x u n f = stop 5 (number e′ d u f)
+        go false e′ true d x u n f = stop 16 (number e′ d u f)
+        go false e′ false d true u n f = stop 19 (number e′ d u f)
+        go false e′ false d false u (suc n) f = stop n (number e′ d u f)
+        go false e′ false d false u zero f =
+            let z : refusal rowCauses ≡ 0 = number e′ d u f in
             let few : t .head .entries < t .head .limit = space .free f in
             rw (passed causes refuse answered (both-causes ∙ z), row-passed (rowOf K t) rowCauses entries′ rowAnswer z, divide-is (enough-of e′) few)
             (parting (t₃ (enough-of e′) few) (q (enough-of e′) few .leaf) (q (enough-of e′) few .slot) (parted₃ (enough-of e′) few) (stands₃ (enough-of e′) few))

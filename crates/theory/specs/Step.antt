@@ -1,5 +1,5 @@
 -- Every call of a list, on a sound state: its answer is the row's, and what it leaves is sound and stands for what the row becomes. A call that gives
--- too many line ends changes neither; any other leaves a coherent state with the row's entries, none of which has too many.
+-- too many line ends changes neither; any other leaves a coherent state with the row's entries, none of which has too many, or crossed bounds.
 use mathlib.Core.Path.{_≡_, refl, ap₂, subst}
 use mathlib.Core.Bool.{Bool, true, false, cond}
 use Prim.Native.Nat.{ℕ, _<_}
@@ -11,7 +11,8 @@ use Rattle.model.specs.ById.{treeMove, treeStep}
 use Rattle.model.specs.Sound.{Coherent}
 use Rattle.model.specs.Promise.{InWords, Stands}
 use Rattle.theory.specs.Agree.{Agrees, Mirrors, rowOf, own}
-use Rattle.theory.specs.Lines.{move-few, stands-few, stands-of}
+use Rattle.theory.specs.Lines.{move-few, stands-few}
+use Rattle.theory.specs.Bounds.{move-level, stands-level, stands-of}
 use Rattle.theory.specs.Make.{step-reset}
 use Rattle.theory.specs.Read.{step-count, step-lengths, step-rank, step-first, step-next}
 use Rattle.theory.specs.Compare.{step-compare}
@@ -22,7 +23,7 @@ use Rattle.theory.specs.Splits.{step-split}
 
 own-step : (K : Kind) (ok : K .effect < K .views) (t : State) → Coherent K t → (c : Call) → overlong K c ≡ false → InWords K c → Agrees (Mirrors K) (treeMove K t c) (rowMove K (rowOf K t) c)
 unfolding treeMove rowMove
-own-step K ok t w (row.reset l) o h = step-reset K t w l h o
+own-step K ok t w (row.reset l) o h = step-reset K t w l o h
 own-step K ok t w (row.insert i l) o h = step-insert K ok t w i l (h .1 .long) o
 own-step K ok t w (row.split flag i l) o h = step-split K t w flag i l (h .1 .long) o
 own-step K ok t w (row.setLengths i l) o h = step-set K ok t w i l (h .1 .long) o
@@ -44,4 +45,4 @@ step K ok t r h c k = go (overlong K c) refl
     go true o = record { same = refl; kept = h }
     go false o =
         let a : Agrees (Mirrors K) (treeMove K t c) (rowMove K r c) = subst (λ (q : Row). Agrees (Mirrors K) (treeMove K t c) (rowMove K q c)) (ap₂ row.row (h .limit) (h .entries)) (own-step K ok t (h .sound .coherent) c o k) in
-        record { same = a .same; kept = stands-of K (treeMove K t c .after) (rowMove K r c .after) (a .kept) (move-few K r c o (stands-few K t r h)) }
+        record { same = a .same; kept = stands-of K (treeMove K t c .after) (rowMove K r c .after) (a .kept) (move-few K r c o (stands-few K t r h)) (move-level K r c (stands-level K t r h)) }

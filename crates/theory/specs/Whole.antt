@@ -7,7 +7,7 @@ use Prim.Native.Nat.{ℕ, zero, suc, _*_, _^_, _≤_, _<_}
 use native.Mathlib.Omega.{arith}
 use lib.ListN.{length}
 use lib.Dec.{eqb}
-use Rattle.model.specs.Kind.{stride, tooManyLines}
+use Rattle.model.specs.Kind.{stride, tooManyLines, crossed}
 use Rattle.model.specs.declared.shape.Kind.{Kind}
 use Rattle.model.specs.Lists.{All, Cause, refusal}
 use Rattle.model.specs.Node.{half}
@@ -26,8 +26,8 @@ use Rattle.theory.specs.Tree.{treeOf}
 use Rattle.theory.specs.Down.{body-of}
 use Rattle.theory.specs.Open.{passed, stopped, clear}
 use Rattle.theory.specs.Agree.{Agrees, count-is, ids-below}
-use Rattle.theory.specs.Make.{sizes-of, begun-stands}
-use Rattle.theory.specs.Lines.{stands-of}
+use Rattle.theory.specs.Make.{sizes-of, level-made, begun-stands}
+use Rattle.theory.specs.Bounds.{stands-of}
 use Rattle.theory.specs.Step.{step}
 use Rattle.theory.specs.Numbers.{numbers-are}
 use Rattle.theory.specs.Hollow.{parts-are}
@@ -122,8 +122,8 @@ module _ (K : Kind) (ok : K .effect < K .views) (fan limit : ℕ) (l : List ℕ)
       go (suc n) e = absurd (let q : outcome.Refused (suc n) ≡ outcome.Done = sym (ap (λ (r : calls.Reply Outcome). r .answer) (stopped (makeCauses K fan limit l ls xs hs) (λ n. calls.reply (state (headOf 0 0 0 0 0 0 0 0 held.Absent) ls xs hs) (outcome.Refused n)) _ n e)) ∙ given in
           let z : _≡_ {A = ℕ} 0 1 = cc in omega arith)
 
-  passes : (tooManyLines K l ≡ false) × (refusal (areaCauses K fan limit ls xs hs) ≡ 0)
-  passes = clear 10 (tooManyLines K l) (areaCauses K fan limit ls xs hs) (λ z. omega arith) not-refused
+  passes : (tooManyLines K l ≡ false) × (refusal (areaCauses K fan limit ls xs hs) ≡ 0) × (crossed K l ≡ false)
+  passes = let y = clear 10 (tooManyLines K l) _ (λ z. omega arith) not-refused in let z = level-made K fan limit l ls xs hs (y .1) in (y .0, z .0, z .1)
 
   pub made-is : make K fan limit l ls xs hs ≡ calls.reply (begun K fan limit 1 l ls xs hs) outcome.Done
   unfolding make
@@ -132,7 +132,7 @@ module _ (K : Kind) (ok : K .effect < K .views) (fan limit : ℕ) (l : List ℕ)
   pub made : Stands K (make K fan limit l ls xs hs .after) (madeRow limit l)
   unfolding All
   made = subst (λ (r : calls.Reply Outcome). Stands K (r .after) (madeRow limit l)) (sym made-is)
-      (stands-of K (begun K fan limit 1 l ls xs hs) (madeRow limit l) (begun-stands K fan limit 1 l ls xs hs (sizes-of K fan limit ls xs hs (passes .1)) small) (passes .0, tt))
+      (stands-of K (begun K fan limit 1 l ls xs hs) (madeRow limit l) (begun-stands K fan limit 1 l ls xs hs (sizes-of K fan limit ls xs hs (passes .1)) small) (passes .0, tt) (passes .2, tt))
 
   pub fan-made : make K fan limit l ls xs hs .after .head .fan ≡ fan
   unfolding begun
