@@ -4,6 +4,7 @@ pub mod Node
 pub mod State
 pub mod Kind
 pub mod Row
+pub mod Choice
 pub mod Climb
 pub mod Locate
 pub mod Grow
@@ -25,6 +26,7 @@ pub mod SeatedList
 pub mod Table
 pub mod Spelling
 pub mod Promise
+pub mod Plan
 pub mod Stamp
 pub mod SeatPromise
 pub mod Settled

@@ -79,3 +79,7 @@ pub mod ExampleByCursor
 pub mod ExampleStamps
 pub mod ExampleSeats
 pub mod Widths
+pub mod PlanChoice
+pub mod PlanRow
+pub mod PlanWhole
+pub mod ExamplePlan
