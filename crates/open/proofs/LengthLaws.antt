@@ -9,10 +9,11 @@ use lib.Seq.{take-all}
 use lib.Dec.{ltb}
 use borrow.Author.Tests.{ltb-true, ltb-false, lt-ltb, le-ltb}
 use Rattle.model.specs.Lists.{some, part, range}
-use Rattle.model.specs.Kind.{kind, tooManyLines}
+use Rattle.model.specs.Kind.{kind, kindOf, tooManyLines, crossed}
 use Rattle.model.specs.Length.{lengthsIn}
 use Rattle.model.specs.Node.{slotsFrom, nodeOf, lengths, lengthIn, used}
 use Rattle.model.specs.State.{nodeAt}
+use Rattle.model.specs.Refuse.{crossedParts}
 use Rattle.model.specs.declared.shape.Shape.{Shape}
 use Rattle.laws.specs.Lists.{row-end, some-views}
 use Rattle.laws.specs.Words.{length-part, getD-part}
@@ -88,6 +89,41 @@ module _ (views effect : ℕ) (x : List ℕ) where
 
   pub lines-none : views ≤ 2 → false ≡ tooManyLines (kind views effect) (lengthsIn views x)
   lines-none h = sym (rw (le-ltb 2 views h))
+
+-- a lowest above a highest length; the lengths are lent as four words
+module _ (x : List ℕ) where
+  pub crossed-two : (n : ℕ) (b : Bool) → 1 < n → b ≡ true → ltb (getD x 2 0) (getD x 1 0) ≡ crossed (kindOf n 0 b) (lengthsIn n x)
+  unfolding part
+  crossed-two n b h e = sym (rw (e, getD-part 1 n 1 x h, getD-part 1 n 0 x (omega arith)))
+
+  pub crossed-one : length x ≡ 4 → (n : ℕ) (b : Bool) → 1 ≤ n → n ≤ 1 → b ≡ true → ltb 0 (getD x 1 0) ≡ crossed (kindOf n 0 b) (lengthsIn n x)
+  crossed-one four zero b h g e = absurd (omega arith)
+  crossed-one four (suc zero) b h g e = sym (rw (e, behind-three x four))
+  crossed-one four (suc (suc n)) b h g e = absurd (omega arith)
+
+  pub crossed-none : (n : ℕ) (b : Bool) → b ≡ false → false ≡ crossed (kindOf n 0 b) (lengthsIn n x)
+  crossed-none n b e = sym (rw e)
+
+-- what is left of an entry, length by length
+less-words : (n o₁ o₂ o₃ g₁ g₂ g₃ : ℕ) → n ≤ 3 → take n ((o₁ - g₁) ∷ (o₂ - g₂) ∷ (o₃ - g₃) ∷ []) ≡ zipWith _-_ (take n (o₁ ∷ o₂ ∷ o₃ ∷ [])) (take n (g₁ ∷ g₂ ∷ g₃ ∷ []))
+unfolding zipWith
+less-words zero o₁ o₂ o₃ g₁ g₂ g₃ h = refl
+less-words (suc zero) o₁ o₂ o₃ g₁ g₂ g₃ h = refl
+less-words (suc (suc zero)) o₁ o₂ o₃ g₁ g₂ g₃ h = refl
+less-words (suc (suc (suc zero))) o₁ o₂ o₃ g₁ g₂ g₃ h = refl
+less-words (suc (suc (suc (suc n)))) o₁ o₂ o₃ g₁ g₂ g₃ h = absurd (omega arith)
+
+module _ (n : ℕ) (ordered : Bool) (few : n ≤ 3) (given own : List ℕ) (four : length given ≡ 4) (four′ : length own ≡ 4) (m : Bool) (em : m ≡ crossed (kindOf n 0 ordered) (lengthsIn n given)) where
+  pub crossed-given : m ≡ true → true ≡ crossedParts (kindOf n 0 ordered) (lengthsIn n given) (lengthsIn n own) .applies
+  crossed-given e = sym (rw (sym em ∙ e))
+
+  pub crossed-left : m ≡ false → (a b c : ℕ) → a ≡ getD own 1 0 - getD given 1 0 → b ≡ getD own 2 0 - getD given 2 0 → c ≡ getD own 3 0 - getD given 3 0
+      → (r : Bool) → r ≡ crossed (kindOf n 0 ordered) (lengthsIn n (0 ∷ a ∷ b ∷ c ∷ [])) → r ≡ crossedParts (kindOf n 0 ordered) (lengthsIn n given) (lengthsIn n own) .applies
+  crossed-left e a b c ea eb ec r er =
+      er ∙ ap (crossed (kindOf n 0 ordered)) left ∙ sym (rw (sym em ∙ e))
+    where
+      left : lengthsIn n (0 ∷ a ∷ b ∷ c ∷ []) ≡ zipWith _-_ (lengthsIn n own) (lengthsIn n given)
+      left = rw (ea, eb, ec, behind-three given four, behind-three own four′) (less-words n (getD own 1 0) (getD own 2 0) (getD own 3 0) (getD given 1 0) (getD given 2 0) (getD given 3 0) few)
 
 -- a test of two slots' lengths in each view: t of the view, of a's length and of b's
 module _ (t : ℕ → ℕ → ℕ → Bool) (a b : List ℕ) where

@@ -11,10 +11,11 @@ ghost use mathlib.Core.List.{[]};
 ghost use Prim.Native.Nat.{ℕ, _+_, _-_, _*_, _<_, _≤_};
 ghost use lib.Dec.{ltb};
 ghost use lib.ListN.{length, getD, take, drop};
-ghost use Rattle.model.specs.Kind.{kind, tooManyLines};
+ghost use Rattle.model.specs.Kind.{kind, kindOf, tooManyLines, crossed};
 ghost use Rattle.model.specs.Length.{lengthsIn};
 ghost use Rattle.model.specs.Node.{nodeOf, lengths, total, used};
 ghost use Rattle.model.specs.State.{shapeFor, nodeAt};
+ghost use Rattle.model.specs.Refuse.{crossedParts};
 ghost use Rattle.node.specs.Shaped.{Shaped};
 ghost use Rattle.area.specs.Area.{Area};
 ghost use Rattle.open.specs.Lengths.{moreIn, hollowIn, pastIn, below, Low, TotalsIn};
@@ -79,6 +80,47 @@ pub fn hollow_part(g: Shape, given: &[u32; 4], own: &[u32; 4]) -> bool
     true
 }
 
+// Whether the first length is above the second, where they are a lowest and a highest one; a second that a slot doesn't have is 0.
+pub fn crossed(views: usize, ordered: bool, x: &[u32; 4]) -> bool
+    requires { ⌜ (1 ≤ views) × (views ≤ 3) × (length (now x) ≡ 4) ⌝ }
+    ensures { λ r. ⌜ r ≡ crossed (kindOf views 0 ordered) (lengthsIn views (now (x .entry))) ⌝ }
+{
+    if ordered {
+        if 1 < views {
+            return x[2] < x[1];
+        }
+        return 0 < x[1];
+    }
+    false
+}
+
+// What is left of an entry's own length.
+fn left(own: u32, given: u32) -> u32
+    ensures { λ r. ⌜ r ≡ own - given ⌝ }
+{
+    if own < given {
+        return 0;
+    }
+    own - given
+}
+
+// The same of what is moved or of what is left behind.
+pub fn crossed_part(views: usize, ordered: bool, given: &[u32; 4], own: &[u32; 4]) -> bool
+    requires { ⌜ (1 ≤ views) × (views ≤ 3) × (length (now given) ≡ 4) × (length (now own) ≡ 4) ⌝ }
+    ensures { λ r. ⌜ r ≡ crossedParts (kindOf views 0 ordered) (lengthsIn views (now (given .entry))) (lengthsIn views (now (own .entry))) .applies ⌝ }
+{
+    if crossed(views, ordered, given) {
+        return true;
+    }
+    let rest: [u32; 4] = [
+        0,
+        left(own[1], given[1]),
+        left(own[2], given[2]),
+        left(own[3], given[3]),
+    ];
+    crossed(views, ordered, &rest)
+}
+
 // How many of a node's slots are in use: all where its len is past the fan.
 fn in_use(len: usize, fan: usize) -> usize
     ensures { λ r. ⌜ (r ≤ fan) × (r ≡ cond (ltb len fan) len fan) ⌝ }
@@ -134,10 +176,10 @@ fn small(g: Shape, new: &[u32; 4]) -> bool
 }
 
 // The lengths of all slots in use of a node, view by view, with 0 for a view that there isn't.
-struct Totals {
-    first: u64,
-    second: u64,
-    third: u64,
+pub struct Totals {
+    pub first: u64,
+    pub second: u64,
+    pub third: u64,
 }
 
 // The totals of one node, in one pass over its slots: at most 32 words each.
@@ -171,7 +213,7 @@ fn used_totals(node: &[u32], g: Shape) -> Totals
 }
 
 // The totals of inner node k.
-fn totals_in(inners: &[u32], g: Shape, k: NodeNo) -> Totals
+pub fn totals_in(inners: &[u32], g: Shape, k: NodeNo) -> Totals
     requires { ⌜ Area g (length (now inners)) × (k .0 < g .nodes) ⌝ }
     ensures { λ r. ⌜ TotalsIn g (nodeAt g (k .0) (now (inners .entry))) (r .first) (r .second) (r .third) ⌝ }
 {
