@@ -18,11 +18,12 @@ use open::open::Opened;
 use open::open::open_areas;
 use walk::climb::rank_up;
 ghost use mathlib.Core.Path.{_≡_};
+ghost use mathlib.Core.Bool.{Bool};
 ghost use mathlib.Core.List.{[]};
 ghost use Prim.Native.Nat.{ℕ, _+_, _-_, _<_, _≤_};
 ghost use lib.ListN.{length};
 ghost use lib.Dec.{leb};
-ghost use Rattle.model.specs.Kind.{kind};
+ghost use Rattle.model.specs.Kind.{kindOf};
 ghost use Rattle.model.specs.Lists.{sumBy, range};
 ghost use Rattle.model.specs.Node.{total, used};
 ghost use Rattle.model.specs.State.{state, nodeAt};
@@ -111,7 +112,7 @@ fn is_beside(
 // Whether the finger stands at a slot in use, and its sums are those that the links give.
 fn is_finger(head: Head, leaves: &[u32], inners: &[u32], g: Shape, effect: usize, f: Finger) -> bool
     requires { ⌜ Known head g (length (now leaves)) (length (now inners)) × (effect + 1 < g .stride) ⌝ }
-    ensures { λ r. ⌜ ((views : ℕ) → g ≡ shapeOf (kind views effect) head → r ≡ isFinger (kind views effect) (state head (now (leaves .entry)) (now (inners .entry)) []) f) ⌝ }
+    ensures { λ r. ⌜ ((views : ℕ) (ordered : Bool) → g ≡ shapeOf (kindOf views effect ordered) head → r ≡ isFinger (kindOf views effect ordered) (state head (now (leaves .entry)) (now (inners .entry)) []) f) ⌝ }
 {
     let view = f.view as usize;
     let leaf = LeafNo(f.leaf);
@@ -152,7 +153,7 @@ fn is_held_finger(
     held: Held,
 ) -> bool
     requires { ⌜ Known head g (length (now leaves)) (length (now inners)) × (effect + 1 < g .stride) ⌝ }
-    ensures { λ r. ⌜ ((views : ℕ) → g ≡ shapeOf (kind views effect) head → r ≡ isHeldFinger (kind views effect) (state head (now (leaves .entry)) (now (inners .entry)) []) held) ⌝ }
+    ensures { λ r. ⌜ ((views : ℕ) (ordered : Bool) → g ≡ shapeOf (kindOf views effect ordered) head → r ≡ isHeldFinger (kindOf views effect ordered) (state head (now (leaves .entry)) (now (inners .entry)) []) held) ⌝ }
 {
     match held {
         Held::Absent => true,
@@ -203,14 +204,15 @@ fn every_leaf(
     inners: &[u32],
     homes: &[u32],
     g: Shape,
+    ordered: bool,
     count: u32,
 ) -> bool
     requires { ⌜ Known head g (length (now leaves)) (length (now inners)) × (head .entries ≤ length (now homes)) × (count ≤ head .leaves) ⌝ }
-    ensures { λ r. ⌜ ((K : Kind) → g ≡ shapeOf K head → r ≡ every (isLeaf K (state head (now (leaves .entry)) (now (inners .entry)) (now (homes .entry)))) 0 count) ⌝ }
+    ensures { λ r. ⌜ ((K : Kind) → g ≡ shapeOf K head → K .ordered ≡ ordered → r ≡ every (isLeaf K (state head (now (leaves .entry)) (now (inners .entry)) (now (homes .entry)))) 0 count) ⌝ }
 {
     let mut k: u32 = 0;
     while k < count {
-        if !is_leaf(head, leaves, inners, homes, g, LeafNo(k)) {
+        if !is_leaf(head, leaves, inners, homes, g, ordered, LeafNo(k)) {
             return false;
         }
         k += 1;
@@ -255,9 +257,10 @@ fn is_sound(
     homes: &[u32],
     g: Shape,
     effect: usize,
+    ordered: bool,
 ) -> bool
     requires { ⌜ Area g (length (now leaves)) × Area g (length (now inners)) × (effect + 1 < g .stride) × (head .limit ≤ length (now homes)) ⌝ }
-    ensures { λ r. ⌜ ((views : ℕ) → g ≡ shapeOf (kind views effect) head → r ≡ isSound (kind views effect) (state head (now (leaves .entry)) (now (inners .entry)) (now (homes .entry)))) ⌝ }
+    ensures { λ r. ⌜ ((views : ℕ) → g ≡ shapeOf (kindOf views effect ordered) head → r ≡ isSound (kindOf views effect ordered) (state head (now (leaves .entry)) (now (inners .entry)) (now (homes .entry)))) ⌝ }
 {
     let finger = head.finger;
     if !counts(head, g) {
@@ -266,7 +269,7 @@ fn is_sound(
     if !every_inner(head, leaves, inners, g, head.inners) {
         return false;
     }
-    if !every_leaf(head, leaves, inners, homes, g, head.leaves) {
+    if !every_leaf(head, leaves, inners, homes, g, ordered, head.leaves) {
         return false;
     }
     if slots_used(leaves, g, head.leaves) != head.entries as u64 {
@@ -278,24 +281,26 @@ fn is_sound(
     is_held_finger(head, leaves, inners, g, effect, finger)
 }
 
-// Whether a tree with views lengths an entry, positions answered in view effect, is sound.
+// Whether a tree with views lengths an entry, positions answered in view effect, is sound; ordered: the first two lengths are a lowest and
+// a highest one.
 pub fn audit(
     views: usize,
     effect: usize,
+    ordered: bool,
     head: Head,
     leaves: &[u32],
     inners: &[u32],
     homes: &[u32],
 ) -> Verdict
     requires { ⌜ (1 ≤ views) × (views ≤ 3) × (effect < views) ⌝ }
-    ensures { λ r. ⌜ r ≡ audit (kind views effect) (state head (now (leaves .entry)) (now (inners .entry)) (now (homes .entry))) ⌝ }
+    ensures { λ r. ⌜ r ≡ audit (kindOf views effect ordered) (state head (now (leaves .entry)) (now (inners .entry)) (now (homes .entry))) ⌝ }
 {
     let fan = head.fan;
     let limit = head.limit;
     match open_areas(views, fan, limit, leaves, inners, homes) {
         Opened::Refused(n) => Verdict::Refused(n),
         Opened::Good(g) => {
-            if is_sound(head, leaves, inners, homes, g, effect) {
+            if is_sound(head, leaves, inners, homes, g, effect, ordered) {
                 return Verdict::Yes;
             }
             Verdict::No

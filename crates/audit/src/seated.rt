@@ -14,7 +14,7 @@ pub fn audit(head: Head, seats: &[u32], leaves: &[u32], inners: &[u32], homes: &
     requires { ⌜ length (now seats) ≡ 17 ⌝ }
     ensures { λ r. ⌜ r ≡ auditSeated base (state head (now (leaves .entry)) (now (inners .entry)) (now (homes .entry))) (seatsFrom (now (seats .entry))) ⌝ }
 {
-    match crate::any::audit(3, 1, head, leaves, inners, homes) {
+    match crate::any::audit(3, 1, false, head, leaves, inners, homes) {
         Verdict::Yes => {
             if is_fair(head.limit, head.entries, seats) {
                 return Verdict::Yes;

@@ -8,7 +8,7 @@ use lib.ListN.{getD}
 use lib.Seq.{getD-drop}
 use lib.Dec.{ltb, eqb}
 use borrow.Author.Tests.{lt-ltb, le-ltb, ltb-true, eq-eqb, ne-eqb, not-true, not-false}
-use Rattle.model.specs.Kind.{kind, stride, tooManyLines}
+use Rattle.model.specs.Kind.{kind, kindOf, stride, tooManyLines, crossed}
 use Rattle.model.specs.Node.{Node, child, lengths, lengthIn}
 use Rattle.model.specs.State.{state, nodeAt}
 use Rattle.model.specs.Refuse.{shapeOf}
@@ -40,25 +40,32 @@ lines-few s x f = go (ltb 2 (s - 1)) refl
     go false e = refl
 
 -- an entry
-module _ (g : Shape) (count : ℕ) (ls hs : List ℕ) (k i id : ℕ) (e : id ≡ child (getD (nodeAt g k ls .slots) i [])) where
-  pub entry-out : count ≤ id → false ≡ entryBy g count ls hs k i
+module _ (g : Shape) (ordered : Bool) (count : ℕ) (ls hs : List ℕ) (k i id : ℕ) (e : id ≡ child (getD (nodeAt g k ls .slots) i [])) where
+  pub entry-out : count ≤ id → false ≡ entryBy g ordered count ls hs k i
   unfolding entryBy
   entry-out h = rw (← e, le-ltb id count h)
 
   module _ (h : id < count) where
-    pub entry-away : (getD hs id 0 ≡ k → ⊥) → false ≡ entryBy g count ls hs k i
+    pub entry-away : (getD hs id 0 ≡ k → ⊥) → false ≡ entryBy g ordered count ls hs k i
     unfolding entryBy
     entry-away n = rw (← e, lt-ltb id count h, ne-eqb (getD hs id 0) k n)
 
     module _ (q : getD hs id 0 ≡ k) where
-      pub entry-long : 3 < g .stride → (n : ℕ) → n ≡ lengthIn 2 (getD (nodeAt g k ls .slots) i []) → 65535 < n → false ≡ entryBy g count ls hs k i
+      pub entry-long : 3 < g .stride → (n : ℕ) → n ≡ lengthIn 2 (getD (nodeAt g k ls .slots) i []) → 65535 < n → false ≡ entryBy g ordered count ls hs k i
       unfolding entryBy
       entry-long w n en m =
           rw (← e, lt-ltb id count h, eq-eqb (getD hs id 0) k q, lines-many (g .stride) (getD (nodeAt g k ls .slots) i []) w (omega (arith, en, m)))
 
-      pub entry-last : (3 < g .stride → lengthIn 2 (getD (nodeAt g k ls .slots) i []) ≤ 65535) → (b : Bool) → b ≡ every (isOther (nodeAt g k ls) id) 0 i → b ≡ entryBy g count ls hs k i
-      unfolding entryBy
-      entry-last f b eb = rw (← e, lt-ltb id count h, eq-eqb (getD hs id 0) k q, lines-few (g .stride) (getD (nodeAt g k ls .slots) i []) f) eb
+      -- the line ends aren't too many
+      module _ (f : 3 < g .stride → lengthIn 2 (getD (nodeAt g k ls .slots) i []) ≤ 65535) (b : Bool)
+          (eb : b ≡ crossed (kindOf (g .stride - 1) 0 ordered) (lengths (getD (nodeAt g k ls .slots) i []))) where
+        pub entry-crossed : b ≡ true → false ≡ entryBy g ordered count ls hs k i
+        unfolding entryBy
+        entry-crossed w = rw (← e, lt-ltb id count h, eq-eqb (getD hs id 0) k q, lines-few (g .stride) (getD (nodeAt g k ls .slots) i []) f, sym eb ∙ w)
+
+        pub entry-last : b ≡ false → (r : Bool) → r ≡ every (isOther (nodeAt g k ls) id) 0 i → r ≡ entryBy g ordered count ls hs k i
+        unfolding entryBy
+        entry-last w r er = rw (← e, lt-ltb id count h, eq-eqb (getD hs id 0) k q, lines-few (g .stride) (getD (nodeAt g k ls .slots) i []) f, sym eb ∙ w) er
 
 -- a leaf
 module _ (K : Kind) (h : Head) (ls xs hs : List ℕ) where
@@ -69,15 +76,15 @@ module _ (K : Kind) (h : Head) (ls xs hs : List ℕ) where
   heldPart g k = heldBy g (h .inners) xs k (nodeAt g k ls .parent) (nodeAt g k ls .at)
 
   abbrev leafBy : Shape → ℕ → ℕ → Bool
-  leafBy g d k = filledPart g k && heldPart g k && eqb d (h .levels) && every (entryBy g (h .entries) ls hs k) 0 (nodeAt g k ls .len)
+  leafBy g d k = filledPart g k && heldPart g k && eqb d (h .levels) && every (entryBy g (K .ordered) (h .entries) ls hs k) 0 (nodeAt g k ls .len)
 
   -- an entry, by the words of the areas
-  entry-same : (k i : ℕ) → entryBy (shapeOf K h) (h .entries) ls hs k i ≡ isEntry K (state h ls xs hs) k (nodeAt (shapeOf K h) k ls) i
+  entry-same : (k i : ℕ) → entryBy (shapeOf K h) (K .ordered) (h .entries) ls hs k i ≡ isEntry K (state h ls xs hs) k (nodeAt (shapeOf K h) k ls) i
   unfolding entryBy isEntry
   entry-same k i = let views : suc (K .views) - 1 ≡ K .views = omega arith in rw views
 
-  entries-same : (k n : ℕ) → every (entryBy (shapeOf K h) (h .entries) ls hs k) 0 n ≡ every (isEntry K (state h ls xs hs) k (nodeAt (shapeOf K h) k ls)) 0 n
-  entries-same k n = every-same (entryBy (shapeOf K h) (h .entries) ls hs k) _ (entry-same k) 0 n
+  entries-same : (k n : ℕ) → every (entryBy (shapeOf K h) (K .ordered) (h .entries) ls hs k) 0 n ≡ every (isEntry K (state h ls xs hs) k (nodeAt (shapeOf K h) k ls)) 0 n
+  entries-same k n = every-same (entryBy (shapeOf K h) (K .ordered) (h .entries) ls hs k) _ (entry-same k) 0 n
 
   whole : (k d : ℕ) → d ≡ depth K (state h ls xs hs) (h .levels) (nodeAt (shapeOf K h) k ls .parent) → leafBy (shapeOf K h) d k ≡ isLeaf K (state h ls xs hs) k
   unfolding isLeaf isFilled heldBy isHeld
@@ -108,7 +115,7 @@ module _ (K : Kind) (h : Head) (ls xs hs : List ℕ) where
           pub leaf-uneven : (d ≡ h .levels → ⊥) → false ≡ isLeaf K (state h ls xs hs) k
           leaf-uneven n = sym (rw (sym filled ∙ not-false f nf, sym held ∙ not-false b nb, ne-eqb d (h .levels) n) at (sym (leaf-by p d ep ed)))
 
-          pub leaf-last : d ≡ h .levels → (len : ℕ) → len ≡ nodeAt g k ls .len → (r : Bool) → r ≡ every (entryBy g (h .entries) ls hs k) 0 len → r ≡ isLeaf K (state h ls xs hs) k
-          leaf-last q len en r er =
-              er ∙ ap (every (entryBy g (h .entries) ls hs k) 0) en
+          pub leaf-last : d ≡ h .levels → (len : ℕ) → len ≡ nodeAt g k ls .len → (y : Bool) → K .ordered ≡ y → (r : Bool) → r ≡ every (entryBy g y (h .entries) ls hs k) 0 len → r ≡ isLeaf K (state h ls xs hs) k
+          leaf-last q len en y ey r er =
+              er ∙ ap (λ (z : Bool). every (entryBy g z (h .entries) ls hs k) 0 len) (sym ey) ∙ ap (every (entryBy g (K .ordered) (h .entries) ls hs k) 0) en
               ∙ sym (rw (sym filled ∙ not-false f nf, sym held ∙ not-false b nb, eq-eqb d (h .levels) q) at (sym (leaf-by p d ep ed)))

@@ -4,7 +4,7 @@ use mathlib.Core.List.{List, []}
 use Prim.Native.Nat.{ℕ, zero, suc, _-_}
 use lib.ListN.{getD}
 use lib.Dec.{ltb, leb, eqb}
-use Rattle.model.specs.Kind.{kind, tooManyLines}
+use Rattle.model.specs.Kind.{kindOf, tooManyLines, crossed}
 use Rattle.model.specs.Node.{none, child, lengths, lengthIn, total, used}
 use Rattle.model.specs.State.{nodeAt}
 use Rattle.model.specs.Audit.{every, isOther}
@@ -39,9 +39,10 @@ rootBy g h xs k =
     let n = nodeAt g k xs in
     cond (eqb k (h .root .0)) (eqb (n .parent) none && eqb (n .at) 0) (heldBy g (h .inners) xs k (n .parent) (n .at))
 
--- the id in slot i of leaf k is below the count, lives here, and stands in no earlier slot; its line ends aren't too many
-unfoldable pub entryBy : Shape → ℕ → List ℕ → List ℕ → ℕ → ℕ → Bool
-entryBy g count ls hs k i =
+-- the id in slot i of leaf k is below the count, lives here, and stands in no earlier slot; its line ends aren't too many, nor its bounds crossed
+unfoldable pub entryBy : Shape → Bool → ℕ → List ℕ → List ℕ → ℕ → ℕ → Bool
+entryBy g ordered count ls hs k i =
     let n = nodeAt g k ls in
     let x = getD (n .slots) i [] in
-    ltb (child x) count && eqb (getD hs (child x) 0) k && not (tooManyLines (kind (g .stride - 1) 0) (lengths x)) && every (isOther n (child x)) 0 i
+    let K = kindOf (g .stride - 1) 0 ordered in
+    ltb (child x) count && eqb (getD hs (child x) 0) k && not (tooManyLines K (lengths x)) && not (crossed K (lengths x)) && every (isOther n (child x)) 0 i

@@ -12,10 +12,14 @@ use model::number::EntryId;
 use model::number::LeafNo;
 use model::number::NodeNo;
 use model::shape::Shape;
+use open::lengths::crossed;
+use open::lengths::lengths_at;
 ghost use mathlib.Core.Path.{_≡_};
 ghost use mathlib.Core.List.{[]};
-ghost use Prim.Native.Nat.{ℕ, _<_, _≤_};
-ghost use lib.ListN.{length};
+ghost use Prim.Native.Nat.{ℕ, _-_, _<_, _≤_};
+ghost use lib.ListN.{length, getD};
+ghost use Rattle.model.specs.Kind.{kindOf, crossed};
+ghost use Rattle.model.specs.Node.{lengths};
 ghost use Rattle.model.specs.State.{state, nodeAt};
 ghost use Rattle.model.specs.Refuse.{shapeOf};
 ghost use Rattle.model.specs.Sound.{leastLeaf};
@@ -40,10 +44,31 @@ fn is_new(leaves: &[u32], g: Shape, k: LeafNo, i: u32, id: EntryId) -> bool
     true
 }
 
-// Whether the id in slot i of leaf k is below the count, lives in leaf k, and stands in no earlier slot, and its line ends aren't too many.
-fn is_entry(leaves: &[u32], homes: &[u32], g: Shape, entries: u32, k: LeafNo, i: u32) -> bool
+// Whether slot i of leaf k has a lowest above a highest length, where they are ordered.
+fn is_crossed(leaves: &[u32], g: Shape, ordered: bool, k: LeafNo, i: u32) -> bool
+    requires { ⌜ Area g (length (now leaves)) × (k .0 < g .nodes) × (i < g .fan) ⌝ }
+    ensures { λ r. ⌜ r ≡ crossed (kindOf (g .stride - 1) 0 ordered) (lengths (getD (nodeAt g (k .0) (now (leaves .entry)) .slots) i [])) ⌝ }
+{
+    let stride = g.stride;
+    let views = stride - 1;
+    let mut x: [u32; 4] = [0; 4];
+    lengths_at(leaves, g, k, i, &mut x);
+    crossed(views, ordered, &x)
+}
+
+// Whether the id in slot i of leaf k is below the count, lives in leaf k, and stands in no earlier slot, its line ends aren't too many, and
+// its lengths are in order.
+fn is_entry(
+    leaves: &[u32],
+    homes: &[u32],
+    g: Shape,
+    ordered: bool,
+    entries: u32,
+    k: LeafNo,
+    i: u32,
+) -> bool
     requires { ⌜ Area g (length (now leaves)) × (entries ≤ length (now homes)) × (k .0 < g .nodes) × (i < g .fan) ⌝ }
-    ensures { λ r. ⌜ r ≡ entryBy g entries (now (leaves .entry)) (now (homes .entry)) (k .0) i ⌝ }
+    ensures { λ r. ⌜ r ≡ entryBy g ordered entries (now (leaves .entry)) (now (homes .entry)) (k .0) i ⌝ }
 {
     let stride = g.stride;
     let id = child_of(leaves, g, k.0, i as usize);
@@ -58,17 +83,28 @@ fn is_entry(leaves: &[u32], homes: &[u32], g: Shape, entries: u32, k: LeafNo, i:
             return false;
         }
     }
+    if is_crossed(leaves, g, ordered, k, i) {
+        return false;
+    }
     is_new(leaves, g, k, i, EntryId(id))
 }
 
 // The same of each slot in use.
-fn are_entries(leaves: &[u32], homes: &[u32], g: Shape, entries: u32, k: LeafNo, len: u32) -> bool
+fn are_entries(
+    leaves: &[u32],
+    homes: &[u32],
+    g: Shape,
+    ordered: bool,
+    entries: u32,
+    k: LeafNo,
+    len: u32,
+) -> bool
     requires { ⌜ Area g (length (now leaves)) × (entries ≤ length (now homes)) × (k .0 < g .nodes) × (len ≤ g .fan) ⌝ }
-    ensures { λ r. ⌜ r ≡ every (entryBy g entries (now (leaves .entry)) (now (homes .entry)) (k .0)) 0 len ⌝ }
+    ensures { λ r. ⌜ r ≡ every (entryBy g ordered entries (now (leaves .entry)) (now (homes .entry)) (k .0)) 0 len ⌝ }
 {
     let mut i: u32 = 0;
     while i < len {
-        if !is_entry(leaves, homes, g, entries, k, i) {
+        if !is_entry(leaves, homes, g, ordered, entries, k, i) {
             return false;
         }
         i += 1;
@@ -92,10 +128,11 @@ pub fn is_leaf(
     inners: &[u32],
     homes: &[u32],
     g: Shape,
+    ordered: bool,
     k: LeafNo,
 ) -> bool
     requires { ⌜ Known head g (length (now leaves)) (length (now inners)) × (head .entries ≤ length (now homes)) × (k .0 < head .leaves) ⌝ }
-    ensures { λ r. ⌜ ((K : Kind) → g ≡ shapeOf K head → r ≡ isLeaf K (state head (now (leaves .entry)) (now (inners .entry)) (now (homes .entry))) (k .0)) ⌝ }
+    ensures { λ r. ⌜ ((K : Kind) → g ≡ shapeOf K head → K .ordered ≡ ordered → r ≡ isLeaf K (state head (now (leaves .entry)) (now (inners .entry)) (now (homes .entry))) (k .0)) ⌝ }
 {
     let levels = head.levels;
     let used = head.inners;
@@ -113,5 +150,5 @@ pub fn is_leaf(
         return false;
     }
     let len = len_of(leaves, g, k.0);
-    are_entries(leaves, homes, g, entries, k, len)
+    are_entries(leaves, homes, g, ordered, entries, k, len)
 }

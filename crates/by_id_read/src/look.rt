@@ -1,9 +1,5 @@
 // The lookup by id.
-use crate::answer::Looked;
 use crate::answer::LookedReply;
-use calls_read::read::id;
-use model::answer::Located;
-use model::answer::Named;
 use model::head::Head;
 use model::length::View;
 ghost use mathlib.Core.Path.{_≡_};
@@ -26,23 +22,5 @@ pub fn locate(
 ) -> LookedReply
     ensures { λ r. ⌜ moved (state (r .head) (now (leaves .exit)) (now (inners .exit)) (now (homes .exit))) (lookedAnswer (r .answer)) ≡ treeStep base (state head (now (leaves .entry)) (now (inners .entry)) (now (homes .entry))) (row.lookup (viewNumber view) index) ⌝ }
 {
-    let r = calls_look::lookup::locate(head, leaves, inners, homes, view, index);
-    let kept = r.head;
-    let answer = r.answer;
-    match answer {
-        Located::Refused(n) => LookedReply {
-            head: kept,
-            answer: Looked::Refused(n),
-        },
-        Located::At(at, offset, effect, prepare) => match id(kept, leaves, inners, homes, at) {
-            Named::Refused(n) => LookedReply {
-                head: kept,
-                answer: Looked::Refused(n),
-            },
-            Named::Entry(i) => LookedReply {
-                head: kept,
-                answer: Looked::At(i, offset, effect, prepare),
-            },
-        },
-    }
+    crate::any::locate(3, 1, head, leaves, inners, homes, view.number(), index)
 }

@@ -2,7 +2,6 @@
 use crate::answer::Following;
 use calls_read::read::id;
 use model::answer::Named;
-use model::answer::Next;
 use model::answer::Standing;
 use model::head::Cursor;
 use model::head::Head;
@@ -30,12 +29,5 @@ pub fn first(head: Head, leaves: &[u32], inners: &[u32], homes: &[u32]) -> Named
 pub fn next(head: Head, leaves: &[u32], inners: &[u32], homes: &[u32], at: Cursor) -> Following
     ensures { λ r. ⌜ followingAnswer r ≡ nextAnswer base (state head (now (leaves .entry)) (now (inners .entry)) (now (homes .entry))) (calls.nextAfter base (state head (now (leaves .entry)) (now (inners .entry)) (now (homes .entry))) at) ⌝ }
 {
-    match calls_order::order::next(head, leaves, inners, homes, at) {
-        Next::Refused(n) => Following::Refused(n),
-        Next::Nothing => Following::Nothing,
-        Next::At(c) => match id(head, leaves, inners, homes, c) {
-            Named::Refused(n) => Following::Refused(n),
-            Named::Entry(i) => Following::Entry(i),
-        },
-    }
+    crate::any::next(3, head, leaves, inners, homes, at)
 }

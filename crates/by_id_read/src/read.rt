@@ -1,8 +1,6 @@
 // The count of the entries, as a call of a list answers it.
 use model::answer::Number;
 use model::head::Head;
-use open::open::Opened;
-use open::open::open_areas;
 ghost use mathlib.Core.Path.{_≡_};
 ghost use Rattle.model.specs.Kind.{base};
 ghost use Rattle.model.specs.Row as row;
@@ -15,10 +13,5 @@ ghost use Rattle.model.specs.ById.{treeStep};
 pub fn len(head: Head, leaves: &[u32], inners: &[u32], homes: &[u32]) -> Number
     ensures { λ r. ⌜ moved (state head (now (leaves .entry)) (now (inners .entry)) (now (homes .entry))) (numberAnswer r) ≡ treeStep base (state head (now (leaves .entry)) (now (inners .entry)) (now (homes .entry))) row.count ⌝ }
 {
-    let fan = head.fan;
-    let limit = head.limit;
-    match open_areas(3, fan, limit, leaves, inners, homes) {
-        Opened::Refused(n) => Number::Refused(n),
-        Opened::Good(_) => calls_read::read::len(head),
-    }
+    crate::any::len(3, head, leaves, inners, homes)
 }

@@ -9,6 +9,7 @@ use lib.Dec.{ltb, leb, eqb}
 use borrow.Author.Tests.{eq-eqb, ne-eqb, ltb-true, leb-true, le-leb}
 use Rattle.model.specs.Length.{lengthsIn}
 use Rattle.model.specs.Lists.{Cause}
+use Rattle.model.specs.Kind.{kind, kindOf}
 use Rattle.model.specs.Node as node
 use Rattle.model.specs.Node.{Node, wrap}
 use Rattle.model.specs.State.{State, state, shapeFor, nodeAt}
@@ -261,6 +262,11 @@ module _ (K : Kind) (s : State) (t : Target) (g : Shape) (a : Aim) (x : List ℕ
 
       pub put-broken : r ≡ sum.Broken → reply (state (s .head) ls xs1 hs) (inserted.Refused 9) ≡ insertedBy K g s t new
       put-broken q = way-reply (sum.Broken, xs1) (low-lost xs1 (way g new) (ap (λ (y : Sum). (y, xs1)) (sym q) ∙ low))
+
+-- the change is that of a tree with ordered lengths too
+pub inserted-ordered : (views effect : ℕ) (ordered : Bool) (g : Shape) (s : State) (t : Target) (l : List ℕ) → insertedBy (kind views effect) g s t l ≡ insertedBy (kindOf views effect ordered) g s t l
+inserted-ordered views effect ordered g s (target.Before c) l = refl
+inserted-ordered views effect ordered g s target.End l = refl
 
 -- the call, from what its tests answered
 module _ (K : Kind) (causes : List Cause) (s : State) (t : Target) (l : List ℕ) (o : Opened) (e : o ≡ openedBy (insertCauses K causes s t l) (shapeOf K (s .head))) where

@@ -8,12 +8,12 @@ use lib.ListN.{getD}
 use lib.Dec.{ltb, leb}
 use borrow.Author.Tests.{ltb-true, leb-false, ltb-false, lt-ltb, le-ltb, le-leb, lt-leb}
 use Rattle.model.specs.Lists.{Cause, refusal, some, All, range}
-use Rattle.model.specs.Kind.{tooManyLines}
+use Rattle.model.specs.Kind.{kind, kindOf, tooManyLines, crossed}
 use Rattle.model.specs.Length.{lengthsIn}
 use Rattle.model.specs.Node.{child}
 use Rattle.model.specs.State.{State, shapeFor, nodeAt}
 use Rattle.model.specs.Climb.{lastDown}
-use Rattle.model.specs.Refuse.{shapeOf, opening, atCursor, totalOf, past}
+use Rattle.model.specs.Refuse.{shapeOf, opening, atCursor, totalOf, crossedBounds, past}
 use Rattle.model.specs.Calls.{endOf, targetCauses, insertCauses}
 use Rattle.model.specs.declared.shape.Kind.{Kind}
 use Rattle.model.specs.declared.shape.Shape.{Shape}
@@ -91,43 +91,50 @@ module _ (K : Kind) (w : (1 ≤ K .views) × (K .views ≤ 3)) (s : State) where
 
     -- else, from what `open_for` answered
     module _ (t : Target) (l : List ℕ) (m : Bool) (em : m ≡ tooManyLines K l) (few : m ≡ false) (o : Opened) (e : o ≡ openedBy (frontOf K s t) (shapeOf K (s .head))) where
-      behind : openedBy (insertCauses K causes s t l) (shapeOf K (s .head)) ≡ openedBy (opening K s ++ targetCauses K s t ++ past K s [] l ∷ causes) (shapeOf K (s .head))
+      behind : openedBy (insertCauses K causes s t l) (shapeOf K (s .head)) ≡ openedBy (opening K s ++ targetCauses K s t ++ crossedBounds K l ∷ past K s [] l ∷ causes) (shapeOf K (s .head))
       behind = opened-next 10 _ _ _ (sym em ∙ few)
 
       pub insert-stop : (n : ℕ) → o ≡ Refused n → Refused n ≡ openedBy (insertCauses K causes s t l) (shapeOf K (s .head))
-      insert-stop n d = sym (behind ∙ opened-stop (frontOf K s t) (past K s [] l ∷ causes) _ n (sym e ∙ d))
+      insert-stop n d = sym (behind ∙ opened-stop (frontOf K s t) (crossedBounds K l ∷ past K s [] l ∷ causes) _ n (sym e ∙ d))
 
-      module _ (g : Shape) (d : o ≡ Good g) (b : Bool)
-          (eb : b ≡ pastIn (shapeFor (K .views) (g .fan) (g .nodes)) (s .head .root .0) (s .inners) (lengthsIn (K .views) (0 ∷ 0 ∷ 0 ∷ 0 ∷ [])) l) where
-        same : shapeOf K (s .head) ≡ g
-        same = good-shape (frontOf K s t) (shapeOf K (s .head)) g (sym e ∙ d)
+      module _ (g : Shape) (d : o ≡ Good g) (y : Bool) (ey : y ≡ crossed K l) where
+        beyond : openedBy (insertCauses K causes s t l) (shapeOf K (s .head)) ≡ openedBy (crossedBounds K l ∷ past K s [] l ∷ causes) (shapeOf K (s .head))
+        beyond = behind ∙ opened-more (frontOf K s t) (crossedBounds K l ∷ past K s [] l ∷ causes) _ g (front-numbered K s t) (sym e ∙ d)
 
-        here : b ≡ past K s [] l .applies
-        here = eb ∙ past-same K s g (sym same) (lengthsIn (K .views) (0 ∷ 0 ∷ 0 ∷ 0 ∷ [])) l ∙ past-none K w s l
+        pub insert-crossed : y ≡ true → Refused 20 ≡ openedBy (insertCauses K causes s t l) (shapeOf K (s .head))
+        insert-crossed h = sym (beyond ∙ opened-first 19 _ (past K s [] l ∷ causes) _ (sym ey ∙ h))
 
-        rest : openedBy (insertCauses K causes s t l) (shapeOf K (s .head)) ≡ openedBy (past K s [] l ∷ causes) (shapeOf K (s .head))
-        rest = behind ∙ opened-more (frontOf K s t) (past K s [] l ∷ causes) _ g (front-numbered K s t) (sym e ∙ d)
+        module _ (straight : y ≡ false) (b : Bool)
+            (eb : b ≡ pastIn (shapeFor (K .views) (g .fan) (g .nodes)) (s .head .root .0) (s .inners) (lengthsIn (K .views) (0 ∷ 0 ∷ 0 ∷ 0 ∷ [])) l) where
+          same : shapeOf K (s .head) ≡ g
+          same = good-shape (frontOf K s t) (shapeOf K (s .head)) g (sym e ∙ d)
 
-        pub insert-past : b ≡ true → Refused 7 ≡ openedBy (insertCauses K causes s t l) (shapeOf K (s .head))
-        insert-past h = sym (rest ∙ opened-first 6 _ causes _ (sym here ∙ h))
+          here : b ≡ past K s [] l .applies
+          here = eb ∙ past-same K s g (sym same) (lengthsIn (K .views) (0 ∷ 0 ∷ 0 ∷ 0 ∷ [])) l ∙ past-none K w s l
 
-        module _ (h : b ≡ false) (room : ℕ) (er : refusal causes ≡ room) where
-          last : openedBy (insertCauses K causes s t l) (shapeOf K (s .head)) ≡ openedBy causes (shapeOf K (s .head))
-          last = rest ∙ opened-next 7 _ causes _ (sym here ∙ h)
+          rest : openedBy (insertCauses K causes s t l) (shapeOf K (s .head)) ≡ openedBy (past K s [] l ∷ causes) (shapeOf K (s .head))
+          rest = beyond ∙ opened-next 20 _ (past K s [] l ∷ causes) _ (sym ey ∙ straight)
 
-          pub insert-full : (room ≡ 0 → ⊥) → Refused room ≡ openedBy (insertCauses K causes s t l) (shapeOf K (s .head))
-          insert-full q = sym (last ∙ opened-number causes _ room er q)
+          pub insert-past : b ≡ true → Refused 7 ≡ openedBy (insertCauses K causes s t l) (shapeOf K (s .head))
+          insert-past h = sym (rest ∙ opened-first 6 _ causes _ (sym here ∙ h))
 
-          pub insert-good : room ≡ 0 → Good g ≡ openedBy (insertCauses K causes s t l) (shapeOf K (s .head))
-          insert-good q = sym (last ∙ opened-zero causes _ (er ∙ q) ∙ ap Good same)
+          module _ (h : b ≡ false) (room : ℕ) (er : refusal causes ≡ room) where
+            last : openedBy (insertCauses K causes s t l) (shapeOf K (s .head)) ≡ openedBy causes (shapeOf K (s .head))
+            last = rest ∙ opened-next 7 _ causes _ (sym here ∙ h)
+
+            pub insert-full : (room ≡ 0 → ⊥) → Refused room ≡ openedBy (insertCauses K causes s t l) (shapeOf K (s .head))
+            insert-full q = sym (last ∙ opened-number causes _ room er q)
+
+            pub insert-good : room ≡ 0 → Good g ≡ openedBy (insertCauses K causes s t l) (shapeOf K (s .head))
+            insert-good q = sym (last ∙ opened-zero causes _ (er ∙ q) ∙ ap Good same)
 
     -- and what is known where it gives no number: the tree is ready, a cursor stands, and none of the causes applies
     module _ (t : Target) (l : List ℕ) (g : Shape) (o : Opened) (e : o ≡ openedBy (insertCauses K causes s t l) (shapeOf K (s .head))) (d : o ≡ Good g) where
-      behind-lines : openedBy (opening K s ++ targetCauses K s t ++ past K s [] l ∷ causes) (shapeOf K (s .head)) ≡ Good g
+      behind-lines : openedBy (opening K s ++ targetCauses K s t ++ crossedBounds K l ∷ past K s [] l ∷ causes) (shapeOf K (s .head)) ≡ Good g
       behind-lines = good-tail 9 (tooManyLines K l) _ (shapeOf K (s .head)) g (sym e ∙ d)
 
       front : openedBy (frontOf K s t) (shapeOf K (s .head)) ≡ Good g
-      front = good-front (frontOf K s t) (past K s [] l ∷ causes) (shapeOf K (s .head)) g behind-lines
+      front = good-front (frontOf K s t) (crossedBounds K l ∷ past K s [] l ∷ causes) (shapeOf K (s .head)) g behind-lines
 
       pub insert-ready : Ready K s g × Aimed K s t
       insert-ready = (
@@ -138,7 +145,20 @@ module _ (K : Kind) (w : (1 ≤ K .views) × (K .views ≤ 3)) (s : State) where
       pub insert-room : refusal causes ≡ 0
       insert-room =
           good-number causes (shapeOf K (s .head)) g
-          (good-tail 6 _ causes _ g (sym (opened-more (frontOf K s t) (past K s [] l ∷ causes) _ g (front-numbered K s t) front) ∙ behind-lines))
+          (good-tail 6 _ causes _ g (good-tail 19 _ (past K s [] l ∷ causes) _ g (sym (opened-more (frontOf K s t) (crossedBounds K l ∷ past K s [] l ∷ causes) _ g (front-numbered K s t) front) ∙ behind-lines)))
+
+-- what doesn't ask for an order of the lengths: the tests of the tree and of the target, and what is known where none gives a number
+module _ (views effect : ℕ) (ordered : Bool) (s : State) where
+  pub front-ordered : (t : Target) (o : Opened) → o ≡ openedBy (frontOf (kind views effect) s t) (shapeOf (kind views effect) (s .head))
+      → o ≡ openedBy (frontOf (kindOf views effect ordered) s t) (shapeOf (kindOf views effect ordered) (s .head))
+  unfolding opening
+  front-ordered (target.Before c) o e = e
+  front-ordered target.End o e = e
+
+  pub aimed-plain : (t : Target) → Aimed (kindOf views effect ordered) s t → Aimed (kind views effect) s t
+  unfolding Aimed
+  aimed-plain (target.Before c) h = h
+  aimed-plain target.End h = h
 
 -- the leaf that the last slots lead to is in the area
 within : Shape → Leaf → Type 0

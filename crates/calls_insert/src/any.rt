@@ -1,4 +1,5 @@
-// One entry more in a tree with views lengths an entry, positions answered in view effect.
+// One entry more in a tree with views lengths an entry, positions answered in view effect; ordered: the first two are a lowest and a
+// highest one.
 use area::word::len_of;
 use model::answer::Inserted;
 use model::answer::InsertedReply;
@@ -9,6 +10,7 @@ use model::number::LeafNo;
 use model::shape::Shape;
 use model::way::Leaf;
 use model::way::Sum;
+use open::lengths::crossed;
 use open::lengths::past;
 use open::lengths::too_many_lines;
 use open::open::Opened;
@@ -22,7 +24,7 @@ ghost use mathlib.Core.List.{List, _++_};
 ghost use Prim.Native.Nat.{ℕ, _<_, _≤_};
 ghost use lib.ListN.{length, getD};
 ghost use Rattle.model.specs.Length.{lengthsIn};
-ghost use Rattle.model.specs.Kind.{kind};
+ghost use Rattle.model.specs.Kind.{kind, kindOf};
 ghost use Rattle.model.specs.Lists.{Cause, refusal};
 ghost use Rattle.model.specs.State.{state};
 ghost use Rattle.model.specs.Refuse.{shapeOf, opening};
@@ -61,10 +63,11 @@ fn open_for(
     }
 }
 
-// All that insert tests: too many line ends before all else; behind the tree and a cursor, whether a total would pass u32, and then
-// room, the number for want of space.
+// All that insert tests: too many line ends before all else; behind the tree and a cursor, whether the lengths are in order, whether a
+// total would pass u32, and then room, the number for want of space.
 fn open_insert(
     views: usize,
+    ordered: bool,
     room: u32,
     head: Head,
     leaves: &[u32],
@@ -74,7 +77,7 @@ fn open_insert(
     x: &[u32; 4],
 ) -> Opened
     requires { ⌜ (1 ≤ views) × (views ≤ 3) × (length (now x) ≡ 4) ⌝ }
-    ensures { λ r. ⌜ ((effect : ℕ) (causes : List Cause) → refusal causes ≡ room → r ≡ openedBy (insertCauses (kind views effect) causes (state head (now (leaves .entry)) (now (inners .entry)) (now (homes .entry))) before (lengthsIn views (now (x .entry)))) (shapeOf (kind views effect) head)) ⌝ }
+    ensures { λ r. ⌜ ((effect : ℕ) (causes : List Cause) → refusal causes ≡ room → r ≡ openedBy (insertCauses (kindOf views effect ordered) causes (state head (now (leaves .entry)) (now (inners .entry)) (now (homes .entry))) before (lengthsIn views (now (x .entry)))) (shapeOf (kindOf views effect ordered) head)) ⌝ }
 {
     if too_many_lines(views, x) {
         return Opened::Refused(10);
@@ -82,6 +85,9 @@ fn open_insert(
     match open_for(views, head, leaves, inners, homes, before) {
         Opened::Refused(n) => Opened::Refused(n),
         Opened::Good(g) => {
+            if crossed(views, ordered, x) {
+                return Opened::Refused(20);
+            }
             let none: [u32; 4] = [0; 4];
             if past(head.root, inners, views, g.fan, g.nodes, &none, x) {
                 return Opened::Refused(7);
@@ -208,6 +214,7 @@ fn enter(
 pub fn insert(
     views: usize,
     effect: usize,
+    ordered: bool,
     room: u32,
     head: Head,
     leaves: &mut [u32],
@@ -217,9 +224,9 @@ pub fn insert(
     x: &[u32; 4],
 ) -> InsertedReply
     requires { ⌜ (1 ≤ views) × (views ≤ 3) × (effect < views) × (getD (now x) 0 0 ≡ head .entries) × (length (now x) ≡ 4) × (room ≡ 0 → head .entries < head .limit) ⌝ }
-    ensures { λ r. ⌜ ((causes : List Cause) → refusal causes ≡ room → reply (state (r .head) (now (leaves .exit)) (now (inners .exit)) (now (homes .exit))) (r .answer) ≡ calls.insertBy (kind views effect) causes (state head (now (leaves .entry)) (now (inners .entry)) (now (homes .entry))) before (lengthsIn views (now (x .entry)))) ⌝ }
+    ensures { λ r. ⌜ ((causes : List Cause) → refusal causes ≡ room → reply (state (r .head) (now (leaves .exit)) (now (inners .exit)) (now (homes .exit))) (r .answer) ≡ calls.insertBy (kindOf views effect ordered) causes (state head (now (leaves .entry)) (now (inners .entry)) (now (homes .entry))) before (lengthsIn views (now (x .entry)))) ⌝ }
 {
-    match open_insert(views, room, head, leaves, inners, homes, before, x) {
+    match open_insert(views, ordered, room, head, leaves, inners, homes, before, x) {
         Opened::Refused(n) => refused(head, n),
         Opened::Good(g) => enter(views, effect, head, leaves, inners, homes, g, before, x),
     }

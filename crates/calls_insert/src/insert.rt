@@ -31,5 +31,5 @@ pub fn insert(
         slot.line_ends,
     ];
     let room = without(head.limit, head.entries);
-    crate::any::insert(3, 1, room, head, leaves, inners, homes, before, &x)
+    crate::any::insert(3, 1, false, room, head, leaves, inners, homes, before, &x)
 }

@@ -58,7 +58,7 @@ pub fn insert(
         slot.effect_len,
         slot.line_ends,
     ];
-    let r = crate::any::insert(3, 1, room, head, leaves, inners, homes, before, &x);
+    let r = crate::any::insert(3, 1, false, room, head, leaves, inners, homes, before, &x);
     let after = r.head;
     let answer = r.answer;
     charge_for(seats, seat, answer);

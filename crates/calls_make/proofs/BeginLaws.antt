@@ -2,18 +2,18 @@
 use mathlib.Core.Path.{_≡_, refl, sym, ap, _∙_}
 use mathlib.Core.Bool.{Bool, true, false, cond}
 use mathlib.Core.List.{List, [], _∷_, _++_}
-use Prim.Native.Nat.{ℕ, suc, _+_, _-_, _*_, _/_, _<_, _≤_}
+use Prim.Native.Nat.{ℕ, _+_, _-_, _*_, _/_, _<_, _≤_}
 use native.Mathlib.Omega.{arith}
 use lib.ListN.{length, getD, set, take, drop}
 use lib.Dec.{ltb}
 use borrow.Author.Tests.{ltb-false}
 use borrow.Rule.Slice.PartMut.{putMid}
-use Rattle.model.specs.Kind.{kind, stride, tooManyLines}
+use Rattle.model.specs.Kind.{stride, tooManyLines, crossed}
 use Rattle.model.specs.Lists.{Cause, refusal, All, putAt}
 use Rattle.model.specs.Node.{none, newNode}
 use Rattle.model.specs.Length.{lengthsIn}
 use Rattle.model.specs.State.{State, state, headOf, nextStamp, shape, putNode}
-use Rattle.model.specs.Refuse.{shapeOf}
+use Rattle.model.specs.Refuse.{shapeOf, crossedBounds}
 use Rattle.model.specs.Calls.{reply, begun, areaCauses, makeCauses, make, reset}
 use Rattle.model.specs.declared.shape.Kind.{Kind}
 use Rattle.model.specs.declared.shape.Shape.{Shape}
@@ -23,7 +23,7 @@ use Rattle.laws.specs.Words.{lent-back}
 use Rattle.laws.specs.Lists.{rows-le}
 use Rattle.node.specs.Shaped.{Shaped}
 use Rattle.open.proofs.Bools.{or-false}
-use Rattle.open.proofs.Causes.{Numbered, opened-stop, opened-more, opened-number, opened-zero, none-applies, good-number, good-shape, good-front, good-tail, call-refused, call-good}
+use Rattle.open.proofs.Causes.{Numbered, none-applies, opened-first, opened-next, opened-none, opened-stop, opened-more, opened-number, opened-zero, good-number, good-shape, good-front, good-tail, call-refused, call-good}
 use Rattle.open.proofs.OpenLaws.{sized}
 use Rattle.open.proofs.ReadyLaws.{shaped}
 use Rattle.open.specs.Open.{openedBy}
@@ -39,21 +39,21 @@ first-node g ws xs h e =
     rw from (rw to at (lent-back 0 (g .size) ws xs (rw to h) (rw to e)))
 
 -- the first slot's words, in both areas
-module _ (views effect fan limit stamp : ℕ) (g : Shape) (e : g ≡ shape (suc views) fan limit) (ls xs hs : List ℕ) where
+module _ (K : Kind) (fan limit stamp : ℕ) (g : Shape) (e : g ≡ shape (stride K) fan limit) (ls xs hs : List ℕ) where
   abbrev made : Shape → List ℕ → State
   made y slot =
       state (headOf fan limit 0 1 1 1 1 stamp held.Absent) (putNode y 0 (newNode (y .stride) (y .fan) 0 (slot ∷ [])) ls) (putNode y 0 (newNode (y .stride) (y .fan) none (slot ∷ [])) xs) (set hs 0 0)
 
-  first-slot : (x : List ℕ) → getD x 0 0 ≡ 0 → length x ≡ 4 → take (suc views) x ≡ 0 ∷ lengthsIn views x
+  first-slot : (x : List ℕ) → getD x 0 0 ≡ 0 → length x ≡ 4 → take (stride K) x ≡ 0 ∷ lengthsIn (K .views) x
   first-slot [] z four = absurd (omega arith)
-  first-slot (a ∷ x) z four = ap (λ (b : ℕ). b ∷ take views x) z
+  first-slot (a ∷ x) z four = ap (λ (b : ℕ). b ∷ take (K .views) x) z
 
   pub begin-words : (x ls′ xs′ : List ℕ) → getD x 0 0 ≡ 0 → length x ≡ 4 → ls′ ≡ putNode g 0 (newNode (g .stride) (g .fan) 0 (take (g .stride) x ∷ [])) ls
       → xs′ ≡ putNode g 0 (newNode (g .stride) (g .fan) none (take (g .stride) x ∷ [])) xs
-      → state (headOf fan limit 0 1 1 1 1 stamp held.Absent) ls′ xs′ (set hs 0 0) ≡ begun (kind views effect) fan limit stamp (lengthsIn views x) ls xs hs
+      → state (headOf fan limit 0 1 1 1 1 stamp held.Absent) ls′ xs′ (set hs 0 0) ≡ begun K fan limit stamp (lengthsIn (K .views) x) ls xs hs
   unfolding begun
   begin-words x ls′ xs′ z four el en =
-      rw (el, en) (ap (λ (y : Shape). made y (take (y .stride) x)) e ∙ ap (made (shape (suc views) fan limit)) (first-slot x z four))
+      rw (el, en) (ap (λ (y : Shape). made y (take (y .stride) x)) e ∙ ap (made (shape (stride K) fan limit)) (first-slot x z four))
 
 -- the areas of make and reset are long enough
 pub record Room (K : Kind) (fan limit : ℕ) (g : Shape) (ls xs hs : List ℕ) : Type 0 where
@@ -66,6 +66,10 @@ pub record Room (K : Kind) (fan limit : ℕ) (g : Shape) (ls xs hs : List ℕ) :
   pub inners : g .size ≤ length xs
   pub homes : 0 < length hs
 
+pub area-numbered : (K : Kind) (fan limit : ℕ) (ls xs hs : List ℕ) → Numbered (areaCauses K fan limit ls xs hs)
+unfolding All
+area-numbered K fan limit ls xs hs = (omega arith, (omega arith, tt))
+
 one-node : (b : Bool) (n s m : ℕ) → cond b 1 n * s ≤ m → (b ≡ false → 1 ≤ n) → s ≤ m
 one-node true n s m h f = omega arith
 one-node false n s m h f = omega (arith, rows-le 1 n s (f refl))
@@ -74,7 +78,7 @@ module _ (K : Kind) (w : (1 ≤ K .views) × (K .views ≤ 3)) (fan limit : ℕ)
   pub room : (g : Shape) → o ≡ Good g → Room K fan limit g ls xs hs
   unfolding All
   room g d =
-      let n = none-applies (areaCauses K fan limit ls xs hs) (omega arith, (omega arith, tt)) (good-number (areaCauses K fan limit ls xs hs) (shape (stride K) fan limit) g (sym e ∙ d)) in
+      let n = none-applies (areaCauses K fan limit ls xs hs) (area-numbered K fan limit ls xs hs) (good-number (areaCauses K fan limit ls xs hs) (shape (stride K) fan limit) g (sym e ∙ d)) in
       let z = sized fan limit (n .0) in
       let short = or-false _ _ (n .1 .0) in
       let areas = or-false _ _ (short .0) in
@@ -97,7 +101,27 @@ module _ (K : Kind) (w : (1 ≤ K .views) × (K .views ≤ 3)) (fan limit : ℕ)
 pub make-room : (K : Kind) → (1 ≤ K .views) × (K .views ≤ 3) → (fan limit : ℕ) (l ls xs hs : List ℕ) (o : Opened) → o ≡ openedBy (makeCauses K fan limit l ls xs hs) (shape (stride K) fan limit)
     → (g : Shape) → o ≡ Good g → Room K fan limit g ls xs hs
 make-room K w fan limit l ls xs hs o e g d =
-    room K w fan limit ls xs hs _ refl g (good-tail 9 (tooManyLines K l) (areaCauses K fan limit ls xs hs) (shape (stride K) fan limit) g (sym e ∙ d))
+    room K w fan limit ls xs hs _ refl g
+    (good-front (areaCauses K fan limit ls xs hs) (crossedBounds K l ∷ []) (shape (stride K) fan limit) g
+    (good-tail 9 (tooManyLines K l) (areaCauses K fan limit ls xs hs ++ crossedBounds K l ∷ []) (shape (stride K) fan limit) g (sym e ∙ d)))
+
+-- what `open_make` answers where the line ends aren't too many, from what `open_areas` answered
+module _ (K : Kind) (fan limit : ℕ) (l ls xs hs : List ℕ) (m : Bool) (em : m ≡ tooManyLines K l) (few : m ≡ false) (o : Opened) (e : o ≡ openedBy (areaCauses K fan limit ls xs hs) (shape (stride K) fan limit)) where
+  behind : openedBy (makeCauses K fan limit l ls xs hs) (shape (stride K) fan limit) ≡ openedBy (areaCauses K fan limit ls xs hs ++ crossedBounds K l ∷ []) (shape (stride K) fan limit)
+  behind = opened-next 10 _ _ _ (sym em ∙ few)
+
+  pub make-closed : (n : ℕ) → o ≡ Refused n → Refused n ≡ openedBy (makeCauses K fan limit l ls xs hs) (shape (stride K) fan limit)
+  make-closed n d = sym (behind ∙ opened-stop (areaCauses K fan limit ls xs hs) (crossedBounds K l ∷ []) _ n (sym e ∙ d))
+
+  module _ (g : Shape) (d : o ≡ Good g) (b : Bool) (eb : b ≡ crossed K l) where
+    last : openedBy (makeCauses K fan limit l ls xs hs) (shape (stride K) fan limit) ≡ openedBy (crossedBounds K l ∷ []) (shape (stride K) fan limit)
+    last = behind ∙ opened-more (areaCauses K fan limit ls xs hs) (crossedBounds K l ∷ []) _ g (area-numbered K fan limit ls xs hs) (sym e ∙ d)
+
+    pub make-crossed : b ≡ true → Refused 20 ≡ openedBy (makeCauses K fan limit l ls xs hs) (shape (stride K) fan limit)
+    make-crossed h = sym (last ∙ opened-first 19 _ [] _ (sym eb ∙ h))
+
+    pub make-opened : b ≡ false → Good g ≡ openedBy (makeCauses K fan limit l ls xs hs) (shape (stride K) fan limit)
+    make-opened h = sym (last ∙ opened-next 20 _ [] _ (sym eb ∙ h) ∙ opened-none _ ∙ ap Good (good-shape (areaCauses K fan limit ls xs hs) _ g (sym e ∙ d)))
 
 -- what `open_new` answers, with more causes behind those of `open_make`
 module _ (K : Kind) (fan limit : ℕ) (l ls xs hs : List ℕ) (o : Opened) (e : o ≡ openedBy (makeCauses K fan limit l ls xs hs) (shape (stride K) fan limit)) (more : List Cause) where
@@ -110,7 +134,7 @@ module _ (K : Kind) (fan limit : ℕ) (l ls xs hs : List ℕ) (o : Opened) (e : 
   module _ (g : Shape) (d : o ≡ Good g) (high : ℕ) (er : refusal more ≡ high) where
     numbered : Numbered causes
     unfolding All
-    numbered = (omega arith, (omega arith, (omega arith, tt)))
+    numbered = (omega arith, (omega arith, (omega arith, (omega arith, tt))))
 
     rest : openedBy (causes ++ more) (shape (stride K) fan limit) ≡ openedBy more (shape (stride K) fan limit)
     rest = opened-more causes more (shape (stride K) fan limit) g numbered (sym e ∙ d)

@@ -1,4 +1,5 @@
-// The calls that begin a tree with views lengths an entry: one leaf with the entry 0, and one inner node above it.
+// The calls that begin a tree with views lengths an entry, the first two a lowest and a highest one where they are ordered: one leaf with
+// the entry 0, and one inner node above it.
 use model::answer::Outcome;
 use model::answer::OutcomeReply;
 use model::head::Head;
@@ -7,6 +8,7 @@ use model::length::Slot;
 use model::number::NodeNo;
 use model::shape::Shape;
 use node_write::split::new_one;
+use open::lengths::crossed;
 use open::lengths::too_many_lines;
 use open::open::Opened;
 use open::open::open_areas;
@@ -16,11 +18,12 @@ ghost use Prim.Native.Nat.{ℕ, suc, _<_, _≤_};
 ghost use lib.ListN.{length, getD, take};
 ghost use Rattle.model.specs.Length.{lengthsIn};
 ghost use Rattle.model.specs.Lists.{Cause, refusal};
-ghost use Rattle.model.specs.Kind.{kind};
+ghost use Rattle.model.specs.Kind.{kindOf, stride};
 ghost use Rattle.model.specs.Node.{newNode};
 ghost use Rattle.model.specs.State.{state, shape, putNode};
 ghost use Rattle.model.specs.Calls as calls;
 ghost use Rattle.model.specs.Calls.{begun, makeCauses, reply};
+ghost use Rattle.model.specs.declared.shape.Kind.{Kind};
 ghost use Rattle.node.specs.Shaped.{Shaped};
 ghost use Rattle.open.specs.Open.{openedBy};
 ghost use Rattle.calls_make.specs.Made.{makeBy};
@@ -47,7 +50,7 @@ fn begin(
     homes: &mut [u32],
 ) -> Head
     requires { ⌜ Shaped g × (g .size ≤ length (now leaves)) × (g .size ≤ length (now inners)) × (0 < length (now homes)) × (getD (now x) 0 0 ≡ 0) × (length (now x) ≡ 4) ⌝ }
-    ensures { λ r. ⌜ ((views effect : ℕ) → g ≡ shape (suc views) fan limit → state r (now (leaves .exit)) (now (inners .exit)) (now (homes .exit)) ≡ begun (kind views effect) fan limit stamp (lengthsIn views (now (x .entry))) (now (leaves .entry)) (now (inners .entry)) (now (homes .entry))) ⌝ }
+    ensures { λ r. ⌜ ((K : Kind) → g ≡ shape (stride K) fan limit → state r (now (leaves .exit)) (now (inners .exit)) (now (homes .exit)) ≡ begun K fan limit stamp (lengthsIn (K .views) (now (x .entry))) (now (leaves .entry)) (now (inners .entry)) (now (homes .entry))) ⌝ }
 {
     let empty = Slot::EMPTY;
     write_first(leaves, g, 0, x);
@@ -66,9 +69,10 @@ fn begin(
     }
 }
 
-// What make and reset test: the line ends, and then the areas.
+// What make and reset test: the line ends, the areas, and the order of the lengths.
 fn open_make(
     views: usize,
+    ordered: bool,
     fan: u32,
     limit: u32,
     x: &[u32; 4],
@@ -77,17 +81,26 @@ fn open_make(
     homes: &[u32],
 ) -> Opened
     requires { ⌜ (1 ≤ views) × (views ≤ 3) × (length (now x) ≡ 4) ⌝ }
-    ensures { λ r. ⌜ ((effect : ℕ) → r ≡ openedBy (makeCauses (kind views effect) fan limit (lengthsIn views (now (x .entry))) (now (leaves .entry)) (now (inners .entry)) (now (homes .entry))) (shape (suc views) fan limit)) ⌝ }
+    ensures { λ r. ⌜ ((effect : ℕ) → r ≡ openedBy (makeCauses (kindOf views effect ordered) fan limit (lengthsIn views (now (x .entry))) (now (leaves .entry)) (now (inners .entry)) (now (homes .entry))) (shape (suc views) fan limit)) ⌝ }
 {
     if too_many_lines(views, x) {
         return Opened::Refused(10);
     }
-    open_areas(views, fan, limit, leaves, inners, homes)
+    match open_areas(views, fan, limit, leaves, inners, homes) {
+        Opened::Refused(n) => Opened::Refused(n),
+        Opened::Good(g) => {
+            if crossed(views, ordered, x) {
+                return Opened::Refused(20);
+            }
+            Opened::Good(g)
+        }
+    }
 }
 
 // The same of a new tree, and behind all that high, the number for shares that sum too high.
 fn open_new(
     views: usize,
+    ordered: bool,
     high: u32,
     fan: u32,
     limit: u32,
@@ -97,9 +110,9 @@ fn open_new(
     homes: &[u32],
 ) -> Opened
     requires { ⌜ (1 ≤ views) × (views ≤ 3) × (length (now x) ≡ 4) ⌝ }
-    ensures { λ r. ⌜ ((effect : ℕ) (more : List Cause) → refusal more ≡ high → r ≡ openedBy (makeCauses (kind views effect) fan limit (lengthsIn views (now (x .entry))) (now (leaves .entry)) (now (inners .entry)) (now (homes .entry)) ++ more) (shape (suc views) fan limit)) ⌝ }
+    ensures { λ r. ⌜ ((effect : ℕ) (more : List Cause) → refusal more ≡ high → r ≡ openedBy (makeCauses (kindOf views effect ordered) fan limit (lengthsIn views (now (x .entry))) (now (leaves .entry)) (now (inners .entry)) (now (homes .entry)) ++ more) (shape (suc views) fan limit)) ⌝ }
 {
-    match open_make(views, fan, limit, x, leaves, inners, homes) {
+    match open_make(views, ordered, fan, limit, x, leaves, inners, homes) {
         Opened::Refused(n) => Opened::Refused(n),
         Opened::Good(g) => {
             if high != 0 {
@@ -114,6 +127,7 @@ fn open_new(
 // there are none.
 pub fn new(
     views: usize,
+    ordered: bool,
     high: u32,
     fan: u32,
     limit: u32,
@@ -123,9 +137,9 @@ pub fn new(
     homes: &mut [u32],
 ) -> OutcomeReply
     requires { ⌜ (1 ≤ views) × (views ≤ 3) × (getD (now x) 0 0 ≡ 0) × (length (now x) ≡ 4) ⌝ }
-    ensures { λ r. ⌜ ((effect : ℕ) (more : List Cause) → refusal more ≡ high → reply (state (r .head) (now (leaves .exit)) (now (inners .exit)) (now (homes .exit))) (r .answer) ≡ makeBy (kind views effect) more fan limit (lengthsIn views (now (x .entry))) (now (leaves .entry)) (now (inners .entry)) (now (homes .entry))) ⌝ }
+    ensures { λ r. ⌜ ((effect : ℕ) (more : List Cause) → refusal more ≡ high → reply (state (r .head) (now (leaves .exit)) (now (inners .exit)) (now (homes .exit))) (r .answer) ≡ makeBy (kindOf views effect ordered) more fan limit (lengthsIn views (now (x .entry))) (now (leaves .entry)) (now (inners .entry)) (now (homes .entry))) ⌝ }
 {
-    match open_new(views, high, fan, limit, x, leaves, inners, homes) {
+    match open_new(views, ordered, high, fan, limit, x, leaves, inners, homes) {
         Opened::Refused(n) => {
             let zeros = Head {
                 fan: 0,
@@ -153,6 +167,7 @@ pub fn new(
 // The tree begun anew, with its own fan and limit.
 pub fn reset(
     views: usize,
+    ordered: bool,
     head: Head,
     x: &[u32; 4],
     leaves: &mut [u32],
@@ -160,12 +175,12 @@ pub fn reset(
     homes: &mut [u32],
 ) -> OutcomeReply
     requires { ⌜ (1 ≤ views) × (views ≤ 3) × (getD (now x) 0 0 ≡ 0) × (length (now x) ≡ 4) ⌝ }
-    ensures { λ r. ⌜ ((effect : ℕ) → reply (state (r .head) (now (leaves .exit)) (now (inners .exit)) (now (homes .exit))) (r .answer) ≡ calls.reset (kind views effect) (state head (now (leaves .entry)) (now (inners .entry)) (now (homes .entry))) (lengthsIn views (now (x .entry)))) ⌝ }
+    ensures { λ r. ⌜ ((effect : ℕ) → reply (state (r .head) (now (leaves .exit)) (now (inners .exit)) (now (homes .exit))) (r .answer) ≡ calls.reset (kindOf views effect ordered) (state head (now (leaves .entry)) (now (inners .entry)) (now (homes .entry))) (lengthsIn views (now (x .entry)))) ⌝ }
 {
     let fan = head.fan;
     let limit = head.limit;
     let stamp = std::num::wrapping_add_u64(head.stamp, 1);
-    match open_make(views, fan, limit, x, leaves, inners, homes) {
+    match open_make(views, ordered, fan, limit, x, leaves, inners, homes) {
         Opened::Refused(n) => OutcomeReply {
             head: head,
             answer: Outcome::Refused(n),

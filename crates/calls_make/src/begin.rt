@@ -28,7 +28,7 @@ pub fn new(
         slot.effect_len,
         slot.line_ends,
     ];
-    crate::any::new(3, 0, fan, limit, &x, leaves, inners, homes)
+    crate::any::new(3, false, 0, fan, limit, &x, leaves, inners, homes)
 }
 
 // The tree begun anew, with its own fan and limit.
@@ -48,5 +48,5 @@ pub fn reset(
         slot.effect_len,
         slot.line_ends,
     ];
-    crate::any::reset(3, head, &x, leaves, inners, homes)
+    crate::any::reset(3, false, head, &x, leaves, inners, homes)
 }

@@ -83,7 +83,7 @@ pub fn new(
         slot.effect_len,
         slot.line_ends,
     ];
-    let r = crate::any::new(3, high, fan, limit, &x, leaves, inners, homes);
+    let r = crate::any::new(3, false, high, fan, limit, &x, leaves, inners, homes);
     let after = r.head;
     let answer = r.answer;
     put_made(seats, shares, answer);
@@ -123,7 +123,7 @@ pub fn reset(
         slot.effect_len,
         slot.line_ends,
     ];
-    let r = crate::any::reset(3, head, &x, leaves, inners, homes);
+    let r = crate::any::reset(3, false, head, &x, leaves, inners, homes);
     let after = r.head;
     let answer = r.answer;
     clear_for(seats, answer);

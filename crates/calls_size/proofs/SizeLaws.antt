@@ -8,11 +8,11 @@ use lib.Dec.{eqb}
 use lib.ListN.{length, getD, take, set}
 use Rattle.model.specs.Length.{listOf, lengthsIn}
 use Rattle.model.specs.Lists.{refusal}
-use Rattle.model.specs.Kind.{base, tooManyLines}
+use Rattle.model.specs.Kind.{base, tooManyLines, crossed}
 use Rattle.model.specs.Node.{wrap, lengths, minus}
 use Rattle.model.specs.State.{State, state, shapeFor, nodeAt}
 use Rattle.model.specs.Place.{Change, change, replace, summed, climb}
-use Rattle.model.specs.Refuse.{shapeOf, opening, atCursor, past}
+use Rattle.model.specs.Refuse.{shapeOf, opening, atCursor, crossedBounds, past}
 use Rattle.model.specs.Calls.{Reply, reply, settled, slotAt, resized, resizeCauses, setLengths, update}
 use Rattle.model.specs.declared.shape.Kind.{Kind}
 use Rattle.model.specs.declared.shape.Shape.{Shape}
@@ -81,40 +81,47 @@ resize-many K s c l m em h own = (sym (opened-first 9 _ _ _ (sym em ∙ h)), non
 module _ (K : Kind) (s : State) (c : Cursor) (l : List ℕ) (m : Bool) (em : m ≡ tooManyLines K l) (few : m ≡ false) (o : Opened)
     (e : o ≡ openedBy (opening K s ++ atCursor K s c) (shapeOf K (s .head))) where
   behind : openedBy (resizeCauses K s c l) (shapeOf K (s .head))
-      ≡ openedBy (opening K s ++ atCursor K s c ++ past K s (lengths (slotAt K s c)) l ∷ []) (shapeOf K (s .head))
+      ≡ openedBy (opening K s ++ atCursor K s c ++ crossedBounds K l ∷ past K s (lengths (slotAt K s c)) l ∷ []) (shapeOf K (s .head))
   behind = opened-next 10 _ _ _ (sym em ∙ few)
 
   pub resize-refused : (n : ℕ) → o ≡ Refused n → (own : List ℕ)
       → (Refused n ≡ openedBy (resizeCauses K s c l) (shapeOf K (s .head))) × oldBy (Refused n) own (lengths (slotAt K s c))
   resize-refused n d own = (sym (behind ∙ opened-stop (opening K s ++ atCursor K s c) _ _ n (sym e ∙ d)), none-old n own _)
 
-  -- x holds the entry's lengths as they were read
-  module _ (g : Shape) (d : o ≡ Good g) (x : List ℕ) (ex : lengthsIn (g .stride - 1) x ≡ lengths (getD (nodeAt g (c .leaf .0) (s .leaves) .slots) (c .slot) []))
-      (t : Bool) (et : t ≡ pastIn (shapeFor (K .views) (g .fan) (g .nodes)) (s .head .root .0) (s .inners) (lengthsIn (K .views) x) l) where
-    same : shapeOf K (s .head) ≡ g
-    same = good-shape (opening K s ++ atCursor K s c) _ g (sym e ∙ d)
+  module _ (g : Shape) (d : o ≡ Good g) (b : Bool) (eb : b ≡ crossed K l) where
+    beyond : openedBy (resizeCauses K s c l) (shapeOf K (s .head)) ≡ openedBy (crossedBounds K l ∷ past K s (lengths (slotAt K s c)) l ∷ []) (shapeOf K (s .head))
+    beyond = behind ∙ opened-more (opening K s ++ atCursor K s c) _ _ g (at-numbered K s c) (sym e ∙ d)
 
-    own : lengthsIn (K .views) x ≡ lengths (slotAt K s c)
-    own = own-lengths K s c g (lengthsIn (K .views) x) same (ap (λ (n : ℕ). lengthsIn n x) (sym (own-views K (s .head) g (sym same))) ∙ ex)
+    pub resize-crossed : b ≡ true → (own : List ℕ) → (Refused 20 ≡ openedBy (resizeCauses K s c l) (shapeOf K (s .head))) × oldBy (Refused 20) own (lengths (slotAt K s c))
+    resize-crossed h own = (sym (beyond ∙ opened-first 19 _ _ _ (sym eb ∙ h)), none-old 20 own _)
 
-    here : t ≡ past K s (lengths (slotAt K s c)) l .applies
-    here = et ∙ past-same K s g (sym same) (lengthsIn (K .views) x) l ∙ ap (λ (ls : List ℕ). past K s ls l .applies) own
+    -- x holds the entry's lengths as they were read
+    module _ (straight : b ≡ false) (x : List ℕ) (ex : lengthsIn (g .stride - 1) x ≡ lengths (getD (nodeAt g (c .leaf .0) (s .leaves) .slots) (c .slot) []))
+        (t : Bool) (et : t ≡ pastIn (shapeFor (K .views) (g .fan) (g .nodes)) (s .head .root .0) (s .inners) (lengthsIn (K .views) x) l) where
+      same : shapeOf K (s .head) ≡ g
+      same = good-shape (opening K s ++ atCursor K s c) _ g (sym e ∙ d)
 
-    last : openedBy (resizeCauses K s c l) (shapeOf K (s .head)) ≡ openedBy (past K s (lengths (slotAt K s c)) l ∷ []) (shapeOf K (s .head))
-    last = behind ∙ opened-more (opening K s ++ atCursor K s c) _ _ g (at-numbered K s c) (sym e ∙ d)
+      own : lengthsIn (K .views) x ≡ lengths (slotAt K s c)
+      own = own-lengths K s c g (lengthsIn (K .views) x) same (ap (λ (n : ℕ). lengthsIn n x) (sym (own-views K (s .head) g (sym same))) ∙ ex)
 
-    pub resize-past : t ≡ true → (Refused 7 ≡ openedBy (resizeCauses K s c l) (shapeOf K (s .head))) × oldBy (Refused 7) (lengthsIn (K .views) x) (lengths (slotAt K s c))
-    resize-past h = (sym (last ∙ opened-first 6 _ [] _ (sym here ∙ h)), none-old 7 _ _)
+      here : t ≡ past K s (lengths (slotAt K s c)) l .applies
+      here = et ∙ past-same K s g (sym same) (lengthsIn (K .views) x) l ∙ ap (λ (ls : List ℕ). past K s ls l .applies) own
 
-    pub resize-good : t ≡ false → (Good g ≡ openedBy (resizeCauses K s c l) (shapeOf K (s .head))) × oldBy (Good g) (lengthsIn (K .views) x) (lengths (slotAt K s c))
-    resize-good h = (sym (last ∙ opened-next 7 _ [] _ (sym here ∙ h) ∙ opened-none _ ∙ ap Good same), λ _ _. own)
+      last : openedBy (resizeCauses K s c l) (shapeOf K (s .head)) ≡ openedBy (past K s (lengths (slotAt K s c)) l ∷ []) (shapeOf K (s .head))
+      last = beyond ∙ opened-next 20 _ _ _ (sym eb ∙ straight)
+
+      pub resize-past : t ≡ true → (Refused 7 ≡ openedBy (resizeCauses K s c l) (shapeOf K (s .head))) × oldBy (Refused 7) (lengthsIn (K .views) x) (lengths (slotAt K s c))
+      resize-past h = (sym (last ∙ opened-first 6 _ [] _ (sym here ∙ h)), none-old 7 _ _)
+
+      pub resize-good : t ≡ false → (Good g ≡ openedBy (resizeCauses K s c l) (shapeOf K (s .head))) × oldBy (Good g) (lengthsIn (K .views) x) (lengths (slotAt K s c))
+      resize-good h = (sym (last ∙ opened-next 7 _ [] _ (sym here ∙ h) ∙ opened-none _ ∙ ap Good same), λ _ _. own)
 
 -- what is known where `open_resize` gives no number
 pub resize-stands : (K : Kind) → (1 ≤ K .views) × (K .views ≤ 3) → (s : State) (c : Cursor) (l : List ℕ) (g : Shape) (o : Opened)
     → o ≡ openedBy (resizeCauses K s c l) (shapeOf K (s .head)) → o ≡ Good g → Stands K s c g
 resize-stands K w s c l g o e d =
     stands K w s c g _ refl
-    (good-front (opening K s ++ atCursor K s c) (past K s (lengths (slotAt K s c)) l ∷ []) (shapeOf K (s .head)) g (good-tail 9 (tooManyLines K l) _ (shapeOf K (s .head)) g (sym e ∙ d)))
+    (good-front (opening K s ++ atCursor K s c) (crossedBounds K l ∷ past K s (lengths (slotAt K s c)) l ∷ []) (shapeOf K (s .head)) g (good-tail 9 (tooManyLines K l) _ (shapeOf K (s .head)) g (sym e ∙ d)))
 
 -- the way up from a leaf of n words is in the areas
 pub climb-in : {K : Kind} (s : State) (c : Cursor) (g : Shape) → Stands K s c g → (n : ℕ) → n ≡ length (s .leaves)

@@ -1,10 +1,12 @@
-// Other lengths for an entry of a tree with views lengths an entry, positions answered in view effect.
+// Other lengths for an entry of a tree with views lengths an entry, positions answered in view effect; ordered: the first two are a lowest
+// and a highest one.
 use model::answer::Number;
 use model::answer::NumberReply;
 use model::head::Cursor;
 use model::head::Head;
 use model::shape::Shape;
 use model::way::Sum;
+use open::lengths::crossed;
 use open::lengths::lengths_at;
 use open::lengths::past;
 use open::lengths::too_many_lines;
@@ -15,7 +17,7 @@ use place::size::replace;
 ghost use mathlib.Core.Path.{_≡_};
 ghost use Prim.Native.Nat.{ℕ, _+_, _-_, _^_, _<_, _≤_};
 ghost use lib.ListN.{length, take};
-ghost use Rattle.model.specs.Kind.{kind};
+ghost use Rattle.model.specs.Kind.{kindOf};
 ghost use Rattle.model.specs.Length.{lengthsIn};
 ghost use Rattle.model.specs.Node.{lengths, minus, wrap};
 ghost use Rattle.model.specs.State.{state};
@@ -28,6 +30,7 @@ ghost use Rattle.calls_size.specs.Size.{resize, oldBy};
 // What both calls test, too many line ends before all else; the entry's own lengths into old where nothing is refused, or 7 is.
 fn open_resize(
     views: usize,
+    ordered: bool,
     head: Head,
     leaves: &[u32],
     inners: &[u32],
@@ -37,7 +40,7 @@ fn open_resize(
     new: &[u32; 4],
 ) -> Opened
     requires { ⌜ (1 ≤ views) × (views ≤ 3) × (length (now old) ≡ 4) × (length (now new) ≡ 4) ⌝ }
-    ensures { λ r. ⌜ ((effect : ℕ) → (r ≡ openedBy (resizeCauses (kind views effect) (state head (now (leaves .entry)) (now (inners .entry)) (now (homes .entry))) at (lengthsIn views (now (new .entry)))) (shapeOf (kind views effect) head)) × oldBy r (lengthsIn views (now (old .exit))) (lengths (slotAt (kind views effect) (state head (now (leaves .entry)) (now (inners .entry)) (now (homes .entry))) at)) × (length (now (old .exit)) ≡ 4)) ⌝ }
+    ensures { λ r. ⌜ ((effect : ℕ) → (r ≡ openedBy (resizeCauses (kindOf views effect ordered) (state head (now (leaves .entry)) (now (inners .entry)) (now (homes .entry))) at (lengthsIn views (now (new .entry)))) (shapeOf (kindOf views effect ordered) head)) × oldBy r (lengthsIn views (now (old .exit))) (lengths (slotAt (kindOf views effect ordered) (state head (now (leaves .entry)) (now (inners .entry)) (now (homes .entry))) at)) × (length (now (old .exit)) ≡ 4)) ⌝ }
 {
     if too_many_lines(views, new) {
         return Opened::Refused(10);
@@ -45,6 +48,9 @@ fn open_resize(
     match open_at(views, head, leaves, inners, homes, at) {
         Opened::Refused(n) => Opened::Refused(n),
         Opened::Good(g) => {
+            if crossed(views, ordered, new) {
+                return Opened::Refused(20);
+            }
             lengths_at(leaves, g, at.leaf, at.slot, old);
             if past(head.root, inners, views, g.fan, g.nodes, old, new) {
                 return Opened::Refused(7);
@@ -81,6 +87,7 @@ fn minus(g: Shape, new: &[u32; 4], old: &[u32; 4], delta: &mut [u32; 3])
 pub fn resize(
     views: usize,
     effect: usize,
+    ordered: bool,
     head: Head,
     leaves: &mut [u32],
     inners: &mut [u32],
@@ -90,11 +97,21 @@ pub fn resize(
     summed: bool,
 ) -> NumberReply
     requires { ⌜ (1 ≤ views) × (views ≤ 3) × (effect < views) × (length (now new) ≡ 4) ⌝ }
-    ensures { λ r. ⌜ reply (state (r .head) (now (leaves .exit)) (now (inners .exit)) (now (homes .exit))) (r .answer) ≡ resize (kind views effect) summed (state head (now (leaves .entry)) (now (inners .entry)) (now (homes .entry))) at (lengthsIn views (now (new .entry))) ⌝ }
+    ensures { λ r. ⌜ reply (state (r .head) (now (leaves .exit)) (now (inners .exit)) (now (homes .exit))) (r .answer) ≡ resize (kindOf views effect ordered) summed (state head (now (leaves .entry)) (now (inners .entry)) (now (homes .entry))) at (lengthsIn views (now (new .entry))) ⌝ }
 {
     let mut old: [u32; 4] = [0; 4];
     let mut delta: [u32; 3] = [0; 3];
-    match open_resize(views, head, leaves, inners, homes, at, &mut old, new) {
+    match open_resize(
+        views,
+        ordered,
+        head,
+        leaves,
+        inners,
+        homes,
+        at,
+        &mut old,
+        new,
+    ) {
         Opened::Refused(n) => NumberReply {
             head: head,
             answer: Number::Refused(n),

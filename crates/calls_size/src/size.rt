@@ -33,7 +33,7 @@ pub fn resize(
         lengths.of(View::Effect),
         lengths.of(View::Lines),
     ];
-    crate::any::resize(3, 1, head, leaves, inners, homes, at, &x, summed)
+    crate::any::resize(3, 1, false, head, leaves, inners, homes, at, &x, summed)
 }
 
 // Other lengths for the entry at a cursor, and its effect position.

@@ -12,7 +12,7 @@ use Rattle.model.specs.Length.{lengthsIn}
 use Rattle.model.specs.Node.{lengths, childSplit}
 use Rattle.model.specs.State.{State, state, nextStamp, nodeAt}
 use Rattle.model.specs.Place.{Change, change, divide}
-use Rattle.model.specs.Refuse.{shapeOf, opening, atCursor, tooMuch, hollowPart}
+use Rattle.model.specs.Refuse.{shapeOf, opening, atCursor, tooMuch, hollowPart, crossedParts}
 use Rattle.model.specs.Calls.{Reply, reply, settled, slotAt, dividedAt, splitCauses, splitBy}
 use Rattle.model.specs.declared.shape.Kind.{Kind}
 use Rattle.model.specs.declared.shape.Shape.{Shape}
@@ -43,7 +43,7 @@ module _ (K : Kind) (causes : List Cause) (s : State) (c : Cursor) (x : List ℕ
   given = lengthsIn (K .views) x
 
   behind : openedBy (splitCauses K causes s c given) (shapeOf K (s .head))
-      ≡ openedBy (opening K s ++ atCursor K s c ++ tooMuch K given (lengths (slotAt K s c)) ∷ hollowPart K given (lengths (slotAt K s c)) ∷ causes) (shapeOf K (s .head))
+      ≡ openedBy (opening K s ++ atCursor K s c ++ tooMuch K given (lengths (slotAt K s c)) ∷ hollowPart K given (lengths (slotAt K s c)) ∷ crossedParts K given (lengths (slotAt K s c)) ∷ causes) (shapeOf K (s .head))
   behind = opened-next 10 _ _ _ (sym em ∙ few)
 
   pub split-refused : (n : ℕ) → o ≡ Refused n → Refused n ≡ openedBy (splitCauses K causes s c given) (shapeOf K (s .head))
@@ -65,7 +65,7 @@ module _ (K : Kind) (causes : List Cause) (s : State) (c : Cursor) (x : List ℕ
     here = et ∙ more-same K (s .head) g (sym same) (lengthsIn (g .stride - 1) x) (lengthsIn (g .stride - 1) y) ∙ by-views (tooMuch K)
 
     rest : openedBy (splitCauses K causes s c given) (shapeOf K (s .head))
-        ≡ openedBy (tooMuch K given (lengths (slotAt K s c)) ∷ hollowPart K given (lengths (slotAt K s c)) ∷ causes) (shapeOf K (s .head))
+        ≡ openedBy (tooMuch K given (lengths (slotAt K s c)) ∷ hollowPart K given (lengths (slotAt K s c)) ∷ crossedParts K given (lengths (slotAt K s c)) ∷ causes) (shapeOf K (s .head))
     rest = behind ∙ opened-more (opening K s ++ atCursor K s c) _ _ g (at-numbered K s c) (sym e ∙ d)
 
     pub split-much : t ≡ true → Refused 6 ≡ openedBy (splitCauses K causes s c given) (shapeOf K (s .head))
@@ -75,21 +75,34 @@ module _ (K : Kind) (causes : List Cause) (s : State) (c : Cursor) (x : List ℕ
       parts : p ≡ hollowPart K given (lengths (slotAt K s c)) .applies
       parts = ep ∙ hollow-same K (s .head) g (sym same) (lengthsIn (g .stride - 1) x) (lengthsIn (g .stride - 1) y) ∙ by-views (hollowPart K)
 
-      next : openedBy (splitCauses K causes s c given) (shapeOf K (s .head)) ≡ openedBy (hollowPart K given (lengths (slotAt K s c)) ∷ causes) (shapeOf K (s .head))
+      next : openedBy (splitCauses K causes s c given) (shapeOf K (s .head)) ≡ openedBy (hollowPart K given (lengths (slotAt K s c)) ∷ crossedParts K given (lengths (slotAt K s c)) ∷ causes) (shapeOf K (s .head))
       next = rest ∙ opened-next 6 _ _ _ (sym here ∙ h)
 
       pub split-hollow : p ≡ true → Refused 17 ≡ openedBy (splitCauses K causes s c given) (shapeOf K (s .head))
       split-hollow q = sym (next ∙ opened-first 16 _ _ _ (sym parts ∙ q))
 
-      module _ (k : p ≡ false) (room : ℕ) (er : refusal causes ≡ room) where
-        last : openedBy (splitCauses K causes s c given) (shapeOf K (s .head)) ≡ openedBy causes (shapeOf K (s .head))
-        last = next ∙ opened-next 17 _ _ _ (sym parts ∙ k)
+      module _ (k : p ≡ false) (z : Bool) (ez : z ≡ crossedParts K given (lengthsIn (K .views) y) .applies) where
+        own : lengthsIn (K .views) y ≡ lengths (slotAt K s c)
+        own = ap (λ (n : ℕ). lengthsIn n y) (sym (own-views K (s .head) g (sym same))) ∙ own-lengths K s c g (lengthsIn (g .stride - 1) y) same ey
 
-        pub split-full : (room ≡ 0 → ⊥) → Refused room ≡ openedBy (splitCauses K causes s c given) (shapeOf K (s .head))
-        split-full q = sym (last ∙ opened-number causes _ room er q)
+        bounds : z ≡ crossedParts K given (lengths (slotAt K s c)) .applies
+        bounds = ez ∙ ap (λ (v : List ℕ). crossedParts K given v .applies) own
 
-        pub split-good : room ≡ 0 → Good g ≡ openedBy (splitCauses K causes s c given) (shapeOf K (s .head))
-        split-good q = sym (last ∙ opened-zero causes _ (er ∙ q) ∙ ap Good same)
+        beyond : openedBy (splitCauses K causes s c given) (shapeOf K (s .head)) ≡ openedBy (crossedParts K given (lengths (slotAt K s c)) ∷ causes) (shapeOf K (s .head))
+        beyond = next ∙ opened-next 17 _ _ _ (sym parts ∙ k)
+
+        pub split-crossed : z ≡ true → Refused 20 ≡ openedBy (splitCauses K causes s c given) (shapeOf K (s .head))
+        split-crossed q = sym (beyond ∙ opened-first 19 _ _ _ (sym bounds ∙ q))
+
+        module _ (straight : z ≡ false) (room : ℕ) (er : refusal causes ≡ room) where
+          last : openedBy (splitCauses K causes s c given) (shapeOf K (s .head)) ≡ openedBy causes (shapeOf K (s .head))
+          last = beyond ∙ opened-next 20 _ _ _ (sym bounds ∙ straight)
+
+          pub split-full : (room ≡ 0 → ⊥) → Refused room ≡ openedBy (splitCauses K causes s c given) (shapeOf K (s .head))
+          split-full q = sym (last ∙ opened-number causes _ room er q)
+
+          pub split-good : room ≡ 0 → Good g ≡ openedBy (splitCauses K causes s c given) (shapeOf K (s .head))
+          split-good q = sym (last ∙ opened-zero causes _ (er ∙ q) ∙ ap Good same)
 
 -- what is known where `open_split` gives no number; room is the number for want of space
 module _ (K : Kind) (w : (1 ≤ K .views) × (K .views ≤ 3)) (s : State) (c : Cursor) (l : List ℕ) (room : ℕ) (some : room ≡ 0 → s .head .entries < s .head .limit) (g : Shape) (o : Opened)
@@ -97,7 +110,7 @@ module _ (K : Kind) (w : (1 ≤ K .views) × (K .views ≤ 3)) (s : State) (c : 
   abbrev spaceless : List Cause
   spaceless = cause room true ∷ []
 
-  behind-lines : openedBy (opening K s ++ atCursor K s c ++ tooMuch K l (lengths (slotAt K s c)) ∷ hollowPart K l (lengths (slotAt K s c)) ∷ spaceless) (shapeOf K (s .head)) ≡ Good g
+  behind-lines : openedBy (opening K s ++ atCursor K s c ++ tooMuch K l (lengths (slotAt K s c)) ∷ hollowPart K l (lengths (slotAt K s c)) ∷ crossedParts K l (lengths (slotAt K s c)) ∷ spaceless) (shapeOf K (s .head)) ≡ Good g
   behind-lines = good-tail 9 (tooManyLines K l) _ (shapeOf K (s .head)) g (sym e ∙ d)
 
   front : openedBy (opening K s ++ atCursor K s c) (shapeOf K (s .head)) ≡ Good g
@@ -107,7 +120,7 @@ module _ (K : Kind) (w : (1 ≤ K .views) × (K .views ≤ 3)) (s : State) (c : 
   split-stands = stands K w s c g _ refl front
 
   no-number : openedBy spaceless (shapeOf K (s .head)) ≡ Good g
-  no-number = good-tail 16 _ _ _ g (good-tail 5 _ _ _ g (sym (opened-more (opening K s ++ atCursor K s c) _ _ g (at-numbered K s c) front) ∙ behind-lines))
+  no-number = good-tail 19 _ _ _ g (good-tail 16 _ _ _ g (good-tail 5 _ _ _ g (sym (opened-more (opening K s ++ atCursor K s c) _ _ g (at-numbered K s c) front) ∙ behind-lines)))
 
   below-limit : s .head .entries < s .head .limit
   below-limit = some (sym (one-cause room) ∙ good-number spaceless _ g no-number)

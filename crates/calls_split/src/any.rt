@@ -1,10 +1,11 @@
-// One entry divided in two, of a tree with views lengths an entry.
+// One entry divided in two, of a tree with views lengths an entry, the first two a lowest and a highest one where they are ordered.
 use model::answer::Divided;
 use model::answer::DividedReply;
 use model::head::Cursor;
 use model::head::Head;
 use model::number::EntryId;
 use model::number::LeafNo;
+use open::lengths::crossed_part;
 use open::lengths::hollow_part;
 use open::lengths::lengths_at;
 use open::lengths::too_many_lines;
@@ -17,7 +18,7 @@ ghost use mathlib.Core.List.{List};
 ghost use Prim.Native.Nat.{ℕ, _<_, _≤_};
 ghost use lib.ListN.{length, getD};
 ghost use Rattle.model.specs.Length.{lengthsIn};
-ghost use Rattle.model.specs.Kind.{kind};
+ghost use Rattle.model.specs.Kind.{kindOf};
 ghost use Rattle.model.specs.Lists.{Cause, refusal};
 ghost use Rattle.model.specs.State.{state, nextStamp};
 ghost use Rattle.model.specs.Refuse.{shapeOf};
@@ -28,6 +29,7 @@ ghost use Rattle.open.specs.Open.{openedBy};
 // What split_entry tests, too many line ends before all else, and room, the number for want of space, behind all else.
 fn open_split(
     views: usize,
+    ordered: bool,
     room: u32,
     head: Head,
     leaves: &[u32],
@@ -37,7 +39,7 @@ fn open_split(
     x: &[u32; 4],
 ) -> Opened
     requires { ⌜ (1 ≤ views) × (views ≤ 3) × (length (now x) ≡ 4) ⌝ }
-    ensures { λ r. ⌜ ((effect : ℕ) (causes : List Cause) → refusal causes ≡ room → r ≡ openedBy (splitCauses (kind views effect) causes (state head (now (leaves .entry)) (now (inners .entry)) (now (homes .entry))) at (lengthsIn views (now (x .entry)))) (shapeOf (kind views effect) head)) ⌝ }
+    ensures { λ r. ⌜ ((effect : ℕ) (causes : List Cause) → refusal causes ≡ room → r ≡ openedBy (splitCauses (kindOf views effect ordered) causes (state head (now (leaves .entry)) (now (inners .entry)) (now (homes .entry))) at (lengthsIn views (now (x .entry)))) (shapeOf (kindOf views effect ordered) head)) ⌝ }
 {
     if too_many_lines(views, x) {
         return Opened::Refused(10);
@@ -52,6 +54,9 @@ fn open_split(
             }
             if hollow_part(g, x, &own) {
                 return Opened::Refused(17);
+            }
+            if crossed_part(views, ordered, x, &own) {
+                return Opened::Refused(20);
             }
             if room != 0 {
                 return Opened::Refused(room);
@@ -84,6 +89,7 @@ fn divided_at(id: EntryId, stamp: u64, leaf: LeafNo, slot: u32) -> Divided
 // for want of space, 0 where there is some.
 pub fn split_entry(
     views: usize,
+    ordered: bool,
     room: u32,
     head: Head,
     leaves: &mut [u32],
@@ -94,9 +100,9 @@ pub fn split_entry(
     before: bool,
 ) -> DividedReply
     requires { ⌜ (1 ≤ views) × (views ≤ 3) × (getD (now x) 0 0 ≡ head .entries) × (length (now x) ≡ 4) × (room ≡ 0 → head .entries < head .limit) ⌝ }
-    ensures { λ r. ⌜ ((effect : ℕ) (causes : List Cause) → refusal causes ≡ room → reply (state (r .head) (now (leaves .exit)) (now (inners .exit)) (now (homes .exit))) (r .answer) ≡ calls.splitBy (kind views effect) causes (state head (now (leaves .entry)) (now (inners .entry)) (now (homes .entry))) at (lengthsIn views (now (x .entry))) before) ⌝ }
+    ensures { λ r. ⌜ ((effect : ℕ) (causes : List Cause) → refusal causes ≡ room → reply (state (r .head) (now (leaves .exit)) (now (inners .exit)) (now (homes .exit))) (r .answer) ≡ calls.splitBy (kindOf views effect ordered) causes (state head (now (leaves .entry)) (now (inners .entry)) (now (homes .entry))) at (lengthsIn views (now (x .entry))) before) ⌝ }
 {
-    match open_split(views, room, head, leaves, inners, homes, at, x) {
+    match open_split(views, ordered, room, head, leaves, inners, homes, at, x) {
         Opened::Refused(n) => DividedReply {
             head: head,
             answer: Divided::Refused(n),

@@ -59,7 +59,7 @@ pub fn split_entry(
         slot.effect_len,
         slot.line_ends,
     ];
-    let r = crate::any::split_entry(3, room, head, leaves, inners, homes, at, &x, before);
+    let r = crate::any::split_entry(3, false, room, head, leaves, inners, homes, at, &x, before);
     let after = r.head;
     let answer = r.answer;
     charge_for(seats, seat, answer);

@@ -32,5 +32,5 @@ pub fn split_entry(
         slot.line_ends,
     ];
     let room = without(head.limit, head.entries);
-    crate::any::split_entry(3, room, head, leaves, inners, homes, at, &x, before)
+    crate::any::split_entry(3, false, room, head, leaves, inners, homes, at, &x, before)
 }

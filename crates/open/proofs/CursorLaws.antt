@@ -1,5 +1,6 @@
 -- What the tests of a cursor answer, and what is known where they give no number. Assumes nothing.
 use mathlib.Core.Path.{_≡_, sym, ap, _∙_}
+use mathlib.Core.Bool.{Bool}
 use mathlib.Core.List.{List, [], _∷_, _++_}
 use Prim.Native.Nat.{ℕ, _≤_, _<_}
 use native.Mathlib.Omega.{arith}
@@ -7,6 +8,7 @@ use native.Mathlib.Nat.{lt-of-lt-of-le}
 use lib.ListN.{length, getD}
 use borrow.Author.Tests.{lt-ltb, le-ltb, eq-eqb, ne-eqb, lt-leb, le-leb, leb-false, ltb-false}
 use Rattle.model.specs.Lists.{refusal, All}
+use Rattle.model.specs.Kind.{kind, kindOf}
 use Rattle.model.specs.Node.{lengths}
 use Rattle.model.specs.State.{State, nodeAt}
 use Rattle.model.specs.Refuse.{shapeOf, opening, stale, atCursor, overfull}
@@ -106,6 +108,17 @@ stands K w s c g o e d =
     let n = none-applies (opening K s ++ atCursor K s c) (at-numbered K s c) (good-number (opening K s ++ atCursor K s c) (shapeOf K (s .head)) g (sym e ∙ d)) in
     rw (← good-shape (opening K s ++ atCursor K s c) (shapeOf K (s .head)) g (sym e ∙ d))
     (record { ready = ready-here K w s (n .0) (n .1 .0) (n .1 .1 .0); leaf = leb-false _ _ (n .1 .1 .1 .1 .0); slot = leb-false _ _ (n .1 .1 .1 .1 .1 .0); few = ltb-false _ _ (n .1 .1 .1 .1 .1 .1 .0) })
+
+-- the tests of a tree and of a cursor are those of a tree with ordered lengths too
+module _ (views effect : ℕ) (ordered : Bool) (s : State) (o : Opened) where
+  pub open-ordered : o ≡ openedBy (opening (kind views effect) s) (shapeOf (kind views effect) (s .head)) → o ≡ openedBy (opening (kindOf views effect ordered) s) (shapeOf (kindOf views effect ordered) (s .head))
+  unfolding opening
+  open-ordered e = e
+
+  pub at-ordered : (c : Cursor) → o ≡ openedBy (opening (kind views effect) s ++ atCursor (kind views effect) s c) (shapeOf (kind views effect) (s .head))
+      → o ≡ openedBy (opening (kindOf views effect ordered) s ++ atCursor (kindOf views effect ordered) s c) (shapeOf (kindOf views effect ordered) (s .head))
+  unfolding opening
+  at-ordered c e = e
 
 -- the slot of a cursor can be read
 pub slot-in : {K : Kind} (s : State) (c : Cursor) (g : Shape) → Stands K s c g → Area g (length (s .leaves)) × (c .leaf .0 < g .nodes) × (c .slot < g .fan)

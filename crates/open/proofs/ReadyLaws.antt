@@ -8,6 +8,7 @@ use lib.ListN.{length}
 use lib.Dec.{ltb}
 use borrow.Author.Tests.{ltb-false, leb-false}
 use Rattle.model.specs.Lists.{All}
+use Rattle.model.specs.Kind.{kind, kindOf}
 use Rattle.model.specs.Length.{viewNumber}
 use Rattle.model.specs.State.{State, shape}
 use Rattle.model.specs.Refuse.{badSize, tooShort, astray, shapeOf, opening}
@@ -95,3 +96,21 @@ pub view-few : (v : View) → viewNumber v < 3
 view-few Prepare = omega arith
 view-few Effect = omega arith
 view-few Lines = omega arith
+
+-- a tree is ready whether or not its lengths are ordered
+pub ready-plain : (views effect : ℕ) (ordered : Bool) (s : State) (g : Shape) → Ready (kindOf views effect ordered) s g → Ready (kind views effect) s g
+ready-plain views effect ordered s g h =
+    record {
+      same = h .same;
+      shaped = h .shaped;
+      limit-most = h .limit-most;
+      leaf-area = h .leaf-area;
+      inner-area = h .inner-area;
+      home-area = h .home-area;
+      root = h .root;
+      levels-least = h .levels-least;
+      levels-most = h .levels-most;
+      leaves = h .leaves;
+      inners = h .inners;
+      entries = h .entries;
+    }

@@ -24,7 +24,7 @@ use Rattle.model.specs.declared.answer.Standing.the-variants as standing
 use Rattle.records.specs.Said.{callOf}
 use Rattle.records.specs.declared.call.Call.{Call}
 use Rattle.records.specs.declared.call.Call.the-variants as call
-use Rattle.row_step.specs.Find.{noIds, oneId, targetIds, idsOf, onward, foundFrom, foundOf, targetOf, callAt}
+use Rattle.row_step.specs.Find.{noIds, oneId, targetIds, idsOf, onward, foundFrom, foundOf, callAt}
 use Rattle.row_step.specs.declared.find.Ids.{Ids}
 use Rattle.row_step.specs.declared.find.Found.{Found}
 use Rattle.row_step.specs.declared.find.Found.the-variants as found
@@ -54,12 +54,6 @@ ids-end i e r q = rw (eq-eqb i noEntry e) q
 
 pub ids-before : (i : ℕ) → (i ≡ noEntry → ⊥) → (r : Ids) → r ≡ oneId i → r ≡ targetIds i
 ids-before i h r q = rw (ne-eqb i noEntry h) q
-
-pub target-end : (i : ℕ) (c : Cursor) → i ≡ noEntry → target.End ≡ targetOf i c
-target-end i c e = rw (eq-eqb i noEntry e)
-
-pub target-before : (i : ℕ) (c : Cursor) → (i ≡ noEntry → ⊥) → target.Before c ≡ targetOf i c
-target-before i c h = rw (ne-eqb i noEntry h)
 
 less-one : (n : ℕ) → suc n - 1 ≡ n
 less-one n = omega arith

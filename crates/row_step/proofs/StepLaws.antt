@@ -29,7 +29,8 @@ use Rattle.records.specs.declared.call.Call.{Call}
 use Rattle.records.specs.declared.call.Call.the-variants as call
 use Rattle.row_answer.specs.declared.answer.Step.{Step}
 use Rattle.row_answer.specs.Answer.{stepOf}
-use Rattle.row_step.specs.Find.{idsOf, foundOf, targetOf, callAt}
+use Rattle.by_id_read.specs.Target.{targetOf}
+use Rattle.row_step.specs.Find.{idsOf, foundOf, callAt}
 use Rattle.row_step.specs.Step.{Stepped, stepped, stepBy}
 use Rattle.row_step.specs.declared.find.Ids.{Ids}
 use Rattle.row_step.specs.declared.find.Found.{Found}

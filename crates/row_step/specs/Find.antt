@@ -11,10 +11,9 @@ use Rattle.model.specs.Calls as calls
 use Rattle.model.specs.Calls.{cursorAt}
 use Rattle.model.specs.ById.{told, nextAnswer, dividedAnswer, treeMove}
 use Rattle.model.specs.declared.head.Cursor.{Cursor}
-use Rattle.model.specs.declared.answer.Target.{Target}
-use Rattle.model.specs.declared.answer.Target.the-variants as target
 use Rattle.model.specs.declared.answer.Standing.{Standing}
 use Rattle.model.specs.declared.answer.Standing.the-variants as standing
+use Rattle.by_id_read.specs.Target.{targetOf}
 use Rattle.row_step.specs.declared.find.Ids.{Ids}
 use Rattle.row_step.specs.declared.find.Found.{Found}
 use Rattle.row_step.specs.declared.find.Found.the-variants as found
@@ -58,9 +57,6 @@ foundFrom s (suc n) i j a b = onward (calls.cursor base s i) (λ c. foundFrom s 
 -- the cursors of the entries with these ids; in the place of one that isn't looked for stands a cursor of no account
 abbrev pub foundOf : State → Ids → Found
 foundOf s k = foundFrom s (k .count) (k .first) (k .second) (cursorAt 0 0 0) (cursorAt 0 0 0)
-
-abbrev pub targetOf : ℕ → Cursor → Target
-targetOf i c = cond (eqb i noEntry) target.End (target.Before c)
 
 -- what a call does at the cursors of the entries that it names: b, and a for the first of two
 unfoldable pub callAt : State → row.Call → Cursor → Cursor → Moved State

@@ -6,6 +6,7 @@ use by_id_read::look::locate;
 use by_id_read::order::first;
 use by_id_read::order::next;
 use by_id_read::read::len;
+use by_id_read::target::target;
 use calls_insert::insert::insert;
 use calls_make::begin::reset;
 use calls_order::order::cmp;
@@ -13,11 +14,8 @@ use calls_order::order::entry_to_char_index;
 use calls_read::read::lengths;
 use calls_size::size::resize;
 use calls_split::split::split_entry;
-use model::answer::Target;
 use model::head::Cursor;
 use model::head::Head;
-use model::number::EntryId;
-use model::number::NONE;
 use records::call::Call;
 use row_answer::answer::Step;
 use row_answer::answer::compared;
@@ -37,7 +35,7 @@ ghost use Rattle.model.specs.Row.{overlong};
 ghost use Rattle.model.specs.State.{state};
 ghost use Rattle.model.specs.ById.{treeStep};
 ghost use Rattle.records.specs.Said.{callOf};
-ghost use Rattle.row_step.specs.Find.{targetOf, callAt};
+ghost use Rattle.row_step.specs.Find.{callAt};
 ghost use Rattle.row_step.specs.Step.{stepped, stepBy};
 
 // Whether a call gives an entry too many line ends.
@@ -58,17 +56,6 @@ fn is_overlong(call: Call) -> bool
         Call::First => false,
         Call::Malformed => false,
     }
-}
-
-// Where an entry is inserted: at the end for the id that no entry has, else before the one found.
-fn target(id: EntryId, at: Cursor) -> Target
-    ensures { λ r. ⌜ r ≡ targetOf (id .0) at ⌝ }
-{
-    let i = id.0;
-    if i == NONE {
-        return Target::End;
-    }
-    Target::Before(at)
 }
 
 // A call by its own function, at the cursors of the entries that it names: b, and a for the first of two.

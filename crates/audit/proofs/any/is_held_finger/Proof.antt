@@ -3,7 +3,7 @@ use borrow.Author.Needs.{needs}
 use mathlib.Core.Path.{sym, ap, _∙_}
 use mathlib.Core.List.{[]}
 use denote.Ref.{now}
-use Rattle.model.specs.Kind.{kind}
+use Rattle.model.specs.Kind.{kindOf}
 use Rattle.model.specs.State.{state}
 use Rattle.model.specs.Audit.{isHeldFinger}
 use Rattle.audit.proofs.any.is_held_finger.Statement.{statement}
@@ -21,14 +21,14 @@ is-finger-requires c κs =
     (pre .0, pre .1)
 
 returns : tie.Need-returns
-returns c views e =
+returns c views ordered e =
     let a = c .before .before .before .before .args in
-    ap (isHeldFinger (kind views (a .effect)) (state (a .head) (now (a .leaves)) (now (a .inners)) [])) (sym (c .enum-told .given .1))
+    ap (isHeldFinger (kindOf views (a .effect) ordered) (state (a .head) (now (a .leaves)) (now (a .inners)) [])) (sym (c .enum-told .given .1))
 
 returns-2 : tie.Need-returns-2
-returns-2 c views e =
+returns-2 c views ordered e =
     let a = c .before .before .before .before .before .before .args in
-    c .is-finger .ensures views e ∙ ap (isHeldFinger (kind views (a .effect)) (state (a .head) (now (a .leaves)) (now (a .inners)) [])) (sym (c .before .before .held .given .1))
+    c .is-finger .ensures views ordered e ∙ ap (isHeldFinger (kindOf views (a .effect) ordered) (state (a .head) (now (a .leaves)) (now (a .inners)) [])) (sym (c .before .before .held .given .1))
 
 pub is-held-finger-spec : {M : Type 1} → statement M
 is-held-finger-spec =

@@ -1,10 +1,10 @@
 -- `audit::any::is_sound`: each test is one of those of the definition, in its order; good counts are what the others need.
-use mathlib.Core.Path.{sym, _∙_}
+use mathlib.Core.Path.{refl, sym, _∙_}
 use native.Mathlib.Omega.{arith}
 use denote.Ref.{now}
 use borrow.Author.Needs.{needs}
 use borrow.Author.Tests.{not-false}
-use Rattle.model.specs.Kind.{kind}
+use Rattle.model.specs.Kind.{kindOf}
 use Rattle.audit.proofs.SoundLaws.{known, few-entries, root-in, sound-counts, sound-inners, sound-leaves, sound-lens, sound-totals, sound-finger}
 use Rattle.audit.proofs.any.is_sound.Statement.{statement}
 use Rattle.audit.proofs.any.is_sound.Tie as tie
@@ -15,7 +15,7 @@ counts-requires c κs = search needs
 returns : tie.Need-returns
 returns c views e =
     let args = c .before .before .before .before .before .args in
-    sound-counts (kind views (args .effect)) (args .head) (now (args .leaves)) (now (args .inners)) (now (args .homes)) _ e _ (c .before .counts .ensures) (c .if1 .taken)
+    sound-counts (kindOf views (args .effect) (args .ordered)) (args .head) (now (args .leaves)) (now (args .inners)) (now (args .homes)) _ e _ (c .before .counts .ensures) (c .if1 .taken)
 
 every-inner-requires : tie.Need-every-inner-requires
 every-inner-requires c κs =
@@ -28,7 +28,7 @@ returns-2 : tie.Need-returns-2
 returns-2 c views e =
     let args = c .before .before .before .before .before .before .before .args in
     let counts = c .before .before .before .counts in
-    let K = kind views (args .effect) in
+    let K = kindOf views (args .effect) (args .ordered) in
     sound-inners K (args .head) (now (args .leaves)) (now (args .inners)) (now (args .homes)) _ e _ (counts .ensures) (c .before .before .if1 .left) _ (c .before .every-inner .ensures K e) (c .if2 .taken)
 
 every-leaf-requires : tie.Need-every-leaf-requires
@@ -45,9 +45,9 @@ returns-3 c views e =
     let counts = c .before .before .before .before .before .counts in
     let if1 = c .before .before .before .before .if1 in
     let every-inner = c .before .before .before .every-inner in
-    let K = kind views (args .effect) in
+    let K = kindOf views (args .effect) (args .ordered) in
     sound-leaves K (args .head) (now (args .leaves)) (now (args .inners)) (now (args .homes)) _ e _ (counts .ensures) (if1 .left) _ (every-inner .ensures K e) (c .before .before .if2 .left) _
-    (c .before .every-leaf .ensures K e) (c .if3 .taken)
+    (c .before .every-leaf .ensures K e refl) (c .if3 .taken)
 
 slots-used-requires : tie.Need-slots-used-requires
 slots-used-requires c κs =
@@ -70,9 +70,9 @@ returns-4 c views e =
     let if2 = c .before .before .before .before .before .if2 in
     let every-leaf = c .before .before .before .before .every-leaf in
     let if3 = c .before .before .before .if3 in
-    let K = kind views (args .effect) in
+    let K = kindOf views (args .effect) (args .ordered) in
     sound-lens K (args .head) (now (args .leaves)) (now (args .inners)) (now (args .homes)) _ e _ (counts .ensures) (if1 .left) _ (every-inner .ensures K e) (if2 .left) _
-    (every-leaf .ensures K e) (if3 .left) _ (c .before .before .slots-used .ensures) (c .if4 .taken)
+    (every-leaf .ensures K e refl) (if3 .left) _ (c .before .before .slots-used .ensures) (c .if4 .taken)
 
 totals-requires : tie.Need-totals-requires
 totals-requires c κs =
@@ -93,9 +93,9 @@ returns-5 c views e =
     let every-leaf = c .before .before .before .before .before .before .every-leaf in
     let if3 = c .before .before .before .before .before .if3 in
     let slots-used = c .before .before .before .before .slots-used in
-    let K = kind views (args .effect) in
+    let K = kindOf views (args .effect) (args .ordered) in
     sound-totals K (args .head) (now (args .leaves)) (now (args .inners)) (now (args .homes)) _ e _ (counts .ensures) (if1 .left) _ (every-inner .ensures K e) (if2 .left) _
-    (every-leaf .ensures K e) (if3 .left) _ (slots-used .ensures) (c .before .before .if4 .left) _ (c .before .totals .ensures) (c .if5 .taken)
+    (every-leaf .ensures K e refl) (if3 .left) _ (slots-used .ensures) (c .before .before .if4 .left) _ (c .before .totals .ensures) (c .if5 .taken)
 
 is-held-finger-requires : tie.Need-is-held-finger-requires
 is-held-finger-requires c κs =
@@ -117,9 +117,9 @@ returns-6 c views e =
     let if3 = c .before .before .before .before .before .before .if3 in
     let slots-used = c .before .before .before .before .before .slots-used in
     let if4 = c .before .before .before .if4 in
-    let K = kind views (args .effect) in
+    let K = kindOf views (args .effect) (args .ordered) in
     sound-finger K (args .head) (now (args .leaves)) (now (args .inners)) (now (args .homes)) _ e _ (counts .ensures) (if1 .left) _ (every-inner .ensures K e) (if2 .left) _
-    (every-leaf .ensures K e) (if3 .left) _ (slots-used .ensures) (if4 .left) _ (c .before .before .totals .ensures) (c .before .if5 .left) _ (c .is-held-finger .ensures views e)
+    (every-leaf .ensures K e refl) (if3 .left) _ (slots-used .ensures) (if4 .left) _ (c .before .before .totals .ensures) (c .before .if5 .left) _ (c .is-held-finger .ensures views (args .ordered) e)
 
 pub is-sound-spec : {M : Type 1} → statement M
 is-sound-spec =

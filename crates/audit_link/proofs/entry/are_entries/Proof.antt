@@ -12,13 +12,13 @@ use Rattle.audit_link.proofs.entry.are_entries.Statement.{statement}
 use Rattle.audit_link.proofs.entry.are_entries.Tie as tie
 
 abbrev Inv-loop : tie.InvT-loop
-Inv-loop leaves homes g entries k len i₀ i = every (entryBy g entries leaves homes (k .0)) i (len - i) ≡ every (entryBy g entries leaves homes (k .0)) 0 len
+Inv-loop leaves homes g ordered entries k len i₀ i = every (entryBy g ordered entries leaves homes (k .0)) i (len - i) ≡ every (entryBy g ordered entries leaves homes (k .0)) 0 len
 
 abbrev μ-loop : tie.MeasureT-loop
-μ-loop leaves homes g entries k len i₀ i = len - i
+μ-loop leaves homes g ordered entries k len i₀ i = len - i
 
 loop-holds : tie.Need-loop-holds Inv-loop μ-loop
-loop-holds c = every-all (entryBy (c .before .before .args .g) (c .before .before .args .entries) (now (c .before .before .args .leaves)) (now (c .before .before .args .homes))
+loop-holds c = every-all (entryBy (c .before .before .args .g) (c .before .before .args .ordered) (c .before .before .args .entries) (now (c .before .before .args .leaves)) (now (c .before .before .args .homes))
     (c .before .before .args .k .0)) _
 
 is-entry-requires : tie.Need-is-entry-requires Inv-loop μ-loop
@@ -30,7 +30,7 @@ returns : tie.Need-returns Inv-loop μ-loop
 returns c =
     let args = c .before .before .before .before .before .before .args in
     let the-loop = c .before .before .before .loop in
-    sym (every-stop (entryBy (args .g) (args .entries) (now (args .leaves)) (now (args .homes)) (args .k .0)) _ _ (c .before .before .loop-test .taken)
+    sym (every-stop (entryBy (args .g) (args .ordered) (args .entries) (now (args .leaves)) (now (args .homes)) (args .k .0)) _ _ (c .before .before .loop-test .taken)
     (sym (c .before .is-entry .ensures) ∙ not-true _ (c .if1 .taken))) ∙ the-loop .inv
 
 add-i : tie.Need-add-i Inv-loop μ-loop
@@ -43,13 +43,13 @@ loop-again : tie.Need-loop-again Inv-loop μ-loop
 loop-again c =
     let args = c .before .before .before .before .before .before .args in
     let the-loop = c .before .before .before .loop in
-    sym (every-on (entryBy (args .g) (args .entries) (now (args .leaves)) (now (args .homes)) (args .k .0)) _ _ (c .before .before .loop-test .taken)
+    sym (every-on (entryBy (args .g) (args .ordered) (args .entries) (now (args .leaves)) (now (args .homes)) (args .k .0)) _ _ (c .before .before .loop-test .taken)
     (sym (c .before .is-entry .ensures) ∙ not-false _ (c .if1 .left))) ∙ the-loop .inv
 
 returns-2 : tie.Need-returns-2 Inv-loop μ-loop
 returns-2 c =
     let args = c .before .before .before .before .args in
-    sym (every-end (entryBy (args .g) (args .entries) (now (args .leaves)) (now (args .homes)) (args .k .0)) _ _ (c .loop-test .left)) ∙ c .before .loop .inv
+    sym (every-end (entryBy (args .g) (args .ordered) (args .entries) (now (args .leaves)) (now (args .homes)) (args .k .0)) _ _ (c .loop-test .left)) ∙ c .before .loop .inv
 
 pub are-entries-spec : {M : Type 1} → statement M
 are-entries-spec =

@@ -17,7 +17,7 @@ is-filled-requires c κs =
     (pre .0 .leaf-area, lt-of-lt-of-le (pre .2) (pre .0 .leaves))
 
 returns : tie.Need-returns
-returns c K e =
+returns c K e o =
     let args = c .before .before .before .before .before .before .args in
     leaf-unfilled K (args .head) (now (args .leaves)) (now (args .inners)) (now (args .homes)) _ e _ _ (c .before .before .least-leaf .ensures (stride K)) _
     (c .before .is-filled .ensures .0 K e) (c .if1 .taken)
@@ -38,7 +38,7 @@ is-held-requires c κs =
     (pre .0 .inner-area, pre .0 .inners)
 
 returns-2 : tie.Need-returns-2
-returns-2 c K e =
+returns-2 c K e o =
     let args = c .before .before .before .before .before .before .before .before .before .before .args in
     let least-leaf = c .before .before .before .before .before .before .least-leaf in
     let is-filled = c .before .before .before .before .before .is-filled in
@@ -53,7 +53,7 @@ depth-requires c κs =
     (pre .0 .inner-area, pre .0 .inners, pre .0 .levels)
 
 returns-3 : tie.Need-returns-3
-returns-3 c K e =
+returns-3 c K e o =
     let args = c .before .before .before .before .before .before .before .before .before .before .before .before .args in
     let least-leaf = c .before .before .before .before .before .before .before .before .least-leaf in
     let is-filled = c .before .before .before .before .before .before .before .is-filled in
@@ -81,7 +81,7 @@ are-entries-requires c κs =
     )
 
 returns-4 : tie.Need-returns-4
-returns-4 c K e =
+returns-4 c K e o =
     let args = c .before .before .before .before .before .before .before .before .before .before .before .before .before .before .args in
     let least-leaf = c .before .before .before .before .before .before .before .before .before .before .least-leaf in
     let is-filled = c .before .before .before .before .before .before .before .before .before .is-filled in
@@ -92,7 +92,7 @@ returns-4 c K e =
     let if2 = c .before .before .before .before .if2 in
     let depth = c .before .before .before .depth in
     leaf-last K (args .head) (now (args .leaves)) (now (args .inners)) (now (args .homes)) _ e _ _ (least-leaf .ensures (stride K)) _ (is-filled .ensures .0 K e) (if1 .left) _ _
-    (parent-of .ensures) (at-of .ensures) _ (is-held .ensures) (if2 .left) _ (depth .ensures) (c .before .before .if3 .left) _ (c .before .len-of .ensures) _ (c .are-entries .ensures)
+    (parent-of .ensures) (at-of .ensures) _ (is-held .ensures) (if2 .left) _ (depth .ensures) (c .before .before .if3 .left) _ (c .before .len-of .ensures) _ o _ (c .are-entries .ensures)
 
 pub is-leaf-spec : {M : Type 1} → statement M
 is-leaf-spec =

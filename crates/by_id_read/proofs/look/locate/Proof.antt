@@ -1,59 +1,19 @@
--- `by_id_read::look::locate`: the lookup, then the id at the cursor that it gave, on the head that it left.
-use borrow.Author.Needs.{needs}
-use Rattle.by_id_read.proofs.Laws.{lookup-refused, lookup-at}
+-- `by_id_read::look::locate`: the lookup on a tree of any kind, with three lengths an entry and the effect as view 1.
+use mathlib.Core.Path.{_∙_}
+use native.Mathlib.Omega.{arith}
+use Rattle.open.proofs.ReadyLaws.{view-few}
+use Rattle.by_id_read.proofs.Laws.{lookup-step}
 use Rattle.by_id_read.proofs.look.locate.Statement.{statement}
 use Rattle.by_id_read.proofs.look.locate.Tie as tie
 
+number-requires : tie.Need-number-requires
+number-requires c κs = tt
+
 locate-requires : tie.Need-locate-requires
-locate-requires c κs = search needs
-
-enum-known-answer : tie.Need-enum-known-answer
-enum-known-answer c = search needs
-
-enum-known-answer-2 : tie.Need-enum-known-answer-2
-enum-known-answer-2 c = search needs
-
-id-requires : tie.Need-id-requires
-id-requires c κs = search needs
-
-enum-known-n : tie.Need-enum-known-n
-enum-known-n c = search needs
-
-enum-known-i : tie.Need-enum-known-i
-enum-known-i c = search needs
+locate-requires c κs = (omega arith, omega arith, omega arith, rw (c .number .ensures) (view-few (c .before .before .before .before .args .view)))
 
 returns : tie.Need-returns
-returns c =
-    let args = c .before .before .before .before .before .before .before .before .args in
-    let the-locate = c .before .before .before .before .locate in
-    lookup-refused _ _ (args .view) _ _ (the-locate .ensures) _ (c .before .answer .given .1)
-
-returns-2 : tie.Need-returns-2
-returns-2 c =
-    let args = c .before .before .before .before .before .before .before .before .before .before .before .before .args in
-    let the-locate = c .before .before .before .before .before .before .before .before .locate in
-    let answer2 = c .before .before .before .before .before .answer2 in
-    let id = c .before .before .before .id in
-    lookup-at _ _ (args .view) _ _ (the-locate .ensures) _ _ _ _ (answer2 .given .1) _ _ (id .ensures) (c .before .n .given .1)
-
-returns-3 : tie.Need-returns-3
-returns-3 c =
-    let args = c .before .before .before .before .before .before .before .before .before .before .before .before .args in
-    let the-locate = c .before .before .before .before .before .before .before .before .locate in
-    let answer2 = c .before .before .before .before .before .answer2 in
-    let id = c .before .before .before .id in
-    lookup-at _ _ (args .view) _ _ (the-locate .ensures) _ _ _ _ (answer2 .given .1) _ _ (id .ensures) (c .before .i .given .1)
+returns c = rw (c .before .number .ensures) at (c .locate .ensures) ∙ lookup-step _ _ _
 
 pub locate-spec : {M : Type 1} → statement M
-locate-spec =
-    tie.close
-    (tie.spec
-    locate-requires
-    enum-known-answer
-    enum-known-answer-2
-    id-requires
-    enum-known-n
-    enum-known-i
-    returns
-    returns-2
-    returns-3)
+locate-spec = tie.close (tie.spec number-requires locate-requires returns)

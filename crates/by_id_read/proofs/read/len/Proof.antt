@@ -1,34 +1,15 @@
--- `by_id_read::read::len`: fan, limit and areas are tested as in every call that is lent areas, then it is the count of the tree.
-use borrow.Author.Needs.{needs}
-use denote.Ref.{now}
-use Rattle.model.specs.State.{state}
-use Rattle.by_id_read.proofs.Laws.{count-refused, count-good}
+-- `by_id_read::read::len`: the count of a tree of any kind, with three lengths an entry.
+use mathlib.Core.Path.{_∙_}
+use native.Mathlib.Omega.{arith}
+use Rattle.by_id_read.proofs.Laws.{count-step}
 use Rattle.by_id_read.proofs.read.len.Statement.{statement}
 use Rattle.by_id_read.proofs.read.len.Tie as tie
 
-open-areas-requires : tie.Need-open-areas-requires
-open-areas-requires c κs = search needs
-
-enum-known-n : tie.Need-enum-known-n
-enum-known-n c = search needs
-
-enum-told : tie.Need-enum-told
-enum-told c = search needs
-
 len-requires : tie.Need-len-requires
-len-requires c κs = search needs
+len-requires c κs = (omega arith, omega arith)
 
 returns : tie.Need-returns
-returns c =
-    let args = c .before .before .before .before .before .before .before .args in
-    let open-areas = c .before .before .before .open-areas in
-    count-refused (state (args .head) (now (args .leaves)) (now (args .inners)) (now (args .homes))) _ (open-areas .ensures 1) _ (c .before .n .given .1)
-
-returns-2 : tie.Need-returns-2
-returns-2 c =
-    let args = c .before .before .before .before .before .before .before .args in
-    let open-areas = c .before .before .before .open-areas in
-    count-good (state (args .head) (now (args .leaves)) (now (args .inners)) (now (args .homes))) _ (open-areas .ensures 1) _ (c .before .enum-told .given .1) _ (c .len .ensures)
+returns c = c .len .ensures 1 ∙ count-step _
 
 pub len-spec : {M : Type 1} → statement M
-len-spec = tie.close (tie.spec open-areas-requires enum-known-n enum-told len-requires returns returns-2)
+len-spec = tie.close (tie.spec len-requires returns)

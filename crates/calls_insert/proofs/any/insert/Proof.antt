@@ -3,12 +3,13 @@ use mathlib.Core.Path.{refl, sym, _∙_}
 use mathlib.Core.Bool.{true}
 use mathlib.Core.List.{List, [], _∷_}
 use Rattle.model.specs.Lists.{Cause, cause}
-use Rattle.model.specs.Kind.{kind}
+use Rattle.model.specs.Kind.{kindOf}
 use Rattle.model.specs.Length.{lengthsIn}
 use Rattle.model.specs.State.{State, state}
 use Rattle.open.proofs.Causes.{one-cause}
-use Rattle.calls_insert.proofs.TargetLaws.{insert-ready, insert-room}
-use Rattle.calls_insert.proofs.PutLaws.{refused-is, insert-refused, insert-done}
+use Rattle.open.proofs.ReadyLaws.{ready-plain}
+use Rattle.calls_insert.proofs.TargetLaws.{insert-ready, insert-room, aimed-plain}
+use Rattle.calls_insert.proofs.PutLaws.{refused-is, insert-refused, inserted-ordered, insert-done}
 use borrow.Author.Needs.{needs}
 use Rattle.calls_insert.proofs.any.insert.Statement.{statement}
 use Rattle.calls_insert.proofs.any.insert.Tie as tie
@@ -40,9 +41,9 @@ enter-requires c κs =
     let want : List Cause = cause (s .args .room) true ∷ [] in
     let opened = o .ensures e want (one-cause (s .args .room)) in
     let good = c .before .before .before .before .g .given .1 in
-    let r = insert-ready (kind (s .args .views) e) (s .pre .0, s .pre .1) (entry s) want (s .args .before) l _ _ opened good in
-    let some = insert-room (kind (s .args .views) e) (s .pre .0, s .pre .1) (entry s) want (s .args .before) l _ _ opened good in
-    (r .0, r .1, s .pre .2, s .pre .5 (sym (one-cause (s .args .room)) ∙ some), s .pre .3, s .pre .4)
+    let r = insert-ready (kindOf (s .args .views) e (s .args .ordered)) (s .pre .0, s .pre .1) (entry s) want (s .args .before) l _ _ opened good in
+    let some = insert-room (kindOf (s .args .views) e (s .args .ordered)) (s .pre .0, s .pre .1) (entry s) want (s .args .before) l _ _ opened good in
+    (ready-plain (s .args .views) e (s .args .ordered) (entry s) _ (r .0), aimed-plain (s .args .views) e (s .args .ordered) (entry s) (s .args .before) (r .1), s .pre .2, s .pre .5 (sym (one-cause (s .args .room)) ∙ some), s .pre .3, s .pre .4)
 
 same-length : tie.Need-same-length
 same-length c = refl
@@ -59,7 +60,7 @@ returns c =
     let o = c .before .before .before .before .open-insert in
     let e = s .args .effect in
     let l = lengthsIn (s .args .views) (s .args .x .now) in
-    λ causes room. refused-is _ _ _ (c .refused .ensures) ∙ insert-refused (kind (s .args .views) e) causes (entry s) (s .args .before) l _ (o .ensures e causes room) _ (c .before .before .n .given .1)
+    λ causes room. refused-is _ _ _ (c .refused .ensures) ∙ insert-refused (kindOf (s .args .views) e (s .args .ordered)) causes (entry s) (s .args .before) l _ (o .ensures e causes room) _ (c .before .before .n .given .1)
 
 same-length-4 : tie.Need-same-length-4
 same-length-4 c =
@@ -82,7 +83,7 @@ returns-2 c =
     let o = c .before .before .before .before .before .before .before .before .before .before .before .before .before .open-insert in
     let e = s .args .effect in
     let l = lengthsIn (s .args .views) (s .args .x .now) in
-    λ causes room. insert-done (kind (s .args .views) e) causes (entry s) (s .args .before) l _ (o .ensures e causes room) _ (c .before .before .before .before .before .before .before .before .before .before .before .g .given .1) _ (c .before .before .before .before .before .before .enter .ensures)
+    λ causes room. insert-done (kindOf (s .args .views) e (s .args .ordered)) causes (entry s) (s .args .before) l _ (o .ensures e causes room) _ (c .before .before .before .before .before .before .before .before .before .before .before .g .given .1) _ (c .before .before .before .before .before .before .enter .ensures ∙ inserted-ordered (s .args .views) e (s .args .ordered) _ (entry s) (s .args .before) l)
 
 pub insert-spec : {M : Type 1} → statement M
 insert-spec =

@@ -25,13 +25,13 @@ insert-requires c κs =
     (omega arith, omega arith, omega arith, ap (λ (z : Slot). z .child) (c .before .before .before .before .before .new .ensures), refl, c .before .before .before .before .without .ensures .1)
 
 same-length : tie.Need-same-length
-same-length c = c .before .before .before .before .before .before .insert .kept .1 .1 .1 .1 .0
+same-length c = c .before .before .before .before .before .before .insert .kept .1 .1 .1 .1 .1 .0
 
 same-length-2 : tie.Need-same-length-2
-same-length-2 c = c .before .before .before .before .before .before .insert .kept .1 .1 .1 .1 .1 .0
+same-length-2 c = c .before .before .before .before .before .before .insert .kept .1 .1 .1 .1 .1 .1 .0
 
 same-length-3 : tie.Need-same-length-3
-same-length-3 c = c .before .before .before .before .before .before .insert .kept .1 .1 .1 .1 .1 .1 .0
+same-length-3 c = c .before .before .before .before .before .before .insert .kept .1 .1 .1 .1 .1 .1 .1 .0
 
 returns : tie.Need-returns
 returns c =

@@ -32,10 +32,10 @@ same-length-3 : tie.Need-same-length-3
 same-length-3 c = simp length-set
 
 returns : tie.Need-returns
-returns c views effect e =
+returns c K e =
     let args = c .before .before .before .before .before .before .before .before .before .before .before .args in
     let pre = c .before .before .before .before .before .before .before .before .before .before .before .pre in
-    begin-words views effect (args .fan) (args .limit) (args .stamp) (args .g) e (args .leaves .now) (args .inners .now) (args .homes .now) (args .x .now) _ _ (pre .4) (pre .5) (c .before .before .before .before .before .before .write-first .ensures)
+    begin-words K (args .fan) (args .limit) (args .stamp) (args .g) e (args .leaves .now) (args .inners .now) (args .homes .now) (args .x .now) _ _ (pre .4) (pre .5) (c .before .before .before .before .before .before .write-first .ensures)
     (c .before .before .write-first2 .ensures)
 
 pub begin-spec : {M : Type 1} → statement M

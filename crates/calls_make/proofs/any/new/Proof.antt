@@ -4,7 +4,7 @@ use mathlib.Core.Bool.{true}
 use mathlib.Core.List.{List, [], _∷_}
 use borrow.Author.Needs.{needs}
 use Rattle.model.specs.Lists.{Cause, cause}
-use Rattle.model.specs.Kind.{kind}
+use Rattle.model.specs.Kind.{kindOf}
 use Rattle.model.specs.Length.{lengthsIn}
 use Rattle.open.proofs.Causes.{one-cause}
 use Rattle.calls_make.proofs.BeginLaws.{new-room, make-refused, make-good}
@@ -29,7 +29,7 @@ begin-requires c κs =
     let more : List Cause = cause (args .high) true ∷ [] in
     let o = c .before .before .before .before .before .before .open-new .ensures 0 more (one-cause (args .high)) in
     let good = c .before .before .before .before .g .given .1 in
-    let r = new-room (kind (args .views) 0) more (args .fan) (args .limit) (lengthsIn (args .views) (args .x .now)) (args .leaves .now) (args .inners .now) (args .homes .now) _ o (pre .0, pre .1) _ good in
+    let r = new-room (kindOf (args .views) 0 (args .ordered)) more (args .fan) (args .limit) (lengthsIn (args .views) (args .x .now)) (args .leaves .now) (args .inners .now) (args .homes .now) _ o (pre .0, pre .1) _ good in
     (r .shaped, r .leaves, r .inners, r .homes, pre .2, pre .3)
 
 same-length : tie.Need-same-length
@@ -45,7 +45,7 @@ returns : tie.Need-returns
 returns c effect more high =
     let args = c .before .before .before .before .before .before .before .before .before .before .args in
     let o = c .before .before .before .open-new .ensures effect more high in
-    make-refused (kind (args .views) effect) more (args .fan) (args .limit) (lengthsIn (args .views) (args .x .now)) (args .leaves .now) (args .inners .now) (args .homes .now) _ o _ (c .before .n .given .1)
+    make-refused (kindOf (args .views) effect (args .ordered)) more (args .fan) (args .limit) (lengthsIn (args .views) (args .x .now)) (args .leaves .now) (args .inners .now) (args .homes .now) _ o _ (c .before .n .given .1)
 
 same-length-4 : tie.Need-same-length-4
 same-length-4 c =
@@ -69,8 +69,8 @@ returns-2 c effect more high =
     let o = c .before .before .before .before .before .before .before .before .before .before .before .before .before .open-new .ensures effect more high in
     let good = c .before .before .before .before .before .before .before .before .before .before .before .g .given .1 in
     let the-begin = c .before .before .before .before .before .before .begin in
-    let r = new-room (kind (args .views) effect) more (args .fan) (args .limit) (lengthsIn (args .views) (args .x .now)) (args .leaves .now) (args .inners .now) (args .homes .now) _ o (pre .0, pre .1) _ good in
-    make-good (kind (args .views) effect) more (args .fan) (args .limit) (lengthsIn (args .views) (args .x .now)) (args .leaves .now) (args .inners .now) (args .homes .now) _ o _ good _ (the-begin .ensures (args .views) effect (r .same))
+    let r = new-room (kindOf (args .views) effect (args .ordered)) more (args .fan) (args .limit) (lengthsIn (args .views) (args .x .now)) (args .leaves .now) (args .inners .now) (args .homes .now) _ o (pre .0, pre .1) _ good in
+    make-good (kindOf (args .views) effect (args .ordered)) more (args .fan) (args .limit) (lengthsIn (args .views) (args .x .now)) (args .leaves .now) (args .inners .now) (args .homes .now) _ o _ good _ (the-begin .ensures (kindOf (args .views) effect (args .ordered)) (r .same))
 
 pub new-spec : {M : Type 1} → statement M
 new-spec =

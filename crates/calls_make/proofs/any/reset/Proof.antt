@@ -1,7 +1,7 @@
 -- `calls_make::any::reset`: line ends, the tree's own fan and limit and its areas are tested, then the first words are written.
 use mathlib.Core.Path.{refl}
 use borrow.Author.Needs.{needs}
-use Rattle.model.specs.Kind.{kind}
+use Rattle.model.specs.Kind.{kindOf}
 use Rattle.model.specs.Length.{lengthsIn}
 use Rattle.model.specs.State.{state}
 use Rattle.calls_make.proofs.BeginLaws.{make-room, reset-refused, reset-good}
@@ -28,7 +28,7 @@ begin-requires c κs =
     let pre = c .before .before .before .before .before .before .before .before .before .before .before .before .before .before .pre in
     let o = c .before .before .before .before .before .before .open-make .ensures 0 in
     let good = c .before .before .before .before .g .given .1 in
-    let r = make-room (kind (args .views) 0) (pre .0, pre .1) (args .head .fan) (args .head .limit) (lengthsIn (args .views) (args .x .now)) (args .leaves .now) (args .inners .now) (args .homes .now) _ o _ good in
+    let r = make-room (kindOf (args .views) 0 (args .ordered)) (pre .0, pre .1) (args .head .fan) (args .head .limit) (lengthsIn (args .views) (args .x .now)) (args .leaves .now) (args .inners .now) (args .homes .now) _ o _ good in
     (r .shaped, r .leaves, r .inners, r .homes, pre .2, pre .3)
 
 same-length : tie.Need-same-length
@@ -44,7 +44,7 @@ returns : tie.Need-returns
 returns c effect =
     let args = c .before .before .before .before .before .before .before .before .before .before .before .args in
     let o = c .before .before .before .open-make .ensures effect in
-    reset-refused (kind (args .views) effect) (state (args .head) (args .leaves .now) (args .inners .now) (args .homes .now)) (lengthsIn (args .views) (args .x .now)) _ o _ (c .before .n .given .1)
+    reset-refused (kindOf (args .views) effect (args .ordered)) (state (args .head) (args .leaves .now) (args .inners .now) (args .homes .now)) (lengthsIn (args .views) (args .x .now)) _ o _ (c .before .n .given .1)
 
 same-length-4 : tie.Need-same-length-4
 same-length-4 c =
@@ -69,8 +69,8 @@ returns-2 c effect =
     let good = c .before .before .before .before .before .before .before .before .before .before .before .g .given .1 in
     let next = c .before .before .before .before .before .before .before .before .before .before .before .before .before .before .before .before .before .wrapping-add-u64 .ensures in
     let the-begin = c .before .before .before .before .before .before .begin in
-    let r = make-room (kind (args .views) effect) (pre .0, pre .1) (args .head .fan) (args .head .limit) (lengthsIn (args .views) (args .x .now)) (args .leaves .now) (args .inners .now) (args .homes .now) _ o _ good in
-    reset-good (kind (args .views) effect) (state (args .head) (args .leaves .now) (args .inners .now) (args .homes .now)) (lengthsIn (args .views) (args .x .now)) _ o _ good _ next _ (the-begin .ensures (args .views) effect (r .same))
+    let r = make-room (kindOf (args .views) effect (args .ordered)) (pre .0, pre .1) (args .head .fan) (args .head .limit) (lengthsIn (args .views) (args .x .now)) (args .leaves .now) (args .inners .now) (args .homes .now) _ o _ good in
+    reset-good (kindOf (args .views) effect (args .ordered)) (state (args .head) (args .leaves .now) (args .inners .now) (args .homes .now)) (lengthsIn (args .views) (args .x .now)) _ o _ good _ next _ (the-begin .ensures (kindOf (args .views) effect (args .ordered)) (r .same))
 
 pub reset-spec : {M : Type 1} → statement M
 reset-spec =

@@ -20,17 +20,17 @@ new-requires-2 c κs =
 same-length : tie.Need-same-length
 same-length c =
     let new2 = c .before .before .before .before .before .before .new2 in
-    new2 .kept .1 .1 .1 .1 .1 .0
+    new2 .kept .1 .1 .1 .1 .1 .1 .0
 
 same-length-2 : tie.Need-same-length-2
 same-length-2 c =
     let new2 = c .before .before .before .before .before .before .new2 in
-    new2 .kept .1 .1 .1 .1 .1 .1 .0
+    new2 .kept .1 .1 .1 .1 .1 .1 .1 .0
 
 same-length-3 : tie.Need-same-length-3
 same-length-3 c =
     let new2 = c .before .before .before .before .before .before .new2 in
-    new2 .kept .1 .1 .1 .1 .1 .1 .1 .0
+    new2 .kept .1 .1 .1 .1 .1 .1 .1 .1 .0
 
 returns : tie.Need-returns
 returns c =

@@ -20,17 +20,17 @@ reset-requires c κs =
 same-length : tie.Need-same-length
 same-length c =
     let the-reset = c .before .before .before .before .before .before .reset in
-    the-reset .kept .1 .1 .1 .0
+    the-reset .kept .1 .1 .1 .1 .0
 
 same-length-2 : tie.Need-same-length-2
 same-length-2 c =
     let the-reset = c .before .before .before .before .before .before .reset in
-    the-reset .kept .1 .1 .1 .1 .0
+    the-reset .kept .1 .1 .1 .1 .1 .0
 
 same-length-3 : tie.Need-same-length-3
 same-length-3 c =
     let the-reset = c .before .before .before .before .before .before .reset in
-    the-reset .kept .1 .1 .1 .1 .1 .0
+    the-reset .kept .1 .1 .1 .1 .1 .1 .0
 
 returns : tie.Need-returns
 returns c =

@@ -1,7 +1,7 @@
 -- `calls_size::any::resize`: the leaf gets the lengths, and their difference goes up; a broken way gives 9 and the head as it was.
 use mathlib.Core.Path.{refl}
 use borrow.Author.Needs.{needs}
-use Rattle.model.specs.Kind.{kind}
+use Rattle.model.specs.Kind.{kindOf}
 use Rattle.model.specs.Length.{lengthsIn}
 use Rattle.open.proofs.CursorLaws.{slot-in}
 use Rattle.calls_size.proofs.SizeLaws.{resize-stands, climb-in, size-refused, size-whole, size-broken}
@@ -24,7 +24,7 @@ replace-requires c κs =
     let s = c .before .before .before .before .before .before .before .before .before .before .before .before in
     let r = c .before .before .before .before .before .open-resize in
     let g = c .before .before .before .g in
-    let h = resize-stands (kind (s .args .views) 0) (s .pre .0, s .pre .1) _ (s .args .at) (lengthsIn (s .args .views) (s .args .new .now)) _ _ (r .ensures 0 .0) (g .given .1) in
+    let h = resize-stands (kindOf (s .args .views) 0 (s .args .ordered)) (s .pre .0, s .pre .1) _ (s .args .at) (lengthsIn (s .args .views) (s .args .new .now)) _ _ (r .ensures 0 .0) (g .given .1) in
     let i = slot-in _ (s .args .at) _ h in (i .0, i .1, i .2, s .pre .3)
 
 minus-requires : tie.Need-minus-requires
@@ -32,7 +32,7 @@ minus-requires c κs =
     let s = c .before .before .before .before .before .before .before .before .before .before .before .before .before .before .before .before .before in
     let r = c .before .before .before .before .before .before .before .before .before .before .open-resize in
     let g = c .before .before .before .before .before .before .before .before .g in
-    let h = resize-stands (kind (s .args .views) 0) (s .pre .0, s .pre .1) _ (s .args .at) (lengthsIn (s .args .views) (s .args .new .now)) _ _ (r .ensures 0 .0) (g .given .1) in
+    let h = resize-stands (kindOf (s .args .views) 0 (s .args .ordered)) (s .pre .0, s .pre .1) _ (s .args .at) (lengthsIn (s .args .views) (s .args .new .now)) _ _ (r .ensures 0 .0) (g .given .1) in
     (h .ready .shaped, s .pre .3, r .ensures 0 .2, refl)
 
 asked-way-requires : tie.Need-asked-way-requires
@@ -40,7 +40,7 @@ asked-way-requires c κs =
     let s = c .before .before .before .before .before .before .before .before .before .before .before .before .before .before .before .before .before .before .before .before .before in
     let r = c .before .before .before .before .before .before .before .before .before .before .before .before .before .before .open-resize in
     let g = c .before .before .before .before .before .before .before .before .before .before .before .before .g in
-    let h = resize-stands (kind (s .args .views) 0) (s .pre .0, s .pre .1) _ (s .args .at) (lengthsIn (s .args .views) (s .args .new .now)) _ _ (r .ensures 0 .0) (g .given .1) in
+    let h = resize-stands (kindOf (s .args .views) 0 (s .args .ordered)) (s .pre .0, s .pre .1) _ (s .args .at) (lengthsIn (s .args .views) (s .args .new .now)) _ _ (r .ensures 0 .0) (g .given .1) in
     let i = slot-in _ (s .args .at) _ h in
     let w = climb-in _ (s .args .at) _ h _ (c .before .before .before .before .before .before .before .before .replace .kept .1 .0) in (w .0, w .1, s .pre .2, w .2, i .1, i .2, c .before .before .before .minus .ensures .1)
 
@@ -63,7 +63,7 @@ returns : tie.Need-returns
 returns c =
     let args = c .before .before .before .before .before .before .before .before .before .before .args in
     let open-resize = c .before .before .before .open-resize in
-    size-refused (kind (args .views) (args .effect)) _ (args .at) (args .new .now) (args .summed) _ (open-resize .ensures (args .effect) .0) _ (c .before .n .given .1)
+    size-refused (kindOf (args .views) (args .effect) (args .ordered)) _ (args .at) (args .new .now) (args .summed) _ (open-resize .ensures (args .effect) .0) _ (c .before .n .given .1)
 
 same-length-3 : tie.Need-same-length-3
 same-length-3 c =
@@ -82,7 +82,7 @@ returns-2 c =
     let g = c .before .before .before .before .before .before .before .before .before .before .before .before .before .before .before .before .before .before .g in
     let d = c .before .before .before .before .before .before .before .before .before .minus in
     let e = s .args .effect in
-    size-whole (kind (s .args .views) e) _ (s .args .at) (s .args .new .now) (s .args .summed) _ (r .ensures e .0) _ (g .given .1) _ _ _ (r .last .1 .1 .1 .1 .1 .1 .0) (d .last .1 .1 .1 .0)
+    size-whole (kindOf (s .args .views) e (s .args .ordered)) _ (s .args .at) (s .args .new .now) (s .args .summed) _ (r .ensures e .0) _ (g .given .1) _ _ _ (r .last .1 .1 .1 .1 .1 .1 .1 .0) (d .last .1 .1 .1 .0)
     (c .before .before .before .before .before .before .before .before .before .before .before .before .before .before .replace .ensures _ _) (r .ensures e .1 _ (g .given .1)) (d .ensures .0) _ (c .before .before .before .before .before .asked-way .ensures) _ (c .before .n2 .given .1)
 
 same-length-5 : tie.Need-same-length-5
@@ -102,7 +102,7 @@ returns-3 c =
     let g = c .before .before .before .before .before .before .before .before .before .before .before .before .before .before .before .before .before .g in
     let d = c .before .before .before .before .before .before .before .before .minus in
     let e = s .args .effect in
-    size-broken (kind (s .args .views) e) _ (s .args .at) (s .args .new .now) (s .args .summed) _ (r .ensures e .0) _ (g .given .1) _ _ _ (r .last .1 .1 .1 .1 .1 .1 .0) (d .last .1 .1 .1 .0)
+    size-broken (kindOf (s .args .views) e (s .args .ordered)) _ (s .args .at) (s .args .new .now) (s .args .summed) _ (r .ensures e .0) _ (g .given .1) _ _ _ (r .last .1 .1 .1 .1 .1 .1 .1 .0) (d .last .1 .1 .1 .0)
     (c .before .before .before .before .before .before .before .before .before .before .before .before .before .replace .ensures _ _) (r .ensures e .1 _ (g .given .1)) (d .ensures .0) _ (c .before .before .before .before .asked-way .ensures) (c .enum-told .given .1)
 
 pub resize-spec : {M : Type 1} → statement M

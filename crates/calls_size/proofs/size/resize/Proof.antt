@@ -29,12 +29,12 @@ resize-requires c κs = (omega arith, omega arith, omega arith, refl)
 same-length : tie.Need-same-length
 same-length c =
     let the-resize = c .before .before .before .before .resize in
-    the-resize .kept .1 .1 .1 .0
+    the-resize .kept .1 .1 .1 .1 .0
 
 same-length-2 : tie.Need-same-length-2
 same-length-2 c =
     let the-resize = c .before .before .before .before .resize in
-    the-resize .kept .1 .1 .1 .1 .0
+    the-resize .kept .1 .1 .1 .1 .1 .0
 
 returns : tie.Need-returns
 returns c =

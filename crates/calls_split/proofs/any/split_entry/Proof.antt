@@ -4,7 +4,7 @@ use mathlib.Core.Bool.{true}
 use mathlib.Core.List.{[], _∷_}
 use borrow.Author.Needs.{needs}
 use Rattle.model.specs.Lists.{cause}
-use Rattle.model.specs.Kind.{kind}
+use Rattle.model.specs.Kind.{kindOf}
 use Rattle.model.specs.Length.{lengthsIn}
 use Rattle.open.proofs.Causes.{one-cause}
 use Rattle.calls_split.proofs.SplitLaws.{divide-in, answer-in, entry-refused, entry-broken, entry-whole}
@@ -28,7 +28,7 @@ divide-requires c κs =
     let l = lengthsIn (s .args .views) (s .args .x .now) in
     let o = c .before .before .before .before .before .before .before .open-split in
     let g = c .before .before .before .before .before .g in
-    let i = divide-in (kind (s .args .views) 0) (s .pre .0, s .pre .1) _ (s .args .at) l (s .args .room) (s .pre .4) _ _ (o .ensures 0 (cause (s .args .room) true ∷ []) (one-cause (s .args .room))) (g .given .1) (s .args .x .now) (s .pre .2) in
+    let i = divide-in (kindOf (s .args .views) 0 (s .args .ordered)) (s .pre .0, s .pre .1) _ (s .args .at) l (s .args .room) (s .pre .4) _ _ (o .ensures 0 (cause (s .args .room) true ∷ []) (one-cause (s .args .room))) (g .given .1) (s .args .x .now) (s .pre .2) in
     (i .0, i .1, s .pre .3)
 
 same-length : tie.Need-same-length
@@ -53,7 +53,7 @@ returns c =
     let o = c .before .before .before .before .before .before .before .before .before .before .before .before .before .before .before .before .before .before .open-split in
     let g = c .before .before .before .before .before .before .before .before .before .before .before .before .before .before .before .before .g in
     let r = c .before .before .before .before .before .before .before .before .before .before .divide in
-    λ effect causes room. entry-broken (kind (s .args .views) effect) causes _ (s .args .at) l (s .args .before) _ (o .ensures effect causes room) _ (g .given .1) _ _ _ _ _ _ _ (r .ensures) (c .if1 .taken)
+    λ effect causes room. entry-broken (kindOf (s .args .views) effect (s .args .ordered)) causes _ (s .args .at) l (s .args .before) _ (o .ensures effect causes room) _ (g .given .1) _ _ _ _ _ _ _ (r .ensures) (c .if1 .taken)
 
 divided-at-requires : tie.Need-divided-at-requires
 divided-at-requires c κs =
@@ -62,7 +62,7 @@ divided-at-requires c κs =
     let o = c .before .before .before .before .before .before .before .before .before .before .before .before .before .before .before .before .before .before .open-split in
     let g = c .before .before .before .before .before .before .before .before .before .before .before .before .before .before .before .before .g in
     let r = c .before .before .before .before .before .before .before .before .before .before .divide in
-    answer-in (kind (s .args .views) 0) (s .pre .0, s .pre .1) _ (s .args .at) l (s .args .room) (s .pre .4) _ _ (o .ensures 0 (cause (s .args .room) true ∷ []) (one-cause (s .args .room))) (g .given .1) (s .args .before) _ (r .ensures) (c .if1 .left)
+    answer-in (kindOf (s .args .views) 0 (s .args .ordered)) (s .pre .0, s .pre .1) _ (s .args .at) l (s .args .room) (s .pre .4) _ _ (o .ensures 0 (cause (s .args .room) true ∷ []) (one-cause (s .args .room))) (g .given .1) (s .args .before) _ (r .ensures) (c .if1 .left)
 
 same-length-4 : tie.Need-same-length-4
 same-length-4 c = refl
@@ -76,7 +76,7 @@ same-length-6 c = refl
 returns-2 : tie.Need-returns-2
 returns-2 c =
     let s = c .before .before .before .before .before .before .before .before .before .before in
-    λ effect causes room. entry-refused (kind (s .args .views) effect) causes _ (s .args .at) (lengthsIn (s .args .views) (s .args .x .now)) (s .args .before) _ (c .before .before .before .open-split .ensures effect causes room) _ (c .before .n .given .1)
+    λ effect causes room. entry-refused (kindOf (s .args .views) effect (s .args .ordered)) causes _ (s .args .at) (lengthsIn (s .args .views) (s .args .x .now)) (s .args .before) _ (c .before .before .before .open-split .ensures effect causes room) _ (c .before .n .given .1)
 
 same-length-7 : tie.Need-same-length-7
 same-length-7 c =
@@ -100,7 +100,7 @@ returns-3 c =
     let o = c .before .before .before .before .before .before .before .before .before .before .before .before .before .before .before .before .before .before .before .open-split in
     let g = c .before .before .before .before .before .before .before .before .before .before .before .before .before .before .before .before .before .g in
     let r = c .before .before .before .before .before .before .before .before .before .before .before .divide in
-    λ effect causes room. entry-whole (kind (s .args .views) effect) causes _ (s .args .at) l (s .args .before) _ (o .ensures effect causes room) _ (g .given .1) _ _ _ _ _ _ _ (r .ensures) (c .before .if1 .left) _ (c .divided-at .ensures)
+    λ effect causes room. entry-whole (kindOf (s .args .views) effect (s .args .ordered)) causes _ (s .args .at) l (s .args .before) _ (o .ensures effect causes room) _ (g .given .1) _ _ _ _ _ _ _ (r .ensures) (c .before .if1 .left) _ (c .divided-at .ensures)
 
 pub split-entry-spec : {M : Type 1} → statement M
 split-entry-spec =
