@@ -263,10 +263,17 @@ module _ (K : Kind) (s : State) (t : Target) (g : Shape) (a : Aim) (x : List ℕ
       pub put-broken : r ≡ sum.Broken → reply (state (s .head) ls xs1 hs) (inserted.Refused 9) ≡ insertedBy K g s t new
       put-broken q = way-reply (sum.Broken, xs1) (low-lost xs1 (way g new) (ap (λ (y : Sum). (y, xs1)) (sym q) ∙ low))
 
--- the change is that of a tree with ordered lengths too
+-- the change is that of a tree with ordered lengths too, as the end is
+end-ordered : (views effect : ℕ) (ordered : Bool) (s : State) (x : Leaf) → endOf (kind views effect) s x ≡ endOf (kindOf views effect ordered) s x
+end-ordered views effect ordered s (leaf.At k) = refl
+end-ordered views effect ordered s leaf.Nothing = refl
+end-ordered views effect ordered s leaf.Broken = refl
+
 pub inserted-ordered : (views effect : ℕ) (ordered : Bool) (g : Shape) (s : State) (t : Target) (l : List ℕ) → insertedBy (kind views effect) g s t l ≡ insertedBy (kindOf views effect ordered) g s t l
 inserted-ordered views effect ordered g s (target.Before c) l = refl
-inserted-ordered views effect ordered g s target.End l = refl
+inserted-ordered views effect ordered g s target.End l =
+    ap (λ (a : Change). let r = climb g effect l (cond (eqb (a .number) 0) (place g s (a .leaf) (a .slot) l) a) in settled s (r .0) inserted.Refused (inserted.At (entryId (s .head .entries)) (r .1)))
+    (end-ordered views effect ordered s (lastDown (shapeOf (kind views effect) (s .head)) (s .head .levels) (s .head .root .0) (s .inners)))
 
 -- the call, from what its tests answered
 module _ (K : Kind) (causes : List Cause) (s : State) (t : Target) (l : List ℕ) (o : Opened) (e : o ≡ openedBy (insertCauses K causes s t l) (shapeOf K (s .head))) where
