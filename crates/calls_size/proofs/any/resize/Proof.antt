@@ -47,8 +47,8 @@ asked-way-requires c κs =
 enum-known-n-2 : tie.Need-enum-known-n-2
 enum-known-n-2 c = search needs
 
-cast-t40 : tie.Need-cast-t40
-cast-t40 c = search needs
+cast-t41 : tie.Need-cast-t41
+cast-t41 c = search needs
 
 enum-told : tie.Need-enum-told
 enum-told c = search needs
@@ -116,7 +116,7 @@ resize-spec =
     minus-requires
     asked-way-requires
     enum-known-n-2
-    cast-t40
+    cast-t41
     enum-told
     same-length
     same-length-2
