@@ -33,8 +33,8 @@ target-requires c κs = tt
 
 insert-requires : tie.Need-insert-requires
 insert-requires c κs =
-    let pre = @pre in
-    (pre .0, pre .1, pre .2, pre .3, pre .4, @without .ensures .1)
+    let pre = c .before .before .before .before .before .before .before .before .before .before .before .before .before .before .before .pre in
+    (pre .0, pre .1, pre .2, pre .3, pre .4, c .before .before .before .without .ensures .1)
 
 same-length : tie.Need-same-length
 same-length c = refl
@@ -49,7 +49,7 @@ returns : tie.Need-returns
 returns c =
     let s = c .before .before .before .before .before .before .before .before .before .before in
     let l = lengthsIn (s .args .views) (s .args .x .now) in
-    insert-stops (kindOf (s .args .views) (s .args .effect) (s .args .ordered)) (entry s) _ _ l (place-ordered _ (s .args .effect) (s .args .ordered) _ _ _ (c .before .before .before .place .ensures (s .args .effect))) _ (c .before .n .given .1)
+    insert-stops (kindOf (s .args .views) (s .args .effect) (s .args .ordered)) (entry s) _ _ l (place-ordered (s .args .views) (s .args .effect) (s .args .ordered) (entry s) (s .args .id .0) _ (c .before .before .before .place .ensures (s .args .effect))) _ (c .before .n .given .1)
 
 same-length-4 : tie.Need-same-length-4
 same-length-4 c =
@@ -68,9 +68,9 @@ same-length-6 c =
 
 returns-2 : tie.Need-returns-2
 returns-2 c =
-    let s = ~args in
+    let s = c .before .before .before .before .before .before .before .before .before .before .before .before .before .before .before .before .before .before .before .before .before .before in
     let l = lengthsIn (s .args .views) (s .args .x .now) in
-    insert-goes (kindOf (s .args .views) (s .args .effect) (s .args .ordered)) (entry s) _ _ l (place-ordered _ (s .args .effect) (s .args .ordered) _ _ _ (@place .ensures (s .args .effect))) _ (@c .given .1) _ (@target .ensures) _ _ (@insert .ensures (full (entry s) ∷ []) (sym (@without .ensures .0)))
+    insert-goes (kindOf (s .args .views) (s .args .effect) (s .args .ordered)) (entry s) _ _ l (place-ordered (s .args .views) (s .args .effect) (s .args .ordered) (entry s) (s .args .id .0) _ (c .before .before .before .before .before .before .before .before .before .before .before .before .before .before .before .place .ensures (s .args .effect))) _ (c .before .before .before .before .before .before .before .before .before .before .before .before .before .c .given .1) _ (c .before .before .before .before .before .before .before .before .before .before .before .target .ensures) _ _ (c .before .before .before .before .before .before .insert .ensures (full (entry s) ∷ []) (sym (c .before .before .before .before .before .before .before .before .before .before .without .ensures .0)))
 
 pub insert-spec : {M : Type 1} → statement M
 insert-spec =

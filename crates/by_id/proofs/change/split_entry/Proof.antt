@@ -30,8 +30,8 @@ without-requires c κs = tt
 
 split-entry-requires : tie.Need-split-entry-requires
 split-entry-requires c κs =
-    let pre = @pre in
-    (pre .0, pre .1, pre .2, pre .3, @without .ensures .1)
+    let pre = c .before .before .before .before .before .before .before .before .before .before .before .before .before .before .pre in
+    (pre .0, pre .1, pre .2, pre .3, c .before .before .before .without .ensures .1)
 
 same-length : tie.Need-same-length
 same-length c = refl
@@ -65,9 +65,9 @@ same-length-6 c =
 
 returns-2 : tie.Need-returns-2
 returns-2 c effect =
-    let s = ~args in
+    let s = c .before .before .before .before .before .before .before .before .before .before .before .before .before .before .before .before .before .before .before .before .before in
     let l = lengthsIn (s .args .views) (s .args .x .now) in
-    split-goes (kindOf (s .args .views) effect (s .args .ordered)) (entry s) _ _ (cursor-ordered _ effect (s .args .ordered) _ _ _ (@cursor .ensures effect)) (s .args .before) l _ (@c .given .1) _ _ (@split-entry .ensures effect (full (entry s) ∷ []) (sym (@without .ensures .0)))
+    split-goes (kindOf (s .args .views) effect (s .args .ordered)) (entry s) _ _ (cursor-ordered _ effect (s .args .ordered) _ _ _ (c .before .before .before .before .before .before .before .before .before .before .before .before .before .before .cursor .ensures effect)) (s .args .before) l _ (c .before .before .before .before .before .before .before .before .before .before .before .before .c .given .1) _ _ (c .before .before .before .before .before .before .split-entry .ensures effect (full (entry s) ∷ []) (sym (c .before .before .before .before .before .before .before .before .before .before .without .ensures .0)))
 
 pub split-entry-spec : {M : Type 1} → statement M
 split-entry-spec =
