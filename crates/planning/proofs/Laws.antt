@@ -14,7 +14,7 @@ use Rattle.model.specs.State.{State}
 use Rattle.model.specs.Answer.{outcomeAnswer, namedAnswer}
 use Rattle.model.specs.Refuse.{opening}
 use Rattle.model.specs.Calls.{Reply, reply, reset, cursor, id, lengthsOf, nextAfter, entryToCharIndex, locate}
-use Rattle.model.specs.ById.{withCursor, told, treeMove, treeStep}
+use Rattle.model.specs.ById.{withCursor, nextAnswer, locatedAnswer, told, treeMove, treeStep}
 use Rattle.model.specs.Plan as plan
 use Rattle.model.specs.Plan.{idOnly, treePlan}
 use Rattle.model.specs.declared.head.Cursor.{Cursor}
@@ -22,6 +22,10 @@ use Rattle.model.specs.declared.answer.Outcome.{Outcome}
 use Rattle.model.specs.declared.answer.Standing.{Standing}
 use Rattle.model.specs.declared.answer.Standing.the-variants as standing
 use Rattle.model.specs.declared.answer.Named.{Named}
+use Rattle.model.specs.declared.answer.Next.{Next}
+use Rattle.model.specs.declared.answer.Next.the-variants as next′
+use Rattle.model.specs.declared.answer.Located.{Located}
+use Rattle.model.specs.declared.answer.Located.the-variants as located
 use Rattle.calls_read.specs.Read.{lengthsBy}
 use Rattle.by_id_read.specs.Answer.{lookedAnswer}
 use Rattle.by_id_read.specs.declared.answer.Looked.{Looked}
@@ -50,9 +54,19 @@ pub count-plan : (s : State) → treeMove (kind 2 1) s row.count ≡ treePlan s 
 unfolding treePlan treeStep treeMove
 count-plan s = refl
 
+next-same : (s : State) (n : Next) → nextAnswer (kind 2 1) s n ≡ nextAnswer planning s n
+unfolding id opening
+next-same s (next′.At c) = refl
+next-same s next′.Nothing = refl
+next-same s (next′.Refused n) = refl
+
 pub next-plan : (s : State) (i : ℕ) → treeMove (kind 2 1) s (row.next i) ≡ treePlan s (plan.next i)
-unfolding treePlan treeStep treeMove cursor nextAfter id opening
-next-plan s i = refl
+unfolding treePlan treeStep treeMove cursor nextAfter opening
+next-plan s i = go (cursor planning s i)
+  where
+    go : (t : Standing) → withCursor s t (λ c. moved s (nextAnswer (kind 2 1) s (nextAfter (kind 2 1) s c))) ≡ withCursor s t (λ c. moved s (nextAnswer planning s (nextAfter planning s c)))
+    go (standing.At c) = ap (moved s) (next-same s (nextAfter (kind 2 1) s c))
+    go (standing.Refused n) = refl
 
 pub earliest-plan : (s : State) (i : ℕ) → treeMove (kind 2 1) s (row.rank 0 i) ≡ treePlan s (plan.earliest i)
 unfolding treePlan treeStep treeMove cursor entryToCharIndex opening
@@ -62,9 +76,14 @@ pub latest-plan : (s : State) (i : ℕ) → treeMove (kind 2 1) s (row.rank 1 i)
 unfolding treePlan treeStep treeMove cursor entryToCharIndex opening
 latest-plan s i = refl
 
+looked-same : (s : State) (a : Located) → locatedAnswer (kind 2 1) s a ≡ locatedAnswer planning s a
+unfolding id opening
+looked-same s (located.At c offset effect prepare) = refl
+looked-same s (located.Refused n) = refl
+
 lookup-plan : (s : State) (v index : ℕ) → treeMove (kind 2 1) s (row.lookup v index) ≡ treeStep planning s (row.lookup v index)
-unfolding treeStep treeMove locate id opening
-lookup-plan s v index = refl
+unfolding treeStep treeMove locate opening
+lookup-plan s v index = let r = locate planning s v index in ap (moved (r .after)) (looked-same (r .after) (r .answer))
 
 pub first-plan : (s : State) (p : ℕ) → idMove (treeStep planning s (row.lookup 1 p)) ≡ treePlan s (plan.firstAt p)
 unfolding treePlan

@@ -27,17 +27,14 @@ totals-in-requires c κs =
     let h = ready (kind 2 1) (omega arith, omega arith) (entry s) _ _ (c .before .before .before .«open» .ensures 1) (c .before .g .given .1) in
     (inner-area (entry s) _ h, h .root)
 
-cast-if1 : tie.Need-cast-if1
-cast-if1 c = search needs
-
 held-requires : tie.Need-held-requires
 held-requires c κs = omega arith
 
 returns : tie.Need-returns
 returns c =
-    let s = c .before .before .before .before .before .before .before .before .before .before in
-    let h = ready (kind 2 1) (omega arith, omega arith) (entry s) _ _ (c .before .before .before .before .before .before .«open» .ensures 1) (c .before .before .before .before .g .given .1) in
-    let t = totals-are (entry s) _ (h .same) _ _ _ (c .before .before .totals-in .ensures) in
+    let s = c .before .before .before .before .before .before .before .before .before .before .before in
+    let h = ready (kind 2 1) (omega arith, omega arith) (entry s) _ _ (c .before .before .before .before .before .before .before .«open» .ensures 1) (c .before .before .before .before .before .g .given .1) in
+    let t = totals-are (entry s) _ (h .same) _ _ _ (c .before .before .before .totals-in .ensures) in
     last-low (entry s) (s .args .position) _ (t .0) _ (c .before .if1 .taken) (c .held .ensures)
 
 last-position-requires : tie.Need-last-position-requires
@@ -53,9 +50,9 @@ returns-2 c =
 
 returns-3 : tie.Need-returns-3
 returns-3 c =
-    let s = c .before .before .before .before .before .before .before .before .before .before .before in
-    let h = ready (kind 2 1) (omega arith, omega arith) (entry s) _ _ (c .before .before .before .before .before .before .before .«open» .ensures 1) (c .before .before .before .before .before .g .given .1) in
-    let t = totals-are (entry s) _ (h .same) _ _ _ (c .before .before .before .totals-in .ensures) in
+    let s = c .before .before .before .before .before .before .before .before .before .before .before .before in
+    let h = ready (kind 2 1) (omega arith, omega arith) (entry s) _ _ (c .before .before .before .before .before .before .before .before .«open» .ensures 1) (c .before .before .before .before .before .before .g .given .1) in
+    let t = totals-are (entry s) _ (h .same) _ _ _ (c .before .before .before .before .totals-in .ensures) in
     last-high (entry s) (s .args .position) _ (t .0) _ (c .before .before .if1 .left) _ _ (t .1) (c .before .last-position .ensures) (c .held2 .ensures)
 
 pub last-at-spec : {M : Type 1} → statement M
@@ -66,7 +63,6 @@ last-at-spec =
     enum-known-n
     enum-known-g
     totals-in-requires
-    cast-if1
     held-requires
     returns
     last-position-requires

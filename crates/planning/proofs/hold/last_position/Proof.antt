@@ -5,9 +5,6 @@ use borrow.Author.Tests.{lt-ltb, le-ltb}
 use Rattle.planning.proofs.hold.last_position.Statement.{statement}
 use Rattle.planning.proofs.hold.last_position.Tie as tie
 
-cast-if1 : tie.Need-cast-if1
-cast-if1 c = search needs
-
 sub-result : tie.Need-sub-result
 sub-result c = omega arith
 
@@ -21,4 +18,4 @@ returns-2 : tie.Need-returns-2
 returns-2 c = rw (le-ltb _ _ (c .if1 .left))
 
 pub last-position-spec : {M : Type 1} → statement M
-last-position-spec = tie.close (tie.spec cast-if1 sub-result cast-result returns returns-2)
+last-position-spec = tie.close (tie.spec sub-result cast-result returns returns-2)

@@ -5,17 +5,17 @@ use Rattle.planning.specs.Bounds.{namedOf}
 use Rattle.planning.proofs.hold.named.Statement.{statement}
 use Rattle.planning.proofs.hold.named.Tie as tie
 
-enum-known-id : tie.Need-enum-known-id
-enum-known-id c = search needs
+enum-known-answer : tie.Need-enum-known-answer
+enum-known-answer c = search needs
 
-enum-known-n : tie.Need-enum-known-n
-enum-known-n c = search needs
+enum-known-answer-2 : tie.Need-enum-known-answer-2
+enum-known-answer-2 c = search needs
 
 returns : tie.Need-returns
-returns c = ap namedOf (sym (c .before .id .given .1))
+returns c = ap namedOf (sym (c .before .answer .given .1))
 
 returns-2 : tie.Need-returns-2
-returns-2 c = ap namedOf (sym (c .before .n .given .1))
+returns-2 c = ap namedOf (sym (c .before .answer2 .given .1))
 
 pub named-spec : {M : Type 1} → statement M
-named-spec = tie.close (tie.spec enum-known-id enum-known-n returns returns-2)
+named-spec = tie.close (tie.spec enum-known-answer enum-known-answer-2 returns returns-2)
