@@ -1,10 +1,10 @@
 -- The head's words: tested, and written one after the other. Assumes nothing.
 use mathlib.Core.Path.{_≡_, refl, sym, ap, ap₂, subst, _∙_}
 use mathlib.Core.Bool.{Bool, true, false, cond, not, _&&_, _||_}
-use mathlib.Core.List.{List, [], _∷_, _++_}
+use mathlib.Core.List.{List, [], _∷_, _++_, append-nil}
 use Prim.Native.Nat.{ℕ, _+_, _*_, _≤_, _<_, _/_, _%_}
 use native.Mathlib.Omega.{arith}
-use lib.ListN.{length, getD, take, drop}
+use lib.ListN.{length, getD, take, drop, replicate, length-drop}
 use lib.Seq.{sets, sets-eq, lt-length-sets, drop-cons, drop-drop}
 use lib.Dec.{ltb, eqb}
 use borrow.Author.Tests.{eq-eqb, ne-eqb, eqb-true, ltb-true, ltb-false}
@@ -93,6 +93,16 @@ counts-written w h e = sets-eq (countWords h) w 2 (omega (arith, e))
 pub stamp-written : (w : List ℕ) (stamp : ℕ) → length w ≡ 36 → sets w 17 (stampWords stamp) ≡ take 17 w ++ stampWords stamp ++ drop 19 w
 stamp-written w stamp e = sets-eq (stampWords stamp) w 17 (omega (arith, e))
 
+nothing : (w : List ℕ) → length w ≡ 0 → w ≡ []
+nothing [] e = refl
+nothing (x ∷ w) e = absurd (omega (arith, e))
+
+pub seats-cleared : (w : List ℕ) → length w ≡ 36 → sets w 19 (replicate 17 0) ≡ take 19 w ++ replicate 17 0
+seats-cleared w e =
+    sets-eq (replicate 17 0) w 19 (omega (arith, e))
+    ∙ ap (λ (q : List ℕ). take 19 w ++ replicate 17 0 ++ q) (nothing (drop 36 w) (omega (arith, length-drop 36 w, e)))
+    ∙ append-nil (take 19 w ++ replicate 17 0)
+
 -- the low word of a stamp and its high one, which a word each are
 low-word : (l n : ℕ) → l < 4294967296 → (l + 4294967296 * n) % 4294967296 ≡ l
 low-word l n h = omega (arith, h)
@@ -146,6 +156,11 @@ module _ (h : Head) where
       → u ≡ fingered v → x ≡ stamped u → x ≡ headWords h ++ drop 19 w
   put-grown w v u x e a b ev eu ex =
       after-counts (take 2 w) (drop 7 w) v u x (old-front w e a b) ev eu ex ∙ ap (λ (q : List ℕ). headWords h ++ q) (drop-drop 12 7 w)
+
+  -- all written, and the seats cleared
+  pub unseated : (w v u : List ℕ) → v ≡ headWords h ++ drop 19 w → u ≡ take 19 v ++ replicate 17 0 → u ≡ headWords h ++ replicate 17 0
+  unfolding headWords
+  unseated w v u ev eu = eu ∙ ap (λ (q : List ℕ). take 19 q ++ replicate 17 0) ev
 
   seven : (w : List ℕ) → length w ≡ 36 → take 7 w ≡ getD w 0 0 ∷ getD w 1 0 ∷ getD w 2 0 ∷ getD w 3 0 ∷ getD w 4 0 ∷ getD w 5 0 ∷ getD w 6 0 ∷ []
   seven [] e = absurd (omega (arith, e))

@@ -23,6 +23,7 @@ ghost use mathlib.Core.Path.{_≡_};
 ghost use mathlib.Core.List.{[], _∷_};
 ghost use Rattle.model.specs.Answer.{outcomeAnswer, numberAnswer, verdictAnswer, standingAnswer, nextAnswer, namedAnswer, measuredAnswer, comparedAnswer, locatedAnswer, insertedAnswer, dividedAnswer, cursorValues};
 ghost use Rattle.model.specs.Row.{refused, done};
+ghost use Rattle.model.specs.ById as byId;
 ghost use Rattle.marshal.specs.Flat.{cursorIn, numberOf, measuredOf, standingOf, locatedOf, insertedOf, dividedOf};
 
 pub fn outcome_of(a: Outcome) -> u32
@@ -259,5 +260,18 @@ pub fn divided_of(a: Divided) -> FlatDivided
             second: cursor_of(c),
         },
         Divided::Refused(n) => refused_divided(n),
+    }
+}
+
+// The new id without the cursors.
+pub fn number_of_divided(a: Divided) -> FlatNumber
+    ensures { λ r. ⌜ r ≡ numberOf (byId.dividedAnswer a) ⌝ }
+{
+    match a {
+        Divided::At(id, b, c) => FlatNumber {
+            number: 0,
+            value: id.0,
+        },
+        Divided::Refused(n) => refused_number(n),
     }
 }

@@ -9,7 +9,7 @@ ghost use mathlib.Core.Bool.{_||_};
 ghost use Prim.Native.Nat.{_<_};
 ghost use lib.Dec.{ltb};
 ghost use mathlib.Core.List.{_++_};
-ghost use lib.ListN.{length, getD, take, drop};
+ghost use lib.ListN.{length, getD, take, drop, replicate};
 ghost use Rattle.model.specs.Place.{withFinger};
 ghost use Rattle.marshal.specs.Flat.{badHead, badSeats, stampFrom, heldFrom, headFrom, presentOf, fingerOf, countWords, fingerWords, stampWords, headWords, headAfter};
 
@@ -197,6 +197,39 @@ pub fn put_head(head: &mut [u32], h: Head)
     put_counts(head, h);
     put_finger(head, finger);
     put_stamp(head, h.stamp);
+}
+
+// The seats' words of a tree without seats.
+fn clear_seats(head: &mut [u32])
+    requires { ⌜ length (now head) ≡ 36 ⌝ }
+    ensures { λ _. ⌜ now (head .exit) ≡ take 19 (now (head .entry)) ++ replicate 17 0 ⌝ }
+{
+    head[19] = 0;
+    head[20] = 0;
+    head[21] = 0;
+    head[22] = 0;
+    head[23] = 0;
+    head[24] = 0;
+    head[25] = 0;
+    head[26] = 0;
+    head[27] = 0;
+    head[28] = 0;
+    head[29] = 0;
+    head[30] = 0;
+    head[31] = 0;
+    head[32] = 0;
+    head[33] = 0;
+    head[34] = 0;
+    head[35] = 0;
+}
+
+// A new head without seats.
+pub fn put_unseated(head: &mut [u32], h: Head)
+    requires { ⌜ length (now head) ≡ 36 ⌝ }
+    ensures { λ _. ⌜ now (head .exit) ≡ headWords h ++ replicate 17 0 ⌝ }
+{
+    put_head(head, h);
+    clear_seats(head);
 }
 
 // The head after a call that answered so: a refused one leaves it.
