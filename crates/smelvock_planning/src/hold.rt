@@ -1,0 +1,54 @@
+// The exported lookups for a position, which keep the finger found.
+use marshal::answered::number_of_named;
+use marshal::answered::refused_number;
+use marshal::flat::FlatNumber;
+use marshal::head::bad_head;
+use marshal::head::head_from;
+use marshal::head::settle;
+use planning::hold::first_at;
+use planning::hold::last_at;
+ghost use mathlib.Core.Path.{_≡_};
+ghost use Rattle.marshal.specs.Lent.{given, left};
+ghost use Rattle.smelvock_planning.specs.Calls as flat;
+
+#[no_mangle]
+pub extern "C" fn smelvock_plan_first_at(
+    head: &mut [u32],
+    leaves: &[u32],
+    inners: &[u32],
+    homes: &[u32],
+    position: u32,
+) -> FlatNumber
+    ensures { λ r. ⌜ left r (now (head .exit)) (now (leaves .exit)) (now (inners .exit)) (now (homes .exit)) ≡ flat.firstAt (given (now (head .entry)) (now (leaves .entry)) (now (inners .entry)) (now (homes .entry))) position ⌝ }
+{
+    if bad_head(head) {
+        return refused_number(10);
+    }
+    let r = first_at(head_from(head), leaves, inners, homes, position);
+    let after = r.head;
+    let answer = r.answer;
+    let a = number_of_named(answer);
+    settle(head, a.number, after);
+    a
+}
+
+#[no_mangle]
+pub extern "C" fn smelvock_plan_last_at(
+    head: &mut [u32],
+    leaves: &[u32],
+    inners: &[u32],
+    homes: &[u32],
+    position: u32,
+) -> FlatNumber
+    ensures { λ r. ⌜ left r (now (head .exit)) (now (leaves .exit)) (now (inners .exit)) (now (homes .exit)) ≡ flat.lastAt (given (now (head .entry)) (now (leaves .entry)) (now (inners .entry)) (now (homes .entry))) position ⌝ }
+{
+    if bad_head(head) {
+        return refused_number(10);
+    }
+    let r = last_at(head_from(head), leaves, inners, homes, position);
+    let after = r.head;
+    let answer = r.answer;
+    let a = number_of_named(answer);
+    settle(head, a.number, after);
+    a
+}

@@ -1,0 +1,122 @@
+// The exported calls that read a planning tree.
+use crate::answered::number_of_following;
+use crate::answered::ranged_of;
+use crate::answered::refused_ranged;
+use crate::flat::FlatBounds;
+use marshal::answered::number_of;
+use marshal::answered::number_of_verdict;
+use marshal::answered::refused_number;
+use marshal::flat::FlatNumber;
+use marshal::head::bad_head;
+use marshal::head::head_from;
+use model::number::EntryId;
+use planning::read::audit;
+use planning::read::count;
+use planning::read::earliest;
+use planning::read::latest;
+use planning::read::lengths;
+use planning::read::next;
+ghost use mathlib.Core.Path.{_≡_};
+ghost use Rattle.marshal.specs.Lent.{given};
+ghost use Rattle.smelvock_planning.specs.Calls as flat;
+
+#[no_mangle]
+pub extern "C" fn smelvock_plan_lengths(
+    head: &[u32],
+    leaves: &[u32],
+    inners: &[u32],
+    homes: &[u32],
+    id: u32,
+) -> FlatBounds
+    ensures { λ r. ⌜ r ≡ flat.lengths (given (now (head .entry)) (now (leaves .entry)) (now (inners .entry)) (now (homes .entry))) id ⌝ }
+{
+    if bad_head(head) {
+        return refused_ranged(10);
+    }
+    let a = lengths(head_from(head), leaves, inners, homes, EntryId(id));
+    ranged_of(a)
+}
+
+#[no_mangle]
+pub extern "C" fn smelvock_plan_count(
+    head: &[u32],
+    leaves: &[u32],
+    inners: &[u32],
+    homes: &[u32],
+) -> FlatNumber
+    ensures { λ r. ⌜ r ≡ flat.count (given (now (head .entry)) (now (leaves .entry)) (now (inners .entry)) (now (homes .entry))) ⌝ }
+{
+    if bad_head(head) {
+        return refused_number(10);
+    }
+    let a = count(head_from(head), leaves, inners, homes);
+    number_of(a)
+}
+
+// The id of the entry after it; 4,294,967,295 after the last.
+#[no_mangle]
+pub extern "C" fn smelvock_plan_next(
+    head: &[u32],
+    leaves: &[u32],
+    inners: &[u32],
+    homes: &[u32],
+    id: u32,
+) -> FlatNumber
+    ensures { λ r. ⌜ r ≡ flat.next (given (now (head .entry)) (now (leaves .entry)) (now (inners .entry)) (now (homes .entry))) id ⌝ }
+{
+    if bad_head(head) {
+        return refused_number(10);
+    }
+    let a = next(head_from(head), leaves, inners, homes, EntryId(id));
+    number_of_following(a)
+}
+
+#[no_mangle]
+pub extern "C" fn smelvock_plan_earliest(
+    head: &[u32],
+    leaves: &[u32],
+    inners: &[u32],
+    homes: &[u32],
+    id: u32,
+) -> FlatNumber
+    ensures { λ r. ⌜ r ≡ flat.earliest (given (now (head .entry)) (now (leaves .entry)) (now (inners .entry)) (now (homes .entry))) id ⌝ }
+{
+    if bad_head(head) {
+        return refused_number(10);
+    }
+    let a = earliest(head_from(head), leaves, inners, homes, EntryId(id));
+    number_of(a)
+}
+
+#[no_mangle]
+pub extern "C" fn smelvock_plan_latest(
+    head: &[u32],
+    leaves: &[u32],
+    inners: &[u32],
+    homes: &[u32],
+    id: u32,
+) -> FlatNumber
+    ensures { λ r. ⌜ r ≡ flat.latest (given (now (head .entry)) (now (leaves .entry)) (now (inners .entry)) (now (homes .entry))) id ⌝ }
+{
+    if bad_head(head) {
+        return refused_number(10);
+    }
+    let a = latest(head_from(head), leaves, inners, homes, EntryId(id));
+    number_of(a)
+}
+
+#[no_mangle]
+pub extern "C" fn smelvock_plan_audit(
+    head: &[u32],
+    leaves: &[u32],
+    inners: &[u32],
+    homes: &[u32],
+) -> FlatNumber
+    ensures { λ r. ⌜ r ≡ flat.audit (given (now (head .entry)) (now (leaves .entry)) (now (inners .entry)) (now (homes .entry))) ⌝ }
+{
+    if bad_head(head) {
+        return refused_number(10);
+    }
+    let a = audit(head_from(head), leaves, inners, homes);
+    number_of_verdict(a)
+}
