@@ -34,7 +34,7 @@ unless-limit r cs es a = go (eqb (refusal cs) 0)
 
 move-limit : (r : Row) (c : Call) → rowMove base r c .after .limit ≡ r .limit
 unfolding rowMove
-move-limit r (row.reset l) = refl
+move-limit r (row.reset l) = unless-limit r _ _ _
 move-limit r (row.insert i l) = unless-limit r _ _ _
 move-limit r (row.split flag i l) = unless-limit r _ _ _
 move-limit r (row.setLengths i l) = unless-limit r _ _ _
