@@ -4,12 +4,13 @@
 mod area;
 mod door;
 pub mod edits;
+mod owned;
 pub mod raw;
 mod refusal;
 
-use area::{Area, Own};
 pub use door::{door, door_into};
-use raw::{word, Areas, AreasMut};
+use owned::Owned;
+use raw::{word, Areas};
 pub use refusal::Refusal;
 use std::cmp::Ordering;
 use std::fmt;
@@ -54,27 +55,13 @@ pub const PAGE_LINES: usize = 50;
 pub const PAGE_BYTES: usize = 2_750;
 
 /// An order-statistic B+ tree over a sequence of entries, indexed by position in both the prepare
-/// and effect versions and by line.
-#[derive(Clone)]
-pub struct PrepareEffectTree<const N: usize = 32> {
-    head: raw::Head,
-    leaves: Area,
-    inners: Area,
-    homes: Area,
-}
-
-/// The same head, and the same words in their areas as far as these hold any.
-impl<const N: usize> PartialEq for PrepareEffectTree<N> {
-    fn eq(&self, other: &Self) -> bool {
-        self.head == other.head && self.areas() == other.areas()
-    }
-}
-
-impl<const N: usize> Eq for PrepareEffectTree<N> {}
+/// and effect versions and by line. Two are equal if their heads are, and the words in their areas as far as these hold any.
+#[derive(Clone, PartialEq, Eq)]
+pub struct PrepareEffectTree<const N: usize = 32>(Owned<N, 4>);
 
 impl<const N: usize> fmt::Debug for PrepareEffectTree<N> {
     fn fmt(&self, to: &mut fmt::Formatter<'_>) -> fmt::Result {
-        to.debug_struct("PrepareEffectTree").field("head", &self.head).field("areas", &self.areas()).finish()
+        self.0.debug("PrepareEffectTree", to)
     }
 }
 
@@ -117,50 +104,24 @@ impl<const N: usize> PrepareEffectTree<N> {
     }
 
     fn made(limit: u32, lengths: Lengths, shares: &[u32]) -> Result<Self, Refusal> {
-        let fan = u32::try_from(N).unwrap_or(0);
-        let [nodes, homes] = words(fan, limit);
-        let mut tree = PrepareEffectTree {
-            head: [0; 36],
-            leaves: Area::unwritten(nodes),
-            inners: Area::unwritten(nodes),
-            homes: Area::unwritten(homes),
-        };
-        let (head, areas) = tree.parts();
-        let number = raw::new(fan, limit, lengths.into(), shares, head, areas);
-        Refusal::unless(number, || tree)
+        let mut owned = Owned::unwritten(limit);
+        let (head, areas) = owned.parts();
+        let number = raw::new(Owned::<N, 4>::fan(), limit, lengths.into(), shares, head, areas);
+        Refusal::unless(number, || PrepareEffectTree(owned))
     }
 
     /// A tree of any words: every call ends on them, and [`audit`](Self::audit) says whether they are a sound tree.
     pub fn from_words(head: raw::Head, leaves: Vec<u32>, inners: Vec<u32>, homes: Vec<u32>) -> Self {
-        PrepareEffectTree { head, leaves: Area::given(leaves), inners: Area::given(inners), homes: Area::given(homes) }
+        PrepareEffectTree(Owned::given(head, leaves, inners, homes))
     }
 
     pub fn head(&self) -> raw::Head {
-        self.head
+        self.0.head
     }
 
     /// The words that hold a number: all of a tree of given words, those in use of any other.
     pub fn areas(&self) -> Areas<'_> {
-        let node = N.saturating_mul(4).saturating_add(3);
-        let in_use = |word: usize| self.head[word] as usize;
-        Areas {
-            leaves: self.leaves.known(in_use(word::LEAVES).saturating_mul(node)),
-            inners: self.inners.known(in_use(word::INNERS).saturating_mul(node)),
-            homes: self.homes.known(in_use(word::ENTRIES)),
-        }
-    }
-
-    /// The areas for a call that reads them.
-    #[inline]
-    fn lent(&self) -> Areas<'_, Own> {
-        Areas { leaves: &self.leaves.words, inners: &self.inners.words, homes: &self.homes.words }
-    }
-
-    /// Head and areas for a call that changes them.
-    #[inline]
-    fn parts(&mut self) -> (&mut raw::Head, AreasMut<'_, Own>) {
-        let PrepareEffectTree { head, leaves, inners, homes } = self;
-        (head, AreasMut { leaves: &mut leaves.words, inners: &mut inners.words, homes: &mut homes.words })
+        self.0.areas()
     }
 
     /// The shares of the seats, where the tree has any.
@@ -175,55 +136,55 @@ impl<const N: usize> PrepareEffectTree<N> {
 
     /// Eight words of the head, from that one on.
     fn of_seats(&self, from: usize) -> Option<[u32; SEATS]> {
-        (self.head[word::SEATED] != 0).then(|| std::array::from_fn(|seat| self.head[from + seat]))
+        (self.0.head[word::SEATED] != 0).then(|| std::array::from_fn(|seat| self.0.head[from + seat]))
     }
 
     /// Makes this a tree of one entry again, reusing its memory. No cursor from before is current, and nothing is charged to a seat.
     pub fn reset(&mut self, lengths: Lengths) -> Result<(), Refusal> {
-        let (head, areas) = self.parts();
+        let (head, areas) = self.0.parts();
         let number = raw::reset(head, areas, lengths.into());
         Refusal::unless(number, || ())
     }
 
     /// The number of entries, including those of length 0: entries are never removed.
     pub fn len(&self) -> Result<usize, Refusal> {
-        let reply = raw::len(&self.head);
+        let reply = raw::len(&self.0.head);
         Refusal::unless(reply.number, || reply.value as usize)
     }
 
     /// Always false: a tree holds at least one entry.
     pub fn is_empty(&self) -> Result<bool, Refusal> {
-        let reply = raw::is_empty(&self.head);
+        let reply = raw::is_empty(&self.0.head);
         Refusal::unless(reply.number, || reply.value == 1)
     }
 
     pub fn first(&self) -> Result<Cursor, Refusal> {
-        let reply = raw::first(&self.head, self.lent());
+        let reply = raw::first(&self.0.head, self.0.lent());
         Refusal::unless(reply.number, || word_by_word(&reply.at))
     }
 
     pub fn next(&self, at: Cursor) -> Result<Option<Cursor>, Refusal> {
-        let reply = raw::next(&self.head, self.lent(), at.into());
+        let reply = raw::next(&self.0.head, self.0.lent(), at.into());
         Refusal::unless(reply.number, || Some(word_by_word(&reply.at)).filter(|at| at.leaf != raw::NONE))
     }
 
     pub fn id(&self, at: Cursor) -> Result<EntryId, Refusal> {
-        let reply = raw::id(&self.head, self.lent(), at.into());
+        let reply = raw::id(&self.0.head, self.0.lent(), at.into());
         Refusal::unless(reply.number, || reply.value)
     }
 
     pub fn lengths(&self, at: Cursor) -> Result<Lengths, Refusal> {
-        let reply = raw::lengths(&self.head, self.lent(), at.into());
+        let reply = raw::lengths(&self.0.head, self.0.lent(), at.into());
         Refusal::unless(reply.number, || reply.lengths.into())
     }
 
     pub fn cursor(&self, id: EntryId) -> Result<Cursor, Refusal> {
-        let reply = raw::cursor(&self.head, self.lent(), id);
+        let reply = raw::cursor(&self.0.head, self.0.lent(), id);
         Refusal::unless(reply.number, || word_by_word(&reply.at))
     }
 
     pub fn cmp(&self, a: Cursor, b: Cursor) -> Result<Ordering, Refusal> {
-        let reply = raw::cmp(&self.head, self.lent(), a.into(), b.into());
+        let reply = raw::cmp(&self.0.head, self.0.lent(), a.into(), b.into());
         Refusal::unless(reply.number, || reply.value.cmp(&1))
     }
 
@@ -236,27 +197,26 @@ impl<const N: usize> PrepareEffectTree<N> {
     /// Selects as [`char_index_to_entry`](Self::char_index_to_entry) does, also returning the
     /// entry's positions in the effect and in the prepare version; lib.rs's has the first alone.
     pub fn locate(&mut self, view: View, index: u32) -> Result<(Cursor, u32, u32, u32), Refusal> {
-        let PrepareEffectTree { head, leaves, inners, homes } = self;
-        let areas = Areas { leaves: &leaves.words, inners: &inners.words, homes: &homes.words };
+        let (head, areas) = self.0.looked();
         let reply = raw::locate(head, areas, view as u32, index);
         Refusal::unless(reply.number, || (reply.at.into(), reply.offset, reply.position, reply.prepare))
     }
 
     /// Ranks an entry: its position in `view`.
     pub fn entry_to_char_index(&self, view: View, at: Cursor) -> Result<u32, Refusal> {
-        let reply = raw::entry_to_char_index(&self.head, self.lent(), view as u32, at.into());
+        let reply = raw::entry_to_char_index(&self.0.head, self.0.lent(), view as u32, at.into());
         Refusal::unless(reply.number, || reply.value)
     }
 
     pub fn set_lengths(&mut self, at: Cursor, lengths: Lengths) -> Result<(), Refusal> {
-        let (head, areas) = self.parts();
+        let (head, areas) = self.0.parts();
         let number = raw::set_lengths(head, areas, at.into(), lengths.into());
         Refusal::unless(number, || ())
     }
 
     /// Sets an entry's lengths and ranks it in the effect version.
     pub fn update(&mut self, at: Cursor, lengths: Lengths) -> Result<u32, Refusal> {
-        let (head, areas) = self.parts();
+        let (head, areas) = self.0.parts();
         let reply = raw::update(head, areas, at.into(), lengths.into());
         Refusal::unless(reply.number, || reply.value)
     }
@@ -280,7 +240,7 @@ impl<const N: usize> PrepareEffectTree<N> {
     #[inline]
     fn inserted(&mut self, seat: u32, before: Option<Cursor>, lengths: Lengths) -> Result<(EntryId, u32), Refusal> {
         let (end, before) = target(before);
-        let (head, areas) = self.parts();
+        let (head, areas) = self.0.parts();
         let reply = raw::insert(head, areas, seat, end, before, lengths.into());
         Refusal::unless(reply.number, || (reply.id, reply.position))
     }
@@ -316,7 +276,7 @@ impl<const N: usize> PrepareEffectTree<N> {
         lengths: Lengths,
         before: bool,
     ) -> Result<(EntryId, [Cursor; 2]), Refusal> {
-        let (head, areas) = self.parts();
+        let (head, areas) = self.0.parts();
         let reply = raw::split_entry(head, areas, seat, at.into(), lengths.into(), before as u32);
         Refusal::unless(reply.number, || (reply.id, [word_by_word(&reply.first), word_by_word(&reply.second)]))
     }
@@ -325,7 +285,7 @@ impl<const N: usize> PrepareEffectTree<N> {
     /// id, prepare position, effect position, prepare length and effect length in ten columns each, and a last page filled up
     /// with blank lines. Bytes past the last page stay. Refused by 12 where `page` is below [`PAGE_BYTES`] a page.
     pub fn print(&self, page: &mut [u8]) -> Result<u32, Refusal> {
-        let reply = raw::print(&self.head, self.lent(), page);
+        let reply = raw::print(&self.0.head, self.0.lent(), page);
         Refusal::unless(reply.number, || reply.value)
     }
 
@@ -340,7 +300,7 @@ impl<const N: usize> PrepareEffectTree<N> {
 
     /// Whether the tree is sound.
     pub fn audit(&self) -> Result<bool, Refusal> {
-        let reply = raw::audit(&self.head, self.lent());
+        let reply = raw::audit(&self.0.head, self.0.lent());
         Refusal::unless(reply.number, || reply.value == 1)
     }
 }
@@ -349,15 +309,6 @@ impl<const N: usize> PrepareEffectTree<N> {
 #[inline]
 fn target(before: Option<Cursor>) -> (u32, raw::Cursor) {
     (before.is_none() as u32, before.map_or(raw::Cursor::default(), raw::Cursor::from))
-}
-
-/// The words of the leaf area, which are those of the inner area, and of homes. None where `new` refuses.
-fn words(fan: u32, limit: u32) -> [usize; 2] {
-    if !(4..=32).contains(&fan) || !(1..=LIMIT).contains(&limit) {
-        return [0, 0];
-    }
-    let nodes = (limit / (fan / 2)).max(1);
-    [(nodes * (3 + 4 * fan)) as usize, limit as usize]
 }
 
 impl From<Lengths> for raw::Lengths {
