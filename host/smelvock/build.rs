@@ -6,20 +6,22 @@ use std::process::Command;
 use std::time::SystemTime;
 use std::{env, fs};
 
+/// The crates whose exports are linked; `.ci/run` makes the same.
+const LIBRARIES: [&str; 3] = ["smelvock", "smelvock_planning", "door"];
+
 fn main() {
     let root = PathBuf::from(env::var("CARGO_MANIFEST_DIR").expect("cargo sets it")).join("../..");
     let copies = PathBuf::from(env::var("OUT_DIR").expect("cargo sets it"));
     let code = newest(&root.join("crates"));
-    for name in ["smelvock", "door"] {
+    for name in LIBRARIES {
         link(name, &root, &copies, code);
     }
     println!("cargo:rerun-if-changed=build.rs");
     println!("cargo:rerun-if-changed={}", root.join("crates").display());
     println!("cargo:rustc-link-search=native={}", copies.display());
-    println!("cargo:rustc-env=SMELVOCK_LIBRARY={}", copies.join("libsmelvock.a").display());
 }
 
-/// Links the library of one crate, made anew where the code is newer.
+/// Links the library of one crate, made anew where the code is newer. Its tests find it by the crate's name (`SMELVOCK_LIBRARY`).
 fn link(name: &str, root: &Path, copies: &Path, code: SystemTime) {
     let file = format!("lib{name}.a");
     let library = root.join("target/staticlib").join(&file);
@@ -33,6 +35,7 @@ fn link(name: &str, root: &Path, copies: &Path, code: SystemTime) {
     }
     println!("cargo:rerun-if-changed={}", library.display());
     println!("cargo:rustc-link-lib=static={name}");
+    println!("cargo:rustc-env={}_LIBRARY={}", name.to_uppercase(), copy.display());
 }
 
 /// When a file was last written; a missing one is older than any.

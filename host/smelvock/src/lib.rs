@@ -1,15 +1,17 @@
 //! lib.rs's `PrepareEffectTree` over the proved calls: its names and signatures but for `add`, on areas that the tree owns, with
-//! a [`Refusal`] where lib.rs panics, wraps or answers by chance.
+//! a [`Refusal`] where lib.rs panics, wraps or answers by chance; and [`PlanningTree`], whose entries' lengths aren't known yet.
 
 mod area;
 mod door;
 pub mod edits;
 mod owned;
+mod planning;
 pub mod raw;
 mod refusal;
 
 pub use door::{door, door_into};
 use owned::Owned;
+pub use planning::{Bounds, PlanningTree};
 use raw::{word, Areas};
 pub use refusal::Refusal;
 use std::cmp::Ordering;

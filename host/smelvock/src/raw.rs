@@ -1,5 +1,5 @@
-//! The exports themselves, on words: crates/smelvock declares each with its contract. Every function here takes any
-//! words for head and areas, however many, and any number for a view or a flag.
+//! The exports themselves, on words: crates/smelvock declares each with its contract, and crates/smelvock_planning those in
+//! [`planning`]. Every function here takes any words for head and areas, however many, and any number for a view or a flag.
 
 use crate::area::Word;
 
@@ -99,7 +99,7 @@ pub struct Divided {
     pub second: Cursor,
 }
 
-/// The leaf of "none" after the last entry.
+/// The leaf of "none" after the last entry; by id, "none" itself, and the end.
 pub const NONE: u32 = u32::MAX;
 
 /// The seat of an insert or split that names none.
@@ -155,6 +155,8 @@ macro_rules! exports {
         })*
     };
 }
+
+pub mod planning;
 
 exports! {
     reading: Areas, &[u32], as_ptr, *const u32, as_ptr, *const u32;

@@ -3,7 +3,7 @@ use std::{error, fmt};
 /// Why a call was not done. Head, areas and a lent buffer are as they were, but for [`LINK`](Refusal::LINK).
 #[derive(Clone, Copy, PartialEq, Eq, Debug)]
 pub struct Refusal {
-    /// Document 01's number, 1 to 11, or document 02's 12 to 19.
+    /// Document 01's number, 1 to 11, or document 02's 12 to 20.
     pub number: u32,
 }
 
@@ -44,6 +44,7 @@ refusals! {
     HOLLOW = 17: "the split moves nothing, or leaves nothing behind";
     OVER = 18: "the seat is at or over its share, and the free entries don't outnumber the other seats' unused shares";
     SHARES = 19: "the shares sum to the limit or more";
+    BOUNDS = 20: "a lowest length is above the highest, given or left by a split";
 }
 
 impl Refusal {
