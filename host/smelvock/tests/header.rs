@@ -1,4 +1,4 @@
-//! The C header is what the static library has: a C program that includes it is compiled, linked and run.
+//! Each C header is what its static library has: a C program that includes it is compiled, linked and run.
 
 use std::path::PathBuf;
 use std::process::Command;
@@ -75,21 +75,76 @@ edit 4: 4
 its own parent: 15
 ";
 
-#[test]
-fn a_c_program_uses_the_header() {
+/// Codes of 4 to 8 characters, worked out by hand, and each export of the planning tree.
+const ROOMS: &str = "new 0: fan 4, seats' word 0
+insert 0 1 5
+insert 0 2 13
+entry 2: 0 9 to 0 13
+position 8: 0 1 to 0 1
+position 9: 0 1 to 0 2
+position 10: 0 1 to 0 2
+position 11: 0 1 to 0 2
+position 12: 0 1 to 0 2
+position 13: 0 2 to 0 2
+position 14: 5 0 to 5 0
+split 0 3
+split 20 0
+split 20 0
+split 17 0
+split 17 0
+split 6 0
+split 10 0
+count 4: 0 (5 to 5) 3 (1 to 3) 1 (3 to 5) 2 (1 to 1), audit 1
+set 0
+set 20
+set 4
+position 5: 0 3 to 0 3
+position 13: 0 2 to 0 2
+insert 0 4 0
+insert 20 0 0
+insert 7 0 0
+insert 0 5 8
+count 6: 4 (0 to 0) 0 (5 to 5) 3 (1 to 3) 5 (2 to 9) 1 (0 to 5) 2 (1 to 1), audit 1
+insert 8 0 0
+insert 20 0 0
+split 8 0
+insert 4 0 0
+next 4, lengths 4
+35 words: 10
+short: 2
+a lowest above its highest: audit 0
+reset 20 0
+count 1: 0 (1 to 2), audit 1
+new 20: fan 0, seats' word 0
+new 1: fan 0, seats' word 0
+count of no tree: 1
+";
+
+/// Compiles a program of tests/ with a library, runs it and compares what it prints.
+fn prints(name: &str, library: &str, wanted: &str) {
     let here = PathBuf::from(env!("CARGO_MANIFEST_DIR"));
-    let program = PathBuf::from(env!("CARGO_TARGET_TMPDIR")).join("sheet");
+    let program = PathBuf::from(env!("CARGO_TARGET_TMPDIR")).join(name);
     let compiled = Command::new("cc")
         .args(["-std=c11", "-Wall", "-Wextra", "-Werror", "-pedantic", "-O2", "-o"])
         .arg(&program)
         .arg("-I")
         .arg(here.join("include"))
-        .arg(here.join("tests/sheet.c"))
-        .arg(env!("SMELVOCK_LIBRARY"))
+        .arg(here.join(format!("tests/{name}.c")))
+        .arg(library)
         .status()
         .expect("cc is there");
     assert!(compiled.success());
     let ran = Command::new(&program).output().expect("the program runs");
     assert!(ran.status.success());
-    assert_eq!(String::from_utf8_lossy(&ran.stdout), WANTED);
+    assert_eq!(String::from_utf8_lossy(&ran.stdout), wanted);
+}
+
+#[test]
+fn a_c_program_uses_the_header() {
+    prints("sheet", env!("SMELVOCK_LIBRARY"), WANTED);
+}
+
+#[test]
+fn a_c_program_uses_the_planning_tree() {
+    prints("rooms", env!("SMELVOCK_PLANNING_LIBRARY"), ROOMS);
 }
