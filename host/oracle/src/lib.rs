@@ -13,6 +13,7 @@ pub mod fans;
 pub mod lined;
 pub mod lists;
 pub mod patterns;
+pub mod planning;
 pub mod random;
 pub mod record;
 pub mod row;
