@@ -93,11 +93,11 @@ impl Tree {
         self.with(word::STAMP, low).with(word::STAMP + 1, high)
     }
 
-    fn areas(&self) -> Areas<'_> {
+    pub fn areas(&self) -> Areas<'_> {
         Areas { leaves: self.leaves.words(), inners: self.inners.words(), homes: self.homes.words() }
     }
 
-    fn looked(&mut self) -> (&mut [u32], Areas<'_>) {
+    pub fn looked(&mut self) -> (&mut [u32], Areas<'_>) {
         let Tree { head, leaves, inners, homes, .. } = self;
         (head.words_mut(), Areas { leaves: leaves.words(), inners: inners.words(), homes: homes.words() })
     }
@@ -108,7 +108,7 @@ impl Tree {
         (head.words(), areas, page.words_mut())
     }
 
-    fn changed(&mut self) -> (&mut [u32], AreasMut<'_>) {
+    pub fn changed(&mut self) -> (&mut [u32], AreasMut<'_>) {
         let Tree { head, leaves, inners, homes, .. } = self;
         (
             head.words_mut(),
@@ -116,7 +116,7 @@ impl Tree {
         )
     }
 
-    fn guarded(&self) -> bool {
+    pub fn guarded(&self) -> bool {
         [&self.head, &self.leaves, &self.inners, &self.homes].iter().all(|area| area.guarded()) && self.page.guarded()
     }
 }

@@ -6,6 +6,7 @@ pub mod cursors;
 pub mod exports;
 pub mod lists;
 pub mod met;
+pub mod planning;
 pub mod plays;
 pub mod port;
 pub mod program;
