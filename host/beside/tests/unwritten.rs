@@ -1,20 +1,23 @@
 //! A new tree's areas are memory as it comes, with whatever that held. The tree's answers, heads and words in use are those of the same
-//! tree on areas of zeros, and so lib.rs's, and `areas()` has the words in use and no other.
+//! tree on areas of zeros, and so lib.rs's, and `areas()` has the words in use and no other. A planning tree's are lib.rs's too.
 
 use beside::both::{refusal, Both};
+use beside::planning::Beside;
 use beside::port::{three, Port};
 use oracle::at_fan;
 use oracle::calls::{entries, play};
 use oracle::coverage::Coverage;
 use oracle::cursors::{Held, Source};
+use oracle::fans::FANS;
 use oracle::lists::{with_resets, Sizes, Style, GROWING};
+use oracle::planning::{self, bounds};
 use oracle::record::Call;
 use oracle::row::Entry;
 use oracle::runs::Run;
 use oracle::rust::{Reply, Subject};
 use oracle::state::{node_words, Head, State};
-use smelvock::raw::word::{ENTRIES, INNERS, LEAVES};
-use smelvock::{Cursor, PrepareEffectTree};
+use smelvock::raw::word::{ENTRIES, INNERS, LEAVES, LEVELS};
+use smelvock::{Bounds, Cursor, PlanningTree, PrepareEffectTree};
 use std::alloc::{GlobalAlloc, Layout, System};
 use std::fmt::Debug;
 use std::sync::atomic::{AtomicU32, AtomicUsize, Ordering::Relaxed};
@@ -125,24 +128,42 @@ fn all_three(fan: u32, limit: u32, lengths: [u32; 3]) -> Box<dyn Subject> {
     at_fan!(fan, N => Box::new(Three::<N>::make(limit, lengths)))
 }
 
+/// A list of 800 calls on a planning tree; answers how many levels it has then.
+fn planned<const N: usize>(seed: u64) -> u32 {
+    let port =
+        PlanningTree::<N>::with_limit(400, Bounds { lowest: 2, highest: 4 }).expect("fan, limit and bounds are good");
+    let mut list = Beside::<N, _>::new(port, 400, bounds(2, 4));
+    let style = planning::lists::Style { weights: planning::lists::GROWING, sizes: Sizes::Small, close: 50, miss: 4 };
+    let mut lister = planning::lists::Lister::new(seed, style);
+    for call in 0..800 {
+        let drawn = lister.draw(&list.row);
+        list.play(drawn, call % 20 == 0).unwrap_or_else(|parted| panic!("call {call} of seed {seed}: {parted}"));
+    }
+    list.port.head()[LEVELS]
+}
+
 /// Lists that grow over several levels and begin anew, on words that no tree has, on numbers of nodes and entries, and on zeros.
 #[test]
 fn whatever_the_memory_held() {
     let style = Style { weights: with_resets(GROWING), sizes: Sizes::Small, close: 50, miss: 4 };
     let lists = if cfg!(debug_assertions) { 1 } else { 3 };
     let run = Run { name: "unwritten", style, limit: 900, first: [2, 1, 1], lists, calls: 5_000, check_every: 500 };
-    let mut met = Coverage::default();
+    let (mut met, mut most_levels) = (Coverage::default(), 0);
     for (garbage, seed) in [0xdead_beef, u32::MAX, 1, 3, 0].into_iter().zip(0..) {
         GARBAGE.store(garbage, Relaxed);
         let (at_fans, _) = run.at_each_fan(all_three, seed * 100);
         assert!(at_fans[0].most_levels >= 5 && at_fans.iter().all(|at_fan| at_fan.most_levels >= 2));
         at_fans.iter().for_each(|at_fan| met += at_fan);
+        let levels = FANS.map(|fan| at_fan!(fan, N => planned::<N>(seed * 100 + fan as u64)));
+        println!("planning trees: 800 calls at each fan, levels {levels:?}");
+        most_levels = most_levels.max(levels[0]);
     }
     println!("unwritten: {} calls, {met:?}; {} words of garbage", met.calls(), FILLED.load(Relaxed));
     assert!(
         met.every_view()
             && met.all_kinds()
             && met.kinds[1] > 10
+            && most_levels >= 4
             && [4, 5, 6, 7, 8, 17].iter().all(|&number| met.refused[number] > 0)
     );
 }

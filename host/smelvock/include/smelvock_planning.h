@@ -21,8 +21,8 @@
  *       has, in either length
  *    7  the lowest or the highest total
  *       would pass 4,294,967,295
- * A call tests 10 before all others, then 1, 2, 4, 5, 6, 17, 20, 7, 8. Refused: the other values are 0 and, but for 9, head and areas are as
- * they were. */
+ * A call tests 10 before all others, then 1, 2, 4, 5, 6, 17, 20, 7, 8. On an unsound tree it may also answer 13 or 14, where the entry found
+ * isn't in a leaf or slot in use. Refused: the other values are 0 and, but for 9, head and areas are as they were. */
 #ifndef SMELVOCK_PLANNING_H
 #define SMELVOCK_PLANNING_H
 
