@@ -12,22 +12,14 @@ use Rattle.model.specs.declared.head.Head.{Head}
 use Rattle.model.specs.Answer.{numberAnswer}
 use Rattle.model.specs.declared.answer.Number.{Number}
 use Rattle.marshal.specs.Flat.{headAfter, numberOf}
+use Rattle.marshal.specs.Lent.{Given, left}
 use Rattle.marshal.specs.declared.flat.FlatNumber.{FlatNumber}
-use Rattle.smelvock.specs.Reads as reads
-use Rattle.smelvock.specs.Reads.{Given}
-use Rattle.smelvock.specs.Changes.{left, leftBy, leftSeated}
+use Rattle.smelvock.specs.Changes.{leftBy, leftSeated}
 use Rattle.smelvock.specs.Prints.{printedBy}
 use Rattle.smelvock.specs.Edits.{listedBy}
 
 pub ap₃ : {A : Type 0} {B : Type 0} {C : Type 0} {D : Type 0} (f : A → B → C → D) {a a′ : A} {b b′ : B} {c c′ : C} → a ≡ a′ → b ≡ b′ → c ≡ c′ → f a b c ≡ f a′ b′ c′
 ap₃ {B = B} {C = C} f {a′ = a′} {b = b} {c = c} p q r = ap (λ x. f x b c) p ∙ ap₂ (f a′) q r
-
-module _ {R : Type 0} (flat : Answer → R) (bad : Bool) (r : R) where
-  pub answer-refused : (a : Answer) → bad ≡ true → r ≡ flat (refused 10) → r ≡ flat (reads.unlessBad bad a)
-  answer-refused a b e = e ∙ ap (λ (t : Bool). flat (reads.unlessBad t a)) (sym b)
-
-  pub answer-good : (a a′ : Answer) → bad ≡ false → r ≡ flat a → a ≡ a′ → r ≡ flat (reads.unlessBad bad a′)
-  answer-good a a′ b e d = e ∙ ap flat d ∙ ap (λ (t : Bool). flat (reads.unlessBad t a′)) (sym b)
 
 module _ {A : Type 0} {R : Type 0} (flat : Answer → R) (answer : A → Answer) (words : ℕ → Head → List ℕ → List ℕ) (bad : Bool) (g : Given) (r : R) (y : Reply A) where
   pub reply-refused : bad ≡ true → r ≡ flat (refused 10) → left r (g .head) (g .leaves) (g .inners) (g .homes) ≡ leftBy flat answer words bad g y

@@ -19,11 +19,11 @@ use Rattle.model.specs.declared.answer.Number.the-variants as number
 use Rattle.model.specs.declared.answer.Outcome.{Outcome}
 use Rattle.model.specs.declared.answer.Outcome.the-variants as outcome
 use Rattle.marshal.specs.Flat.{badHead, headAfter, numberOf}
+use Rattle.marshal.specs.Lent.{Given, stateOf}
 use Rattle.marshal.specs.declared.flat.FlatNumber.{FlatNumber}
 use Rattle.calls_size.specs.Size as size
-use Rattle.smelvock.specs.Reads.{Given, stateOf}
 use Rattle.smelvock.specs.Changes as flat
-use Rattle.smelvock.specs.Changes.{Left, leftBy}
+use Rattle.smelvock.specs.Changes.{leftBy}
 
 -- a call that was opened or not and settled or not, with 0 or with nothing for its value: a host is left the same
 module _ (s : State) (n : ℕ) (r : Change) where

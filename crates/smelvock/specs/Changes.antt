@@ -18,33 +18,20 @@ use Rattle.model.specs.declared.head.Cursor.{Cursor}
 use Rattle.model.specs.declared.head.Head.{Head}
 use Rattle.model.specs.declared.length.Lengths.{Lengths}
 use Rattle.marshal.specs.Flat.{viewFrom, targetFrom, seatFrom, badShares, badHead, badSeats, headWords, headAfter, numberOf, locatedOf, insertedOf, dividedOf}
+use Rattle.marshal.specs.Lent.{Given, stateOf, Left, left, numberAlone}
 use Rattle.seating.specs.Words.{seatsWords}
 use Rattle.calls_make.specs.Made.{makeWith}
-use Rattle.smelvock.specs.Reads.{Given, stateOf, seatsOf}
+use Rattle.smelvock.specs.Reads.{seatsOf}
 use Rattle.marshal.specs.declared.flat.FlatNumber.{FlatNumber}
 use Rattle.marshal.specs.declared.flat.FlatLocated.{FlatLocated}
 use Rattle.marshal.specs.declared.flat.FlatInserted.{FlatInserted}
 use Rattle.marshal.specs.declared.flat.FlatDivided.{FlatDivided}
-
--- what a host has after a call: the reply's words, its head and its areas
-pub record Left (R : Type 0) : Type 0 where
-  pub reply : R
-  pub head : List ℕ
-  pub leaves : List ℕ
-  pub inners : List ℕ
-  pub homes : List ℕ
-
-abbrev pub left : {R : Type 0} → R → List ℕ → List ℕ → List ℕ → List ℕ → Left R
-left r w ls xs hs = record { reply = r; head = w; leaves = ls; inners = xs; homes = hs }
 
 -- refused by 10 where something is bad, else the call's reply in words, with the head's words by its number
 unfoldable pub leftBy : {A : Type 0} {R : Type 0} → (Answer → R) → (A → Answer) → (ℕ → Head → List ℕ → List ℕ) → Bool → Given → Reply A → Left R
 leftBy flat answer words bad g r =
     cond bad (left (flat (refused 10)) (g .head) (g .leaves) (g .inners) (g .homes))
     (left (flat (answer (r .answer))) (words (answer (r .answer) .number) (r .after .head) (g .head)) (r .after .leaves) (r .after .inners) (r .after .homes))
-
-abbrev pub numberAlone : Answer → ℕ
-numberAlone a = a .number
 
 -- the calls that know seats -----------------------------------------------------------------------------------------------------------------
 

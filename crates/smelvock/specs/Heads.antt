@@ -25,7 +25,7 @@ use Rattle.model.specs.declared.length.Lengths.{Lengths}
 use Rattle.seating.specs.Words.{seatsWords}
 use Rattle.calls_make.specs.Made.{makeWith}
 use Rattle.marshal.specs.Flat.{badShares, headWords, headAfter}
-use Rattle.smelvock.specs.Reads.{Given}
+use Rattle.marshal.specs.Lent.{Given}
 use Rattle.smelvock.specs.Changes.{leftBy, leftSeated, seatedAfter, make}
 
 module _ (fan limit : ℕ) (shares : List ℕ) (l : Lengths) (g : Given) where

@@ -1,14 +1,12 @@
 -- The exported calls that read, on the words that a host hands over: model's call between the conversions.
 -- A head that isn't thirty-six words, in audit seats whose flag is above 1, and a view above 2 are refused by 10 before anything else.
 -- Assumes nothing.
-use mathlib.Core.Bool.{Bool, cond, _||_}
+use mathlib.Core.Bool.{_||_}
 use mathlib.Core.List.{List}
 use Prim.Native.Nat.{ℕ}
 use lib.Dec.{ltb}
 use Rattle.model.specs.Length.{viewNumber}
 use Rattle.model.specs.Kind.{base}
-use Rattle.model.specs.Row.{Answer, refused}
-use Rattle.model.specs.State.{State, state}
 use Rattle.model.specs.Answer.{numberAnswer, verdictAnswer, standingAnswer, nextAnswer, namedAnswer, comparedAnswer}
 use Rattle.model.specs.Calls as calls
 use Rattle.model.specs.declared.head.Cursor.{Cursor}
@@ -17,29 +15,14 @@ use Rattle.model.specs.SeatedCalls.{auditSeated}
 use Rattle.model.specs.declared.seats.Seats.{Seats}
 use Rattle.seating.specs.Words.{seatsFrom}
 use Rattle.marshal.specs.Flat.{badHead, badSeats, headFrom, viewFrom, numberOf, measuredOf, standingOf}
+use Rattle.marshal.specs.Lent.{Given, stateOf, unlessBad}
 use Rattle.marshal.specs.declared.flat.FlatNumber.{FlatNumber}
 use Rattle.marshal.specs.declared.flat.FlatMeasured.{FlatMeasured}
 use Rattle.marshal.specs.declared.flat.FlatStanding.{FlatStanding}
 
--- head and areas as a host lends them
-pub record Given : Type 0 where
-  pub head : List ℕ
-  pub leaves : List ℕ
-  pub inners : List ℕ
-  pub homes : List ℕ
-
-abbrev pub given : List ℕ → List ℕ → List ℕ → List ℕ → Given
-given w ls xs hs = record { head = w; leaves = ls; inners = xs; homes = hs }
-
-abbrev pub stateOf : Given → State
-stateOf g = state (headFrom (g .head)) (g .leaves) (g .inners) (g .homes)
-
 -- the seats' words are the last seventeen of the head's
 abbrev pub seatsOf : Given → Seats
 seatsOf g = seatsFrom (part 19 17 (g .head))
-
-abbrev pub unlessBad : Bool → Answer → Answer
-unlessBad bad a = cond bad (refused 10) a
 
 unfoldable pub len : List ℕ → FlatNumber
 len w = numberOf (unlessBad (badHead w) (numberAnswer (calls.len (headFrom w))))

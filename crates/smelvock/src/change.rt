@@ -22,9 +22,8 @@ use marshal::head::settle_finger;
 use marshal::head::settle_grown;
 ghost use mathlib.Core.Path.{_≡_};
 ghost use Rattle.marshal.specs.Flat.{cursorFrom, lengthsFrom};
-ghost use Rattle.smelvock.specs.Reads.{given};
+ghost use Rattle.marshal.specs.Lent.{given, left};
 ghost use Rattle.smelvock.specs.Changes as flat;
-ghost use Rattle.smelvock.specs.Changes.{left};
 
 // update where summed is 1; where it is 0, set_lengths, with 0 for the position.
 #[no_mangle]

@@ -6,8 +6,8 @@ use marshal::flat::FlatNumber;
 use marshal::head::bad_seats;
 use marshal::head::head_from;
 ghost use mathlib.Core.Path.{_≡_};
+ghost use Rattle.marshal.specs.Lent.{given};
 ghost use Rattle.smelvock.specs.Reads as flat;
-ghost use Rattle.smelvock.specs.Reads.{given};
 
 #[no_mangle]
 pub extern "C" fn smelvock_audit(

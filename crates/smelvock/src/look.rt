@@ -8,9 +8,8 @@ use marshal::head::bad_view;
 use marshal::head::head_from;
 use marshal::head::settle_finger;
 ghost use mathlib.Core.Path.{_≡_};
-ghost use Rattle.smelvock.specs.Reads.{given};
+ghost use Rattle.marshal.specs.Lent.{given, left};
 ghost use Rattle.smelvock.specs.Changes as flat;
-ghost use Rattle.smelvock.specs.Changes.{left};
 
 #[no_mangle]
 pub extern "C" fn smelvock_locate(

@@ -10,9 +10,8 @@ use marshal::head::put_head;
 use marshal::head::settle;
 ghost use mathlib.Core.Path.{_≡_};
 ghost use Rattle.marshal.specs.Flat.{lengthsFrom};
-ghost use Rattle.smelvock.specs.Reads.{given};
+ghost use Rattle.marshal.specs.Lent.{given, left};
 ghost use Rattle.smelvock.specs.Changes as flat;
-ghost use Rattle.smelvock.specs.Changes.{left};
 
 // Without shares a tree without seats, else one with eight. What the lent head holds is of no account; a refused make leaves zeros in it.
 #[no_mangle]

@@ -6,7 +6,7 @@ use marshal::flat::FlatNumber;
 use marshal::head::bad_head;
 use marshal::head::head_from;
 ghost use mathlib.Core.Path.{_≡_};
-ghost use Rattle.smelvock.specs.Reads.{given};
+ghost use Rattle.marshal.specs.Lent.{given};
 ghost use Rattle.smelvock.specs.Prints as flat;
 
 #[no_mangle]

@@ -24,8 +24,8 @@ use marshal::head::head_from;
 use model::number::EntryId;
 ghost use mathlib.Core.Path.{_≡_};
 ghost use Rattle.marshal.specs.Flat.{cursorFrom};
+ghost use Rattle.marshal.specs.Lent.{given};
 ghost use Rattle.smelvock.specs.Reads as flat;
-ghost use Rattle.smelvock.specs.Reads.{given};
 
 #[no_mangle]
 pub extern "C" fn smelvock_len(head: &[u32]) -> FlatNumber

@@ -7,12 +7,12 @@ use Rattle.model.specs.Length.{listOf}
 use Rattle.model.specs.State.{state}
 use Rattle.laws.specs.Words.{lent}
 use Rattle.seating.specs.Words.{seatsFrom}
-use Rattle.smelvock.specs.Reads.{given}
 use Rattle.smelvock.specs.Changes as flat
 use Rattle.model.specs.Kind.{base}
 use Rattle.model.specs.Answer.{insertedAnswer}
 use Rattle.model.specs.SeatedCalls.{insertSeated}
 use Rattle.marshal.specs.Flat.{targetFrom, insertedOf}
+use Rattle.marshal.specs.Lent.{given}
 use Rattle.marshal.specs.declared.flat.FlatInserted.{FlatInserted}
 use Rattle.marshal.proofs.HeadLaws.{good-seated-flag}
 use Rattle.smelvock.specs.Changes.{seatedAfter}

@@ -10,10 +10,10 @@ use Rattle.model.specs.declared.head.Head.{Head}
 use Rattle.model.specs.declared.head.Cursor.{Cursor}
 use Rattle.model.specs.declared.length.Lengths.{Lengths}
 use Rattle.marshal.specs.Flat.{cursorFrom, lengthsFrom, headAfter, numberOf}
+use Rattle.marshal.specs.Lent.{given}
 use Rattle.marshal.specs.declared.flat.FlatNumber.{FlatNumber}
 use Rattle.marshal.proofs.HeadLaws.{good-flag}
 use Rattle.calls_size.specs.Size as size
-use Rattle.smelvock.specs.Reads.{given}
 use Rattle.smelvock.proofs.FlatLaws.{reply-refused, reply-settled, ap₃}
 use Rattle.smelvock.proofs.KeptLaws.{resize-fingered, finger-alone}
 use Rattle.smelvock.proofs.ResizeLaws.{resize-flat}

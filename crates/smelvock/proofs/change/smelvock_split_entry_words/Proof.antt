@@ -7,13 +7,13 @@ use Rattle.model.specs.Length.{listOf}
 use Rattle.model.specs.State.{state}
 use Rattle.laws.specs.Words.{lent}
 use Rattle.seating.specs.Words.{seatsFrom}
-use Rattle.smelvock.specs.Reads.{given}
 use Rattle.smelvock.specs.Changes as flat
 use lib.Dec.{eqb}
 use Rattle.model.specs.Kind.{base}
 use Rattle.model.specs.Answer.{dividedAnswer}
 use Rattle.model.specs.SeatedCalls.{splitSeated}
 use Rattle.marshal.specs.Flat.{dividedOf}
+use Rattle.marshal.specs.Lent.{given}
 use Rattle.marshal.specs.declared.flat.FlatDivided.{FlatDivided}
 use Rattle.marshal.proofs.HeadLaws.{good-seated-flag}
 use Rattle.smelvock.specs.Changes.{seatedAfter}

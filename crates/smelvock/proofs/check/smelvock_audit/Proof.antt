@@ -12,7 +12,7 @@ use Rattle.seating.specs.Words.{seatsFrom}
 use Rattle.marshal.specs.Flat.{numberOf}
 use Rattle.marshal.proofs.HeadLaws.{good-seats}
 use Rattle.smelvock.specs.Reads as flat
-use Rattle.smelvock.proofs.FlatLaws.{answer-refused, answer-good}
+use Rattle.marshal.proofs.LentLaws.{answer-refused, answer-good}
 use Rattle.smelvock.proofs.SeatLaws.{lent-length}
 use borrow.Author.Needs.{needs}
 use Rattle.smelvock.proofs.check.smelvock_audit.Statement.{statement}

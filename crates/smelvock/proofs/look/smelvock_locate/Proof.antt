@@ -2,11 +2,11 @@
 use borrow.Author.Needs.{needs}
 use mathlib.Core.Path.{refl, sym, ap₂, _∙_}
 use Rattle.marshal.specs.Flat.{headAfter, locatedOf}
+use Rattle.marshal.specs.Lent.{given}
 use Rattle.model.specs.Length.{viewNumber}
 use Rattle.model.specs.Kind.{base}
 use Rattle.model.specs.Answer.{locatedAnswer}
 use Rattle.model.specs.State.{state}
-use Rattle.smelvock.specs.Reads.{given}
 use Rattle.smelvock.specs.Changes as flat
 use Rattle.smelvock.proofs.FlatLaws.{reply-refused, reply-settled}
 use Rattle.smelvock.proofs.KeptLaws.{locate-fingered, finger-alone}

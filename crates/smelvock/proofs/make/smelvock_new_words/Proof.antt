@@ -12,10 +12,9 @@ use Rattle.model.specs.declared.seats.Seats.{Seats}
 use Rattle.seating.specs.Words.{seatsWords}
 use Rattle.calls_make.specs.Made.{makeWith}
 use Rattle.marshal.specs.Flat.{headWords}
+use Rattle.marshal.specs.Lent.{given, numberAlone}
 use Rattle.marshal.proofs.HeadLaws.{good-made}
-use Rattle.smelvock.specs.Reads.{given}
 use Rattle.smelvock.specs.Changes as flat
-use Rattle.smelvock.specs.Changes.{numberAlone}
 use Rattle.smelvock.proofs.FlatLaws.{seated-refused, seated-good}
 use Rattle.smelvock.proofs.SeatLaws.{lent-length, head-length, words-made}
 use borrow.Author.Needs.{needs}

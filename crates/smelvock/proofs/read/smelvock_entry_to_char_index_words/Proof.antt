@@ -7,7 +7,8 @@ use Rattle.model.specs.Kind.{base}
 use Rattle.model.specs.Answer.{numberAnswer}
 use Rattle.model.specs.State.{state}
 use Rattle.smelvock.specs.Reads as flat
-use Rattle.smelvock.proofs.FlatLaws.{answer-refused, answer-good, ap₃}
+use Rattle.marshal.proofs.LentLaws.{answer-refused, answer-good}
+use Rattle.smelvock.proofs.FlatLaws.{ap₃}
 use Rattle.marshal.proofs.HeadLaws.{good-flag}
 use Rattle.model.specs.Calls as calls
 use Rattle.model.specs.declared.head.Head.{Head}

@@ -6,7 +6,7 @@ use Rattle.model.specs.Kind.{base}
 use Rattle.model.specs.Answer.{namedAnswer}
 use Rattle.model.specs.State.{state}
 use Rattle.smelvock.specs.Reads as flat
-use Rattle.smelvock.proofs.FlatLaws.{answer-refused, answer-good}
+use Rattle.marshal.proofs.LentLaws.{answer-refused, answer-good}
 use Rattle.marshal.proofs.HeadLaws.{good-head}
 use Rattle.model.specs.Calls as calls
 use Rattle.model.specs.declared.head.Head.{Head}
