@@ -33,6 +33,10 @@ base = kind 3 1
 abbrev pub planning : Kind
 planning = kindOf 2 1 true
 
+-- the reading copy: the effect length alone
+abbrev pub reading : Kind
+reading = kind 1 0
+
 -- more line ends than the 65,535 that an entry may have; a kind without a third view has none
 abbrev pub tooManyLines : Kind → List ℕ → Bool
 tooManyLines K l = ltb 2 (K .views) && ltb 65535 (getD l 2 0)

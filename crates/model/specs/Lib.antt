@@ -27,6 +27,7 @@ pub mod Table
 pub mod Spelling
 pub mod Promise
 pub mod Plan
+pub mod Reading
 pub mod Stamp
 pub mod SeatPromise
 pub mod Settled

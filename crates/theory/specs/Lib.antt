@@ -83,3 +83,7 @@ pub mod PlanChoice
 pub mod PlanRow
 pub mod PlanWhole
 pub mod ExamplePlan
+pub mod Copies
+pub mod CopyCalls
+pub mod Agreement
+pub mod ExampleReading

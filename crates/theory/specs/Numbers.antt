@@ -17,6 +17,7 @@ use Rattle.model.specs.Row as row
 use Rattle.model.specs.Row.{Row, Call, Entry, Answer, done, unless, overlong, rowMove, rowStep}
 use Rattle.model.specs.ById.{treeStep}
 use Rattle.model.specs.Promise.{InWords, Stands, Adds, earlier, Numbers}
+use Rattle.abstract_tree.specs.Lists.{All-map}
 use Rattle.theory.specs.Open.{clear}
 use Rattle.theory.specs.Step.{step}
 
@@ -28,15 +29,19 @@ number-is r cs es vs = go (ℕ-discrete (refusal cs) 0)
     go (yes e) = rw (eq-eqb (refusal cs) 0 e) (sym e)
     go (no ne) = rw (ne-eqb (refusal cs) 0 ne)
 
--- a number that is none of the causes' and not 0
-pub no-cause : (x : ℕ) (cs : List Cause) → x ≢ 0 → All (λ c. c .number ≢ x) cs → refusal cs ≢ x
+-- a number that none of the causes that apply has, and not 0
+pub avoids : (x : ℕ) (cs : List Cause) → x ≢ 0 → All (λ c. c .applies ≡ true → c .number ≢ x) cs → refusal cs ≢ x
 unfolding refusal All
-no-cause x [] o h e = o (sym e)
-no-cause x (c ∷ cs) o h e = go (c .applies) (no-cause x cs o (h .1)) e
+avoids x [] o h e = o (sym e)
+avoids x (c ∷ cs) o h e = go (c .applies) refl (avoids x cs o (h .1)) e
   where
-    go : (a : Bool) → refusal cs ≢ x → cond a (c .number) (refusal cs) ≢ x
-    go true ih z = h .0 z
-    go false ih z = ih z
+    go : (a : Bool) → c .applies ≡ a → refusal cs ≢ x → cond a (c .number) (refusal cs) ≢ x
+    go true p ih z = h .0 p z
+    go false p ih z = ih z
+
+-- and one that none of them has
+pub no-cause : (x : ℕ) (cs : List Cause) → x ≢ 0 → All (λ c. c .number ≢ x) cs → refusal cs ≢ x
+no-cause x cs o h = avoids x cs o (All-map (λ c. c .number ≢ x) (λ c. c .applies ≡ true → c .number ≢ x) (λ c ne p. ne) cs h)
 
 -- a cause between others: it gives the number only where none before it applies, and then always
 pub comes-only : (x : ℕ) (cs ds : List Cause) (b : Bool) → x ≢ 0 → All (λ c. c .number ≢ x) cs → All (λ c. c .number ≢ x) ds → refusal (cs ++ cause x b ∷ ds) ≡ x → (refusal cs ≡ 0) × (b ≡ true)
