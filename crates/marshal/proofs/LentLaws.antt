@@ -1,13 +1,22 @@
 -- What a host has after a call by id: refused by 10 where something is bad, else the words of what the call answered. Assumes nothing.
-use mathlib.Core.Path.{_≡_, sym, ap, ap₂, _∙_}
-use mathlib.Core.Bool.{Bool, true, false}
+use mathlib.Core.Path.{_≡_, refl, sym, ap, ap₂, _∙_}
+use mathlib.Core.Logic.{_≢_}
+use mathlib.Core.Bool.{Bool, true, false, not}
 use mathlib.Core.List.{List}
 use Prim.Native.Nat.{ℕ}
+use lib.ListN.{length}
+use borrow.Author.Tests.{eq-eqb, ne-eqb}
 use Rattle.model.specs.Row.{Answer, refused, Moved, moved}
 use Rattle.model.specs.State.{State, state}
+use Rattle.model.specs.Answer.{outcomeAnswer}
+use Rattle.model.specs.Calls as calls
+use Rattle.model.specs.Calls.{Reply, reply}
+use Rattle.model.specs.ById.{told}
+use Rattle.model.specs.declared.shape.Kind.{Kind}
 use Rattle.model.specs.declared.head.Head.{Head}
+use Rattle.model.specs.declared.answer.Outcome.{Outcome}
 use Rattle.marshal.specs.Flat.{headAfter}
-use Rattle.marshal.specs.Lent.{Given, left, leftBy, unlessBad}
+use Rattle.marshal.specs.Lent.{Given, left, numberAlone, unlessBad, leftBy, unseatedWords, unseatedMake}
 
 -- a call that leaves head and areas
 module _ {R : Type 0} (flat : Answer → R) (bad : Bool) (r : R) where
@@ -39,3 +48,13 @@ module _ {R : Type 0} (flat : Answer → R) (number : R → ℕ) (alike : (x : A
       → moved (state h ls xs hs) a ≡ m → left r w ls xs hs ≡ leftBy flat headAfter bad g m
   left-settled h a w ls xs hs b e f d =
       left-good flat headAfter bad g r m h a w ls xs hs b e (f ∙ ap (λ (n : ℕ). headAfter n h (g .head)) (ap number e ∙ alike a)) d
+
+-- a make of a tree without seats
+module _ (K : Kind) (fan limit : ℕ) (l : List ℕ) (g : Given) where
+  pub make-refused : length (g .head) ≢ 36 → left 10 (g .head) (g .leaves) (g .inners) (g .homes) ≡ unseatedMake K fan limit l g
+  make-refused h = left-refused numberAlone unseatedWords _ g 10 _ (ap not (ne-eqb (length (g .head)) 36 h)) refl
+
+  pub make-good : (h : Head) (a : Outcome) (n : ℕ) (w ls xs hs : List ℕ) → length (g .head) ≡ 36 → n ≡ outcomeAnswer a .number → w ≡ unseatedWords n h (g .head)
+      → reply (state h ls xs hs) a ≡ calls.make K fan limit l (g .leaves) (g .inners) (g .homes) → left n w ls xs hs ≡ unseatedMake K fan limit l g
+  make-good h a n w ls xs hs e f v d =
+      left-good numberAlone unseatedWords _ g n _ h (outcomeAnswer a) w ls xs hs (ap not (eq-eqb (length (g .head)) 36 e)) f v (ap (λ (r : Reply Outcome). told r outcomeAnswer) d)

@@ -1,11 +1,17 @@
 -- What a host lends to a call by id and what it has afterwards: head and areas before and after, and the reply's words. Assumes nothing.
-use mathlib.Core.Bool.{Bool, cond}
-use mathlib.Core.List.{List}
+use mathlib.Core.Bool.{Bool, cond, not}
+use mathlib.Core.List.{List, _++_}
 use Prim.Native.Nat.{ℕ}
+use lib.ListN.{length, replicate}
+use lib.Dec.{eqb}
 use Rattle.model.specs.Row.{Answer, refused, Moved}
 use Rattle.model.specs.State.{State, state}
+use Rattle.model.specs.Answer.{outcomeAnswer}
+use Rattle.model.specs.Calls as calls
+use Rattle.model.specs.ById.{told}
+use Rattle.model.specs.declared.shape.Kind.{Kind}
 use Rattle.model.specs.declared.head.Head.{Head}
-use Rattle.marshal.specs.Flat.{headFrom}
+use Rattle.marshal.specs.Flat.{headFrom, headWords}
 
 -- head and areas as a host lends them
 pub record Given : Type 0 where
@@ -43,3 +49,10 @@ unfoldable pub leftBy : {R : Type 0} → (Answer → R) → (ℕ → Head → Li
 leftBy flat words bad g m =
     cond bad (left (flat (refused 10)) (g .head) (g .leaves) (g .inners) (g .homes))
     (left (flat (m .answer)) (words (m .answer .number) (m .after .head) (g .head)) (m .after .leaves) (m .after .inners) (m .after .homes))
+
+-- a make of a tree without seats, whose words are zeros; a refused one leaves a head of zeros
+abbrev pub unseatedWords : ℕ → Head → List ℕ → List ℕ
+unseatedWords n h w = headWords h ++ replicate 17 0
+
+abbrev pub unseatedMake : Kind → ℕ → ℕ → List ℕ → Given → Left ℕ
+unseatedMake K fan limit l g = leftBy numberAlone unseatedWords (not (eqb (length (g .head)) 36)) g (told (calls.make K fan limit l (g .leaves) (g .inners) (g .homes)) outcomeAnswer)

@@ -1,3 +1,4 @@
 pub mod Flat
 pub mod Lent
+pub mod Heads
 pub mod Told

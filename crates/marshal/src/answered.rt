@@ -6,6 +6,7 @@ use crate::flat::FlatLocated;
 use crate::flat::FlatMeasured;
 use crate::flat::FlatNumber;
 use crate::flat::FlatStanding;
+use by_id_read::answer::Following;
 use model::answer::Compared;
 use model::answer::Divided;
 use model::answer::Inserted;
@@ -24,6 +25,7 @@ ghost use mathlib.Core.List.{[], _∷_};
 ghost use Rattle.model.specs.Answer.{outcomeAnswer, numberAnswer, verdictAnswer, standingAnswer, nextAnswer, namedAnswer, measuredAnswer, comparedAnswer, locatedAnswer, insertedAnswer, dividedAnswer, cursorValues};
 ghost use Rattle.model.specs.Row.{refused, done};
 ghost use Rattle.model.specs.ById as byId;
+ghost use Rattle.by_id_read.specs.Answer.{followingAnswer};
 ghost use Rattle.marshal.specs.Flat.{cursorIn, numberOf, measuredOf, standingOf, locatedOf, insertedOf, dividedOf};
 
 pub fn outcome_of(a: Outcome) -> u32
@@ -273,5 +275,22 @@ pub fn number_of_divided(a: Divided) -> FlatNumber
             value: id.0,
         },
         Divided::Refused(n) => refused_number(n),
+    }
+}
+
+// next by id: the id; after the last entry 4,294,967,295.
+pub fn number_of_following(a: Following) -> FlatNumber
+    ensures { λ r. ⌜ r ≡ numberOf (followingAnswer a) ⌝ }
+{
+    match a {
+        Following::Entry(id) => FlatNumber {
+            number: 0,
+            value: id.0,
+        },
+        Following::Nothing => FlatNumber {
+            number: 0,
+            value: NONE,
+        },
+        Following::Refused(n) => refused_number(n),
     }
 }

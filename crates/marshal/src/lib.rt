@@ -1,5 +1,5 @@
 // What crosses the C boundary, as words, and back: the head that a host lends, what it hands over beside it, and the answers.
-// Stands on model.
+// Stands on model and by_id_read.
 pub mod answered;
 pub mod flat;
 pub mod given;

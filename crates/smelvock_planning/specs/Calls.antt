@@ -1,21 +1,18 @@
 -- The exported calls of the planning tree, on the words that a host lends: model's call between the conversions. A head that isn't thirty-six words, or
 -- whose flag for a finger is neither 0 nor 1, and a split's flag that isn't, are refused by 10 before anything else, with head and areas as given.
 -- The head's last seventeen words, the seats' in a full tree, are zeros after a make, and no other call looks at them or writes them. Assumes nothing.
-use mathlib.Core.Bool.{Bool, not, _||_}
-use mathlib.Core.List.{[], _∷_, _++_}
+use mathlib.Core.Bool.{Bool, _||_}
+use mathlib.Core.List.{[], _∷_}
 use Prim.Native.Nat.{ℕ}
-use lib.ListN.{length, replicate}
 use lib.Dec.{ltb, eqb}
 use Rattle.model.specs.Kind.{planning}
 use Rattle.model.specs.Row.{Answer}
-use Rattle.model.specs.Answer.{outcomeAnswer, verdictAnswer}
+use Rattle.model.specs.Answer.{verdictAnswer}
 use Rattle.model.specs.Audit as model
-use Rattle.model.specs.Calls as calls
-use Rattle.model.specs.ById.{told}
 use Rattle.model.specs.Plan as plan
 use Rattle.model.specs.Plan.{PlanCall, treePlan}
-use Rattle.marshal.specs.Flat.{badHead, headWords, headAfter, value, numberOf, insertedOf}
-use Rattle.marshal.specs.Lent.{Given, stateOf, Left, numberAlone, unlessBad, leftBy}
+use Rattle.marshal.specs.Flat.{badHead, headAfter, value, numberOf, insertedOf}
+use Rattle.marshal.specs.Lent.{Given, stateOf, Left, numberAlone, unlessBad, leftBy, unseatedMake}
 use Rattle.marshal.specs.declared.flat.FlatNumber.{FlatNumber}
 use Rattle.marshal.specs.declared.flat.FlatInserted.{FlatInserted}
 use Rattle.smelvock_planning.specs.declared.flat.FlatBounds.{FlatBounds}
@@ -28,9 +25,7 @@ rangedOf a = record { number = a .number; lowest = value 0 a; highest = value 1 
 
 -- a refused make leaves a head of zeros
 unfoldable pub make : ℕ → ℕ → ℕ → ℕ → Given → Left ℕ
-make fan limit lowest highest g =
-    leftBy numberAlone (λ n h w. headWords h ++ replicate 17 0) (not (eqb (length (g .head)) 36)) g
-    (told (calls.make planning fan limit (lowest ∷ highest ∷ []) (g .leaves) (g .inners) (g .homes)) outcomeAnswer)
+make fan limit lowest highest g = unseatedMake planning fan limit (lowest ∷ highest ∷ []) g
 
 -- any other, which is refused by 10 where `bad`
 abbrev pub step : {R : Type 0} → (Answer → R) → Bool → Given → PlanCall → Left R

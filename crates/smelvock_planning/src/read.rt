@@ -1,9 +1,9 @@
 // The exported calls that read a planning tree.
-use crate::answered::number_of_following;
 use crate::answered::ranged_of;
 use crate::answered::refused_ranged;
 use crate::flat::FlatBounds;
 use marshal::answered::number_of;
+use marshal::answered::number_of_following;
 use marshal::answered::number_of_verdict;
 use marshal::answered::refused_number;
 use marshal::flat::FlatNumber;

@@ -1,33 +1,19 @@
 -- `smelvock_planning::make::smelvock_plan_new`: 10 where the head isn't thirty-six words, else the call's answer in words, its head and no seats.
 use borrow.Author.Needs.{needs}
-use mathlib.Core.Path.{refl, ap}
-use mathlib.Core.List.{List, _++_}
-use Prim.Native.Nat.{ℕ}
-use lib.ListN.{replicate}
-use Rattle.model.specs.Answer.{outcomeAnswer}
-use Rattle.model.specs.Calls.{Reply}
-use Rattle.model.specs.ById.{told}
-use Rattle.model.specs.declared.answer.Outcome.{Outcome}
-use Rattle.model.specs.declared.head.Head.{Head}
-use Rattle.marshal.specs.Flat.{headWords}
-use Rattle.marshal.specs.Lent.{given, numberAlone}
-use Rattle.marshal.proofs.LentLaws.{left-refused, left-good}
+use mathlib.Core.List.{[], _∷_}
+use Rattle.model.specs.Kind.{planning}
+use Rattle.marshal.specs.Lent.{given}
+use Rattle.marshal.proofs.LentLaws.{make-refused, make-good}
 use Rattle.smelvock_planning.specs.Calls as flat
-use borrow.Author.Tests.{eq-eqb, ne-eqb}
-use mathlib.Core.Bool.{Bool, not}
 use Rattle.smelvock_planning.proofs.make.smelvock_plan_new.Statement.{statement}
 use Rattle.smelvock_planning.proofs.make.smelvock_plan_new.Tie as tie
-
--- what the lent words are after it
-abbrev made : ℕ → Head → List ℕ → List ℕ
-made n h w = headWords h ++ replicate 17 0
 
 returns : tie.Need-returns
 unfolding flat.make
 returns c =
     let a = c .before .before .before .before .before .args in
     let g = given (a .head .now) (a .leaves .now) (a .inners .now) (a .homes .now) in
-    left-refused numberAlone made _ g _ _ (ap (λ (t : Bool). not t) (ne-eqb _ 36 (c .if1 .taken))) refl
+    make-refused planning (a .fan) (a .limit) (a .lowest ∷ a .highest ∷ []) g (c .if1 .taken)
 
 new-requires : tie.Need-new-requires
 new-requires c κs = search needs
@@ -56,12 +42,11 @@ returns-2 : tie.Need-returns-2
 unfolding flat.make
 returns-2 c =
     let a = c .before .before .before .before .before .before .before .before .before .before .before .before .before .before .before .before .before .before .before .before .before .args in
-    let if1 = c .before .before .before .before .before .before .before .before .before .before .before .before .before .before .before .before .if1 in
-    let put-unseated = c .before .before .before .put-unseated in
-    let new = c .before .before .before .before .before .before .before .before .before .before .before .before .new in
     let g = given (a .head .now) (a .leaves .now) (a .inners .now) (a .homes .now) in
-    left-good numberAlone made _ g _ _ _ _ _ _ _ _ (ap (λ (t : Bool). not t) (eq-eqb _ 36 (if1 .left))) (c .outcome-of .ensures) (put-unseated .ensures)
-    (ap (λ (r : Reply Outcome). told r outcomeAnswer) (new .ensures))
+    let if1 = c .before .before .before .before .before .before .before .before .before .before .before .before .before .before .before .before .if1 in
+    let new = c .before .before .before .before .before .before .before .before .before .before .before .before .new in
+    make-good planning (a .fan) (a .limit) (a .lowest ∷ a .highest ∷ []) g _ _ _ _ _ _ _
+    (if1 .left) (c .outcome-of .ensures) (c .before .before .before .put-unseated .ensures) (new .ensures)
 
 pub smelvock-plan-new-spec : {M : Type 1} → statement M
 smelvock-plan-new-spec =

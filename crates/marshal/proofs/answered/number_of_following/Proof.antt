@@ -1,11 +1,11 @@
--- `smelvock_planning::answered::number_of_following`: one case of the answer at a time.
+-- `marshal::answered::number_of_following`: one case of the answer at a time.
 use borrow.Author.Needs.{needs}
 use mathlib.Core.Path.{sym, ap, _∙_}
 use Rattle.by_id_read.specs.Answer.{followingAnswer}
 use Rattle.by_id_read.specs.declared.answer.Following.{Following}
 use Rattle.marshal.specs.Flat.{numberOf}
-use Rattle.smelvock_planning.proofs.answered.number_of_following.Statement.{statement}
-use Rattle.smelvock_planning.proofs.answered.number_of_following.Tie as tie
+use Rattle.marshal.proofs.answered.number_of_following.Statement.{statement}
+use Rattle.marshal.proofs.answered.number_of_following.Tie as tie
 
 enum-known-a : tie.Need-enum-known-a
 enum-known-a c = search needs
