@@ -1,0 +1,96 @@
+// The exported calls that change a length of a reading copy or add an entry. Each is the one caller of its call, which is compiled into it.
+use marshal::answered::inserted_of;
+use marshal::answered::number_of_divided;
+use marshal::answered::outcome_of;
+use marshal::answered::refused_inserted;
+use marshal::answered::refused_number;
+use marshal::flat::FlatInserted;
+use marshal::flat::FlatNumber;
+use marshal::head::bad_flag;
+use marshal::head::bad_head;
+use marshal::head::head_from;
+use marshal::head::settle;
+use model::number::EntryId;
+use reading::change::insert;
+use reading::change::set;
+use reading::change::split;
+ghost use mathlib.Core.Path.{_≡_};
+ghost use Rattle.marshal.specs.Lent.{given, left};
+ghost use Rattle.smelvock_reading.specs.Calls as flat;
+
+// Before the entry id, or at the end where id is 4,294,967,295.
+#[no_mangle]
+pub extern "C" fn smelvock_read_insert(
+    head: &mut [u32],
+    leaves: &mut [u32],
+    inners: &mut [u32],
+    homes: &mut [u32],
+    id: u32,
+    length: u32,
+) -> FlatInserted
+    ensures { λ r. ⌜ left r (now (head .exit)) (now (leaves .exit)) (now (inners .exit)) (now (homes .exit)) ≡ flat.insert (given (now (head .entry)) (now (leaves .entry)) (now (inners .entry)) (now (homes .entry))) id length ⌝ }
+{
+    if bad_head(head) {
+        return refused_inserted(10);
+    }
+    let r = insert(head_from(head), leaves, inners, homes, EntryId(id), length);
+    let after = r.head;
+    let answer = r.answer;
+    let a = inserted_of(answer);
+    settle(head, a.number, after);
+    a
+}
+
+// The new entry comes just before the entry id where before is 1, else just after.
+#[no_mangle]
+pub extern "C" fn smelvock_read_split(
+    head: &mut [u32],
+    leaves: &mut [u32],
+    inners: &mut [u32],
+    homes: &mut [u32],
+    id: u32,
+    length: u32,
+    before: u32,
+) -> FlatNumber
+    ensures { λ r. ⌜ left r (now (head .exit)) (now (leaves .exit)) (now (inners .exit)) (now (homes .exit)) ≡ flat.split (given (now (head .entry)) (now (leaves .entry)) (now (inners .entry)) (now (homes .entry))) id length before ⌝ }
+{
+    if bad_flag(head, before) {
+        return refused_number(10);
+    }
+    let r = split(
+        head_from(head),
+        leaves,
+        inners,
+        homes,
+        EntryId(id),
+        length,
+        before == 1,
+    );
+    let after = r.head;
+    let answer = r.answer;
+    let a = number_of_divided(answer);
+    settle(head, a.number, after);
+    a
+}
+
+#[no_mangle]
+pub extern "C" fn smelvock_read_set(
+    head: &mut [u32],
+    leaves: &mut [u32],
+    inners: &mut [u32],
+    homes: &[u32],
+    id: u32,
+    length: u32,
+) -> u32
+    ensures { λ r. ⌜ left r (now (head .exit)) (now (leaves .exit)) (now (inners .exit)) (now (homes .exit)) ≡ flat.set (given (now (head .entry)) (now (leaves .entry)) (now (inners .entry)) (now (homes .entry))) id length ⌝ }
+{
+    if bad_head(head) {
+        return 10;
+    }
+    let r = set(head_from(head), leaves, inners, homes, EntryId(id), length);
+    let after = r.head;
+    let answer = r.answer;
+    let a = outcome_of(answer);
+    settle(head, a, after);
+    a
+}

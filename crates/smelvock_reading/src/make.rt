@@ -1,0 +1,55 @@
+// The exported calls that begin a reading copy.
+use marshal::answered::outcome_of;
+use marshal::head::bad_head;
+use marshal::head::head_from;
+use marshal::head::put_unseated;
+use marshal::head::settle;
+use reading::make::new;
+use reading::make::reset;
+ghost use mathlib.Core.Path.{_≡_};
+ghost use Rattle.marshal.specs.Lent.{given, left};
+ghost use Rattle.smelvock_reading.specs.Calls as flat;
+
+// What the lent head holds is of no account; a refused make leaves zeros in it.
+#[no_mangle]
+pub extern "C" fn smelvock_read_new(
+    fan: u32,
+    limit: u32,
+    length: u32,
+    head: &mut [u32],
+    leaves: &mut [u32],
+    inners: &mut [u32],
+    homes: &mut [u32],
+) -> u32
+    ensures { λ r. ⌜ left r (now (head .exit)) (now (leaves .exit)) (now (inners .exit)) (now (homes .exit)) ≡ flat.make fan limit length (given (now (head .entry)) (now (leaves .entry)) (now (inners .entry)) (now (homes .entry))) ⌝ }
+{
+    if head.len() != 36 {
+        return 10;
+    }
+    let r = new(fan, limit, length, leaves, inners, homes);
+    let after = r.head;
+    let answer = r.answer;
+    put_unseated(head, after);
+    outcome_of(answer)
+}
+
+#[no_mangle]
+pub extern "C" fn smelvock_read_reset(
+    head: &mut [u32],
+    leaves: &mut [u32],
+    inners: &mut [u32],
+    homes: &mut [u32],
+    length: u32,
+) -> u32
+    ensures { λ r. ⌜ left r (now (head .exit)) (now (leaves .exit)) (now (inners .exit)) (now (homes .exit)) ≡ flat.reset (given (now (head .entry)) (now (leaves .entry)) (now (inners .entry)) (now (homes .entry))) length ⌝ }
+{
+    if bad_head(head) {
+        return 10;
+    }
+    let r = reset(head_from(head), leaves, inners, homes, length);
+    let after = r.head;
+    let answer = r.answer;
+    let a = outcome_of(answer);
+    settle(head, a, after);
+    a
+}

@@ -1,0 +1,102 @@
+// The exported calls that read a reading copy; the lookup keeps the finger found.
+use crate::answered::looked_of;
+use crate::answered::refused_looked;
+use crate::flat::FlatLooked;
+use marshal::answered::number_of;
+use marshal::answered::number_of_compared;
+use marshal::answered::number_of_following;
+use marshal::answered::refused_number;
+use marshal::flat::FlatNumber;
+use marshal::head::bad_head;
+use marshal::head::head_from;
+use marshal::head::settle;
+use model::number::EntryId;
+use reading::read::compare;
+use reading::read::lookup;
+use reading::read::next;
+use reading::read::rank;
+ghost use mathlib.Core.Path.{_≡_};
+ghost use Rattle.marshal.specs.Lent.{given, left};
+ghost use Rattle.smelvock_reading.specs.Calls as flat;
+
+#[no_mangle]
+pub extern "C" fn smelvock_read_lookup(
+    head: &mut [u32],
+    leaves: &[u32],
+    inners: &[u32],
+    homes: &[u32],
+    index: u32,
+) -> FlatLooked
+    ensures { λ r. ⌜ left r (now (head .exit)) (now (leaves .exit)) (now (inners .exit)) (now (homes .exit)) ≡ flat.lookup (given (now (head .entry)) (now (leaves .entry)) (now (inners .entry)) (now (homes .entry))) index ⌝ }
+{
+    if bad_head(head) {
+        return refused_looked(10);
+    }
+    let r = lookup(head_from(head), leaves, inners, homes, index);
+    let after = r.head;
+    let answer = r.answer;
+    let a = looked_of(answer);
+    settle(head, a.number, after);
+    a
+}
+
+#[no_mangle]
+pub extern "C" fn smelvock_read_rank(
+    head: &[u32],
+    leaves: &[u32],
+    inners: &[u32],
+    homes: &[u32],
+    id: u32,
+) -> FlatNumber
+    ensures { λ r. ⌜ r ≡ flat.rank (given (now (head .entry)) (now (leaves .entry)) (now (inners .entry)) (now (homes .entry))) id ⌝ }
+{
+    if bad_head(head) {
+        return refused_number(10);
+    }
+    let a = rank(head_from(head), leaves, inners, homes, EntryId(id));
+    number_of(a)
+}
+
+// The id of the entry after it; 4,294,967,295 after the last.
+#[no_mangle]
+pub extern "C" fn smelvock_read_next(
+    head: &[u32],
+    leaves: &[u32],
+    inners: &[u32],
+    homes: &[u32],
+    id: u32,
+) -> FlatNumber
+    ensures { λ r. ⌜ r ≡ flat.next (given (now (head .entry)) (now (leaves .entry)) (now (inners .entry)) (now (homes .entry))) id ⌝ }
+{
+    if bad_head(head) {
+        return refused_number(10);
+    }
+    let a = next(head_from(head), leaves, inners, homes, EntryId(id));
+    number_of_following(a)
+}
+
+// 0, 1, 2: the entry id stands before the entry other, is it, or stands after it.
+#[no_mangle]
+pub extern "C" fn smelvock_read_compare(
+    head: &[u32],
+    leaves: &[u32],
+    inners: &[u32],
+    homes: &[u32],
+    id: u32,
+    other: u32,
+) -> FlatNumber
+    ensures { λ r. ⌜ r ≡ flat.compare (given (now (head .entry)) (now (leaves .entry)) (now (inners .entry)) (now (homes .entry))) id other ⌝ }
+{
+    if bad_head(head) {
+        return refused_number(10);
+    }
+    let a = compare(
+        head_from(head),
+        leaves,
+        inners,
+        homes,
+        EntryId(id),
+        EntryId(other),
+    );
+    number_of_compared(a)
+}
