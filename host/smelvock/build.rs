@@ -7,7 +7,7 @@ use std::time::SystemTime;
 use std::{env, fs};
 
 /// The crates whose exports are linked; `.ci/run` makes the same.
-const LIBRARIES: [&str; 3] = ["smelvock", "smelvock_planning", "door"];
+const LIBRARIES: [&str; 4] = ["smelvock", "smelvock_planning", "smelvock_reading", "door"];
 
 fn main() {
     let root = PathBuf::from(env::var("CARGO_MANIFEST_DIR").expect("cargo sets it")).join("../..");

@@ -51,6 +51,17 @@ pub fn unprinted(bytes: usize) -> Area<u8> {
     Area::new(&vec![UNPRINTED; bytes])
 }
 
+/// What areas hold before a tree is made in them.
+pub const LENT: u32 = 0x5A5A_5A5A;
+
+/// The words that each node area and homes need, of a tree whose slots have so many words; none where make refuses by 1.
+pub fn needed(slot: usize, fan: u32, limit: u32) -> [usize; 2] {
+    if !(4..=32).contains(&fan) || !(1..=65_536).contains(&limit) {
+        return [0, 0];
+    }
+    [(limit / (fan / 2)).max(1) as usize * (3 + slot * fan as usize), limit as usize]
+}
+
 /// A tree, sound or not, and a buffer to print in.
 #[derive(Clone, PartialEq, Eq, Debug)]
 pub struct Tree {
@@ -68,6 +79,18 @@ impl Tree {
         let pages = (tree.head()[word::ENTRIES] as usize).div_ceil(PAGE_LINES);
         let [head, leaves, inners, homes] = [&tree.head()[..], leaves, inners, homes].map(Area::new);
         Tree { head, leaves, inners, homes, page: unprinted(pages * PAGE_BYTES) }
+    }
+
+    /// Head and areas as long as the limit needs, in which no tree was made, and no buffer.
+    pub fn unmade(slot: usize, fan: u32, limit: u32) -> Tree {
+        let [nodes, homes] = needed(slot, fan, limit);
+        let [head, leaves, inners, homes] = [36, nodes, nodes, homes].map(|words| Area::new(&vec![LENT; words]));
+        Tree { head, leaves, inners, homes, page: unprinted(0) }
+    }
+
+    /// Head, leaves, inner nodes, homes.
+    pub fn words(&self) -> [Vec<u32>; 4] {
+        [&self.head, &self.leaves, &self.inners, &self.homes].map(|area| area.words().to_vec())
     }
 
     /// One word of the head, by its number in `raw::word`.

@@ -10,5 +10,6 @@ pub mod planning;
 pub mod plays;
 pub mod port;
 pub mod program;
+pub mod reading;
 pub mod seated;
 pub mod words;

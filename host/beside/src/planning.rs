@@ -1,14 +1,14 @@
 //! The planning tree's exports on words that may be any, with guards around them, and lists of its calls: on the port, on the plain row
 //! with bounds, and on lib.rs, whose prepare lengths are the lowest and whose effect lengths are the highest.
 
-use crate::exports::{unprinted, Area, Tree};
-use crate::words::head_of;
+use crate::exports::{needed, Tree, LENT};
+use crate::words::{head_of, slots_of};
 use oracle::audit::{audit, Verdict};
 use oracle::calls::Calls;
 use oracle::driver::Parted;
 use oracle::lined::Lined;
 use oracle::planning::{Bounds, Call, Entry, Row, Said};
-use oracle::state::{Node, State, EFFECT, NONE, PREPARE};
+use oracle::state::{State, EFFECT, NONE, PREPARE};
 use smelvock::raw::{self, planning, word, AreasMut, Number};
 use smelvock::{PlanningTree, Refusal};
 
@@ -26,22 +26,9 @@ pub fn node_words(fan: u32) -> usize {
     3 + 3 * fan as usize
 }
 
-/// What areas hold before a tree is made in them.
-const LENT: u32 = 0x5A5A_5A5A;
-
-/// The words that each node area and homes need; none where make refuses by 1.
-fn needed(fan: u32, limit: u32) -> [usize; 2] {
-    if !(4..=32).contains(&fan) || !(1..=65_536).contains(&limit) {
-        return [0, 0];
-    }
-    [(limit / (fan / 2)).max(1) as usize * node_words(fan), limit as usize]
-}
-
 /// A tree made on areas as long as the limit needs, with those bounds for its entry, and the number that make answered.
 pub fn make(fan: u32, limit: u32, bounds: Bounds) -> (u32, Tree) {
-    let [nodes, homes] = needed(fan, limit);
-    let [head, leaves, inners, homes] = [36, nodes, nodes, homes].map(|words| Area::new(&vec![LENT; words]));
-    let mut tree = Tree { head, leaves, inners, homes, page: unprinted(0) };
+    let mut tree = Tree::unmade(3, fan, limit);
     let number = make_in(&mut tree, fan, limit, bounds);
     (number, tree)
 }
@@ -95,7 +82,7 @@ impl Plans for Tree {
     }
 
     fn words(&self) -> [Vec<u32>; 4] {
-        [&self.head, &self.leaves, &self.inners, &self.homes].map(|area| area.words().to_vec())
+        self.words()
     }
 }
 
@@ -156,7 +143,7 @@ impl<const N: usize> Plans for PlanningTree<N> {
     /// Behind the words in use, which alone are known, the areas are filled up.
     fn words(&self) -> [Vec<u32>; 4] {
         let (head, areas) = (self.head(), self.areas());
-        let [nodes, homes] = needed(N as u32, head[word::LIMIT]);
+        let [nodes, homes] = needed(3, N as u32, head[word::LIMIT]);
         let words = [(&head[..], 36), (areas.leaves, nodes), (areas.inners, nodes), (areas.homes, homes)];
         words.map(|(known, all)| known.iter().copied().chain([LENT].into_iter().cycle()).take(all).collect())
     }
@@ -200,20 +187,9 @@ pub fn verdict(words: [Vec<u32>; 4]) -> [u32; 2] {
     }
 }
 
-/// The entries of a sound tree in order: the slots in use of its leaves, reached from the root with earlier slots first.
+/// The entries of a sound tree in order.
 pub fn entries_of(state: &State) -> Vec<Entry> {
-    fn below(state: &State, node: Node<'_>, levels: u32, entries: &mut Vec<Entry>) {
-        for [child, low, high, _] in node.used() {
-            match levels {
-                0 => entries.push(Entry { id: child, bounds: Bounds { low, high } }),
-                1 => below(state, state.leaf(child), 0, entries),
-                _ => below(state, state.inner(child), levels - 1, entries),
-            }
-        }
-    }
-    let mut entries = Vec::new();
-    below(state, state.inner(state.head.root), state.head.levels, &mut entries);
-    entries
+    slots_of(state).into_iter().map(|[id, low, high, _]| Entry { id, bounds: Bounds { low, high } }).collect()
 }
 
 /// A list of calls on the port, on the row and on lib.rs.

@@ -1,7 +1,7 @@
 //! A tree's words between oracle's form and the port's.
 
 use oracle::seats::Seats;
-use oracle::state::{node_words, Finger, Head, State};
+use oracle::state::{node_words, Finger, Head, Node, State};
 use smelvock::{raw, PrepareEffectTree};
 
 /// A stamp's two words, the low one first.
@@ -49,6 +49,22 @@ pub fn raw_of(head: Head) -> raw::Head {
     let seats = seats.map_or(vec![0; 17], |Seats { shares, charges }| [&[1][..], &shares, &charges].concat());
     let words = counts.into_iter().chain(finger).chain(parted(stamp)).chain(seats).collect::<Vec<_>>();
     words.try_into().expect("thirty-six words")
+}
+
+/// The slots in use of a sound tree's leaves in order, reached from the root with earlier slots first.
+pub fn slots_of(state: &State) -> Vec<[u32; 4]> {
+    fn below(state: &State, node: Node<'_>, levels: u32, slots: &mut Vec<[u32; 4]>) {
+        for slot in node.used() {
+            match levels {
+                0 => slots.push(slot),
+                1 => below(state, state.leaf(slot[0]), 0, slots),
+                _ => below(state, state.inner(slot[0]), levels - 1, slots),
+            }
+        }
+    }
+    let mut slots = Vec::new();
+    below(state, state.inner(state.head.root), state.head.levels, &mut slots);
+    slots
 }
 
 /// The port's tree with the words of a state.

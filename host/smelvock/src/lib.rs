@@ -1,5 +1,6 @@
 //! lib.rs's `PrepareEffectTree` over the proved calls: its names and signatures but for `add`, on areas that the tree owns, with
-//! a [`Refusal`] where lib.rs panics, wraps or answers by chance; and [`PlanningTree`], whose entries' lengths aren't known yet.
+//! a [`Refusal`] where lib.rs panics, wraps or answers by chance; [`PlanningTree`], whose entries' lengths aren't known yet; and
+//! [`ReadingCopy`], which has the effect lengths alone.
 
 mod area;
 mod door;
@@ -7,12 +8,14 @@ pub mod edits;
 mod owned;
 mod planning;
 pub mod raw;
+mod reading;
 mod refusal;
 
 pub use door::{door, door_into};
 use owned::Owned;
 pub use planning::{Bounds, PlanningTree};
 use raw::{word, Areas};
+pub use reading::ReadingCopy;
 pub use refusal::Refusal;
 use std::cmp::Ordering;
 use std::fmt;

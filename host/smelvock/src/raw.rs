@@ -1,5 +1,6 @@
-//! The exports themselves, on words: crates/smelvock declares each with its contract, and crates/smelvock_planning those in
-//! [`planning`]. Every function here takes any words for head and areas, however many, and any number for a view or a flag.
+//! The exports themselves, on words: crates/smelvock declares each with its contract, crates/smelvock_planning those in [`planning`] and
+//! crates/smelvock_reading those in [`reading`]. Every function here takes any words for head and areas, however many, and any number for
+//! a view or a flag.
 
 use crate::area::Word;
 
@@ -157,9 +158,10 @@ macro_rules! exports {
 }
 
 pub mod planning;
+pub mod reading;
 
 exports! {
-    reading: Areas, &[u32], as_ptr, *const u32, as_ptr, *const u32;
+    asking: Areas, &[u32], as_ptr, *const u32, as_ptr, *const u32;
     id_words as smelvock_id_words(; leaf: u32, slot: u32, stamp: u64) -> Number;
     lengths_words as smelvock_lengths_words(; leaf: u32, slot: u32, stamp: u64) -> Measured;
     cursor as smelvock_cursor(; id: u32) -> Standing;

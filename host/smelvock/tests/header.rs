@@ -120,6 +120,40 @@ new 1: fan 0, seats' word 0
 count of no tree: 1
 ";
 
+/// Document 01's sheet with the effect lengths alone, worked out by hand, and each export of the reading copy.
+const SCREEN: &str = "new 0: fan 4, seats' word 0
+insert 0 1 3
+insert 0 2 0
+lookup 0 2 0 0
+lookup 0 0 0 5
+lookup 5 0 0 0
+split 0 3
+insert 0 4 8
+row 2 at 0 3 at 5 0 at 6 4 at 8 1 at 9
+insert 8 0 0
+split 6 0
+split 17 0
+split 17 0
+split 10 0
+compare 0 0
+compare 0 1
+compare 0 2
+compare 4 0
+lookup 0 0 1 6
+set 0
+lookup 0 1 0 9
+set 4
+set 7
+next 4, rank 4
+35 words: 10
+short: 2
+reset 0
+row 0 at 0
+lookup 0 0 1 0
+new 1: fan 0, seats' word 0
+rank of no tree: 1
+";
+
 /// Compiles a program of tests/ with a library, runs it and compares what it prints.
 fn prints(name: &str, library: &str, wanted: &str) {
     let here = PathBuf::from(env!("CARGO_MANIFEST_DIR"));
@@ -147,4 +181,9 @@ fn a_c_program_uses_the_header() {
 #[test]
 fn a_c_program_uses_the_planning_tree() {
     prints("rooms", env!("SMELVOCK_PLANNING_LIBRARY"), ROOMS);
+}
+
+#[test]
+fn a_c_program_uses_the_reading_copy() {
+    prints("screen", env!("SMELVOCK_READING_LIBRARY"), SCREEN);
 }
