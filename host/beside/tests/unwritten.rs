@@ -1,15 +1,17 @@
 //! A new tree's areas are memory as it comes, with whatever that held. The tree's answers, heads and words in use are those of the same
-//! tree on areas of zeros, and so lib.rs's, and `areas()` has the words in use and no other. A planning tree's are lib.rs's too.
+//! tree on areas of zeros, and so lib.rs's, and `areas()` has the words in use and no other. A planning tree's and a reading
+//! copy's are lib.rs's too.
 
 use beside::both::{refusal, Both};
 use beside::planning::Beside;
 use beside::port::{three, Port};
+use beside::reading::{there, Alone};
 use oracle::at_fan;
 use oracle::calls::{entries, play};
 use oracle::coverage::Coverage;
 use oracle::cursors::{Held, Source};
 use oracle::fans::FANS;
-use oracle::lists::{with_resets, Sizes, Style, GROWING};
+use oracle::lists::{with_resets, Lister, Sizes, Style, GROWING};
 use oracle::planning::{self, bounds};
 use oracle::record::Call;
 use oracle::row::Entry;
@@ -17,7 +19,7 @@ use oracle::runs::Run;
 use oracle::rust::{Reply, Subject};
 use oracle::state::{node_words, Head, State};
 use smelvock::raw::word::{ENTRIES, INNERS, LEAVES, LEVELS};
-use smelvock::{Bounds, Cursor, PlanningTree, PrepareEffectTree};
+use smelvock::{Bounds, Cursor, PlanningTree, PrepareEffectTree, ReadingCopy};
 use std::alloc::{GlobalAlloc, Layout, System};
 use std::fmt::Debug;
 use std::sync::atomic::{AtomicU32, AtomicUsize, Ordering::Relaxed};
@@ -142,6 +144,18 @@ fn planned<const N: usize>(seed: u64) -> u32 {
     list.port.head()[LEVELS]
 }
 
+/// The same on a reading copy.
+fn copied<const N: usize>(seed: u64) -> u32 {
+    let copy = ReadingCopy::<N>::with_limit(400, 3).expect("fan and limit are good");
+    let mut list = Alone::<N, _>::new(copy, 400, 3);
+    let mut lister = Lister::new(seed, Style { weights: GROWING, sizes: Sizes::Small, close: 50, miss: 4 });
+    for call in 0..800 {
+        let Some(drawn) = lister.draw(&list.row).call().and_then(there) else { continue };
+        list.play(drawn, call % 20 == 0).unwrap_or_else(|parted| panic!("call {call} of seed {seed}: {parted}"));
+    }
+    list.copy.head()[LEVELS]
+}
+
 /// Lists that grow over several levels and begin anew, on words that no tree has, on numbers of nodes and entries, and on zeros.
 #[test]
 fn whatever_the_memory_held() {
@@ -155,8 +169,9 @@ fn whatever_the_memory_held() {
         assert!(at_fans[0].most_levels >= 5 && at_fans.iter().all(|at_fan| at_fan.most_levels >= 2));
         at_fans.iter().for_each(|at_fan| met += at_fan);
         let levels = FANS.map(|fan| at_fan!(fan, N => planned::<N>(seed * 100 + fan as u64)));
-        println!("planning trees: 800 calls at each fan, levels {levels:?}");
-        most_levels = most_levels.max(levels[0]);
+        let copies = FANS.map(|fan| at_fan!(fan, N => copied::<N>(seed * 100 + fan as u64)));
+        println!("planning trees and reading copies: 800 calls at each fan, levels {levels:?}, {copies:?}");
+        most_levels = most_levels.max(levels[0].min(copies[0]));
     }
     println!("unwritten: {} calls, {met:?}; {} words of garbage", met.calls(), FILLED.load(Relaxed));
     assert!(
