@@ -5,6 +5,7 @@
 
 mod called;
 mod changes;
+mod copies;
 mod door;
 mod edits;
 mod paper;
@@ -50,4 +51,5 @@ fn run<const N: usize>(entries: u32, rounds: usize) {
     changes::resizes(&mut table, &mut trees);
     changes::growth::<N>(&mut table, entries);
     table.print();
+    copies::run::<N>(entries, rounds);
 }
