@@ -3,6 +3,7 @@
 pub mod any_cursor;
 pub mod both;
 pub mod cursors;
+pub mod damage;
 pub mod exports;
 pub mod lists;
 pub mod met;

@@ -1,6 +1,7 @@
 //! Unsound reading copies: every call ends on them, writes in head and areas only (guards stand around each) and answers a number that it
 //! may. Where the damaged words are still a sound tree by document 01's tests, every answer is the row's of its entries.
 
+use beside::damage::{change_some, flip_every_word, randomize};
 use beside::exports::Tree;
 use beside::reading::{is_sound, make, make_in, widened, Copies};
 use beside::words::slots_of;
@@ -88,44 +89,16 @@ fn every_call(tree: &Tree, random: &mut Random, met: &mut Met) {
     assert!([0, 1, 2].contains(&number));
 }
 
-/// Other values for a word: its neighbours, some single bits, and the ends.
-fn others(word: u32) -> impl Iterator<Item = u32> {
-    let bits = [0, 1, 2, 4, 8, 16, 31].into_iter().map(move |bit| word ^ 1 << bit);
-    bits.chain([word.wrapping_add(1), word.wrapping_sub(1), 0, u32::MAX]).filter(move |&other| other != word)
-}
-
-fn word(tree: &mut Tree, area: usize, at: usize) -> &mut u32 {
-    let area =
-        [&mut tree.leaves, &mut tree.inners, &mut tree.homes, &mut tree.head].into_iter().nth(area).expect("four");
-    &mut area.words_mut()[at]
-}
-
-fn lengths(tree: &Tree) -> [usize; 4] {
-    [&tree.leaves, &tree.inners, &tree.homes, &tree.head].map(|area| area.words().len())
-}
-
-/// Every word of head and areas, one at a time, and every call after each.
-fn flip_every_word(mut tree: Tree, met: &mut Met) {
-    let (mut random, mut flips) = (Random::new(3), 0);
-    let lengths = lengths(&tree);
-    for (area, at) in (0..4).flat_map(|area| (0..lengths[area]).map(move |at| (area, at))) {
-        let before = *word(&mut tree, area, at);
-        for other in others(before) {
-            *word(&mut tree, area, at) = other;
-            every_call(&tree, &mut random, met);
-            flips += 1;
-        }
-        *word(&mut tree, area, at) = before;
-    }
-    println!("fan {}, {} entries: {flips} flips, every call after each", tree.word(FAN), tree.word(ENTRIES));
-}
-
 #[test]
 fn every_single_flipped_word() {
     let mut met = Met::default();
     let trees: &[(u32, u32)] =
         if SCALE == 1 { &[(4, 9), (5, 12)] } else { &[(4, 9), (5, 12), (4, 30), (8, 30), (32, 40)] };
-    trees.iter().for_each(|&(fan, entries)| flip_every_word(sound(fan, entries), &mut met));
+    for &(fan, entries) in trees {
+        let mut random = Random::new(3);
+        let flips = flip_every_word(sound(fan, entries), |tree| every_call(tree, &mut random, &mut met));
+        println!("fan {fan}, {entries} entries: {flips} flips, every call after each");
+    }
     println!("{met:?}");
     assert!(met.sound > 100 && met.unsound > 1_000, "{met:?}");
     assert!([0, 1, 2, 4, 5, 6, 9, 10, 17].iter().all(|&number| met.numbers[number] > 0), "{met:?}");
@@ -138,11 +111,7 @@ fn chains_of_calls_on_damaged_trees() {
     let trees = FANS.map(|fan| sound(fan, 34 + fan * 3 / 2));
     for _ in 0..2_000 * SCALE {
         let mut tree = trees[random.below(trees.len() as u64) as usize].clone();
-        for _ in 0..1 + random.below(6) {
-            let area = random.below(4) as usize;
-            let at = random.below(lengths(&tree)[area] as u64) as usize;
-            *word(&mut tree, area, at) = [0, 1, 2, 4, 19, u32::MAX, random.word() as u32][random.below(7) as usize];
-        }
+        change_some(&mut tree, &mut random);
         for _ in 0..12 {
             let call = calls(&tree, &mut random)[1 + random.below(7) as usize];
             played(&mut tree, call, None, &mut met);
@@ -160,10 +129,7 @@ fn nothing_but_random_words() {
         let fan = FANS[random.below(FANS.len() as u64) as usize];
         let mut tree = sound(fan, 12);
         let counts = [LEAVES, INNERS].map(|word| tree.word(word));
-        let most = [4, 1 << random.below(32) as u32][random.below(2) as usize];
-        for (area, at) in (0..3).flat_map(|area| (0..lengths(&sound(fan, 12))[area]).map(move |at| (area, at))) {
-            *word(&mut tree, area, at) = random.below(most as u64 + 1) as u32;
-        }
+        randomize(&mut tree, &mut random);
         tree = tree.with(PRESENT, random.below(2) as u32).with(LEAVES, counts[0]).with(INNERS, counts[1]);
         every_call(&tree, &mut random, &mut met);
     }
