@@ -7,6 +7,7 @@ pub mod Changes
 pub mod Areas
 pub mod AreaRead
 pub mod Climb
+pub mod Differ
 pub mod Down
 pub mod Find
 pub mod Grow

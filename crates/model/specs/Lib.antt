@@ -22,6 +22,8 @@ pub mod Sound
 pub mod Audit
 pub mod Seats
 pub mod SeatedCalls
+pub mod Mend
+pub mod Repair
 pub mod SeatedList
 pub mod Table
 pub mod Spelling

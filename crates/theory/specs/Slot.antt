@@ -44,7 +44,7 @@ pub slots-total : (s fan v : ℕ) (n : Node) → Tidy s fan n → node.total v (
 slots-total s fan v n t =
     ap (λ (m : Node). node.total v (m .slots)) (t .is) ∙ sumBy-append (lengthIn v) (used n) (emptySlots s (fan - length (used n))) ∙ (let z = empty-total s v (fan - length (used n)) in omega arith)
 
-totals-at : (m w v : ℕ) (xs : List (List ℕ)) → v < m → getD (totalsFrom m w xs) v 0 ≡ node.total (w + v) xs % 2 ^ 32
+pub totals-at : (m w v : ℕ) (xs : List (List ℕ)) → v < m → getD (totalsFrom m w xs) v 0 ≡ node.total (w + v) xs % 2 ^ 32
 unfolding totalsFrom
 totals-at zero w v xs h = absurd (omega arith)
 totals-at (suc m) w zero xs h = ap (λ (k : ℕ). node.total k xs % 2 ^ 32) (sym (add-zero w))
