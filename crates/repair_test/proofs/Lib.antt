@@ -1,0 +1,7 @@
+pub mod QueueLaws
+pub mod LevelLaws
+pub mod FreshLaws
+pub mod ReachLaws
+pub mod LensLaws
+pub mod TotalLaws
+pub mod FitLaws

@@ -1,0 +1,4 @@
+pub mod Fit
+pub mod Queue
+pub mod Reach
+pub mod Total
