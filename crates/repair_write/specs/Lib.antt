@@ -1,0 +1,4 @@
+pub mod Blank
+pub mod Toward
+pub mod Nodes
+pub mod Leaves
