@@ -1,6 +1,6 @@
--- What a call leaves of the head: a lookup and other lengths all but the finger. Assumes nothing.
+-- What a call leaves of the head: a lookup, other lengths and a repair all but the finger. Assumes nothing.
 use mathlib.Core.Path.{_≡_, refl, sym, ap, subst, _∙_}
-use mathlib.Core.Bool.{Bool, true, false, cond}
+use mathlib.Core.Bool.{Bool, true, false, cond, _&&_}
 use mathlib.Core.List.{List}
 use Prim.Native.Nat.{ℕ}
 use lib.Dec.{eqb}
@@ -15,7 +15,11 @@ use Rattle.model.specs.Place as place
 use Rattle.model.specs.Place.{Change, withFinger}
 use Rattle.model.specs.Refuse.{shapeOf, opening}
 use Rattle.model.specs.Calls as calls
-use Rattle.model.specs.Calls.{Reply, reply}
+use Rattle.model.specs.Calls.{Reply, reply, areaCauses}
+use Rattle.model.specs.Mend.{mend, isFit}
+use Rattle.model.specs.Repair as mended
+use Rattle.model.specs.Seats.{isFair}
+use Rattle.model.specs.declared.seats.Seats.{Seats}
 use Rattle.model.specs.declared.head.Head.{Head}
 use Rattle.model.specs.declared.head.Cursor.{Cursor}
 use Rattle.model.specs.declared.way.Sum.{Sum}
@@ -94,6 +98,18 @@ module _ (K : Kind) (s : State) where
       let a = servedBy v (K .effect) g (h .finger) (h .leaves) x (s .leaves) in
       let b = fromRoot v (K .effect) g (h .levels) (h .root .0) (h .leaves) x (s .leaves) (s .inners) in
       unless-fingered s located.Refused (opening K s) (calls.byFinger s a b) (found-fingered a b)
+
+  mended-fingered : (fit : Bool) → Fingered s (mended.mendIf K fit s .after)
+  unfolding mend
+  mended-fingered true = refl
+  mended-fingered false = refl
+
+  pub repair-fingered : (b : Seats) → Fingered s (mended.repair K s b .after)
+  unfolding mended.repairIf
+  repair-fingered b =
+      let h = s .head in
+      let fit = isFit K s && isFair (h .limit) (h .entries) b in
+      unless-fingered s number.Refused (areaCauses K (h .fan) (h .limit) (s .leaves) (s .inners) (s .homes)) (mended.mendIf K fit s) (mended-fingered fit)
 
 -- the same of a reply's head h, where the call was given the head k of the words w
 module _ {A : Type 0} (w : List ℕ) (k h : Head) (ls xs hs ls′ xs′ hs′ : List ℕ) (a : A) (y : Reply A) (ek : k ≡ headFrom w) (e : reply (state h ls′ xs′ hs′) a ≡ y) where

@@ -13,6 +13,7 @@ use Rattle.model.specs.Answer.{outcomeAnswer, numberAnswer, locatedAnswer, inse
 use Rattle.model.specs.Calls as calls
 use Rattle.model.specs.Calls.{Reply}
 use Rattle.model.specs.SeatedCalls.{SeatedReply, resetSeated, insertSeated, splitSeated}
+use Rattle.model.specs.Repair as mended
 use Rattle.model.specs.declared.seats.Seats.{Seats}
 use Rattle.model.specs.declared.head.Cursor.{Cursor}
 use Rattle.model.specs.declared.head.Head.{Head}
@@ -61,6 +62,10 @@ insert g seat end c l =
 unfoldable pub splitEntry : Given → ℕ → Cursor → Lengths → ℕ → Left FlatDivided
 splitEntry g seat c l before =
     leftSeated dividedOf dividedAnswer seatedAfter (badSeats (g .head) || ltb 1 before) g (splitSeated base (stateOf g) (seatsOf g) (seatFrom seat) c (listOf l) (eqb before 1))
+
+-- the seats stay, and of the head the finger goes
+unfoldable pub repair : Given → Left FlatNumber
+repair g = leftBy numberOf numberAnswer headAfter (badSeats (g .head)) g (mended.repair base (stateOf g) (seatsOf g))
 
 -- the others --------------------------------------------------------------------------------------------------------------------------------
 

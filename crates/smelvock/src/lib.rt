@@ -5,6 +5,7 @@ pub mod check;
 pub mod edits;
 pub mod look;
 pub mod make;
+pub mod mend;
 pub mod order;
 pub mod print;
 pub mod read;
