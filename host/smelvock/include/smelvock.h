@@ -17,11 +17,11 @@
  *   17  a split moves nothing, or leaves     13  the cursor's leaf is not in use
  *       nothing behind, in every length      14  the cursor's slot is at or past its leaf's len
  *   18  the seat is at or over its share,    19  the shares sum to the limit or more
- *       and the free entries don't
- *       outnumber the other seats' unused
+ *       and the free entries don't           21  no sound tree agrees with what
+ *       outnumber the other seats' unused        smelvock_repair trusts
  *       shares
  * A tree's call tests 10 before all others, and a cursor for 3, 13 and 14 in this order, before 4 to 8, 17 and 18; smelvock_cmp tests
- * the first cursor whole, then the second. 17 stands between 6 and 8; 18 stands for 8 in a seated tree; 19 comes after 1 and 2.
+ * the first cursor whole, then the second. 17 stands between 6 and 8; 18 stands for 8 in a seated tree; 19 and 21 come after 1 and 2.
  * Of a file of edits: 10 the rest of a record isn't zero, 11 the file's length isn't a multiple of 16, 12 the list area is below
  * 512 words, 15 a parent isn't smaller than its edit, 16 more than 512 edits.
  * Refused: the other values are 0 and, but for 9, head, areas and buffer are as they were. */
@@ -223,6 +223,13 @@ smelvock_number smelvock_print(SMELVOCK_HEAD, SMELVOCK_AREAS, uint8_t *page, siz
 
 /* value: 1 if the tree is sound, else 0. */
 smelvock_number smelvock_audit(SMELVOCK_HEAD, SMELVOCK_AREAS);
+
+/* Puts a stored tree right. It trusts the head but for its finger, each node's len and child numbers in use (in a leaf the ids), and the
+ * lengths in leaf slots. It rewrites inner sums, parents, places, homes and unused slots, and drops the finger; seats, nodes out of use
+ * and the rest of the areas stay. value: the number of area words that differ from before, 0 for a sound tree. Afterwards
+ * smelvock_audit answers 1. 21 exactly if no sound tree agrees with what is trusted; never 9. Takes time linear in limit, and 385 KiB
+ * of stack. */
+smelvock_number smelvock_repair(SMELVOCK_HEAD_WRITTEN, SMELVOCK_AREAS_WRITTEN);
 
 /* A file of edits has 16-byte records and no header; a record's place from 0 is the edit's number. The first two little-endian u32
  * are its parents, SMELVOCK_NONE for none, and may be equal; the rest is zero. An edit rests on itself and on whatever a chain of

@@ -45,6 +45,9 @@ cmp 0 2
 len 0 5
 is_empty 0 0
 audit 0 1
+repair 0 0, finger 0
+stale: audit 0, repair 0 4, audit 1
+an entry lost: repair 21 0, sum kept 1, then 1
 stamp, leaf, slot: 3 13 14
 cmp of bad cursors: 14 3 13
 view 3: 10

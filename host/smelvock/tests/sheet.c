@@ -38,6 +38,23 @@ static void lengths(uint32_t id) {
     printf("lengths %u %u %u %u\n", r.number, r.lengths.prepare, r.lengths.effect, r.lengths.lines);
 }
 
+/* A sound sheet only loses its finger; then a stale sum, place, home and unused slot, a word each; then a len that no sound sheet has. */
+static void repair(void) {
+    smelvock_number r = smelvock_repair(HEAD, AREAS);
+    printf("repair %u %u, finger %u\n", r.number, r.value, head[SMELVOCK_PRESENT]);
+    uint32_t root = head[SMELVOCK_ROOT] * (WORDS / 2u);
+    inners[root + 4] += 1, leaves[2] += 1, homes[0] += 1, leaves[WORDS / 2u - 1] += 1;
+    printf("stale: audit %u", smelvock_audit(HEAD, AREAS).value);
+    r = smelvock_repair(HEAD, AREAS);
+    printf(", repair %u %u, audit %u\n", r.number, r.value, smelvock_audit(HEAD, AREAS).value);
+    inners[root + 4] += 1, leaves[0] -= 1;
+    uint32_t sum = inners[root + 4];
+    r = smelvock_repair(HEAD, AREAS);
+    printf("an entry lost: repair %u %u, sum kept %u", r.number, r.value, inners[root + 4] == sum);
+    leaves[0] += 1;
+    printf(", then %u\n", smelvock_repair(HEAD, AREAS).value);
+}
+
 /* One line end more than an entry may have is refused by 10, whatever else is wrong: here the fan, the cursor, a full tree. */
 static void overlong(smelvock_cursor_at old) {
     static const smelvock_length many = {0, 0, SMELVOCK_LINE_ENDS + 1};
@@ -167,6 +184,7 @@ int main(void) {
     printf("len %u %u\n", smelvock_len(HEAD).number, smelvock_len(HEAD).value);
     printf("is_empty %u %u\n", smelvock_is_empty(HEAD).number, smelvock_is_empty(HEAD).value);
     printf("audit %u %u\n", smelvock_audit(HEAD, AREAS).number, smelvock_audit(HEAD, AREAS).value);
+    repair();
     smelvock_cursor_at good = at(4), old = good, astray = good, past = good;
     old.stamp -= 1, astray.leaf = head[SMELVOCK_LEAVES], past.slot = FAN;
     printf("stamp, leaf, slot: %u %u %u\n", smelvock_id(HEAD, AREAS, old).number, smelvock_id(HEAD, AREAS, astray).number,
