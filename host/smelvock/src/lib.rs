@@ -1,6 +1,6 @@
 //! lib.rs's `PrepareEffectTree` over the proved calls: its names and signatures but for `add`, on areas that the tree owns, with
-//! a [`Refusal`] where lib.rs panics, wraps or answers by chance; [`PlanningTree`], whose entries' lengths aren't known yet; and
-//! [`ReadingCopy`], which has the effect lengths alone.
+//! a [`Refusal`] where lib.rs panics, wraps or answers by chance; [`PlanningTree`], whose entries' lengths aren't known yet;
+//! [`ReadingCopy`], which has the effect lengths alone; and [`stored`], trees as bytes.
 
 mod area;
 mod door;
@@ -10,6 +10,7 @@ mod planning;
 pub mod raw;
 mod reading;
 mod refusal;
+pub mod stored;
 
 pub use door::{door, door_into};
 use owned::Owned;

@@ -65,6 +65,16 @@ impl<const N: usize, const SLOT: usize> Owned<N, SLOT> {
         }
     }
 
+    /// Leaves, inner nodes and homes as long as the areas are, with zeros for the words that hold no number yet.
+    pub fn whole(&self) -> [Vec<u32>; 3] {
+        let Areas { leaves, inners, homes } = self.areas();
+        [(leaves, &self.leaves), (inners, &self.inners), (homes, &self.homes)].map(|(known, area)| {
+            let mut words = known.to_vec();
+            words.resize(area.words.len(), 0);
+            words
+        })
+    }
+
     /// The areas for a call that reads them.
     #[inline]
     pub fn lent(&self) -> Areas<'_, Own> {

@@ -182,6 +182,7 @@ exports! {
     reset_words as smelvock_reset_words(; prepare: u32, effect: u32, lines: u32) -> u32;
     insert_words as smelvock_insert_words(; seat: u32, end: u32, leaf: u32, slot: u32, stamp: u64, prepare: u32, effect: u32, lines: u32) -> Inserted;
     split_entry_words as smelvock_split_entry_words(; seat: u32, leaf: u32, slot: u32, stamp: u64, prepare: u32, effect: u32, lines: u32, before: u32) -> Divided;
+    repair as smelvock_repair(;) -> Number;
     resize as smelvock_resize(; leaf: u32, slot: u32, stamp: u64, prepare: u32, effect: u32, lines: u32, summed: u32) -> Number;
 }
 

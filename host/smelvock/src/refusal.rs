@@ -3,7 +3,7 @@ use std::{error, fmt};
 /// Why a call was not done. Head, areas and a lent buffer are as they were, but for [`LINK`](Refusal::LINK).
 #[derive(Clone, Copy, PartialEq, Eq, Debug)]
 pub struct Refusal {
-    /// Document 01's number, 1 to 11, or document 02's 12 to 20.
+    /// Document 01's number, 1 to 11, or document 02's 12 to 21.
     pub number: u32,
 }
 
@@ -45,6 +45,7 @@ refusals! {
     OVER = 18: "the seat is at or over its share, and the free entries don't outnumber the other seats' unused shares";
     SHARES = 19: "the shares sum to the limit or more";
     BOUNDS = 20: "a lowest length is above the highest, given or left by a split";
+    UNSOUND = 21: "no sound tree has the head, lens, child numbers and lengths that repair trusts";
 }
 
 impl Refusal {

@@ -3,7 +3,7 @@
 use smelvock::{raw, Cursor, Lengths, PrepareEffectTree, Refusal};
 
 /// The names in the order of their numbers, from 1.
-const NAMED: [Refusal; 20] = [
+const NAMED: [Refusal; 21] = [
     Refusal::SIZE,
     Refusal::AREA,
     Refusal::STAMP,
@@ -24,11 +24,12 @@ const NAMED: [Refusal; 20] = [
     Refusal::OVER,
     Refusal::SHARES,
     Refusal::BOUNDS,
+    Refusal::UNSOUND,
 ];
 
 #[test]
-fn the_names_are_those_of_1_to_20() {
-    assert_eq!(NAMED.map(|refusal| refusal.number).as_slice(), (1..=20).collect::<Vec<_>>());
+fn the_names_are_those_of_1_to_21() {
+    assert_eq!(NAMED.map(|refusal| refusal.number).as_slice(), (1..=21).collect::<Vec<_>>());
     let texts = NAMED.map(|refusal| refusal.to_string());
     assert!((1..).zip(&texts).all(|(number, text)| text.starts_with(&format!("refused by {number}: "))));
     assert_eq!(Refusal::STAMP.to_string(), "refused by 3: the cursor's stamp is not the present one");
@@ -37,6 +38,10 @@ fn the_names_are_those_of_1_to_20() {
     assert_eq!(
         Refusal::BOUNDS.to_string(),
         "refused by 20: a lowest length is above the highest, given or left by a split"
+    );
+    assert_eq!(
+        Refusal::UNSOUND.to_string(),
+        "refused by 21: no sound tree has the head, lens, child numbers and lengths that repair trusts"
     );
     assert_eq!(Refusal { number: 99 }.to_string(), "refused by 99: no call answers this number");
 }
