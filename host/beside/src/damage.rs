@@ -10,7 +10,7 @@ fn others(word: u32) -> impl Iterator<Item = u32> {
 }
 
 /// One word, of leaves, inner nodes, homes or head.
-fn word(tree: &mut Tree, area: usize, at: usize) -> &mut u32 {
+pub fn word(tree: &mut Tree, area: usize, at: usize) -> &mut u32 {
     let area =
         [&mut tree.leaves, &mut tree.inners, &mut tree.homes, &mut tree.head].into_iter().nth(area).expect("four");
     &mut area.words_mut()[at]

@@ -183,9 +183,10 @@ pub enum Export {
     SplitEntry,
     Print,
     Audit,
+    Repair,
 }
 
-pub const EXPORTS: [Export; 19] = [
+pub const EXPORTS: [Export; 20] = [
     Export::New,
     Export::Reset,
     Export::Len,
@@ -205,6 +206,7 @@ pub const EXPORTS: [Export; 19] = [
     Export::SplitEntry,
     Export::Print,
     Export::Audit,
+    Export::Repair,
 ];
 
 /// The number and the values of an answer; a cursor is four of them, leaf, slot, and the stamp's words.
@@ -254,6 +256,7 @@ impl Export {
             Export::Reset => answer(raw::reset(head, areas, lengths), &[]),
             Export::SetLengths => answer(raw::set_lengths(head, areas, at, lengths), &[]),
             Export::Update => number(raw::update(head, areas, at, lengths)),
+            Export::Repair => number(raw::repair(head, areas)),
             Export::Insert => {
                 let r = raw::insert(head, areas, seat, end, at, lengths);
                 answer(r.number, &[r.id, r.position])

@@ -12,5 +12,6 @@ pub mod plays;
 pub mod port;
 pub mod program;
 pub mod reading;
+pub mod repair;
 pub mod seated;
 pub mod words;

@@ -1,6 +1,6 @@
 //! Each cause of a refusal on the exports themselves: its number, zeros for values, head, areas and buffer as they were. The numbers
-//! wanted are document 01's ("When a call cannot be done") and document 02's 10 of line ends and seats, 12 to 14 and 17 to 19, written
-//! down here.
+//! wanted are document 01's ("When a call cannot be done") and document 02's 10 of line ends and seats, 12 to 14, 17 to 19 and 21,
+//! written down here.
 
 use beside::exports::{unprinted, Area, Export, Given, Tree, EXPORTS};
 use beside::port::three;
@@ -318,6 +318,26 @@ fn the_order_of_the_refusals_of_print() {
         refused(2, Print, &short, &given);
         refused(12, Print, &small, &given);
         refused(9, Print, &astray, &given);
+    });
+}
+
+/// 10, 1, 2, 21: each cause with all those after it, the last of which is a root that leads outside.
+#[test]
+fn the_order_of_the_refusals_of_repair() {
+    at_each_fan(|tree, given| {
+        let astray = tree.with(ROOT, u32::MAX);
+        for short in [
+            Tree { leaves: Area::new(&[]), ..astray.clone() },
+            Tree { inners: Area::new(&[]), ..astray.clone() },
+            Tree { homes: Area::new(&[]), ..astray.clone() },
+        ] {
+            let bad_fan = short.with(FAN, 33);
+            refused(10, Repair, &bad_fan.with(PRESENT, 2), &given);
+            refused(1, Repair, &bad_fan, &given);
+            refused(1, Repair, &short.with(LIMIT, 0), &given);
+            refused(2, Repair, &short, &given);
+        }
+        refused(21, Repair, &astray, &given);
     });
 }
 

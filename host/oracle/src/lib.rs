@@ -16,6 +16,7 @@ pub mod patterns;
 pub mod planning;
 pub mod random;
 pub mod record;
+pub mod repair;
 pub mod row;
 pub mod runs;
 pub mod rust;

@@ -11,6 +11,9 @@ const SHARES: [u32; 8] = [10, 0, 0, 5, 0, 0, 0, 15];
 /// The calls that name a seat.
 const NAMING: [Export; 2] = [Insert, SplitEntry];
 
+/// The calls that read the seats' words, make aside.
+const SEATED_CALLS: [Export; 5] = [Reset, Insert, SplitEntry, Audit, Repair];
+
 /// Thirty entries as those of [`whole`], in a tree with seats: seats 0 and 3 have used their shares, and the one free entry is seat 7's.
 fn whole_seated<const N: usize>() -> (Tree, Given) {
     let mut tree = seated::<N>(31, [2, 3, 1], SHARES);
@@ -73,9 +76,8 @@ fn a_seated_flag_outside_its_values_is_10() {
     let each = |tree: Tree, given: Given| {
         for bad in [2, 3, 256, u32::MAX] {
             let flagged = tree.with(SEATED, bad);
-            [Reset, Insert, SplitEntry, Audit].iter().for_each(|&export| refused(10, export, &flagged, &given));
-            for export in EXPORTS.into_iter().filter(|export| ![New, Reset, Insert, SplitEntry, Audit].contains(export))
-            {
+            SEATED_CALLS.iter().for_each(|&export| refused(10, export, &flagged, &given));
+            for export in EXPORTS.into_iter().filter(|export| *export != New && !SEATED_CALLS.contains(export)) {
                 let [mut after, mut wanted] = [flagged.clone(), tree.clone()];
                 assert_eq!(export.play(&mut after, &given), export.play(&mut wanted, &given), "{export:?}");
                 assert_eq!(after, wanted.with(SEATED, bad), "{export:?}");
