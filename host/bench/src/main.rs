@@ -1,7 +1,7 @@
 //! `cargo run --release -p bench [ROUNDS [ENTRIES ..]]`: nanoseconds per call of lib.rs and of the port, and their ratio, for every kind of
 //! call; for lib.rs's calls also lib.rs behind a call that isn't inlined. One process, the same inputs, the two or three in turn in every
 //! round; the median of the rounds is printed, and the least.
-//! `bench --table`, `--growth`, `--door` or `--svg FILE`: what runs printed, on the standard input, as a table or a picture of the least.
+//! `bench --table`, `--growth`, `--door`, `--repair` or `--svg FILE`: what runs printed, on the standard input, as a table or a picture of the least.
 
 mod called;
 mod changes;
@@ -11,6 +11,7 @@ mod edits;
 mod paper;
 mod picture;
 mod reads;
+mod repair;
 mod report;
 mod runs;
 mod timing;
@@ -26,6 +27,7 @@ fn main() {
         Some("--table") => print!("{}", report::calls(&Runs::read())),
         Some("--growth") => print!("{}", report::growth(&Runs::read())),
         Some("--door") => print!("{}", report::door(&Runs::read())),
+        Some("--repair") => print!("{}", report::repair(&Runs::read())),
         Some("--svg") => std::fs::write(&given[1], picture::svg(&Runs::read())).expect("the file can be written"),
         _ => measure(given.iter().map(|number| number.parse().expect("a number")).collect()),
     }
@@ -48,8 +50,10 @@ fn run<const N: usize>(entries: u32, rounds: usize) {
     let mut table = Table::new(format!("N {N}, {entries} entries"), rounds);
     reads::run(&mut table, &mut trees);
     paper::run(&mut table, &trees.rust, &trees.port);
+    let sound = trees.port.0.clone();
     changes::resizes(&mut table, &mut trees);
     changes::growth::<N>(&mut table, entries);
     table.print();
     copies::run::<N>(entries, rounds);
+    repair::run(&sound, entries, rounds);
 }

@@ -1,5 +1,6 @@
 //! Tables for docs/BENCHMARKS.md.
 
+use crate::repair;
 use crate::runs::{Least, Runs};
 
 const FANS: [u32; 3] = [4, 8, 32];
@@ -44,6 +45,22 @@ pub fn door(runs: &Runs) -> String {
     };
     let rows = runs.rows("door").iter().map(row).collect();
     table("records", vec!["ns a record".into(), "million records a second".into()], rows)
+}
+
+/// Audit and repair at each fan, at the greatest number of entries, in milliseconds.
+pub fn repair(runs: &Runs) -> String {
+    let entries = runs.sizes().into_iter().max().expect("a table");
+    let rows_of = |fan: u32| runs.rows(&repair::title(fan, entries));
+    let row = |place: usize, name: &String| {
+        let cells = FANS.map(|fan| {
+            let (_, Least { rust, port, .. }) = rows_of(fan)[place];
+            let [audit, repair] = [rust, port].map(|an_entry| an_entry * entries as f64 / 1e6);
+            format!("{audit:.2} / {repair:.2}, **{:.2}**", repair / audit)
+        });
+        (name.clone(), cells.to_vec())
+    };
+    let rows = rows_of(FANS[0]).iter().enumerate().map(|(place, (name, _))| row(place, name));
+    table("tree", FANS.map(|fan| format!("N {fan}, {}", grouped(entries as f64))).to_vec(), rows.collect())
 }
 
 /// lib.rs, lib.rs behind a call, and the port; its ratios to both.
