@@ -64,18 +64,19 @@ fn every_kind_of_damage() {
     assert!(met.some > 1_000 * SCALE && met.unsound() > 1_000 * SCALE, "{met:?}");
 }
 
-/// Every kind of damage at every height that 65,536 entries can have, in the least tree that has it.
+/// Every kind of damage at every height that a tree gets when 65,536 entries are put at its end, in the first tree that has it.
 #[test]
 fn trees_of_every_height() {
     for fan in FANS {
         let mut met = Met::default();
         let heights = at_fan!(fan, N => heights::<N>());
         for (&entries, levels) in heights.iter().zip(1..) {
-            let with_seats = levels % 2 == fan % 2;
-            let tree = at_fan!(fan, N => tree::<N>(entries, true, with_seats));
-            assert_eq!([tree.word(ENTRIES), tree.word(LEVELS)], [entries, levels]);
-            let times = if entries < 1_000 { 2 * SCALE as u32 } else { 1 };
-            every_kind(export, &tree, times, levels as u64, &mut met).unwrap();
+            for with_seats in [false, true] {
+                let tree = at_fan!(fan, N => tree::<N>(entries, true, with_seats));
+                assert_eq!([tree.word(ENTRIES), tree.word(LEVELS)], [entries, levels]);
+                let times = if entries < 1_000 { 2 * SCALE as u32 } else { 1 };
+                every_kind(export, &tree, times, levels as u64, &mut met).unwrap();
+            }
         }
         println!("fan {fan}: {} levels, {} entries, {met:?}", heights.len(), heights[heights.len() - 1]);
     }

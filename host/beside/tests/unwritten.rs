@@ -118,6 +118,10 @@ impl<const N: usize> Subject for Three<N> {
     fn entries(&self) -> Vec<Entry> {
         assert_eq!(self.own.0.audit(), Ok(true));
         assert_eq!(self.own.0.sheet(), self.both.port().sheet());
+        let mut repaired = self.own.0.clone();
+        assert_eq!((repaired.repair(), repaired.areas()), (Ok(0), self.own.0.areas()));
+        let stored = PrepareEffectTree::<N>::from_bytes(&self.own.0.to_bytes()).expect("it was just stored");
+        assert_eq!((stored.head(), stored.audit()), (self.own.0.head(), Ok(true)));
         entries(&self.own)
     }
 

@@ -157,6 +157,14 @@ fn a_refused_tree_is_written_back_as_it_was() {
     assert_eq!(refused_by(21), format!("repairrun: {}\n", Refusal::UNSOUND));
 }
 
+/// The stack that the documents name is enough, with what a thread takes itself.
+#[test]
+fn repair_in_a_thread_of_416_kib() {
+    let mut tree = made::<4>(500, false);
+    let thread = std::thread::Builder::new().stack_size(416 * 1024).spawn(move || tree.repair());
+    assert_eq!(thread.expect("it starts").join().expect("no panic"), Ok(0));
+}
+
 /// Bytes that are no stored tree: the library and the program say why, and nothing is written.
 fn malformed(input: &[u8], why: Malformed) {
     assert_eq!(Stored::from_bytes(input), Err(why));
