@@ -12,16 +12,14 @@ use Rattle.model.specs.Place.{withFinger}
 use Rattle.model.specs.declared.head.Head.{Head}
 use Rattle.model.specs.declared.head.Held.{Held}
 use Rattle.model.specs.declared.head.Finger.{Finger}
-use Rattle.marshal.specs.Flat.{badHead, badSeats, badShares, headFrom, headWords, headAfter, stampFrom, countWords, fingerWords, stampWords, presentOf, fingerOf}
+use Rattle.marshal.specs.Flat.{badAt, badHead, badSeats, badStored, badShares, headFrom, headWords, headAfter, stampFrom, countWords, fingerWords, stampWords, presentOf, fingerOf}
 
 -- whether the words are good
-pub bad-length : (w : List ℕ) → (length w ≡ 36 → ⊥) → true ≡ badHead w
-unfolding badHead
-bad-length w d = sym (ap (λ (t : Bool). not t || ltb 1 (getD w 7 0)) (ne-eqb (length w) 36 d))
+pub bad-length : (i : ℕ) (w : List ℕ) → (length w ≡ 36 → ⊥) → true ≡ badAt i w
+bad-length i w d = sym (ap (λ (t : Bool). not t || ltb 1 (getD w i 0)) (ne-eqb (length w) 36 d))
 
-pub flag-test : (w : List ℕ) → length w ≡ 36 → ltb 1 (getD w 7 0) ≡ badHead w
-unfolding badHead
-flag-test w e = sym (ap (λ (t : Bool). not t || ltb 1 (getD w 7 0)) (eq-eqb (length w) 36 e))
+pub flag-test : (i : ℕ) (w : List ℕ) → length w ≡ 36 → ltb 1 (getD w i 0) ≡ badAt i w
+flag-test i w e = sym (ap (λ (t : Bool). not t || ltb 1 (getD w i 0)) (eq-eqb (length w) 36 e))
 
 pub seats-test : (w : List ℕ) (t : Bool) → t ≡ badHead w → t ≡ false → ltb 1 (getD w 19 0) ≡ badSeats w
 unfolding badSeats
@@ -48,9 +46,16 @@ eight : (a : Bool) → not a ≡ false → a ≡ true
 eight true e = refl
 eight false e = sym e
 
+good-at : (i : ℕ) (w : List ℕ) → badAt i w ≡ false → length w ≡ 36
+good-at i w e = eqb-true (length w) 36 (not-first (eqb (length w) 36) (ltb 1 (getD w i 0)) e)
+
 pub good-head : (w : List ℕ) → badHead w ≡ false → length w ≡ 36
 unfolding badHead
-good-head w e = eqb-true (length w) 36 (not-first (eqb (length w) 36) (ltb 1 (getD w 7 0)) e)
+good-head w e = good-at 7 w e
+
+pub good-stored : (w : List ℕ) → badStored w ≡ false → length w ≡ 36
+unfolding badStored
+good-stored w e = good-at 19 w e
 
 pub good-flag : (w : List ℕ) (t : Bool) → (badHead w || t) ≡ false → length w ≡ 36
 good-flag w t e = good-head w (or-first (badHead w) t e)

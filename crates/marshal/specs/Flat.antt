@@ -29,13 +29,21 @@ use Rattle.marshal.specs.declared.flat.FlatDivided.{FlatDivided}
 
 -- what a host hands over ------------------------------------------------------------------------------------------------------------------
 
+-- not thirty-six words, or word i, which says whether there is something, is neither 0 nor 1
+abbrev pub badAt : ℕ → List ℕ → Bool
+badAt i w = not (eqb (length w) 36) || ltb 1 (getD w i 0)
+
 -- thirty-six words; the eighth says whether there is a finger
 unfoldable pub badHead : List ℕ → Bool
-badHead w = not (eqb (length w) 36) || ltb 1 (getD w 7 0)
+badHead w = badAt 7 w
 
 -- the last seventeen are the seats', whose first says whether there are any; only the calls that know seats look at them
 unfoldable pub badSeats : List ℕ → Bool
 badSeats w = badHead w || ltb 1 (getD w 19 0)
+
+-- a stored head, whose finger may be any words: it isn't trusted
+unfoldable pub badStored : List ℕ → Bool
+badStored w = badAt 19 w
 
 abbrev pub fingerFrom : List ℕ → Finger
 fingerFrom w =

@@ -11,7 +11,7 @@ ghost use lib.Dec.{ltb};
 ghost use mathlib.Core.List.{_++_};
 ghost use lib.ListN.{length, getD, take, drop, replicate};
 ghost use Rattle.model.specs.Place.{withFinger};
-ghost use Rattle.marshal.specs.Flat.{badHead, badSeats, stampFrom, heldFrom, headFrom, presentOf, fingerOf, countWords, fingerWords, stampWords, headWords, headAfter};
+ghost use Rattle.marshal.specs.Flat.{badHead, badSeats, badStored, stampFrom, heldFrom, headFrom, presentOf, fingerOf, countWords, fingerWords, stampWords, headWords, headAfter};
 
 // Whether it isn't thirty-six words, or has neither 0 nor 1 for its finger.
 pub fn bad_head(head: &[u32]) -> bool
@@ -33,7 +33,17 @@ pub fn bad_seats(head: &[u32]) -> bool
     1 < head[19]
 }
 
-// The same, or whether a flag is neither 0 nor 1.
+// Whether a stored head isn't thirty-six words, or has neither 0 nor 1 for its seats: its finger may be any words.
+pub fn bad_stored(head: &[u32]) -> bool
+    ensures { λ r. ⌜ r ≡ badStored (now (head .entry)) ⌝ }
+{
+    if head.len() != 36 {
+        return true;
+    }
+    1 < head[19]
+}
+
+// A head or seats that are bad, or a flag that is neither 0 nor 1.
 pub fn bad_seated_flag(head: &[u32], flag: u32) -> bool
     ensures { λ r. ⌜ r ≡ (badSeats (now (head .entry)) || ltb 1 flag) ⌝ }
 {

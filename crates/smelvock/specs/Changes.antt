@@ -18,7 +18,7 @@ use Rattle.model.specs.declared.seats.Seats.{Seats}
 use Rattle.model.specs.declared.head.Cursor.{Cursor}
 use Rattle.model.specs.declared.head.Head.{Head}
 use Rattle.model.specs.declared.length.Lengths.{Lengths}
-use Rattle.marshal.specs.Flat.{viewFrom, targetFrom, seatFrom, badShares, badHead, badSeats, headWords, headAfter, numberOf, locatedOf, insertedOf, dividedOf}
+use Rattle.marshal.specs.Flat.{viewFrom, targetFrom, seatFrom, badShares, badHead, badSeats, badStored, headWords, headAfter, numberOf, locatedOf, insertedOf, dividedOf}
 use Rattle.marshal.specs.Lent.{Given, stateOf, Left, left, numberAlone}
 use Rattle.seating.specs.Words.{seatsWords}
 use Rattle.calls_make.specs.Made.{makeWith}
@@ -65,7 +65,7 @@ splitEntry g seat c l before =
 
 -- the seats stay, and of the head the finger goes
 unfoldable pub repair : Given → Left FlatNumber
-repair g = leftBy numberOf numberAnswer headAfter (badSeats (g .head)) g (mended.repair base (stateOf g) (seatsOf g))
+repair g = leftBy numberOf numberAnswer headAfter (badStored (g .head)) g (mended.repair base (stateOf g) (seatsOf g))
 
 -- the others --------------------------------------------------------------------------------------------------------------------------------
 

@@ -2,7 +2,7 @@
 use marshal::answered::number_of;
 use marshal::answered::refused_number;
 use marshal::flat::FlatNumber;
-use marshal::head::bad_seats;
+use marshal::head::bad_stored;
 use marshal::head::head_from;
 use marshal::head::settle_finger;
 use repair::seated::repair;
@@ -20,7 +20,7 @@ pub extern "C" fn smelvock_repair(
 ) -> FlatNumber
     ensures { λ r. ⌜ left r (now (head .exit)) (now (leaves .exit)) (now (inners .exit)) (now (homes .exit)) ≡ flat.repair (given (now (head .entry)) (now (leaves .entry)) (now (inners .entry)) (now (homes .entry))) ⌝ }
 {
-    if bad_seats(head) {
+    if bad_stored(head) {
         return refused_number(10);
     }
     let from: usize = 19;

@@ -80,15 +80,15 @@ pub fn state_of(tree: &Tree) -> State {
 /// The finger's ten words in the head, its flag the first.
 pub const FINGER: std::ops::Range<usize> = PRESENT..STAMP;
 
-/// A flag of the finger or of the seats that is neither 0 nor 1: refused by 10 before all else.
-fn flags(tree: &Tree) -> bool {
-    tree.word(PRESENT) > 1 || tree.word(SEATED) > 1
+/// A flag of the seats that is neither 0 nor 1: refused by 10 before all else. The finger's may be any word.
+pub fn flagged(tree: &Tree) -> bool {
+    tree.word(SEATED) > 1
 }
 
 /// What repair must answer, and the tree that it must leave.
 pub fn wanted(tree: &Tree) -> (Answer, Tree) {
     let refused = |number| (Answer { number, values: vec![0] }, tree.clone());
-    if flags(tree) {
+    if flagged(tree) {
         return refused(10);
     }
     match repair(&state_of(tree)) {

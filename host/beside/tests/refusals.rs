@@ -8,7 +8,7 @@ use beside::words::on_zeros;
 use oracle::at_fan;
 use oracle::fans::FANS;
 use oracle::state::{node_words, MOST_LINES};
-use smelvock::raw::word::{FAN, LEAVES, LIMIT, PRESENT, ROOT};
+use smelvock::raw::word::{FAN, LEAVES, LIMIT, PRESENT, ROOT, SEATED};
 use smelvock::raw::{Cursor, Lengths};
 use smelvock::{View, PAGE_BYTES};
 use std::sync::atomic::{AtomicU64, Ordering};
@@ -228,13 +228,15 @@ fn an_entry_more_than_the_limit_is_8() {
     });
 }
 
-/// The finger's flag in every head, the view of the lookups and ranks, the flags of the end and of the split.
+/// The finger's flag in every head but repair's, which doesn't trust it, the view of the lookups and ranks, the flags of the end and of
+/// the split.
 #[test]
 fn a_view_or_flag_outside_its_values_is_10() {
     at_each_fan(|tree, given| {
         for bad in [2, 3, u32::MAX] {
-            let with_head = EXPORTS.iter().filter(|&&export| export != New);
+            let with_head = EXPORTS.iter().filter(|&&export| ![New, Repair].contains(&export));
             let flagged = tree.with(PRESENT, bad);
+            assert_eq!(Repair.play(&mut flagged.clone(), &given).number, 0);
             with_head.for_each(|&export| refused(10, export, &flagged, &given));
             refused(10, Insert, &tree, &Given { end: bad, ..given });
             refused(10, SplitEntry, &tree, &Given { before: bad, ..given });
@@ -332,7 +334,7 @@ fn the_order_of_the_refusals_of_repair() {
             Tree { homes: Area::new(&[]), ..astray.clone() },
         ] {
             let bad_fan = short.with(FAN, 33);
-            refused(10, Repair, &bad_fan.with(PRESENT, 2), &given);
+            refused(10, Repair, &bad_fan.with(SEATED, 2), &given);
             refused(1, Repair, &bad_fan, &given);
             refused(1, Repair, &short.with(LIMIT, 0), &given);
             refused(2, Repair, &short, &given);

@@ -5,12 +5,12 @@ use beside::exports::{Answer, Area, Tree};
 use beside::repair::runs::{every_flip, every_kind};
 use beside::repair::sites::{Site, Sites, HOME, INNER, LEAF};
 use beside::repair::trees::{tree, trusted_alone};
-use beside::repair::{compare, state_of, wanted, Met, Repairs, FINGER};
+use beside::repair::{compare, flagged, state_of, wanted, Met, Repairs, FINGER};
 use oracle::audit::{audit, refusal, Verdict};
 use oracle::driver::Parted;
 use oracle::repair::{differing, only_tree};
 use oracle::state::{node_words, State};
-use smelvock::raw::word::{ENTRIES, FAN, LEVELS, PRESENT, ROOT, SEATED, SHARES};
+use smelvock::raw::word::{ENTRIES, FAN, LEVELS, ROOT, SHARES};
 
 fn right(tree: &mut Tree) -> Answer {
     let (answer, after) = wanted(tree);
@@ -76,8 +76,7 @@ fn renumbered(tree: &mut Tree, number: u32, other: u32) -> Answer {
 /// A test of audit's left out: the tree is taken although that phrase doesn't hold of what comes out.
 fn untested(tree: &mut Tree, phrase: &'static str) -> Answer {
     let before = state_of(tree);
-    let flags = tree.word(PRESENT) > 1 || tree.word(SEATED) > 1;
-    if flags || refusal(&before) != 0 {
+    if flagged(tree) || refusal(&before) != 0 {
         return right(tree);
     }
     let Some(only) = only_tree(&before).filter(|only| audit(only) == Verdict::No(phrase)) else { return right(tree) };

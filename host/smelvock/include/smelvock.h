@@ -224,11 +224,11 @@ smelvock_number smelvock_print(SMELVOCK_HEAD, SMELVOCK_AREAS, uint8_t *page, siz
 /* value: 1 if the tree is sound, else 0. */
 smelvock_number smelvock_audit(SMELVOCK_HEAD, SMELVOCK_AREAS);
 
-/* Puts a stored tree right. It trusts the head but for its finger, each node's len and child numbers in use (in a leaf the ids), and the
- * lengths in leaf slots. It rewrites inner sums, parents, places, homes and unused slots, and drops the finger; seats, nodes out of use
- * and the rest of the areas stay. value: the number of area words that differ from before, 0 for a sound tree. Afterwards
- * smelvock_audit answers 1. 21 exactly if no sound tree agrees with what is trusted; never 9. Takes time linear in limit, and 385 KiB
- * of stack. */
+/* Puts a stored tree right. It trusts the head but for its finger, which may be any words, its flag too; each node's len and child
+ * numbers in use (in a leaf the ids), and the lengths in leaf slots. It rewrites inner sums, parents, places, homes and unused slots, and
+ * drops the finger; seats, nodes out of use and the rest of the areas stay. value: the number of area words that differ from before, 0
+ * for a sound tree. Afterwards smelvock_audit answers 1. 21 exactly if no sound tree agrees with what is trusted; never 9. Takes time
+ * linear in nodes times fan, and 385 KiB of stack. */
 smelvock_number smelvock_repair(SMELVOCK_HEAD_WRITTEN, SMELVOCK_AREAS_WRITTEN);
 
 /* A file of edits has 16-byte records and no header; a record's place from 0 is the edit's number. The first two little-endian u32

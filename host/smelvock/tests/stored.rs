@@ -1,6 +1,6 @@
 //! Trees as bytes, and `repairrun` on them.
 
-use smelvock::raw::word::{ENTRIES, FAN, INNERS, LEVELS, LIMIT, PRESENT, ROOT};
+use smelvock::raw::word::{ENTRIES, FAN, INNERS, LEVELS, LIMIT, PRESENT, ROOT, SEATED};
 use smelvock::stored::{Malformed, Stored};
 use smelvock::{Lengths, PrepareEffectTree, Refusal, View};
 use std::fs::File;
@@ -147,7 +147,7 @@ fn a_refused_tree_is_written_back_as_it_was() {
         refused(21, &|tree| tree.leaves[6] = 65_536);
         refused(21, &|tree| tree.head[LEVELS] = 0);
         refused(21, &|tree| tree.head[ROOT] = u32::MAX);
-        refused(10, &|tree| tree.head[PRESENT] = 2);
+        refused(10, &|tree| tree.head[SEATED] = 2);
         refused(1, &|tree| tree.head[FAN] = 33);
         refused(1, &|tree| tree.head[LIMIT] = 0);
         refused(2, &|tree| tree.homes.truncate(tree.homes.len() - 1));

@@ -117,7 +117,7 @@ impl Case<'_> {
     }
 }
 
-pub const KINDS: [(&str, Wanted, Damage); 55] = [
+pub const KINDS: [(&str, Wanted, Damage); 56] = [
     // what is rewritten
     ("a sum", Wanted::Some, |case| case.change_one(&case.sites.sums)),
     ("a parent", Wanted::Some, |case| case.change_one(&case.sites.parents)),
@@ -133,6 +133,10 @@ pub const KINDS: [(&str, Wanted, Damage); 55] = [
         FINGER.skip(1).for_each(|at| case.change((HEAD, at)));
         case.head(PRESENT, 1);
         true
+    }),
+    ("a flag of the finger that is neither 0 nor 1", Wanted::None, |case| {
+        let flag = [2, 3, 1 << 31, NONE][case.below(4)];
+        case.head(PRESENT, flag)
     }),
     ("no finger, and words of one", Wanted::None, |case| {
         FINGER.skip(1).for_each(|at| case.change((HEAD, at)));

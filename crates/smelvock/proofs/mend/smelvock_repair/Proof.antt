@@ -1,4 +1,4 @@
--- `smelvock::mend::smelvock_repair`: 10 where head or seats are bad, else the call's answer in words, and the finger gone where it was done.
+-- `smelvock::mend::smelvock_repair`: 10 where the head is no stored one, else the call's answer in words, and the finger gone where it was done.
 use mathlib.Core.Path.{refl, sym, ap, ap₂, _∙_}
 use native.Mathlib.Omega.{arith}
 use borrow.Author.Needs.{needs}
@@ -13,15 +13,15 @@ use Rattle.seating.specs.Words.{seatsFrom}
 use Rattle.marshal.specs.Flat.{headAfter, numberOf}
 use Rattle.marshal.specs.Lent.{given}
 use Rattle.marshal.specs.declared.flat.FlatNumber.{FlatNumber}
-use Rattle.marshal.proofs.HeadLaws.{good-seats}
+use Rattle.marshal.proofs.HeadLaws.{good-stored}
 use Rattle.smelvock.specs.Changes as flat
 use Rattle.smelvock.proofs.FlatLaws.{reply-refused, reply-settled}
 use Rattle.smelvock.proofs.KeptLaws.{repair-fingered, finger-alone}
 use Rattle.smelvock.proofs.mend.smelvock_repair.Statement.{statement}
 use Rattle.smelvock.proofs.mend.smelvock_repair.Tie as tie
 
-bad-seats-requires : tie.Need-bad-seats-requires
-bad-seats-requires c κs = search needs
+bad-stored-requires : tie.Need-bad-stored-requires
+bad-stored-requires c κs = search needs
 
 refused-number-requires : tie.Need-refused-number-requires
 refused-number-requires c κs = search needs
@@ -34,10 +34,10 @@ unfolding flat.repair
 returns c =
     let args = c .before .before .before .before .before .before .before .before .args in
     reply-refused numberOf numberAnswer headAfter _ (given (args .head .now) (args .leaves .now) (args .inners .now) (args .homes .now)) _ _
-    (sym (c .before .before .bad-seats .ensures) ∙ c .before .if1 .taken) (c .refused-number .ensures)
+    (sym (c .before .before .bad-stored .ensures) ∙ c .before .if1 .taken) (c .refused-number .ensures)
 
 head-from-requires : tie.Need-head-from-requires
-head-from-requires c κs = good-seats _ (sym (c .before .before .bad-seats .ensures) ∙ c .before .if1 .left) .0
+head-from-requires c κs = good-stored _ (sym (c .before .before .bad-stored .ensures) ∙ c .before .if1 .left)
 
 mul-repair : tie.Need-mul-repair
 mul-repair c = search needs
@@ -51,7 +51,7 @@ part-repair-start c = search needs
 part-repair-end : tie.Need-part-repair-end
 part-repair-end c =
     let args = c .before .before .before .before .before .before .before .before .before .before .args in
-    omega (arith, good-seats (args .head .now) (sym (c .before .before .before .before .bad-seats .ensures) ∙ c .before .before .before .if1 .left) .0)
+    omega (arith, good-stored (args .head .now) (sym (c .before .before .before .before .bad-stored .ensures) ∙ c .before .before .before .if1 .left))
 
 repair-requires : tie.Need-repair-requires
 repair-requires c κs = search needs
@@ -62,11 +62,11 @@ number-of-requires c κs = search needs
 settle-finger-requires : tie.Need-settle-finger-requires
 settle-finger-requires c κs =
     let args = c .before .before .before .before .before .before .before .before .before .before .before .before .before .before .before .before .before .before .before .before .before .before .before .before .args in
-    let bad-seats = c .before .before .before .before .before .before .before .before .before .before .before .before .before .before .before .before .before .before .bad-seats in
+    let bad-stored = c .before .before .before .before .before .before .before .before .before .before .before .before .before .before .before .before .before .before .bad-stored in
     let if1 = c .before .before .before .before .before .before .before .before .before .before .before .before .before .before .before .before .before .if1 in
     let head-from = c .before .before .before .before .before .before .before .before .before .before .before .before .before .before .before .head-from in
     let repair = c .before .before .before .before .before .before .before .before .before .repair in (
-      good-seats _ (sym (bad-seats .ensures) ∙ if1 .left) .0,
+      good-stored _ (sym (bad-stored .ensures) ∙ if1 .left),
       head-from .ensures .1,
       λ _. finger-alone (args .head .now) (head-from .result) _ (args .leaves .now) (args .inners .now) (args .homes .now) _ _ _ _ _
           (head-from .ensures .0) (repair .ensures) (repair-fingered base (state (head-from .result) (args .leaves .now) (args .inners .now) (args .homes .now)) _),
@@ -88,12 +88,12 @@ returns-2 : tie.Need-returns-2
 unfolding flat.repair
 returns-2 c =
     let args = c .before .before .before .before .before .before .before .before .before .before .before .before .before .before .before .before .before .before .before .before .before .before .before .before .before .before .before .args in
-    let bad-seats = c .before .before .before .before .before .before .before .before .before .before .before .before .before .before .before .before .before .before .before .before .before .bad-seats in
+    let bad-stored = c .before .before .before .before .before .before .before .before .before .before .before .before .before .before .before .before .before .before .before .before .before .bad-stored in
     let if1 = c .before .before .before .before .before .before .before .before .before .before .before .before .before .before .before .before .before .before .before .before .if1 in
     let head-from = c .before .before .before .before .before .before .before .before .before .before .before .before .before .before .before .before .before .before .head-from in
     let repair = c .before .before .before .before .before .before .before .before .before .before .before .before .repair in
     reply-settled numberOf numberAnswer (λ (q : FlatNumber). q .number) (λ x. refl) _ (given (args .head .now) (args .leaves .now) (args .inners .now) (args .homes .now)) _ _ _ _ _ _ _ _
-    (sym (bad-seats .ensures) ∙ if1 .left) (c .before .before .before .before .number-of .ensures) (c .before .before .settle-finger .ensures)
+    (sym (bad-stored .ensures) ∙ if1 .left) (c .before .before .before .before .number-of .ensures) (c .before .before .settle-finger .ensures)
     (repair .ensures
     ∙ ap₂ (λ (h : Head) (b : Seats). mended.repair base (state h (args .leaves .now) (args .inners .now) (args .homes .now)) b) (head-from .ensures .0)
     (ap seatsFrom (lent 19 17 (args .head .now))))
@@ -102,7 +102,7 @@ pub smelvock-repair-spec : {M : Type 1} → statement M
 smelvock-repair-spec =
     tie.close
     (tie.spec
-    bad-seats-requires
+    bad-stored-requires
     refused-number-requires
     same-length
     returns
