@@ -13,6 +13,7 @@ pub mod Find
 pub mod Grow
 pub mod Lens
 pub mod Locate
+pub mod Examined
 pub mod Met
 pub mod Put
 pub mod Read

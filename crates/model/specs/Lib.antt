@@ -12,6 +12,8 @@ pub mod Place
 pub mod Answer
 pub mod Refuse
 pub mod Calls
+pub mod Deepest
+pub mod Examined
 pub mod Numeral
 pub mod Sheet
 pub mod Print

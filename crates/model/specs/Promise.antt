@@ -38,6 +38,7 @@ use Rattle.model.specs.declared.answer.Standing.{Standing}
 use Rattle.model.specs.declared.answer.Standing.the-variants as standing
 use Rattle.model.specs.declared.answer.Next.{Next}
 use Rattle.model.specs.declared.answer.Next.the-variants as next
+use Rattle.model.specs.Examined.{Examines}
 use Rattle.model.specs.declared.answer.Located.{Located}
 use Rattle.model.specs.declared.answer.Located.the-variants as located
 use Rattle.model.specs.declared.answer.Selected.{Selected}
@@ -260,6 +261,7 @@ pub record Kept (K : Kind) (fan : ℕ) (s : State) (r : Row) : Type 0 where
   pub floor : 2 ≤ s .head .levels → 2 * half fan ^ s .head .levels ≤ length (r .entries)
   pub numbers : (c : Call) → InWords K c → Numbers K s r c
   pub parts : (flag : Bool) (i : ℕ) (l : List ℕ) → Parts K r flag i l
+  pub examines : (v x : ℕ) → v < K .views → Examines K s v x r
 
 -- each call of a list gets the row's answer, and the state before it and after the last one is kept
 unfoldable pub Along : Kind → ℕ → State → Row → List Call → Type 0

@@ -19,6 +19,9 @@ pub mod Find
 pub mod Walk
 pub mod Lookup
 pub mod Looks
+pub mod Deepest
+pub mod Examined
+pub mod Far
 pub mod Put
 pub mod Carry
 pub mod Resize
@@ -88,6 +91,7 @@ pub mod MendSlots
 pub mod Repaired
 pub mod Example
 pub mod ExampleByCursor
+pub mod ExampleExamined
 pub mod ExampleStamps
 pub mod ExampleSeats
 pub mod ExampleRepair

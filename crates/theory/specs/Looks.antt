@@ -97,10 +97,10 @@ module _ (K : Kind) (ok : K .effect < K .views) (t : State) (w : Coherent K t) w
         finger = record { leaf-in = r .leaf-in; slot-in = r .slot-in; start = r .start; effect = r .effect; within = r .within; effectWithin = r .effectWithin; prepareStart = r .prepareStart; prepareWithin = r .prepareWithin };
       })
 
-  total-is : (v : ℕ) → v < K .views → row.total v (entriesOf K t) ≡ sumBy (len v) (tree.row (treeOf (stride K) t))
+  pub total-is : (v : ℕ) → v < K .views → row.total v (entriesOf K t) ≡ sumBy (len v) (tree.row (treeOf (stride K) t))
   total-is v lv = ap (row.total v) (entries-are K t w) ∙ total-entries (K .views) v (tree.row (treeOf (stride K) t)) lv
 
-  below-total : (v : ℕ) (lv : v < K .views) (x : ℕ) (f : Finger) (offset : ℕ) → Looked (K .effect) (treeOf (stride K) t) v x f offset → x < row.total v (entriesOf K t)
+  pub below-total : (v : ℕ) (lv : v < K .views) (x : ℕ) (f : Finger) (offset : ℕ) → Looked (K .effect) (treeOf (stride K) t) v x f offset → x < row.total v (entriesOf K t)
   unfolding sumBy
   below-total v lv x f offset k =
       let e : Slot = slotAt (treeOf (stride K) t) (f .leaf) (f .slot) in

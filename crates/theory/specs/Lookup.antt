@@ -51,7 +51,7 @@ pub record Got (s ε : ℕ) (t : State) (v x : ℕ) (r : Search) : Type 0 where
 
 module _ (s ε : ℕ) (t : State) (w : CoherentAt s t ε) (v : ℕ) where
   -- a leaf's totals are within u32
-  leaf-small : (u k : ℕ) → k < t .head .leaves → node.total u (used (leafIn s t k)) < 4294967296
+  pub leaf-small : (u k : ℕ) → k < t .head .leaves → node.total u (used (leafIn s t k)) < 4294967296
   leaf-small u k lk = go (is-in k (order (treeOf s t)) (body-of s t ε w .leaf-all k lk))
     where
       go : In k (order (treeOf s t)) → node.total u (used (leafIn s t k)) < 4294967296

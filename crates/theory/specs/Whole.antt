@@ -31,6 +31,7 @@ use Rattle.theory.specs.Bounds.{stands-of}
 use Rattle.theory.specs.Step.{step}
 use Rattle.theory.specs.Numbers.{numbers-are}
 use Rattle.theory.specs.Hollow.{parts-are}
+use Rattle.theory.specs.Far.{examines-are}
 use Rattle.theory.specs.Fixed.{step-fixed}
 
 pub kept-of : (K : Kind) (ok : K .effect < K .views) (fan : ℕ) (s : State) (r : Row) → Stands K s r → s .head .fan ≡ fan → Kept K fan s r
@@ -48,6 +49,7 @@ kept-of K ok fan s r h f =
       floor = λ two. subst (λ (m : ℕ). 2 * half m ^ s .head .levels ≤ length (r .entries)) f (let z = entry-floor (treeOf (stride K) s) b two in omega arith);
       numbers = numbers-are K ok s r h;
       parts = parts-are K r (subst (λ (es : List Entry). All (λ e. e .id < length es) es) (h .entries) (ids-below K s (h .sound .coherent)));
+      examines = examines-are K ok s r h;
     }
 
 never : false ≡ true → ⊥
