@@ -8,12 +8,14 @@ use model::number::LeafNo;
 use model::shape::Found;
 use model::shape::Shape;
 use model::way::Search;
+use model::way::Searched;
 ghost use mathlib.Core.Path.{_≡_};
-ghost use Prim.Native.Nat.{_+_, _<_, _≤_};
+ghost use Prim.Native.Nat.{_+_, _-_, _<_, _≤_};
 ghost use lib.ListN.{length};
 ghost use Rattle.model.specs.Node.{used};
 ghost use Rattle.model.specs.State.{nodeAt};
 ghost use Rattle.model.specs.Locate.{stand, back, walked, served, servedBy, rewound, changing};
+ghost use Rattle.model.specs.Examined.{span, withSlots, fingerSlots, servedSlots, heldSlots};
 ghost use Rattle.area.specs.Area.{Area};
 
 // A slot of a leaf and what stands before it in the leaf.
@@ -59,10 +61,45 @@ fn back(leaves: &[u32], g: Shape, view: usize, effect: usize, f: Finger, index: 
     }
 }
 
-// The finger moved from its own slot, back or on, to the slot that holds the index, which counts from the leaf's start.
-fn walked(leaves: &[u32], g: Shape, view: usize, effect: usize, f: Finger, index: u32) -> Search
-    requires { ⌜ Area g (length (now leaves)) × (view + 1 < g .stride) × (effect + 1 < g .stride) × (f .leaf < g .nodes) × (nodeAt g (f .leaf) (now leaves) .len ≤ g .fan) × (f .slot < nodeAt g (f .leaf) (now leaves) .len) ⌝ }
-    ensures { λ r. ⌜ r ≡ walked view effect f index (used (nodeAt g (f .leaf) (now (leaves .entry)))) ⌝ }
+fn lower(a: u32, b: u32) -> u32
+    ensures { λ r. ⌜ (r ≤ a) × (r ≤ b) × (r ≡ a - (a - b)) ⌝ }
+{
+    if a < b {
+        return a;
+    }
+    b
+}
+
+fn higher(a: u32, b: u32) -> u32
+    ensures { λ r. ⌜ (r ≡ a + (b - a)) × (r ≡ b + (a - b)) ⌝ }
+{
+    if a < b {
+        return b;
+    }
+    a
+}
+
+// How many slots stand from a to b, back or on, both included. Of two differences the compiler would keep both at hand all the way.
+fn span(a: u32, b: u32) -> u32
+    requires { ⌜ (a < 65536) × (b < 65536) ⌝ }
+    ensures { λ r. ⌜ r ≡ span a b ⌝ }
+{
+    higher(a, b) - lower(a, b) + 1
+}
+
+// The finger moved from its own slot, back or on, to the slot that holds the index, which counts from the leaf's start. In vain it goes to the
+// last of the leaf's len.
+fn walked(
+    leaves: &[u32],
+    g: Shape,
+    view: usize,
+    effect: usize,
+    f: Finger,
+    len: u32,
+    index: u32,
+) -> Searched
+    requires { ⌜ Area g (length (now leaves)) × (view + 1 < g .stride) × (effect + 1 < g .stride) × (f .leaf < g .nodes) × (nodeAt g (f .leaf) (now leaves) .len ≤ g .fan) × (f .slot < nodeAt g (f .leaf) (now leaves) .len) × (len ≡ nodeAt g (f .leaf) (now leaves) .len) ⌝ }
+    ensures { λ r. ⌜ r ≡ withSlots (walked view effect f index (used (nodeAt g (f .leaf) (now (leaves .entry))))) (fingerSlots f len (walked view effect f index (used (nodeAt g (f .leaf) (now (leaves .entry)))))) ⌝ }
 {
     let leaf = f.leaf;
     let b = back(leaves, g, view, effect, f, index);
@@ -71,12 +108,19 @@ fn walked(leaves: &[u32], g: Shape, view: usize, effect: usize, f: Finger, index
     let effects = b.effect_within as u64;
     let prepares = b.prepare_within as u64;
     if index < within {
-        return Search::Broken;
+        return Searched {
+            found: Search::Broken,
+            examined: 0,
+        };
     }
     let rest = index - within;
     let found = find_in(leaves, g, view, effect, leaf, from, rest, effects, prepares);
+    let own = f.slot;
     let Found::At(slot, offset, before, prior) = found else {
-        return Search::Nothing;
+        return Searched {
+            found: Search::Nothing,
+            examined: len - own,
+        };
     };
     let at = slot as u32;
     let finger = Finger {
@@ -90,7 +134,10 @@ fn walked(leaves: &[u32], g: Shape, view: usize, effect: usize, f: Finger, index
         prepare: f.prepare,
         prepare_within: (prior % 4294967296) as u32,
     };
-    Search::At(finger, offset)
+    Searched {
+        found: Search::At(finger, offset),
+        examined: span(own, at),
+    }
 }
 
 // The lookup from the finger, for its own view and an index at or past its leaf's start; `used` leaves are in use.
@@ -102,9 +149,9 @@ pub fn served(
     f: Finger,
     used: u32,
     index: u32,
-) -> Search
+) -> Searched
     requires { ⌜ Area g (length (now leaves)) × (view + 1 < g .stride) × (effect + 1 < g .stride) × (used ≤ g .nodes) ⌝ }
-    ensures { λ r. ⌜ r ≡ served view effect g f used index (now (leaves .entry)) ⌝ }
+    ensures { λ r. ⌜ r ≡ withSlots (served view effect g f used index (now (leaves .entry))) (servedSlots view effect g f used index (now (leaves .entry))) ⌝ }
 {
     let own = f.view;
     let start = f.start;
@@ -112,22 +159,37 @@ pub fn served(
     let slot = f.slot;
     let fan = g.fan;
     if own as usize != view {
-        return Search::Nothing;
+        return Searched {
+            found: Search::Nothing,
+            examined: 0,
+        };
     }
     if index < start {
-        return Search::Nothing;
+        return Searched {
+            found: Search::Nothing,
+            examined: 0,
+        };
     }
     if leaf >= used {
-        return Search::Broken;
+        return Searched {
+            found: Search::Broken,
+            examined: 0,
+        };
     }
     let len = len_of(leaves, g, leaf);
     if len as usize > fan {
-        return Search::Broken;
+        return Searched {
+            found: Search::Broken,
+            examined: 0,
+        };
     }
     if slot >= len {
-        return Search::Broken;
+        return Searched {
+            found: Search::Broken,
+            examined: 0,
+        };
     }
-    walked(leaves, g, view, effect, f, index - start)
+    walked(leaves, g, view, effect, f, len, index - start)
 }
 
 // The same from the finger that is held, if any.
@@ -139,12 +201,15 @@ pub fn served_by(
     held: Held,
     used: u32,
     index: u32,
-) -> Search
+) -> Searched
     requires { ⌜ Area g (length (now leaves)) × (view + 1 < g .stride) × (effect + 1 < g .stride) × (used ≤ g .nodes) ⌝ }
-    ensures { λ r. ⌜ r ≡ servedBy view effect g held used index (now (leaves .entry)) ⌝ }
+    ensures { λ r. ⌜ r ≡ withSlots (servedBy view effect g held used index (now (leaves .entry))) (heldSlots view effect g held used index (now (leaves .entry))) ⌝ }
 {
     match held {
-        Held::Absent => Search::Nothing,
+        Held::Absent => Searched {
+            found: Search::Nothing,
+            examined: 0,
+        },
         Held::At(f) => served(leaves, g, view, effect, f, used, index),
     }
 }

@@ -9,14 +9,19 @@ use model::shape::Found;
 use model::shape::Shape;
 use model::way::Descent;
 use model::way::Search;
+use model::way::Searched;
+use model::way::Way;
 use walk::bounds::sized;
 ghost use mathlib.Core.Path.{_≡_};
 ghost use Prim.Native.Nat.{_+_, _<_, _≤_};
 ghost use lib.ListN.{length};
-ghost use Rattle.model.specs.Locate.{descend, leafOf, fromRoot};
+ghost use Rattle.model.specs.Locate.{fromRoot};
+ghost use Rattle.model.specs.Examined.{downward, withSlots, foundSlots};
 ghost use Rattle.area.specs.Area.{Area};
+ghost use Rattle.finger_search.specs.Went.{Went, leafSlots};
 
-// Down to the leaf that holds position index of view, with the effect and the prepare lengths before it.
+// Down to the leaf that holds position index of view, with the effect and the prepare lengths before it, and how many slots stand before those
+// taken.
 pub fn descend(
     inners: &[u32],
     g: Shape,
@@ -25,36 +30,50 @@ pub fn descend(
     levels: u32,
     root: NodeNo,
     index: u32,
-) -> Descent
+) -> Way
     requires { ⌜ Area g (length (now inners)) × (view + 1 < g .stride) × (effect + 1 < g .stride) × (levels ≤ 15) ⌝ }
-    ensures { λ r. ⌜ r ≡ descend view effect g Descent.Nothing levels (root .0) index 0 0 (now (inners .entry)) ⌝ }
+    ensures { λ r. ⌜ Went view effect g levels (root .0) index (now (inners .entry)) (r .end) (r .passed) ⌝ }
 {
     let mut n = levels;
     let mut node = root.0;
     let mut rest = index;
     let mut effects: u64 = 0;
     let mut prepares: u64 = 0;
+    let mut passed: usize = 0;
     while 0 < n {
         if !sized(inners, g, node) {
-            return Descent::Broken;
+            return Way {
+                end: Descent::Broken,
+                passed: 0,
+            };
         }
         let found = find_in(inners, g, view, effect, node, 0, rest, effects, prepares);
         let Found::At(slot, offset, before, prior) = found else {
             if n == levels {
-                return Descent::Nothing;
+                return Way {
+                    end: Descent::Nothing,
+                    passed: 0,
+                };
             }
-            return Descent::Broken;
+            return Way {
+                end: Descent::Broken,
+                passed: 0,
+            };
         };
         node = child_of(inners, g, node, slot);
         rest = offset;
         effects = before;
         prepares = prior;
+        passed += slot;
         n -= 1;
     }
-    Descent::At(LeafNo(node), rest, effects, prepares)
+    Way {
+        end: Descent::At(LeafNo(node), rest, effects, prepares),
+        passed: passed,
+    }
 }
 
-// The slot of leaf k that holds the position left, and the finger there; effects and prepares are the lengths before the leaf, and `used` leaves are in use.
+// The slot of leaf k that holds the position left, and the finger there; effects and prepares are the lengths before the leaf, taken the slots examined so far; `used` leaves are in use.
 fn search_leaf(
     leaves: &[u32],
     g: Shape,
@@ -66,22 +85,32 @@ fn search_leaf(
     rest: u32,
     effects: u64,
     prepares: u64,
-) -> Search
-    requires { ⌜ Area g (length (now leaves)) × (view + 1 < g .stride) × (effect + 1 < g .stride) × (used ≤ g .nodes) × (rest ≤ index) ⌝ }
-    ensures { λ r. ⌜ r ≡ leafOf view effect g used index (now (leaves .entry)) (Descent.At k rest effects prepares) ⌝ }
+    taken: u32,
+) -> Searched
+    requires { ⌜ Area g (length (now leaves)) × (view + 1 < g .stride) × (effect + 1 < g .stride) × (used ≤ g .nodes) × (rest ≤ index) × (taken ≤ 65535) ⌝ }
+    ensures { λ r. ⌜ r ≡ leafSlots view effect g used index (now (leaves .entry)) k rest effects prepares taken ⌝ }
 {
     let fan = g.fan;
     let leaf = k.0;
     if leaf >= used {
-        return Search::Broken;
+        return Searched {
+            found: Search::Broken,
+            examined: 0,
+        };
     }
     let len = len_of(leaves, g, leaf);
     if len as usize > fan {
-        return Search::Broken;
+        return Searched {
+            found: Search::Broken,
+            examined: 0,
+        };
     }
     let found = find_in(leaves, g, view, effect, leaf, 0, rest, 0, 0);
     let Found::At(slot, offset, within, prepare_within) = found else {
-        return Search::Broken;
+        return Searched {
+            found: Search::Broken,
+            examined: 0,
+        };
     };
     let finger = Finger {
         view: view as u32,
@@ -94,7 +123,10 @@ fn search_leaf(
         prepare: (prepares % 4294967296) as u32,
         prepare_within: (prepare_within % 4294967296) as u32,
     };
-    Search::At(finger, offset)
+    Searched {
+        found: Search::At(finger, offset),
+        examined: taken + slot as u32 + 1,
+    }
 }
 
 // The search from the root, and the finger that it sets (locate); `used` leaves are in use.
@@ -108,13 +140,16 @@ pub fn from_root(
     root: NodeNo,
     used: u32,
     index: u32,
-) -> Search
+) -> Searched
     requires { ⌜ Area g (length (now leaves)) × Area g (length (now inners)) × (view + 1 < g .stride) × (effect + 1 < g .stride) × (levels ≤ 15) × (used ≤ g .nodes) ⌝ }
-    ensures { λ r. ⌜ r ≡ fromRoot view effect g levels (root .0) used index (now (leaves .entry)) (now (inners .entry)) ⌝ }
+    ensures { λ r. ⌜ r ≡ withSlots (fromRoot view effect g levels (root .0) used index (now (leaves .entry)) (now (inners .entry))) (foundSlots (fromRoot view effect g levels (root .0) used index (now (leaves .entry)) (now (inners .entry))) (downward view g (now (leaves .entry)) (now (inners .entry)) levels (root .0) index)) ⌝ }
 {
     let way = descend(inners, g, view, effect, levels, root, index);
-    match way {
+    let end = way.end;
+    let passed = way.passed;
+    match end {
         Descent::At(leaf, rest, effects, prepares) => {
+            let taken = passed as u32 + levels;
             search_leaf(
                 leaves,
                 g,
@@ -126,9 +161,16 @@ pub fn from_root(
                 rest,
                 effects,
                 prepares,
+                taken,
             )
         }
-        Descent::Nothing => Search::Nothing,
-        Descent::Broken => Search::Broken,
+        Descent::Nothing => Searched {
+            found: Search::Nothing,
+            examined: 0,
+        },
+        Descent::Broken => Searched {
+            found: Search::Broken,
+            examined: 0,
+        },
     }
 }

@@ -6,6 +6,7 @@ use borrow.Author.Needs.{needs}
 use Rattle.model.specs.Node.{used}
 use Rattle.model.specs.State.{nodeAt}
 use Rattle.laws.specs.Find.{used-ranged}
+use Rattle.laws.specs.Examined.{walk-counted}
 use Rattle.laws.specs.Locate.{back-slot, walked-broken, walked-miss, walked-found}
 use Rattle.finger_search.proofs.finger.walked.Statement.{statement}
 use Rattle.finger_search.proofs.finger.walked.Tie as tie
@@ -48,7 +49,7 @@ returns : tie.Need-returns
 returns c =
     let args = c .before .before .before .before .before .args in
     let back = c .before .before .before .back in
-    sym (walked-broken _ _ (args .f) _ _ _ _ _ _ (back .ensures) (c .if1 .taken))
+    walk-counted (args .f) (args .len) _ _ (walked-broken _ _ (args .f) _ _ _ _ _ _ (back .ensures) (c .if1 .taken))
 
 find-in-requires : tie.Need-find-in-requires
 find-in-requires c κs =
@@ -61,34 +62,44 @@ enum-known-found c = search needs
 enum-told : tie.Need-enum-told
 enum-told c = search needs
 
+sub-t26 : tie.Need-sub-t26
+sub-t26 c = search needs
+
 returns-2 : tie.Need-returns-2
 returns-2 c =
     let args = c .before .before .before .before .before .before .before .before .args in
     let back = c .before .before .before .before .before .before .back in
     let if1 = c .before .before .before .if1 in
-    sym (walked-miss _ _ (args .f) _ _ _ _ _ _ (back .ensures) (if1 .left) (sym (c .before .before .find-in .ensures .finds) ∙ c .enum-told .given .1))
+    walk-counted (args .f) (args .len) _ _ (walked-miss _ _ (args .f) _ _ _ _ _ _ (back .ensures) (if1 .left) (sym (c .before .before .find-in .ensures .finds) ∙ c .enum-told .given .1))
 
 cast-at : tie.Need-cast-at
 cast-at c =
     let pre = c .before .before .before .before .before .before .before .before .before .pre in
     omega (arith, found c, pre .0 .shaped)
 
-sub-t22 : tie.Need-sub-t22
-sub-t22 c = omega (arith, found c)
+sub-t27 : tie.Need-sub-t27
+sub-t27 c = omega (arith, found c)
 
-cast-t24 : tie.Need-cast-t24
-cast-t24 c = omega arith
+cast-t29 : tie.Need-cast-t29
+cast-t29 c = omega arith
 
-cast-t26 : tie.Need-cast-t26
-cast-t26 c = omega arith
+cast-t31 : tie.Need-cast-t31
+cast-t31 c = omega arith
+
+span-requires : tie.Need-span-requires
+span-requires c κs =
+    let pre = c .before .before .before .before .before .before .before .before .before .pre in
+    (omega (arith, pre .4, pre .5, pre .0 .shaped), omega (arith, found c, pre .0 .shaped))
 
 returns-3 : tie.Need-returns-3
 returns-3 c =
-    let args = c .before .before .before .before .before .before .before .before .before .args in
-    let back = c .before .before .before .before .before .before .before .back in
-    let if1 = c .before .before .before .before .if1 in
-    let find-in = c .before .before .before .find-in in
-    sym (walked-found _ _ (args .f) _ _ _ _ _ _ (back .ensures) _ _ _ _ (if1 .left) (sym (find-in .ensures .finds) ∙ c .before .found .given .1))
+    let args = c .before .before .before .before .before .before .before .before .before .before .args in
+    let back = c .before .before .before .before .before .before .before .before .back in
+    let if1 = c .before .before .before .before .before .if1 in
+    let find-in = c .before .before .before .before .find-in in
+    rw (c .span .ensures)
+    (walk-counted (args .f) (args .len) _ _
+    (walked-found _ _ (args .f) _ _ _ _ _ _ (back .ensures) _ _ _ _ (if1 .left) (sym (find-in .ensures .finds) ∙ c .before .before .found .given .1)))
 
 pub walked-spec : {M : Type 1} → statement M
 walked-spec =
@@ -101,9 +112,11 @@ walked-spec =
     find-in-requires
     enum-known-found
     enum-told
+    sub-t26
     returns-2
     cast-at
-    sub-t22
-    cast-t24
-    cast-t26
+    sub-t27
+    cast-t29
+    cast-t31
+    span-requires
     returns-3)

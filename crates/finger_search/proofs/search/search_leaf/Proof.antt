@@ -5,7 +5,8 @@ use native.Mathlib.Omega.{arith}
 use borrow.Author.Needs.{needs}
 use Rattle.model.specs.State.{nodeAt}
 use Rattle.laws.specs.Find.{used-ranged}
-use Rattle.laws.specs.Locate.{leaf-out, leaf-full, leaf-miss, leaf-found}
+use Rattle.laws.specs.Locate.{leaf-out, leaf-full, leaf-miss}
+use Rattle.laws.specs.Examined.{find-counted, leaf-counted}
 use Rattle.finger_search.proofs.search.search_leaf.Statement.{statement}
 use Rattle.finger_search.proofs.search.search_leaf.Tie as tie
 
@@ -25,7 +26,7 @@ found c =
     (omega (arith, t, r .slot _ _ _ _ e), r .offset _ _ _ _ e)
 
 returns : tie.Need-returns
-returns c = sym (leaf-out _ _ (c .before .before .args .g) _ _ _ _ _ _ _ (c .if1 .taken))
+returns c = find-counted _ _ _ (leaf-out _ _ (c .before .before .args .g) _ _ _ _ _ _ _ (c .if1 .taken))
 
 len-of-requires : tie.Need-len-of-requires
 len-of-requires c κs = (c .before .before .pre .0, omega (arith, c .if1 .left, c .before .before .pre .3))
@@ -36,7 +37,7 @@ cast-if2 c = omega (arith, c .len-of .ok)
 returns-2 : tie.Need-returns-2
 returns-2 c =
     let args = c .before .before .before .before .args in
-    sym (leaf-full _ _ (args .g) _ _ _ _ _ _ _ (c .before .before .if1 .left) (omega (arith, c .before .len-of .ensures, c .if2 .taken)))
+    find-counted _ _ _ (leaf-full _ _ (args .g) _ _ _ _ _ _ _ (c .before .before .if1 .left) (omega (arith, c .before .len-of .ensures, c .if2 .taken)))
 
 find-in-requires : tie.Need-find-in-requires
 find-in-requires c κs =
@@ -51,43 +52,58 @@ enum-told c = search needs
 
 returns-3 : tie.Need-returns-3
 returns-3 c =
-    sym (leaf-miss _ _ (c .before .before .before .before .before .before .before .args .g) _ _ _ _ _ _ _ (c .before .before .before .before .before .if1 .left)
+    find-counted _ _ _ (leaf-miss _ _ (c .before .before .before .before .before .before .before .args .g) _ _ _ _ _ _ _ (c .before .before .before .before .before .if1 .left)
     (filled (c .before .before .before)) (sym (c .before .before .find-in .ensures .finds) ∙ c .enum-told .given .1))
-
-cast-t22 : tie.Need-cast-t22
-cast-t22 c =
-    let pre = c .before .before .before .before .before .before .before .before .pre in
-    omega (arith, pre .0 .shaped, pre .1)
-
-sub-t23 : tie.Need-sub-t23
-sub-t23 c =
-    let pre = c .before .before .before .before .before .before .before .before .pre in
-    omega (arith, pre .4)
-
-cast-t25 : tie.Need-cast-t25
-cast-t25 c = omega arith
 
 cast-t26 : tie.Need-cast-t26
 cast-t26 c =
     let pre = c .before .before .before .before .before .before .before .before .pre in
-    omega (arith, found c, pre .0 .shaped)
+    omega (arith, pre .0 .shaped, pre .1)
 
 sub-t27 : tie.Need-sub-t27
-sub-t27 c = omega (arith, found c)
+sub-t27 c =
+    let pre = c .before .before .before .before .before .before .before .before .pre in
+    omega (arith, pre .4)
 
 cast-t29 : tie.Need-cast-t29
 cast-t29 c = omega arith
 
-cast-t31 : tie.Need-cast-t31
-cast-t31 c = omega arith
+cast-t30 : tie.Need-cast-t30
+cast-t30 c =
+    let pre = c .before .before .before .before .before .before .before .before .pre in
+    omega (arith, found c, pre .0 .shaped)
+
+sub-t31 : tie.Need-sub-t31
+sub-t31 c = omega (arith, found c)
 
 cast-t33 : tie.Need-cast-t33
 cast-t33 c = omega arith
 
+cast-t35 : tie.Need-cast-t35
+cast-t35 c = omega arith
+
+cast-t37 : tie.Need-cast-t37
+cast-t37 c = omega arith
+
+cast-t26-2 : tie.Need-cast-t26-2
+cast-t26-2 c =
+    let pre = c .before .before .before .before .before .before .before .before .pre in
+    omega (arith, found c, pre .0 .shaped)
+
+add-t37 : tie.Need-add-t37
+add-t37 c =
+    let pre = c .before .before .before .before .before .before .before .before .pre in
+    omega (arith, found c, pre .0 .shaped, pre .5)
+
+add-t27 : tie.Need-add-t27
+add-t27 c =
+    let pre = c .before .before .before .before .before .before .before .before .pre in
+    omega (arith, found c, pre .0 .shaped, pre .5)
+
 returns-4 : tie.Need-returns-4
 returns-4 c =
-    sym (leaf-found _ _ (c .before .before .before .before .before .before .before .before .args .g) _ _ _ _ _ _ _ _ _ _ _
-    (c .before .before .before .before .before .before .if1 .left) (filled (c .before .before .before .before)) (sym (c .before .before .before .find-in .ensures .finds) ∙ c .before .found .given .1))
+    leaf-counted _ _ (c .before .before .before .before .before .before .before .before .args .g) _ _ _ _ _ _ _ _ _ _ _ _
+    (c .before .before .before .before .before .before .if1 .left) (filled (c .before .before .before .before)) (sym (c .before .before .before .find-in .ensures .finds) ∙ c .before .found .given .1)
 
 pub search-leaf-spec : {M : Type 1} → statement M
 search-leaf-spec =
@@ -101,12 +117,15 @@ search-leaf-spec =
     enum-known-found
     enum-told
     returns-3
-    cast-t22
-    sub-t23
-    cast-t25
     cast-t26
     sub-t27
     cast-t29
-    cast-t31
+    cast-t30
+    sub-t31
     cast-t33
+    cast-t35
+    cast-t37
+    cast-t26-2
+    add-t37
+    add-t27
     returns-4)
