@@ -10,6 +10,8 @@ use Rattle.model.specs.Answer.{numberAnswer, namedAnswer}
 use Rattle.model.specs.State.{State}
 use Rattle.model.specs.Refuse.{shapeOf}
 use Rattle.model.specs.Calls as calls
+use Rattle.model.specs.Examined as count
+use Rattle.model.specs.Examined.{Counted, counted}
 use Rattle.model.specs.ById.{idAnswer, standingAnswer, nextAnswer, locatedAnswer, treeMove, treeStep}
 use Rattle.model.specs.declared.shape.Kind.{Kind}
 use Rattle.model.specs.declared.shape.Shape.{Shape}
@@ -72,14 +74,14 @@ module _ (K : Kind) where
     pub next-at : (b : Cursor) → u ≡ next.At b → (r x : Named) → r ≡ calls.id K s b → r ≡ x → idAnswer x [] ≡ nextAnswer K s (calls.nextAfter K s c)
     next-at b du r x q dr = ap (λ (y : Named). idAnswer y []) (sym dr ∙ q) ∙ next-by (next.At b) du
 
-  -- by the state that the lookup leaves and what it gave
-  module _ (s t : State) (v index : ℕ) (a : Located) (e : calls.reply t a ≡ calls.locate K s v index) where
+  -- by the state that the lookup leaves and what it gave; the count is left out
+  module _ (s t : State) (v index : ℕ) (a : Located) (n : ℕ) (e : calls.reply t (counted a n) ≡ count.locate K s v index) where
     lookup-by : (x : Located) → a ≡ x → (r : Answer) → r ≡ locatedAnswer K t x → moved t r ≡ treeMove K s (row.lookup v index)
-    unfolding treeMove
-    lookup-by x d r q = ap (moved t) (q ∙ ap (locatedAnswer K t) (sym d)) ∙ ap (λ (y : calls.Reply Located). moved (y .after) (locatedAnswer K (y .after) (y .answer))) e
+    unfolding treeMove count.locate
+    lookup-by x d r q = ap (moved t) (q ∙ ap (locatedAnswer K t) (sym d)) ∙ ap (λ (y : calls.Reply (Counted Located)). moved (y .after) (locatedAnswer K (y .after) (y .answer .answer))) e
 
-    pub lookup-refused : (n : ℕ) → a ≡ located.Refused n → moved t (refused n) ≡ treeMove K s (row.lookup v index)
-    lookup-refused n d = lookup-by (located.Refused n) d (refused n) refl
+    pub lookup-refused : (m : ℕ) → a ≡ located.Refused m → moved t (refused m) ≡ treeMove K s (row.lookup v index)
+    lookup-refused m d = lookup-by (located.Refused m) d (refused m) refl
 
     pub lookup-at : (c : Cursor) (offset effect prepare : ℕ) → a ≡ located.At c offset effect prepare → (r x : Named) → r ≡ calls.id K t c → r ≡ x
         → moved t (idAnswer x (offset ∷ effect ∷ prepare ∷ [])) ≡ treeMove K s (row.lookup v index)

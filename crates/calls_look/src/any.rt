@@ -10,19 +10,24 @@ use model::head::Head;
 use model::head::Held;
 use model::number::LeafNo;
 use model::way::Search;
+use model::way::Searched;
 use open::open::Opened;
 use open::open::open;
 ghost use mathlib.Core.Path.{_≡_};
-ghost use Prim.Native.Nat.{_<_, _≤_};
+ghost use mathlib.Core.Bool.{true, false};
+ghost use Prim.Native.Nat.{_+_, _<_, _≤_};
 ghost use Rattle.model.specs.Kind.{kind};
 ghost use Rattle.model.specs.State.{state};
-ghost use Rattle.model.specs.Calls as calls;
+ghost use Rattle.model.specs.Node.{wrap};
 ghost use Rattle.model.specs.Calls.{reply};
-ghost use Rattle.calls_look.specs.Lookup.{hitOf, searchOf};
+ghost use Rattle.model.specs.Examined as count;
+ghost use Rattle.model.specs.Examined.{counted};
+ghost use Rattle.calls_look.specs.Lookup.{locatedReply, hitOf, searchOf, Stayed};
+ghost use Rattle.model.specs.declared.answer.Located.the-variants as located;
 
-// The finger found is kept.
-fn hit(head: Head, f: Finger, offset: u32) -> LocatedReply
-    ensures { λ r. ⌜ r ≡ hitOf head f offset ⌝ }
+// The finger found is kept; stayed: it is the one of before, moved within its leaf.
+fn hit(head: Head, f: Finger, offset: u32, examined: u32, stayed: bool) -> LocatedReply
+    ensures { λ r. ⌜ r ≡ hitOf head f offset examined stayed ⌝ }
 {
     let root = head.root;
     let kept = Head {
@@ -46,27 +51,39 @@ fn hit(head: Head, f: Finger, offset: u32) -> LocatedReply
     LocatedReply {
         head: kept,
         answer: Located::At(at, offset, effect as u32, prepare as u32),
+        examined: examined,
+        stayed: stayed,
     }
 }
 
-// What the search from the root found; nothing is number 5.
-fn by_search(head: Head, found: Search) -> LocatedReply
-    ensures { λ r. ⌜ r ≡ searchOf head found ⌝ }
+fn refused(head: Head, n: u32) -> LocatedReply
+    ensures { λ r. ⌜ r ≡ locatedReply head (located.Refused n) 0 false ⌝ }
 {
-    match found {
-        Search::At(f, offset) => hit(head, f, offset),
-        Search::Nothing => LocatedReply {
-            head: head,
-            answer: Located::Refused(5),
-        },
-        Search::Broken => LocatedReply {
-            head: head,
-            answer: Located::Refused(9),
-        },
+    LocatedReply {
+        head: head,
+        answer: Located::Refused(n),
+        examined: 0,
+        stayed: false,
     }
 }
 
-// The entry that holds a position in a view, the offset into it, and its effect and prepare positions.
+// What the search from the root found, after the finger examined slots in vain; nothing is number 5.
+fn by_search(head: Head, r: Searched, vain: u32) -> LocatedReply
+    ensures { λ x. ⌜ x ≡ searchOf head (r .found) (wrap (vain + r .examined)) ⌝ }
+{
+    let found = r.found;
+    let examined = r.examined;
+    match found {
+        Search::At(f, offset) => {
+            let both = std::num::wrapping_add_u32(vain, examined);
+            hit(head, f, offset, both, false)
+        }
+        Search::Nothing => refused(head, 5),
+        Search::Broken => refused(head, 9),
+    }
+}
+
+// The entry that holds a position in a view, the offset into it, and its effect and prepare positions; and how many slots were examined.
 pub fn locate(
     views: usize,
     effect: usize,
@@ -78,18 +95,18 @@ pub fn locate(
     index: u32,
 ) -> LocatedReply
     requires { ⌜ (1 ≤ views) × (views ≤ 3) × (effect < views) × (view < views) ⌝ }
-    ensures { λ r. ⌜ reply (state (r .head) (now (leaves .exit)) (now (inners .exit)) (now (homes .exit))) (r .answer) ≡ calls.locate (kind views effect) (state head (now (leaves .entry)) (now (inners .entry)) (now (homes .entry))) view index ⌝ }
+    ensures { λ r. ⌜ (reply (state (r .head) (now (leaves .exit)) (now (inners .exit)) (now (homes .exit))) (counted (r .answer) (r .examined)) ≡ count.locate (kind views effect) (state head (now (leaves .entry)) (now (inners .entry)) (now (homes .entry))) view index) × (r .stayed ≡ true → Stayed (head .finger) (r .head .finger)) ⌝ }
 {
     match open(views, head, leaves, inners, homes) {
-        Opened::Refused(n) => LocatedReply {
-            head: head,
-            answer: Located::Refused(n),
-        },
+        Opened::Refused(n) => refused(head, n),
         Opened::Good(g) => {
             let finger = head.finger;
             let used = head.leaves;
-            match served_by(leaves, g, view, effect, finger, used, index) {
-                Search::At(f, offset) => hit(head, f, offset),
+            let by_finger = served_by(leaves, g, view, effect, finger, used, index);
+            let examined = by_finger.examined;
+            let found = by_finger.found;
+            match found {
+                Search::At(f, offset) => hit(head, f, offset, examined, true),
                 Search::Nothing => {
                     let levels = head.levels;
                     let root = head.root;
@@ -104,12 +121,9 @@ pub fn locate(
                         used,
                         index,
                     );
-                    by_search(head, found)
+                    by_search(head, found, examined)
                 }
-                Search::Broken => LocatedReply {
-                    head: head,
-                    answer: Located::Refused(9),
-                },
+                Search::Broken => refused(head, 9),
             }
         }
     }

@@ -27,7 +27,7 @@ returns : tie.Need-returns
 returns c =
     let args = c .before .before .before .before .before .before .before .before .args in
     let the-locate = c .before .before .before .before .locate in
-    lookup-refused (kind (args .views) (args .effect)) _ _ (args .view) _ _ (the-locate .ensures) _ (c .before .answer .given .1)
+    lookup-refused (kind (args .views) (args .effect)) _ _ (args .view) _ _ _ (the-locate .ensures .0) _ (c .before .answer .given .1)
 
 returns-2 : tie.Need-returns-2
 returns-2 c =
@@ -35,7 +35,7 @@ returns-2 c =
     let the-locate = c .before .before .before .before .before .before .before .before .locate in
     let answer2 = c .before .before .before .before .before .answer2 in
     let id = c .before .before .before .id in
-    lookup-at (kind (args .views) (args .effect)) _ _ (args .view) _ _ (the-locate .ensures) _ _ _ _ (answer2 .given .1) _ _ (id .ensures (args .effect)) (c .before .n .given .1)
+    lookup-at (kind (args .views) (args .effect)) _ _ (args .view) _ _ _ (the-locate .ensures .0) _ _ _ _ (answer2 .given .1) _ _ (id .ensures (args .effect)) (c .before .n .given .1)
 
 returns-3 : tie.Need-returns-3
 returns-3 c =
@@ -43,7 +43,7 @@ returns-3 c =
     let the-locate = c .before .before .before .before .before .before .before .before .locate in
     let answer2 = c .before .before .before .before .before .answer2 in
     let id = c .before .before .before .id in
-    lookup-at (kind (args .views) (args .effect)) _ _ (args .view) _ _ (the-locate .ensures) _ _ _ _ (answer2 .given .1) _ _ (id .ensures (args .effect)) (c .before .i .given .1)
+    lookup-at (kind (args .views) (args .effect)) _ _ (args .view) _ _ _ (the-locate .ensures .0) _ _ _ _ (answer2 .given .1) _ _ (id .ensures (args .effect)) (c .before .i .given .1)
 
 pub locate-spec : {M : Type 1} → statement M
 locate-spec =

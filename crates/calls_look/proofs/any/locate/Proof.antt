@@ -14,6 +14,9 @@ open-requires c κs =
 enum-known-n : tie.Need-enum-known-n
 enum-known-n c = search needs
 
+refused-requires : tie.Need-refused-requires
+refused-requires c κs = tt
+
 enum-known-g : tie.Need-enum-known-g
 enum-known-g c = search needs
 
@@ -24,8 +27,8 @@ served-by-requires c κs =
     let h = ready (kind (args .views) (args .effect)) (pre .0, pre .1) _ _ _ (c .before .before .before .«open» .ensures (args .effect)) (c .before .g .given .1) in
     (leaf-area _ _ h, view-in _ _ _ h (pre .3), view-in _ _ _ h (pre .2), h .leaves)
 
-enum-known-f : tie.Need-enum-known-f
-enum-known-f c = search needs
+enum-known-found : tie.Need-enum-known-found
+enum-known-found c = search needs
 
 hit-requires : tie.Need-hit-requires
 hit-requires c κs = tt
@@ -48,10 +51,13 @@ by-search-requires c κs = tt
 enum-told-2 : tie.Need-enum-told-2
 enum-told-2 c = search needs
 
+refused-requires-2 : tie.Need-refused-requires-2
+refused-requires-2 c κs = tt
+
 returns : tie.Need-returns
 returns c =
-    let args = c .before .before .before .before .before .before .before .args in
-    locate-refused _ (kind (args .views) (args .effect)) (args .view) _ _ (c .before .before .before .«open» .ensures (args .effect)) _ (c .before .n .given .1)
+    let args = c .before .before .before .before .before .before .before .before .args in
+    locate-refused _ (kind (args .views) (args .effect)) (args .view) _ _ (c .before .before .before .before .«open» .ensures (args .effect)) _ (c .before .before .n .given .1) _ (c .refused .ensures)
 
 returns-2 : tie.Need-returns-2
 returns-2 c =
@@ -60,7 +66,7 @@ returns-2 c =
     let g = c .before .before .before .before .before .before .g in
     let served-by = c .before .before .before .before .served-by in
     locate-hit _ (kind (args .views) (args .effect)) (args .view) _ _ (before .«open» .ensures (args .effect)) _ (g .given .1) _ (served-by .ensures) _ _
-    (c .before .before .f .given .1) _ (c .hit .ensures)
+    (c .before .before .found .given .1) _ (c .hit .ensures)
 
 returns-3 : tie.Need-returns-3
 returns-3 c =
@@ -74,11 +80,10 @@ returns-3 c =
 
 returns-4 : tie.Need-returns-4
 returns-4 c =
-    let args = c .before .before .before .before .before .before .before .before .before .before .args in
-    let before = c .before .before .before .before .before .before in
-    let g = c .before .before .before .before .g in
-    locate-broken _ (kind (args .views) (args .effect)) (args .view) _ _ (before .«open» .ensures (args .effect)) _ (g .given .1) _
-    (c .before .before .served-by .ensures) (c .enum-told2 .given .1)
+    let args = c .before .before .before .before .before .before .before .before .before .before .before .args in
+    let g = c .before .before .before .before .before .g in
+    locate-broken _ (kind (args .views) (args .effect)) (args .view) _ _ (c .before .before .before .before .before .before .before .«open» .ensures (args .effect)) _ (g .given .1) _
+    (c .before .before .before .served-by .ensures) (c .before .enum-told2 .given .1) _ (c .refused2 .ensures)
 
 pub locate-spec : {M : Type 1} → statement M
 locate-spec =
@@ -86,14 +91,16 @@ locate-spec =
     (tie.spec
     open-requires
     enum-known-n
+    refused-requires
     enum-known-g
     served-by-requires
-    enum-known-f
+    enum-known-found
     hit-requires
     enum-told
     from-root-requires
     by-search-requires
     enum-told-2
+    refused-requires-2
     returns
     returns-2
     returns-3

@@ -19,13 +19,13 @@ returns : tie.Need-returns
 returns c =
     let args = c .before .before .before .before .before .before .before .before .args in
     let locate = c .before .before .before .before .locate in
-    less-positions _ base (viewNumber (args .view)) _ _ (locate .ensures) _ (c .before .answer .given .1)
+    less-positions _ base (viewNumber (args .view)) _ (locate .result) (locate .ensures .0) _ (c .before .answer .given .1)
 
 returns-2 : tie.Need-returns-2
 returns-2 c =
     let args = c .before .before .before .before .before .before .before .before .args in
     let locate = c .before .before .before .before .locate in
-    less-positions _ base (viewNumber (args .view)) _ _ (locate .ensures) _ (c .before .answer2 .given .1)
+    less-positions _ base (viewNumber (args .view)) _ (locate .result) (locate .ensures .0) _ (c .before .answer2 .given .1)
 
 pub char-index-to-entry-spec : {M : Type 1} → statement M
 char-index-to-entry-spec =

@@ -11,7 +11,7 @@ locate-requires : tie.Need-locate-requires
 locate-requires c κs = (omega arith, omega arith, omega arith, rw (c .number .ensures) (view-few (c .before .before .before .before .args .view)))
 
 returns : tie.Need-returns
-returns c = rw (c .before .number .ensures) at (c .locate .ensures)
+returns c = (rw (c .before .number .ensures) at (c .locate .ensures .0), c .locate .ensures .1)
 
 pub locate-spec : {M : Type 1} → statement M
 locate-spec = tie.close (tie.spec number-requires locate-requires returns)
