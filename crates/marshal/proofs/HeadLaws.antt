@@ -2,7 +2,7 @@
 use mathlib.Core.Path.{_≡_, refl, sym, ap, ap₂, subst, _∙_}
 use mathlib.Core.Bool.{Bool, true, false, cond, not, _&&_, _||_}
 use mathlib.Core.List.{List, [], _∷_, _++_, append-nil}
-use Prim.Native.Nat.{ℕ, _+_, _*_, _≤_, _<_, _/_, _%_}
+use Prim.Native.Nat.{ℕ, suc, _+_, _*_, _≤_, _<_, _/_, _%_}
 use native.Mathlib.Omega.{arith}
 use lib.ListN.{length, getD, take, drop, replicate, length-drop}
 use lib.Seq.{sets, sets-eq, lt-length-sets, drop-cons, drop-drop}
@@ -12,7 +12,7 @@ use Rattle.model.specs.Place.{withFinger}
 use Rattle.model.specs.declared.head.Head.{Head}
 use Rattle.model.specs.declared.head.Held.{Held}
 use Rattle.model.specs.declared.head.Finger.{Finger}
-use Rattle.marshal.specs.Flat.{badAt, badHead, badSeats, badStored, badShares, headFrom, headWords, headAfter, stampFrom, countWords, fingerWords, stampWords, presentOf, fingerOf}
+use Rattle.marshal.specs.Flat.{badAt, badHead, badSeats, badStored, badShares, headFrom, headWords, headAfter, stampFrom, countWords, fingerWords, stampWords, presentOf, fingerOf, InLeaf}
 
 -- whether the words are good
 pub bad-length : (i : ℕ) (w : List ℕ) → (length w ≡ 36 → ⊥) → true ≡ badAt i w
@@ -60,6 +60,10 @@ good-stored w e = good-at 19 w e
 pub good-flag : (w : List ℕ) (t : Bool) → (badHead w || t) ≡ false → length w ≡ 36
 good-flag w t e = good-head w (or-first (badHead w) t e)
 
+pub good-present : (w : List ℕ) (t : Bool) → (badHead w || t) ≡ false → getD w 7 0 ≤ 1
+unfolding badHead
+good-present w t e = let z = ltb-false 1 (getD w 7 0) (or-last (not (eqb (length w) 36)) (ltb 1 (getD w 7 0)) (or-first (badHead w) t e)) in omega (arith, z)
+
 -- a good head with good seats
 pub good-seats : (w : List ℕ) → badSeats w ≡ false → (length w ≡ 36) × (getD w 19 0 ≤ 1)
 unfolding badSeats
@@ -91,6 +95,42 @@ pub finger-written : (w : List ℕ) (t : Held) (present : ℕ) (f : Finger) → 
     → sets w 7 (ten present f) ≡ take 7 w ++ fingerWords t ++ drop 17 w
 finger-written w t present f e p q =
     sets-eq (ten present f) w 7 (omega (arith, e)) ∙ ap₂ (λ (n : ℕ) (g : Finger). take 7 w ++ ten n g ++ drop 17 w) p q
+
+-- the first seventeen words one by one
+cell : (w : List ℕ) (i : ℕ) (r : List ℕ) → length w ≡ 36 → ltb i 36 ≡ true → drop (suc i) w ≡ r → drop i w ≡ getD w i 0 ∷ r
+cell w i r e t q = drop-cons w i 0 (subst (λ (n : ℕ). i < n) (sym e) (ltb-true i 36 t)) ∙ ap (λ (x : List ℕ). getD w i 0 ∷ x) q
+
+abbrev seven-of : List ℕ → List ℕ → List ℕ
+seven-of w r = getD w 0 0 ∷ getD w 1 0 ∷ getD w 2 0 ∷ getD w 3 0 ∷ getD w 4 0 ∷ getD w 5 0 ∷ getD w 6 0 ∷ r
+
+abbrev spelled : List ℕ → List ℕ
+spelled w =
+    seven-of w (getD w 7 0 ∷ getD w 8 0 ∷ getD w 9 0 ∷ getD w 10 0 ∷ getD w 11 0 ∷ getD w 12 0 ∷ getD w 13 0 ∷ getD w 14 0 ∷ getD w 15 0 ∷ getD w 16 0 ∷ drop 17 w)
+
+words-spelled : (w : List ℕ) → length w ≡ 36 → w ≡ spelled w
+words-spelled w e =
+    let c : (i : ℕ) (r : List ℕ) → ltb i 36 ≡ true → drop (suc i) w ≡ r → drop i w ≡ getD w i 0 ∷ r = λ i r t q. cell w i r e t q in
+    c 0 _ refl (c 1 _ refl (c 2 _ refl (c 3 _ refl (c 4 _ refl (c 5 _ refl (c 6 _ refl (c 7 _ refl (c 8 _ refl (c 9 _ refl (c 10 _ refl (c 11 _ refl (c 12 _ refl (c 13 _ refl (c 14 _ refl (c 15 _ refl (c 16 _ refl refl))))))))))))))))
+
+-- a finger's slot written, and its leaf; the latter may be as it was
+abbrev slotted : Finger → List ℕ → List ℕ
+slotted f w = sets (sets w 12 (f .slot ∷ f .within ∷ f .«effect_within» ∷ [])) 16 (f .«prepare_within» ∷ [])
+
+abbrev leafed : ℕ → Finger → List ℕ → List ℕ
+leafed present f w = sets (sets w 7 (present ∷ f .view ∷ f .leaf ∷ f .start ∷ f .effect ∷ [])) 15 (f .prepare ∷ [])
+
+module _ (w : List ℕ) (t : Held) (present : ℕ) (f : Finger) (e : length w ≡ 36) (p : present ≡ presentOf t) (q : f ≡ fingerOf t) (u : List ℕ) (eu : u ≡ slotted f w) where
+  pub leaf-written : leafed present f u ≡ take 7 w ++ fingerWords t ++ drop 17 w
+  leaf-written =
+      ap (leafed present f) eu
+      ∙ subst (λ (x : List ℕ). leafed present f (slotted f x) ≡ take 7 x ++ ten present f ++ drop 17 x) (sym (words-spelled w e)) refl
+      ∙ ap₂ (λ (n : ℕ) (g : Finger). take 7 w ++ ten n g ++ drop 17 w) p q
+
+  pub slot-written : InLeaf t w → u ≡ take 7 w ++ fingerWords t ++ drop 17 w
+  slot-written h =
+      eu
+      ∙ subst (λ (x : List ℕ). slotted f x ≡ take 7 x ++ (getD w 7 0 ∷ getD w 8 0 ∷ getD w 9 0 ∷ getD w 10 0 ∷ getD w 11 0 ∷ f .slot ∷ f .within ∷ f .«effect_within» ∷ getD w 15 0 ∷ f .«prepare_within» ∷ []) ++ drop 17 x) (sym (words-spelled w e)) refl
+      ∙ rw (q, h .present, h .view, h .leaf, h .start, h .effect, h .prepare)
 
 pub counts-written : (w : List ℕ) (h : Head) → length w ≡ 36 → sets w 2 (countWords h) ≡ take 2 w ++ countWords h ++ drop 7 w
 counts-written w h e = sets-eq (countWords h) w 2 (omega (arith, e))

@@ -1,4 +1,5 @@
 -- Heads, cursors, lengths, views and answers as the words that cross the C boundary, and back. Assumes nothing.
+use mathlib.Core.Path.{_≡_}
 use mathlib.Core.Bool.{Bool, cond, not, _&&_, _||_}
 use mathlib.Core.List.{List, [], _∷_, _++_}
 use Prim.Native.Nat.{ℕ, _+_, _*_, _/_, _%_}
@@ -101,6 +102,15 @@ fingerWords t =
     let f = fingerOf t in
     presentOf t ∷ f .view ∷ f .leaf ∷ f .start ∷ f .effect ∷ f .slot ∷ f .within ∷ f .«effect_within» ∷ f .prepare ∷ f .«prepare_within» ∷ []
 
+-- the words of a finger that stayed in its leaf: all but its slot and what stands before that in the leaf are as they were
+pub record InLeaf (t : Held) (w : List ℕ) : Type 0 where
+  pub present : presentOf t ≡ getD w 7 0
+  pub view : fingerOf t .view ≡ getD w 8 0
+  pub leaf : fingerOf t .leaf ≡ getD w 9 0
+  pub start : fingerOf t .start ≡ getD w 10 0
+  pub effect : fingerOf t .effect ≡ getD w 11 0
+  pub prepare : fingerOf t .prepare ≡ getD w 15 0
+
 abbrev pub stampWords : ℕ → List ℕ
 stampWords stamp = stamp % 4294967296 ∷ stamp / 4294967296 ∷ []
 
@@ -133,7 +143,7 @@ abbrev pub standingOf : Answer → FlatStanding
 standingOf a = record { number = a .number; at = cursorIn 0 a }
 
 abbrev pub locatedOf : Answer → FlatLocated
-locatedOf a = record { number = a .number; at = cursorIn 0 a; offset = value 3 a; position = value 4 a; prepare = value 5 a }
+locatedOf a = record { number = a .number; at = cursorIn 0 a; offset = value 3 a; position = value 4 a; prepare = value 5 a; examined = value 6 a }
 
 abbrev pub insertedOf : Answer → FlatInserted
 insertedOf a = record { number = a .number; id = value 0 a; position = value 1 a }

@@ -7,7 +7,8 @@ use lib.ListN.{length}
 use borrow.Author.Tests.{ne-eqb}
 use native.Mathlib.Omega.{arith}
 use Rattle.model.specs.State.{headOf}
-use Rattle.model.specs.Answer.{outcomeAnswer, numberAnswer, verdictAnswer, standingAnswer, nextAnswer, namedAnswer, measuredAnswer, comparedAnswer, locatedAnswer, insertedAnswer, dividedAnswer}
+use Rattle.model.specs.Answer.{outcomeAnswer, numberAnswer, verdictAnswer, standingAnswer, nextAnswer, namedAnswer, measuredAnswer, comparedAnswer, insertedAnswer, dividedAnswer}
+use Rattle.model.specs.Examined.{locatedWith}
 use Rattle.model.specs.declared.number.EntryId.{EntryId}
 use Rattle.model.specs.declared.head.Cursor.{Cursor}
 use Rattle.model.specs.declared.head.Head.{Head}
@@ -41,7 +42,7 @@ abbrev zeros : FlatCursor
 zeros = record { leaf = 0; slot = 0; stamp = 0 }
 
 -- number 0 and the values; audit's yes is 1, and after the last entry the leaf is 4,294,967,295
-pub record Reads (c d : Cursor) (i : EntryId) (l : Lengths) (n offset position prepare : ℕ) : Type 0 where
+pub record Reads (c d : Cursor) (i : EntryId) (l : Lengths) (n offset position prepare examined : ℕ) : Type 0 where
   pub reset : outcomeAnswer outcome.Done .number ≡ 0
   pub len : numberOf (numberAnswer (number.Is n)) ≡ record { number = 0; value = n }
   pub id : numberOf (namedAnswer (named.Entry i)) ≡ record { number = 0; value = i .0 }
@@ -54,12 +55,12 @@ pub record Reads (c d : Cursor) (i : EntryId) (l : Lengths) (n offset position p
   pub cursor : standingOf (standingAnswer (standing.At c)) ≡ record { number = 0; at = at c }
   pub next : standingOf (nextAnswer (following.At c)) ≡ record { number = 0; at = at c }
   pub last : standingOf (nextAnswer following.Nothing) ≡ record { number = 0; at = record { leaf = 4294967295; slot = 0; stamp = 0 } }
-  pub locate : locatedOf (locatedAnswer (located.At c offset position prepare)) ≡ record { number = 0; at = at c; offset = offset; position = position; prepare = prepare }
+  pub locate : locatedOf (locatedWith examined (located.At c offset position prepare)) ≡ record { number = 0; at = at c; offset = offset; position = position; prepare = prepare; examined = examined }
   pub insert : insertedOf (insertedAnswer (inserted.At i position)) ≡ record { number = 0; id = i .0; position = position }
   pub split : dividedOf (dividedAnswer (divided.At i c d)) ≡ record { number = 0; id = i .0; first = at c; second = at d }
 
-pub reads : (c d : Cursor) (i : EntryId) (l : Lengths) (n offset position prepare : ℕ) → Reads c d i l n offset position prepare
-reads c d i l n offset position prepare = record {
+pub reads : (c d : Cursor) (i : EntryId) (l : Lengths) (n offset position prepare examined : ℕ) → Reads c d i l n offset position prepare examined
+reads c d i l n offset position prepare examined = record {
   reset = refl;
   len = refl;
   id = refl;
@@ -87,7 +88,7 @@ pub record Refused (n : ℕ) : Type 0 where
   pub lengths : measuredOf (measuredAnswer (measured.Refused n)) ≡ record { number = n; prepare = 0; effect = 0; lines = 0 }
   pub cursor : standingOf (standingAnswer (standing.Refused n)) ≡ record { number = n; at = zeros }
   pub next : standingOf (nextAnswer (following.Refused n)) ≡ record { number = n; at = zeros }
-  pub locate : locatedOf (locatedAnswer (located.Refused n)) ≡ record { number = n; at = zeros; offset = 0; position = 0; prepare = 0 }
+  pub locate : (examined : ℕ) → locatedOf (locatedWith examined (located.Refused n)) ≡ record { number = n; at = zeros; offset = 0; position = 0; prepare = 0; examined = 0 }
   pub insert : insertedOf (insertedAnswer (inserted.Refused n)) ≡ record { number = n; id = 0; position = 0 }
   pub split : dividedOf (dividedAnswer (divided.Refused n)) ≡ record { number = n; id = 0; first = zeros; second = zeros }
 
@@ -101,7 +102,7 @@ refuses n = record {
   lengths = refl;
   cursor = refl;
   next = refl;
-  locate = refl;
+  locate = λ examined. refl;
   insert = refl;
   split = refl;
 }

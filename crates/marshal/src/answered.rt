@@ -22,7 +22,8 @@ use model::head::Cursor;
 use model::number::NONE;
 ghost use mathlib.Core.Path.{_≡_};
 ghost use mathlib.Core.List.{[], _∷_};
-ghost use Rattle.model.specs.Answer.{outcomeAnswer, numberAnswer, verdictAnswer, standingAnswer, nextAnswer, namedAnswer, measuredAnswer, comparedAnswer, locatedAnswer, insertedAnswer, dividedAnswer, cursorValues};
+ghost use Rattle.model.specs.Answer.{outcomeAnswer, numberAnswer, verdictAnswer, standingAnswer, nextAnswer, namedAnswer, measuredAnswer, comparedAnswer, insertedAnswer, dividedAnswer, cursorValues};
+ghost use Rattle.model.specs.Examined.{locatedWith};
 ghost use Rattle.model.specs.Row.{refused, done};
 ghost use Rattle.model.specs.ById as byId;
 ghost use Rattle.by_id_read.specs.Answer.{followingAnswer};
@@ -199,11 +200,12 @@ pub fn refused_located(n: u32) -> FlatLocated
         offset: 0,
         position: 0,
         prepare: 0,
+        examined: 0,
     }
 }
 
-pub fn located_of(a: Located) -> FlatLocated
-    ensures { λ r. ⌜ r ≡ locatedOf (locatedAnswer a) ⌝ }
+pub fn located_of(a: Located, examined: u32) -> FlatLocated
+    ensures { λ r. ⌜ r ≡ locatedOf (locatedWith examined a) ⌝ }
 {
     match a {
         Located::At(c, offset, effect, prepare) => FlatLocated {
@@ -212,6 +214,7 @@ pub fn located_of(a: Located) -> FlatLocated
             offset: offset,
             position: effect,
             prepare: prepare,
+            examined: examined,
         },
         Located::Refused(n) => refused_located(n),
     }

@@ -43,6 +43,7 @@ pub struct FlatLocated {
     pub offset: u32,
     pub position: u32,
     pub prepare: u32,
+    pub examined: u32,
 }
 
 // insert.

@@ -5,13 +5,14 @@ use model::head::Head;
 use model::head::Held;
 use model::number::NodeNo;
 ghost use mathlib.Core.Path.{_≡_};
-ghost use mathlib.Core.Bool.{_||_};
+ghost use mathlib.Core.Bool.{true, _||_};
 ghost use Prim.Native.Nat.{_<_};
 ghost use lib.Dec.{ltb};
-ghost use mathlib.Core.List.{_++_};
+ghost use mathlib.Core.List.{[], _∷_, _++_};
 ghost use lib.ListN.{length, getD, take, drop, replicate};
+ghost use lib.Seq.{sets};
 ghost use Rattle.model.specs.Place.{withFinger};
-ghost use Rattle.marshal.specs.Flat.{badHead, badSeats, badStored, stampFrom, heldFrom, headFrom, presentOf, fingerOf, countWords, fingerWords, stampWords, headWords, headAfter};
+ghost use Rattle.marshal.specs.Flat.{badHead, badSeats, badStored, stampFrom, heldFrom, headFrom, presentOf, fingerOf, countWords, fingerWords, stampWords, headWords, headAfter, InLeaf};
 
 // Whether it isn't thirty-six words, or has neither 0 nor 1 for its finger.
 pub fn bad_head(head: &[u32]) -> bool
@@ -175,6 +176,43 @@ fn put_finger(head: &mut [u32], finger: Held)
     head[16] = f.prepare_within;
 }
 
+// Of those, the slot and what stands before it in the leaf.
+fn put_slot(head: &mut [u32], f: Finger)
+    requires { ⌜ length (now head) ≡ 36 ⌝ }
+    ensures { λ _. ⌜ now (head .exit) ≡ sets (sets (now (head .entry)) 12 (f .slot ∷ f .within ∷ f .«effect_within» ∷ [])) 16 (f .«prepare_within» ∷ []) ⌝ }
+{
+    head[12] = f.slot;
+    head[13] = f.within;
+    head[14] = f.effect_within;
+    head[16] = f.prepare_within;
+}
+
+// The others: whether there is one, its view and leaf, and where that starts.
+fn put_leaf(head: &mut [u32], present: u32, f: Finger)
+    requires { ⌜ length (now head) ≡ 36 ⌝ }
+    ensures { λ _. ⌜ now (head .exit) ≡ sets (sets (now (head .entry)) 7 (present ∷ f .view ∷ f .leaf ∷ f .start ∷ f .effect ∷ [])) 15 (f .prepare ∷ []) ⌝ }
+{
+    head[7] = present;
+    head[8] = f.view;
+    head[9] = f.leaf;
+    head[10] = f.start;
+    head[11] = f.effect;
+    head[15] = f.prepare;
+}
+
+// The ten words of a finger; of one that stayed in its leaf four are enough.
+fn put_found(head: &mut [u32], finger: Held, stayed: bool)
+    requires { ⌜ (length (now head) ≡ 36) × (stayed ≡ true → InLeaf finger (now head)) ⌝ }
+    ensures { λ _. ⌜ now (head .exit) ≡ take 7 (now (head .entry)) ++ fingerWords finger ++ drop 17 (now (head .entry)) ⌝ }
+{
+    let present = present_of(finger);
+    let f = finger_of(finger);
+    put_slot(head, f);
+    if !stayed {
+        put_leaf(head, present, f);
+    }
+}
+
 // Root, levels and the counts.
 fn put_counts(head: &mut [u32], h: Head)
     requires { ⌜ length (now head) ≡ 36 ⌝ }
@@ -273,5 +311,16 @@ pub fn settle_finger(head: &mut [u32], number: u32, h: Head)
     if number == 0 {
         let finger = h.finger;
         put_finger(head, finger);
+    }
+}
+
+// The same after a lookup; stayed: the finger stayed in its leaf.
+pub fn settle_found(head: &mut [u32], number: u32, h: Head, stayed: bool)
+    requires { ⌜ (length (now head) ≡ 36) × (getD (now head) 17 0 < 4294967296) × (number ≡ 0 → h ≡ withFinger (h .finger) (headFrom (now head))) × (stayed ≡ true → InLeaf (h .finger) (now head)) ⌝ }
+    ensures { λ _. ⌜ now (head .exit) ≡ headAfter number h (now (head .entry)) ⌝ }
+{
+    if number == 0 {
+        let finger = h.finger;
+        put_found(head, finger, stayed);
     }
 }

@@ -1,9 +1,13 @@
 -- What a call leaves of the head: a lookup, other lengths and a repair all but the finger. Assumes nothing.
+-- What a call leaves of the head: a lookup and other lengths all but the finger, and of that a lookup within its leaf the most. Assumes nothing.
 use mathlib.Core.Path.{_≡_, refl, sym, ap, subst, _∙_}
 use mathlib.Core.Bool.{Bool, true, false, cond, _&&_}
 use mathlib.Core.List.{List}
-use Prim.Native.Nat.{ℕ}
+use Prim.Native.Nat.{ℕ, _≤_}
+use native.Mathlib.Omega.{arith}
 use lib.Dec.{eqb}
+use lib.ListN.{getD}
+use borrow.Author.Tests.{eqb-false}
 use Rattle.model.specs.declared.shape.Kind.{Kind}
 use Rattle.model.specs.declared.shape.Shape.{Shape}
 use Rattle.model.specs.Lists.{Cause, refusal}
@@ -20,8 +24,11 @@ use Rattle.model.specs.Mend.{mend, isFit}
 use Rattle.model.specs.Repair as mended
 use Rattle.model.specs.Seats.{isFair}
 use Rattle.model.specs.declared.seats.Seats.{Seats}
+use Rattle.model.specs.Examined as count
 use Rattle.model.specs.declared.head.Head.{Head}
 use Rattle.model.specs.declared.head.Cursor.{Cursor}
+use Rattle.model.specs.declared.head.Held.{Held}
+use Rattle.model.specs.declared.head.Held.the-variants as held
 use Rattle.model.specs.declared.way.Sum.{Sum}
 use Rattle.model.specs.declared.way.Sum.the-variants as sum
 use Rattle.model.specs.declared.way.Search.{Search}
@@ -30,7 +37,8 @@ use Rattle.model.specs.declared.answer.Number.the-variants as number
 use Rattle.model.specs.declared.answer.Located.the-variants as located
 use Rattle.place.specs.Asked.{asked}
 use Rattle.calls_size.specs.Size as size
-use Rattle.marshal.specs.Flat.{headFrom}
+use Rattle.calls_look.specs.Lookup.{Stayed}
+use Rattle.marshal.specs.Flat.{headFrom, fingerFrom, heldFrom, InLeaf}
 
 -- t has the head of s but for the finger
 abbrev Fingered : State → State → Type 0
@@ -90,8 +98,8 @@ module _ (K : Kind) (s : State) where
   found-fingered search.Nothing b = search-fingered b
   found-fingered search.Broken b = refl
 
-  pub locate-fingered : (v x : ℕ) → Fingered s (calls.locate K s v x .after)
-  unfolding calls.locate
+  pub locate-fingered : (v x : ℕ) → Fingered s (count.locate K s v x .after)
+  unfolding count.locate calls.locate
   locate-fingered v x =
       let h = s .head in
       let g = shapeOf K h in
@@ -115,3 +123,22 @@ module _ (K : Kind) (s : State) where
 module _ {A : Type 0} (w : List ℕ) (k h : Head) (ls xs hs ls′ xs′ hs′ : List ℕ) (a : A) (y : Reply A) (ek : k ≡ headFrom w) (e : reply (state h ls′ xs′ hs′) a ≡ y) where
   pub finger-alone : Fingered (state k ls xs hs) (y .after) → h ≡ withFinger (h .finger) (headFrom w)
   finger-alone f = subst (λ (z : Reply A). Fingered (state k ls xs hs) (z .after)) (sym e) f ∙ ap (withFinger (h .finger)) ek
+
+-- a finger that stayed in its leaf: the words w that aren't written are its own
+module _ (w : List ℕ) (l : getD w 7 0 ≤ 1) where
+  held-leaf : (b : Bool) → eqb (getD w 7 0) 0 ≡ b → (t : Held) → Stayed (cond b held.Absent (held.At (fingerFrom w))) t → InLeaf t w
+  held-leaf true e t h = absurd h
+  held-leaf false e held.Absent h = absurd h
+  held-leaf false e (held.At m) h =
+      record {
+        present = omega (arith, l, eqb-false (getD w 7 0) 0 e);
+        view = h .view;
+        leaf = h .leaf;
+        start = h .start;
+        effect = h .effect;
+        prepare = h .prepare;
+      }
+
+  pub in-leaf : (k : Head) → k ≡ headFrom w → (t : Held) → Stayed (k .finger) t → InLeaf t w
+  unfolding headFrom heldFrom
+  in-leaf k ek t h = held-leaf (eqb (getD w 7 0) 0) refl t (subst (λ (x : Head). Stayed (x .finger) t) ek h)

@@ -9,7 +9,9 @@ use lib.Dec.{ltb, eqb}
 use Rattle.model.specs.Length.{listOf, viewNumber}
 use Rattle.model.specs.Kind.{base}
 use Rattle.model.specs.Row.{Answer, refused}
-use Rattle.model.specs.Answer.{outcomeAnswer, numberAnswer, locatedAnswer, insertedAnswer, dividedAnswer}
+use Rattle.model.specs.Answer.{outcomeAnswer, numberAnswer, insertedAnswer, dividedAnswer}
+use Rattle.model.specs.Examined as count
+use Rattle.model.specs.Examined.{locatedAnswer}
 use Rattle.model.specs.Calls as calls
 use Rattle.model.specs.Calls.{Reply}
 use Rattle.model.specs.SeatedCalls.{SeatedReply, resetSeated, insertSeated, splitSeated}
@@ -70,7 +72,7 @@ repair g = leftBy numberOf numberAnswer headAfter (badStored (g .head)) g (mende
 -- the others --------------------------------------------------------------------------------------------------------------------------------
 
 unfoldable pub locate : Given → ℕ → ℕ → Left FlatLocated
-locate g v index = leftBy locatedOf locatedAnswer headAfter (badHead (g .head) || ltb 2 v) g (calls.locate base (stateOf g) (viewNumber (viewFrom v)) index)
+locate g v index = leftBy locatedOf locatedAnswer headAfter (badHead (g .head) || ltb 2 v) g (count.locate base (stateOf g) (viewNumber (viewFrom v)) index)
 
 -- `update` where summed is 1; where it is 0, `set_lengths`, whose value is 0
 unfoldable pub resize : Given → Cursor → Lengths → ℕ → Left FlatNumber

@@ -6,7 +6,7 @@ use marshal::flat::FlatLocated;
 use marshal::given::view_from;
 use marshal::head::bad_view;
 use marshal::head::head_from;
-use marshal::head::settle_finger;
+use marshal::head::settle_found;
 ghost use mathlib.Core.Path.{_≡_};
 ghost use Rattle.marshal.specs.Lent.{given, left};
 ghost use Rattle.smelvock.specs.Changes as flat;
@@ -35,7 +35,7 @@ pub extern "C" fn smelvock_locate(
     );
     let after = r.head;
     let answer = r.answer;
-    let a = located_of(answer);
-    settle_finger(head, a.number, after);
+    let a = located_of(answer, r.examined);
+    settle_found(head, a.number, after, r.stayed);
     a
 }

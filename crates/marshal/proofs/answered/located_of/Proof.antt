@@ -1,7 +1,7 @@
 -- `marshal::answered::located_of`: one case of the answer at a time.
 use borrow.Author.Needs.{needs}
 use mathlib.Core.Path.{sym, ap, _∙_}
-use Rattle.model.specs.Answer.{locatedAnswer}
+use Rattle.model.specs.Examined.{locatedWith}
 use Rattle.model.specs.declared.answer.Located.{Located}
 use Rattle.marshal.specs.Flat.{locatedOf}
 use Rattle.marshal.proofs.AnswerLaws.{found}
@@ -21,10 +21,10 @@ refused-located-requires : tie.Need-refused-located-requires
 refused-located-requires c κs = search needs
 
 returns : tie.Need-returns
-returns c = ap (found 0 _ _ _) (c .cursor-of .ensures) ∙ ap (λ (x : Located). locatedOf (locatedAnswer x)) (sym (c .before .before .a .given .1))
+returns c = ap (found 0 _ _ _ _) (c .cursor-of .ensures) ∙ ap (λ (x : Located). locatedOf (locatedWith (c .before .before .before .before .args .examined) x)) (sym (c .before .before .a .given .1))
 
 returns-2 : tie.Need-returns-2
-returns-2 c = c .refused-located .ensures ∙ ap (λ (x : Located). locatedOf (locatedAnswer x)) (sym (c .before .before .a2 .given .1))
+returns-2 c = c .refused-located .ensures ∙ ap (λ (x : Located). locatedOf (locatedWith (c .before .before .before .before .args .examined) x)) (sym (c .before .before .a2 .given .1))
 
 pub located-of-spec : {M : Type 1} → statement M
 located-of-spec =

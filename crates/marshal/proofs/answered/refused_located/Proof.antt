@@ -9,7 +9,7 @@ nowhere-requires : tie.Need-nowhere-requires
 nowhere-requires c κs = search needs
 
 returns : tie.Need-returns
-returns c = ap (found _ 0 0 0) (c .nowhere .ensures)
+returns c = ap (found _ 0 0 0 0) (c .nowhere .ensures)
 
 pub refused-located-spec : {M : Type 1} → statement M
 refused-located-spec = tie.close (tie.spec nowhere-requires returns)

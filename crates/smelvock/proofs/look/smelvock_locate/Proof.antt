@@ -5,13 +5,13 @@ use Rattle.marshal.specs.Flat.{headAfter, locatedOf}
 use Rattle.marshal.specs.Lent.{given}
 use Rattle.model.specs.Length.{viewNumber}
 use Rattle.model.specs.Kind.{base}
-use Rattle.model.specs.Answer.{locatedAnswer}
+use Rattle.model.specs.Examined as count
+use Rattle.model.specs.Examined.{locatedAnswer}
 use Rattle.model.specs.State.{state}
 use Rattle.smelvock.specs.Changes as flat
 use Rattle.smelvock.proofs.FlatLaws.{reply-refused, reply-settled}
-use Rattle.smelvock.proofs.KeptLaws.{locate-fingered, finger-alone}
-use Rattle.marshal.proofs.HeadLaws.{good-flag}
-use Rattle.model.specs.Calls as calls
+use Rattle.smelvock.proofs.KeptLaws.{locate-fingered, finger-alone, in-leaf}
+use Rattle.marshal.proofs.HeadLaws.{good-flag, good-present}
 use Rattle.model.specs.declared.head.Head.{Head}
 use Rattle.model.specs.declared.length.View.{View}
 use Rattle.marshal.specs.declared.flat.FlatLocated.{FlatLocated}
@@ -46,8 +46,8 @@ locate-requires c κs = search needs
 located-of-requires : tie.Need-located-of-requires
 located-of-requires c κs = search needs
 
-settle-finger-requires : tie.Need-settle-finger-requires
-settle-finger-requires c κs =
+settle-found-requires : tie.Need-settle-found-requires
+settle-found-requires c κs =
     let bad-view = c .before .before .before .before .before .before .before .before .bad-view in
     let if1 = c .before .before .before .before .before .before .before .if1 in
     let args = c .before .before .before .before .before .before .before .before .before .before .before .before .before .before .args in
@@ -57,8 +57,9 @@ settle-finger-requires c κs =
       good-flag _ _ (sym (bad-view .ensures) ∙ if1 .left),
       head-from .ensures .1,
       λ _. finger-alone (args .head .now) (head-from .result) _ (args .leaves .now) (args .inners .now) (args .homes .now) _ _ _ _ _
-          (head-from .ensures .0) (locate .ensures)
+          (head-from .ensures .0) (locate .ensures .0)
           (locate-fingered base (state (head-from .result) (args .leaves .now) (args .inners .now) (args .homes .now)) (viewNumber (view-from .result)) (args .index)),
+      λ q. in-leaf (args .head .now) (good-present _ _ (sym (bad-view .ensures) ∙ if1 .left)) (head-from .result) (head-from .ensures .0) (locate .result .head .finger) (locate .ensures .1 q),
     )
 
 same-length-2 : tie.Need-same-length-2
@@ -77,8 +78,8 @@ returns-2 c =
     reply-settled locatedOf locatedAnswer (λ (q : FlatLocated). q .number) (λ x. refl) _ (given (args .head .now) (args .leaves .now) (args .inners .now) (args .homes .now)) _ _ _ _ _ _ _ _
     (sym (bad-view .ensures)
     ∙ if1 .left) (located-of .ensures)
-    (c .before .before .settle-finger .ensures) (locate .ensures
-    ∙ ap₂ (λ (h : Head) (v : View). calls.locate base (state h (args .leaves .now) (args .inners .now) (args .homes .now)) (viewNumber v) (args .index))
+    (c .before .before .settle-found .ensures) (locate .ensures .0
+    ∙ ap₂ (λ (h : Head) (v : View). count.locate base (state h (args .leaves .now) (args .inners .now) (args .homes .now)) (viewNumber v) (args .index))
     (head-from .ensures .0) (view-from .ensures))
 
 pub smelvock-locate-spec : {M : Type 1} → statement M
@@ -93,6 +94,6 @@ smelvock-locate-spec =
     view-from-requires
     locate-requires
     located-of-requires
-    settle-finger-requires
+    settle-found-requires
     same-length-2
     returns-2)
