@@ -72,6 +72,9 @@ impl<const N: usize, P: Plays> Beside<N, P> {
         if got.values != values {
             return parted(&format!("lib.rs answers {values:?}"));
         }
+        if !self.rust.looked.within() {
+            return parted(&format!("past a bound, {:?}", self.rust.looked));
+        }
         if !self.same_words(&words) {
             return parted("words of head or areas");
         }

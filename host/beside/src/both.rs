@@ -118,11 +118,13 @@ impl<const N: usize> Subject for Both<N> {
         let rust = self.rust.call(call, from);
         let port = play(&mut self.port, &mut self.held, call, from);
         assert_eq!(port, rust, "N {N}, {call:?} from {from:?}");
-        if let Some((raw::Selected { number, at, offset }, head)) = selected {
+        let looked = self.rust.tree.looked;
+        assert!(looked.within(), "N {N}, {call:?}: {looked:?}");
+        if let Some((raw::Selected { number, at, offset, examined }, head)) = selected {
             let held = self.held.last(0).map(|(_, cursor)| cursor.into());
             assert_eq!(
-                (number, Some(at), offset, head),
-                (0, held, port.fields[1], self.port.0.head()),
+                (number, Some(at), offset, examined, head),
+                (0, held, port.fields[1], port.examined, self.port.0.head()),
                 "N {N}, {call:?}"
             );
         }
@@ -133,6 +135,7 @@ impl<const N: usize> Subject for Both<N> {
     fn refused(&mut self, call: Call, from: Source, number: u8) {
         if let Some((selected, head)) = self.selected(call) {
             assert_eq!((selected.number, head), (number as u32, self.port.0.head()), "N {N}, {call:?}");
+            assert_eq!(selected.examined, 0, "N {N}, {call:?}");
         }
         let refusal = refusal(&mut self.port.0, &self.held, call, from);
         assert_eq!(refusal.map(|refusal| refusal.number), Some(number as u32), "N {N}, {call:?} from {from:?}");

@@ -134,7 +134,7 @@ fn standing<const N: usize>(tree: &Lined<N>, at: tree::Cursor) -> Vec<u32> {
     words::standing(Cursor { leaf, slot, stamp: tree.made }).to_vec()
 }
 
-/// What lib.rs answers, in the order of the export's values.
+/// What lib.rs answers, in the order of the export's values, and last how many slots a lookup examined.
 pub fn answer<const N: usize>(tree: &mut Lined<N>, export: Export, given: &Given) -> Vec<u32> {
     let at = tree::Cursor::standing(given.at.leaf, given.at.slot);
     let before = (given.end == 0).then_some(at);
@@ -171,12 +171,12 @@ fn question<const N: usize>(tree: &mut Lined<N>, export: Export, given: &Given) 
         Export::Cmp => vec![(tree.cmp(at, other) as i32 + 1) as u32],
         Export::CharIndexToEntry => {
             let (at, offset) = tree.char_index_to_entry(view, given.index);
-            [standing(tree, at), vec![offset]].concat()
+            [standing(tree, at), vec![offset, tree.examined()]].concat()
         }
         Export::Locate => {
             let (at, offset, position) = tree.locate(view, given.index);
             let prepare = tree.entry_to_char_index(PREPARE, at);
-            [standing(tree, at), vec![offset, position, prepare]].concat()
+            [standing(tree, at), vec![offset, position, prepare, tree.examined()]].concat()
         }
         Export::EntryToCharIndex => vec![tree.entry_to_char_index(view, at)],
         _ => panic!("{export:?} is no call of a list"),

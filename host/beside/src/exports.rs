@@ -240,10 +240,10 @@ impl Export {
         let (head, areas) = tree.looked();
         if self == Export::Locate {
             let r = raw::locate(head, areas, given.view, given.index);
-            return answer(r.number, &[&standing(r.at)[..], &[r.offset, r.position, r.prepare]].concat());
+            return answer(r.number, &[&standing(r.at)[..], &[r.offset, r.position, r.prepare, r.examined]].concat());
         }
         let r = raw::char_index_to_entry(head, areas, given.view, given.index);
-        answer(r.number, &[&standing(r.at)[..], &[r.offset]].concat())
+        answer(r.number, &[&standing(r.at)[..], &[r.offset, r.examined]].concat())
     }
 
     fn change(self, tree: &mut Tree, given: &Given) -> Option<Answer> {

@@ -92,12 +92,12 @@ fn ask<const N: usize>(tree: &mut PrepareEffectTree<N>, export: Export, given: &
         Export::Cursor => tree.cursor(given.id).map(standing),
         Export::Cmp => tree.cmp(at, other).map(|order| vec![(order as i32 + 1) as u32]),
         Export::CharIndexToEntry => {
-            let (at, offset) = tree.char_index_to_entry(view, given.index)?;
-            Ok([standing(at), vec![offset]].concat())
+            let (at, offset, examined) = tree.char_index_to_entry(view, given.index)?;
+            Ok([standing(at), vec![offset, examined]].concat())
         }
         Export::Locate => {
-            let (at, offset, position, prepare) = tree.locate(view, given.index)?;
-            Ok([standing(at), vec![offset, position, prepare]].concat())
+            let (at, offset, position, prepare, examined) = tree.locate(view, given.index)?;
+            Ok([standing(at), vec![offset, position, prepare, examined]].concat())
         }
         Export::EntryToCharIndex => tree.entry_to_char_index(view, at).map(|position| vec![position]),
         _ => panic!("{export:?} is no call of a list"),

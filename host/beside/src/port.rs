@@ -52,13 +52,17 @@ impl<const N: usize> Calls for Port<N> {
         done(self.0.cmp(a, b))
     }
     fn char_index_to_entry(&mut self, view: usize, index: u32) -> (Cursor, u32) {
-        done(self.0.char_index_to_entry(side(view), index))
+        let (at, offset, _) = self.selected(view, index);
+        (at, offset)
     }
     fn locate(&mut self, view: usize, index: u32) -> (Cursor, u32, u32) {
-        let (at, offset, effect, _) = self.locate_both(view, index);
+        let (at, offset, effect, ..) = self.located(view, index);
         (at, offset, effect)
     }
-    fn locate_both(&mut self, view: usize, index: u32) -> (Cursor, u32, u32, u32) {
+    fn selected(&mut self, view: usize, index: u32) -> (Cursor, u32, u32) {
+        done(self.0.char_index_to_entry(side(view), index))
+    }
+    fn located(&mut self, view: usize, index: u32) -> (Cursor, u32, u32, u32, u32) {
         done(self.0.locate(side(view), index))
     }
     fn entry_to_char_index(&self, view: usize, at: Cursor) -> u32 {

@@ -6,6 +6,7 @@ use crate::words::{head_of, slots_of};
 use oracle::audit::{audit, Verdict};
 use oracle::calls::Calls;
 use oracle::driver::Parted;
+use oracle::examined::Examined;
 use oracle::lined::Lined;
 use oracle::record::{Answer, Call};
 use oracle::row::{Entry, Row};
@@ -279,9 +280,20 @@ impl<const N: usize, P: Copies> Alone<N, P> {
     }
 }
 
-/// A call on the full tree: `cursor(id)` and the call of its kind.
-pub fn on_full<const N: usize>(tree: &mut PrepareEffectTree<N>, call: Call) -> Said {
-    said(full_reply(tree, call))
+/// A call on the full tree: `cursor(id)` and the call of its kind; and how many slots a lookup examined.
+pub fn on_full<const N: usize>(tree: &mut PrepareEffectTree<N>, call: Call) -> (Said, u32) {
+    match call {
+        Call::Lookup { index, .. } => {
+            let found = full_lookup(tree, index);
+            (said(found.map(|(values, _)| values)), found.map_or(0, |(_, examined)| examined))
+        }
+        _ => (said(full_reply(tree, call)), 0),
+    }
+}
+
+fn full_lookup<const N: usize>(tree: &mut PrepareEffectTree<N>, index: u32) -> Result<([u32; 3], u32), Refusal> {
+    let (at, offset, position, _, examined) = tree.locate(View::Effect, index)?;
+    Ok(([tree.id(at)?, offset, position], examined))
 }
 
 fn full_reply<const N: usize>(tree: &mut PrepareEffectTree<N>, call: Call) -> Result<[u32; 3], Refusal> {
@@ -308,10 +320,6 @@ fn full_reply<const N: usize>(tree: &mut PrepareEffectTree<N>, call: Call) -> Re
         Call::Set { id, lengths } => {
             let at = at(tree, id)?;
             tree.set_lengths(at, of(lengths)).map(|()| [0; 3])?
-        }
-        Call::Lookup { index, .. } => {
-            let (at, offset, position, _) = tree.locate(View::Effect, index)?;
-            [tree.id(at)?, offset, position]
         }
         Call::Rank { id, .. } => [tree.entry_to_char_index(View::Effect, tree.cursor(id)?)?, 0, 0],
         Call::Next { id } => {
@@ -362,24 +370,33 @@ impl<const N: usize, P: Copies> Pair<N, P> {
     }
 
     /// Makes the call on both, where the proviso holds of it. Each tree's answer must be its row's, and the copy's that of the full tree.
-    /// A number on account of another length must be another here.
+    /// A number on account of another length must be another here. What the full tree's lookups examine is compared with lib.rs's tree
+    /// beside the copy: nodes and finger stand in both as they do there.
     pub fn play(&mut self, call: Call, compared: bool) -> Result<Came, Parted> {
         let [there, here] = [of_row(self.row.clone().answer(Some(call))), self.copy.wanted(call)].map(|said| said.0);
         if here == 17 || other(&self.row, call, there) {
             let (mut full, mut copy) = (self.full.clone(), self.copy.clone());
-            let numbers = [on_full(&mut full, call).0, copy.play(call, compared)?.0];
+            let numbers = [on_full(&mut full, call).0 .0, copy.play(call, compared)?.0];
             return if numbers == [there, here] && (here == 17 || here != there) {
                 Ok(Came::LeftOut(there, here))
             } else {
                 Err(format!("N {N}, {call:?} is left out, {numbers:?}, rows {there}, {here}"))
             };
         }
-        let full = on_full(&mut self.full, call);
+        let (full, examined) = on_full(&mut self.full, call);
         let wanted = of_row(self.row.answer(Some(call)));
         if full != wanted {
             return Err(format!("N {N}, {call:?}: full tree {full:?}, row {wanted:?}"));
         }
         let copy = self.copy.play(call, compared)?;
+        let looked = if full.0 == 0 && matches!(call, Call::Lookup { .. }) {
+            self.copy.lined.looked
+        } else {
+            Examined::default()
+        };
+        if examined != looked.slots || !looked.within() {
+            return Err(format!("N {N}, {call:?}: {examined} slots examined, by lib.rs's words {looked:?}"));
+        }
         (copy == full).then_some(Came::Same(full.0)).ok_or_else(|| format!("N {N}, {call:?}: {copy:?}, full {full:?}"))
     }
 }

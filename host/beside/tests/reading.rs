@@ -99,7 +99,7 @@ fn what_the_proviso_leaves_out() {
         full.insert(None, lengths(1, 0)).expect("there is room");
         let mut copy = ReadingCopy::<4>::with_limit(3, 3).expect("a good make");
         copy.insert(None, 0).expect("there is room");
-        assert_eq!((on_full(&mut full, call).0, copy.play(call).0), (there, here), "{call:?}");
+        assert_eq!((on_full(&mut full, call).0 .0, copy.play(call).0), (there, here), "{call:?}");
     }
     println!("{} calls that the proviso leaves out", calls.len());
 }

@@ -25,10 +25,19 @@ pub trait Calls {
     fn cmp(&self, a: Self::Cursor, b: Self::Cursor) -> Ordering;
     fn char_index_to_entry(&mut self, view: usize, index: u32) -> (Self::Cursor, u32);
     fn locate(&mut self, view: usize, index: u32) -> (Self::Cursor, u32, u32);
-    /// `locate` with the entry's prepare position behind its effect position; lib.rs has it from the entry's rank.
-    fn locate_both(&mut self, view: usize, index: u32) -> (Self::Cursor, u32, u32, u32) {
+    /// How many slots the last lookup examined, where that is counted beside the call.
+    fn examined(&self) -> u32 {
+        0
+    }
+    /// `char_index_to_entry`, and last how many slots it examined.
+    fn selected(&mut self, view: usize, index: u32) -> (Self::Cursor, u32, u32) {
+        let (at, offset) = self.char_index_to_entry(view, index);
+        (at, offset, self.examined())
+    }
+    /// `locate` with the entry's prepare position behind its effect position, which lib.rs has from the entry's rank, and likewise.
+    fn located(&mut self, view: usize, index: u32) -> (Self::Cursor, u32, u32, u32, u32) {
         let (at, offset, effect) = self.locate(view, index);
-        (at, offset, effect, self.entry_to_char_index(PREPARE, at))
+        (at, offset, effect, self.entry_to_char_index(PREPARE, at), self.examined())
     }
     fn entry_to_char_index(&self, view: usize, at: Self::Cursor) -> u32;
     fn set_lengths(&mut self, at: Self::Cursor, lengths: [u32; 3]);
@@ -92,19 +101,19 @@ impl<const N: usize> Calls for PrepareEffectTree<N> {
     }
 }
 
-/// What a call answers: the fields, and its cursors.
-type Answered<C> = ([u32; 4], [Option<C>; 2]);
+/// What a call answers: the fields, its cursors, and how many slots it examined.
+type Answered<C> = ([u32; 4], [Option<C>; 2], u32);
 
 /// Plays a call that the row does not refuse, and keeps the cursors that it answers.
 pub fn play<T: Calls>(tree: &mut T, held: &mut Held<T::Cursor>, call: Call, from: Source) -> Reply {
     let ([first, second], by_id) = (call.ids(), |id| tree.cursor(id));
     let cursors = [held.handed(from).map(|(_, cursor)| cursor).or_else(|| first.map(by_id)), second.map(by_id)];
     let given = cursors.map(|cursor| cursor.map(|cursor| seen(tree, cursor)));
-    let (fields, got) = change(tree, call, cursors[0])
+    let (fields, got, examined) = change(tree, call, cursors[0])
         .or_else(|| ask(tree, call, cursors))
         .expect("every call is a change or a question, and names the entries that it needs");
     held.keep(call, got);
-    Reply { fields, given, got: got.map(|cursor| cursor.map(|cursor| seen(tree, cursor))) }
+    Reply { fields, given, got: got.map(|cursor| cursor.map(|cursor| seen(tree, cursor))), examined }
 }
 
 /// The entries in order, by walking.
@@ -124,7 +133,7 @@ fn seen<T: Calls>(tree: &T, cursor: T::Cursor) -> Seen {
 
 /// The calls that change the tree.
 fn change<T: Calls>(tree: &mut T, call: Call, at: Option<T::Cursor>) -> Option<Answered<T::Cursor>> {
-    let silent = ([0; 4], [None, None]);
+    let silent = ([0; 4], [None, None], 0);
     Some(match call {
         Call::Reset { lengths } => {
             tree.reset(lengths);
@@ -132,17 +141,17 @@ fn change<T: Calls>(tree: &mut T, call: Call, at: Option<T::Cursor>) -> Option<A
         }
         Call::Insert { lengths, .. } => {
             let (id, effect) = tree.insert(at, lengths);
-            ([id, effect, 0, 0], [Some(tree.cursor(id)), None])
+            ([id, effect, 0, 0], [Some(tree.cursor(id)), None], 0)
         }
         Call::Split { lengths, before, .. } => {
             let (id, cursors) = tree.split_entry(at?, lengths, before);
-            ([id, 0, 0, 0], cursors.map(Some))
+            ([id, 0, 0, 0], cursors.map(Some), 0)
         }
         Call::Set { lengths, .. } => {
             tree.set_lengths(at?, lengths);
             silent
         }
-        Call::Update { lengths, .. } => ([tree.update(at?, lengths), 0, 0, 0], [None, None]),
+        Call::Update { lengths, .. } => ([tree.update(at?, lengths), 0, 0, 0], [None, None], 0),
         _ => return None,
     })
 }
@@ -151,18 +160,18 @@ fn change<T: Calls>(tree: &mut T, call: Call, at: Option<T::Cursor>) -> Option<A
 fn ask<T: Calls>(tree: &mut T, call: Call, given: [Option<T::Cursor>; 2]) -> Option<Answered<T::Cursor>> {
     let fields = match call {
         Call::Lookup { view, index } => {
-            let (at, offset, effect, prepare) = tree.locate_both(view, index);
+            let (at, offset, effect, prepare, examined) = tree.located(view, index);
             assert_eq!(prepare, tree.entry_to_char_index(PREPARE, at), "the entry's own rank");
-            return Some(([tree.id(at), offset, effect, prepare], [Some(at), None]));
+            return Some(([tree.id(at), offset, effect, prepare], [Some(at), None], examined));
         }
         Call::Select { view, index } => {
-            let (at, offset) = tree.char_index_to_entry(view, index);
-            return Some(([tree.id(at), offset, 0, 0], [Some(at), None]));
+            let (at, offset, examined) = tree.selected(view, index);
+            return Some(([tree.id(at), offset, 0, 0], [Some(at), None], examined));
         }
-        Call::First => return Some(([tree.id(tree.first()), 0, 0, 0], [Some(tree.first()), None])),
+        Call::First => return Some(([tree.id(tree.first()), 0, 0, 0], [Some(tree.first()), None], 0)),
         Call::Next { .. } => {
             let next = tree.next(given[0]?);
-            return Some(([next.map_or(NONE, |next| tree.id(next)), 0, 0, 0], [next, None]));
+            return Some(([next.map_or(NONE, |next| tree.id(next)), 0, 0, 0], [next, None], 0));
         }
         Call::Rank { view, .. } => [tree.entry_to_char_index(view, given[0]?), 0, 0, 0],
         Call::Compare { .. } => [(tree.cmp(given[0]?, given[1]?) as i32 + 1) as u32, 0, 0, 0],
@@ -176,5 +185,5 @@ fn ask<T: Calls>(tree: &mut T, call: Call, given: [Option<T::Cursor>; 2]) -> Opt
         }
         _ => return None,
     };
-    Some((fields, [None, None]))
+    Some((fields, [None, None], 0))
 }

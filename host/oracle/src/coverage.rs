@@ -32,6 +32,8 @@ pub struct Coverage {
     pub looked: [u64; 3],
     pub ranked: [u64; 3],
     pub served: [u64; 3],
+    /// The most slots that a lookup examined, by the levels of its tree.
+    pub examined: BTreeMap<u32, u32>,
     /// Splits refused by 17, by what has no length: the part that would be moved, the part left behind.
     pub hollow: [u64; 2],
     /// Splits answered, by what has line ends and no other length: the part moved, the part left behind. For lib.rs it has none.
@@ -104,6 +106,12 @@ impl Coverage {
         }
     }
 
+    /// Notes how many slots an answered lookup examined in a tree of so many levels.
+    pub fn note_examined(&mut self, levels: u32, slots: u32) {
+        let most = self.examined.entry(levels).or_default();
+        *most = slots.max(*most);
+    }
+
     fn note_lookup(&mut self, view: u32, index: u32, before: Option<Finger>, after: Option<Finger>) {
         let (Some(before), Some(after)) = (before, after) else { return };
         if before.view != view || index < before.start {
@@ -147,6 +155,7 @@ impl std::ops::AddAssign<&Coverage> for Coverage {
         add(&mut self.served, &other.served);
         add(&mut self.hollow, &other.hollow);
         add(&mut self.lines_alone, &other.lines_alone);
+        other.examined.iter().for_each(|(&levels, &slots)| self.note_examined(levels, slots));
         self.leaf_splits += other.leaf_splits;
         self.inner_splits += other.inner_splits;
         self.root_growths += other.root_growths;

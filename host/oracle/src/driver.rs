@@ -92,6 +92,10 @@ impl<S: Subject> Driver<S> {
         let reply = self.subject.call(call, from);
         let leaf = reply.given[0].map(|seen| seen.place.leaf);
         self.coverage.note((call, kind), leaf, &before, &self.subject.head());
+        if matches!(call, Call::Lookup { .. } | Call::Select { .. }) {
+            self.same("counted", reply.examined > 0, true, (call, from))?;
+            self.coverage.note_examined(before.levels, reply.examined);
+        }
         let got = meant(call, answer.fields);
         self.cursors.note((call, kind), self.held.handed(from).map(|(giver, _)| giver), got);
         self.held.keep(call, got);

@@ -9,6 +9,7 @@ pub mod coverage;
 pub mod cursors;
 pub mod driver;
 pub mod edits;
+pub mod examined;
 pub mod fans;
 pub mod lined;
 pub mod lists;

@@ -2,6 +2,7 @@
 //! port's stamp.
 
 use crate::calls::Calls;
+use crate::examined::Examined;
 use crate::record::Call;
 use crate::row::Row;
 use crate::rust::{pair, side};
@@ -20,6 +21,8 @@ pub struct Lined<const N: usize> {
     /// Whether the last lookup was in view 2. lib.rs's finger then stands at the entry found in the prepare view, and goes the way of
     /// every finger when something changes.
     by_line: bool,
+    /// What the last lookup examined, by lib.rs's words.
+    pub looked: Examined,
 }
 
 impl<const N: usize> Lined<N> {
@@ -30,7 +33,7 @@ impl<const N: usize> Lined<N> {
     /// lib.rs's tree of the one entry of a row.
     pub fn beside(row: Row) -> Self {
         let rust = PrepareEffectTree::new(pair(row.entries[0].lengths));
-        Lined { rust, row, made: 1, seat: None, by_line: false }
+        Lined { rust, row, made: 1, seat: None, by_line: false, looked: Examined::default() }
     }
 
     /// The head that the port holds for this tree: lib.rs's, but for the stamp, the seats and the sums of a finger in view 2.
@@ -125,19 +128,30 @@ impl<const N: usize> Calls for Lined<N> {
         self.rust.cmp(a, b)
     }
     fn char_index_to_entry(&mut self, view: usize, index: u32) -> (Cursor, u32) {
-        if view == LINES {
-            return self.line(index);
-        }
-        self.by_line = false;
-        self.rust.char_index_to_entry(side(view), index)
+        let finger = self.head().finger;
+        let (at, offset) = if view == LINES {
+            self.line(index)
+        } else {
+            self.by_line = false;
+            self.rust.char_index_to_entry(side(view), index)
+        };
+        self.looked = Examined::of(&self.rust, finger, (view, index), at.fields());
+        (at, offset)
     }
     fn locate(&mut self, view: usize, index: u32) -> (Cursor, u32, u32) {
-        if view == LINES {
+        let finger = self.head().finger;
+        let (at, offset, effect) = if view == LINES {
             let (at, offset) = self.line(index);
-            return (at, offset, self.rank(EFFECT, at));
-        }
-        self.by_line = false;
-        self.rust.locate(side(view), index)
+            (at, offset, self.rank(EFFECT, at))
+        } else {
+            self.by_line = false;
+            self.rust.locate(side(view), index)
+        };
+        self.looked = Examined::of(&self.rust, finger, (view, index), at.fields());
+        (at, offset, effect)
+    }
+    fn examined(&self) -> u32 {
+        self.looked.slots
     }
     fn entry_to_char_index(&self, view: usize, at: Cursor) -> u32 {
         self.rank(view, at)

@@ -44,6 +44,8 @@ pub struct Reply {
     pub fields: [u32; 4],
     pub given: [Option<Seen>; 2],
     pub got: [Option<Seen>; 2],
+    /// How many slots a lookup examined; 0 of another call.
+    pub examined: u32,
 }
 
 /// What is played beside the row.

@@ -111,6 +111,47 @@ impl<const N: usize> PrepareEffectTree<N> {
         }
     }
 
+    /// How many slots of a leaf are in use.
+    pub fn leaf_len(&self, leaf: u32) -> u32 {
+        self.leaves[leaf as usize].len
+    }
+
+    /// The place of a leaf in its parent, and of each inner node above it, but for the root, in its own.
+    pub fn places(&self, leaf: u32) -> impl Iterator<Item = u32> + '_ {
+        let up = |node: &&Node<N>| self.nodes.get(node.parent as usize);
+        std::iter::successors(self.leaves.get(leaf as usize), up).take(self.height as usize).map(|node| node.at)
+    }
+
+    /// A tree of so many levels in which each node has `slots` in use, the root `top`, and each entry these lengths: other than calls fill
+    /// one, as high or as full as a sound tree can be.
+    pub fn even(levels: u32, slots: usize, top: usize, lengths: Lengths) -> Self {
+        let mut tree = PrepareEffectTree { nodes: vec![Node::new(NO_NODE)], height: levels, ..Self::new(lengths) };
+        tree.leaves.clear();
+        tree.leaf_of_entry.clear();
+        (0..top).for_each(|at| tree.hang(levels - 1, 0, at, slots, lengths));
+        tree
+    }
+
+    /// Hangs such a node, and all below it, at a place of an inner node; at level 0 a leaf.
+    fn hang(&mut self, level: u32, parent: u32, at: usize, slots: usize, lengths: Lengths) {
+        let mut node = Node { at: at as u32, ..Node::new(parent) };
+        let (number, total) = if level == 0 {
+            let number = self.leaves.len() as u32;
+            for slot in 0..slots {
+                node.insert(slot, self.leaf_of_entry.len() as u32, lengths);
+                self.leaf_of_entry.push(number);
+            }
+            self.leaves.push(node);
+            (number, self.leaves[number as usize].total())
+        } else {
+            let number = self.nodes.len() as u32;
+            self.nodes.push(node);
+            (0..slots).for_each(|slot| self.hang(level - 1, number, slot, slots, lengths));
+            (number, self.nodes[number as usize].total())
+        };
+        self.nodes[parent as usize].insert(at, number, total);
+    }
+
     /// Puts the finger at an entry, as a lookup in the prepare view that finds it does.
     pub fn point_at(&mut self, at: Cursor) {
         let first = Cursor { slot: 0, ..at };

@@ -87,13 +87,13 @@ typedef struct {
 typedef struct {
     uint32_t number;
     smelvock_cursor_at at;
-    uint32_t offset;
+    uint32_t offset, examined;
 } smelvock_selected;
 
 typedef struct {
     uint32_t number;
     smelvock_cursor_at at;
-    uint32_t offset, position, prepare;
+    uint32_t offset, position, prepare, examined;
 } smelvock_located;
 
 typedef struct {
@@ -178,11 +178,11 @@ static inline smelvock_number smelvock_cmp(SMELVOCK_HEAD, SMELVOCK_AREAS, smelvo
 }
 
 /* The entry that holds a position of a view, a character or a line end, and the offset into it; locate also its effect position
- * (position) and its prepare position, in every view. */
+ * (position) and its prepare position, in every view. Both say how many slots they examined, at most fan * (levels + 2). */
 smelvock_located smelvock_locate(SMELVOCK_HEAD_WRITTEN, SMELVOCK_AREAS, uint32_t view, uint32_t index);
 static inline smelvock_selected smelvock_char_index_to_entry(SMELVOCK_HEAD_WRITTEN, SMELVOCK_AREAS, uint32_t view, uint32_t index) {
     smelvock_located found = smelvock_locate(SMELVOCK_GIVEN, view, index);
-    smelvock_selected selected = {found.number, found.at, found.offset};
+    smelvock_selected selected = {found.number, found.at, found.offset, found.examined};
     return selected;
 }
 

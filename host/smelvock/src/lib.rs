@@ -194,18 +194,21 @@ impl<const N: usize> PrepareEffectTree<N> {
         Refusal::unless(reply.number, || reply.value.cmp(&1))
     }
 
-    /// Selects the entry holding position `index` of `view`, and the offset into it.
-    pub fn char_index_to_entry(&mut self, view: View, index: u32) -> Result<(Cursor, u32), Refusal> {
-        let (at, offset, ..) = self.locate(view, index)?;
-        Ok((at, offset))
+    /// Selects the entry holding position `index` of `view`, and the offset into it; last, how many
+    /// slots were examined, which lib.rs doesn't count: at most fan x (levels + 2), and at most fan
+    /// where the last select ended in the leaf that holds the position.
+    pub fn char_index_to_entry(&mut self, view: View, index: u32) -> Result<(Cursor, u32, u32), Refusal> {
+        let (at, offset, .., examined) = self.locate(view, index)?;
+        Ok((at, offset, examined))
     }
 
     /// Selects as [`char_index_to_entry`](Self::char_index_to_entry) does, also returning the
-    /// entry's positions in the effect and in the prepare version; lib.rs's has the first alone.
-    pub fn locate(&mut self, view: View, index: u32) -> Result<(Cursor, u32, u32, u32), Refusal> {
+    /// entry's positions in the effect and in the prepare version, of which lib.rs's has the first
+    /// alone; last, how many slots were examined.
+    pub fn locate(&mut self, view: View, index: u32) -> Result<(Cursor, u32, u32, u32, u32), Refusal> {
         let (head, areas) = self.0.looked();
         let reply = raw::locate(head, areas, view as u32, index);
-        Refusal::unless(reply.number, || (reply.at.into(), reply.offset, reply.position, reply.prepare))
+        Refusal::unless(reply.number, || (reply.at.into(), reply.offset, reply.position, reply.prepare, reply.examined))
     }
 
     /// Ranks an entry: its position in `view`.

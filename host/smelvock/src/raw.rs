@@ -71,6 +71,7 @@ pub struct Selected {
     pub number: u32,
     pub at: Cursor,
     pub offset: u32,
+    pub examined: u32,
 }
 
 #[repr(C)]
@@ -81,6 +82,8 @@ pub struct Located {
     pub offset: u32,
     pub position: u32,
     pub prepare: u32,
+    /// How many slots the lookup examined.
+    pub examined: u32,
 }
 
 #[repr(C)]
@@ -275,8 +278,8 @@ pub fn set_lengths<W: Word>(head: &mut [u32], areas: AreasMut<'_, W>, at: Cursor
 
 #[inline(always)]
 pub fn char_index_to_entry<W: Word>(head: &mut [u32], areas: Areas<'_, W>, view: u32, index: u32) -> Selected {
-    let Located { number, at, offset, .. } = locate(head, areas, view, index);
-    Selected { number, at, offset }
+    let Located { number, at, offset, examined, .. } = locate(head, areas, view, index);
+    Selected { number, at, offset, examined }
 }
 
 mod heads {

@@ -21,7 +21,7 @@ use std::fmt;
 /// // an entry that was deleted: it has no length in the effect version
 /// assert_eq!(tree.insert(None, lengths(2, 0))?, copy.insert(None, 0)?);
 /// assert_eq!(tree.insert(None, lengths(0, 5))?, copy.insert(None, 5)?);
-/// let (at, offset, position, _) = tree.locate(View::Effect, 4)?;
+/// let (at, offset, position, ..) = tree.locate(View::Effect, 4)?;
 /// assert_eq!(copy.lookup(4)?, (tree.id(at)?, offset, position));
 /// // refused there on account of the prepare length: here the effect length is taken
 /// assert_eq!(tree.insert(None, lengths(u32::MAX, 1)), Err(Refusal::TOTAL));

@@ -7,11 +7,11 @@ use std::process::Command;
 const WANTED: &str = "new 0
 insert 0 1 3
 insert 0 2 0
-locate 0 0 0 5 0
-locate 5 0 0 0 0
+locate 0 0 0 5 0, 3 slots
+locate 5 0 0 0 0, 0 slots
 next 0 1
-locate 0 2 0 0 0
-locate 5 0 0 0 0
+locate 0 2 0 0 0, 2 slots
+locate 5 0 0 0 0, 0 slots
 split_entry 0 3 0 1 0 2
 insert 0 4 8
 cursor 1 1
@@ -26,17 +26,18 @@ print 0 1
          4          3          8          1          1
          1          4          9          2          0
 blank 45, then !
-locate 0 4 0 8 3
-char_index_to_entry 5 0 0 0
+locate 0 4 0 8 3, 4 slots
+char_index_to_entry 0 1 0 0, 2 slots
+char_index_to_entry 5 0 0 0, 0 slots
 update 0 5
 set_lengths 0
 lengths 0 1 1 4
 set_lengths 0
 entry_to_char_index 0 8
 entry_to_char_index 0 4
-locate 0 3 3 5 0
-locate 0 4 1 8 3
-locate 5 0 0 0 0
+locate 0 3 3 5 0, 3 slots
+locate 0 4 1 8 3, 5 slots
+locate 5 0 0 0 0, 0 slots
 split_entry 6 0 0 0 0 0
 split_entry 8 0 0 0 0 0
 split_entry 17 0 0 0 0 0

@@ -25,7 +25,12 @@ static void insert(uint32_t end, smelvock_cursor_at before, smelvock_length leng
 static void locate(uint32_t view, uint32_t index) {
     smelvock_located r = smelvock_locate(HEAD, AREAS, view, index);
     uint32_t id = r.number ? 0 : smelvock_id(HEAD, AREAS, r.at).value;
-    printf("locate %u %u %u %u %u\n", r.number, id, r.offset, r.position, r.prepare);
+    printf("locate %u %u %u %u %u, %u slots\n", r.number, id, r.offset, r.position, r.prepare, r.examined);
+}
+
+static void select_at(uint32_t view, uint32_t index) {
+    smelvock_selected r = smelvock_char_index_to_entry(HEAD, AREAS, view, index);
+    printf("char_index_to_entry %u %u %u %u, %u slots\n", r.number, r.at.leaf, r.at.slot, r.offset, r.examined);
 }
 
 static void split(uint32_t id, smelvock_length lengths) {
@@ -161,8 +166,8 @@ int main(void) {
     print();
 
     locate(SMELVOCK_EFFECT, 8);
-    smelvock_selected selected = smelvock_char_index_to_entry(HEAD, AREAS, SMELVOCK_EFFECT, 9);
-    printf("char_index_to_entry %u %u %u %u\n", selected.number, selected.at.leaf, selected.at.slot, selected.offset);
+    select_at(SMELVOCK_EFFECT, 6);
+    select_at(SMELVOCK_EFFECT, 9);
     smelvock_number updated = smelvock_update(HEAD, AREAS, at(3), (smelvock_length){4, 2, 7});
     printf("update %u %u\n", updated.number, updated.value);
     printf("set_lengths %u\n", smelvock_set_lengths(HEAD, AREAS, at(3), (smelvock_length){1, 1, 4}));
