@@ -19,6 +19,7 @@
 pub mod example;
 pub mod plain;
 pub mod random;
+pub mod side_by_side;
 pub mod tree;
 
 use smelvock::{edits, EntryId, Lengths, Refusal};
