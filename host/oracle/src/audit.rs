@@ -1,5 +1,5 @@
 //! The audit of document 01, on arbitrary words: it ends and never panics. Each check is one phrase
-//! of the paragraph "Audit", or document 02's on line ends and on seats, and [`sound`] names them in the order in which they can be
+//! of the paragraph "Audit", or document 02's on line ends and on seats, and `sound` names them in the order in which they can be
 //! trusted.
 
 use crate::seats::Seats;

@@ -1,5 +1,5 @@
 //! Repair (document 02, CR 13), written from the paper. A sound tree that agrees with what is trusted has no choice in the words that
-//! aren't: so these are worked out from the trusted ones by going down from the root, and [`audit`](crate::audit) says whether the tree
+//! aren't: so these are worked out from the trusted ones by going down from the root, and [`audit`] says whether the tree
 //! that comes out is sound. If it isn't, or if the way down can't be gone, no sound tree agrees.
 
 use crate::audit::{self, Verdict};

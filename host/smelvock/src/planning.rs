@@ -6,9 +6,19 @@ use crate::{EntryId, Refusal, LIMIT};
 use std::fmt;
 
 /// The least and the greatest length that an entry may turn out to have. Where the lowest is above the highest a call is refused by 20.
+///
+/// ```
+/// # use smelvock::{Bounds, PlanningTree, Refusal};
+/// # let code = Bounds { lowest: 4, highest: 8 };
+/// let plan = PlanningTree::<8>::new(Bounds { lowest: 4, highest: 8 })?;
+/// assert_eq!(plan.lengths(0), Ok(code));
+/// # Ok::<(), Refusal>(())
+/// ```
 #[derive(Clone, Copy, PartialEq, Eq, Debug, Default)]
 pub struct Bounds {
+    /// The least.
     pub lowest: u32,
+    /// The greatest.
     pub highest: u32,
 }
 
@@ -48,6 +58,14 @@ impl<const N: usize> fmt::Debug for PlanningTree<N> {
 
 impl<const N: usize> PlanningTree<N> {
     /// Creates a tree of one entry, id 0, that holds at most [`LIMIT`].
+    ///
+    /// ```
+    /// # use smelvock::{Bounds, PlanningTree, Refusal};
+    /// # let code = Bounds { lowest: 4, highest: 8 };
+    /// let plan = PlanningTree::<8>::new(code)?;
+    /// assert_eq!(plan.count(), Ok(1));
+    /// # Ok::<(), Refusal>(())
+    /// ```
     pub fn new(bounds: Bounds) -> Result<Self, Refusal> {
         Self::with_limit(LIMIT, bounds)
     }
@@ -68,20 +86,63 @@ impl<const N: usize> PlanningTree<N> {
     }
 
     /// A tree of any words: every call ends on them, and [`audit`](Self::audit) says whether they are a sound tree.
+    ///
+    /// ```
+    /// # use smelvock::{Bounds, PlanningTree, Refusal};
+    /// # let code = Bounds { lowest: 4, highest: 8 };
+    /// let plan = PlanningTree::<8>::new(code)?;
+    /// let areas = plan.areas();
+    /// let [mut leaves, inners, homes] = [areas.leaves, areas.inners, areas.homes].map(<[u32]>::to_vec);
+    /// // areas of one node and one entry are those of limit 1; the lowest length is then put above the highest
+    /// let mut head = plan.head();
+    /// head[smelvock::raw::word::LIMIT] = 1;
+    /// leaves[4] = 9;
+    /// assert_eq!(PlanningTree::<8>::from_words(head, leaves, inners, homes).audit(), Ok(false));
+    /// # Ok::<(), Refusal>(())
+    /// ```
     pub fn from_words(head: raw::Head, leaves: Vec<u32>, inners: Vec<u32>, homes: Vec<u32>) -> Self {
         PlanningTree(Owned::given(head, leaves, inners, homes))
     }
 
+    /// The head's words, in the order of [`raw::word`]; it has no seats.
+    ///
+    /// ```
+    /// # use smelvock::{Bounds, PlanningTree, Refusal};
+    /// # let code = Bounds { lowest: 4, highest: 8 };
+    /// use smelvock::raw::word;
+    /// let plan = PlanningTree::<8>::new(code)?;
+    /// assert_eq!((plan.head()[word::FAN], plan.head()[word::ENTRIES]), (8, 1));
+    /// # Ok::<(), Refusal>(())
+    /// ```
     pub fn head(&self) -> raw::Head {
         self.0.head
     }
 
     /// The words that hold a number: all of a tree of given words, those in use of any other.
+    ///
+    /// ```
+    /// # use smelvock::{Bounds, PlanningTree, Refusal};
+    /// # let code = Bounds { lowest: 4, highest: 8 };
+    /// let plan = PlanningTree::<8>::new(code)?;
+    /// // a leaf: one slot in use, parent 0, at 0; then entry 0 with its bounds
+    /// assert_eq!(plan.areas().leaves[..6], [1, 0, 0, 0, 4, 8]);
+    /// # Ok::<(), Refusal>(())
+    /// ```
     pub fn areas(&self) -> Areas<'_> {
         self.0.areas()
     }
 
     /// Makes this a tree of one entry again, reusing its memory.
+    ///
+    /// ```
+    /// # use smelvock::{Bounds, PlanningTree, Refusal};
+    /// # let code = Bounds { lowest: 4, highest: 8 };
+    /// let mut plan = PlanningTree::<8>::new(code)?;
+    /// plan.insert(None, code)?;
+    /// plan.reset(code)?;
+    /// assert_eq!(plan.count(), Ok(1));
+    /// # Ok::<(), Refusal>(())
+    /// ```
     pub fn reset(&mut self, bounds: Bounds) -> Result<(), Refusal> {
         let (head, areas) = self.0.parts();
         let number = planning::reset(head, areas, bounds.lowest, bounds.highest);
@@ -130,6 +191,16 @@ impl<const N: usize> PlanningTree<N> {
     }
 
     /// Gives an entry other bounds.
+    ///
+    /// ```
+    /// # use smelvock::{Bounds, PlanningTree, Refusal};
+    /// # let code = Bounds { lowest: 4, highest: 8 };
+    /// let mut plan = PlanningTree::<8>::new(code)?;
+    /// plan.set(0, Bounds { lowest: 6, highest: 6 })?;
+    /// assert_eq!(plan.lengths(0), Ok(Bounds { lowest: 6, highest: 6 }));
+    /// assert_eq!(plan.set(0, Bounds { lowest: 7, highest: 6 }), Err(Refusal::BOUNDS));
+    /// # Ok::<(), Refusal>(())
+    /// ```
     pub fn set(&mut self, id: EntryId, bounds: Bounds) -> Result<(), Refusal> {
         let (head, areas) = self.0.parts();
         let number = planning::set(head, areas, id, bounds.lowest, bounds.highest);
@@ -137,30 +208,74 @@ impl<const N: usize> PlanningTree<N> {
     }
 
     /// An entry's bounds.
+    ///
+    /// ```
+    /// # use smelvock::{Bounds, PlanningTree, Refusal};
+    /// # let code = Bounds { lowest: 4, highest: 8 };
+    /// let plan = PlanningTree::<8>::new(code)?;
+    /// assert_eq!((plan.lengths(0), plan.lengths(1)), (Ok(code), Err(Refusal::ID)));
+    /// # Ok::<(), Refusal>(())
+    /// ```
     pub fn lengths(&self, id: EntryId) -> Result<Bounds, Refusal> {
         let planning::Bounds { number, lowest, highest } = planning::lengths(&self.0.head, self.0.lent(), id);
         Refusal::unless(number, || Bounds { lowest, highest })
     }
 
     /// The number of entries, including those that can have no length: entries are never removed.
+    ///
+    /// ```
+    /// # use smelvock::{Bounds, PlanningTree, Refusal};
+    /// # let code = Bounds { lowest: 4, highest: 8 };
+    /// let mut plan = PlanningTree::<8>::new(code)?;
+    /// plan.insert(None, code)?;
+    /// assert_eq!(plan.count(), Ok(2));
+    /// # Ok::<(), Refusal>(())
+    /// ```
     pub fn count(&self) -> Result<usize, Refusal> {
         let reply = planning::count(&self.0.head, self.0.lent());
         Refusal::unless(reply.number, || reply.value as usize)
     }
 
     /// The entry after `id`; `None` after the last.
+    ///
+    /// ```
+    /// # use smelvock::{Bounds, PlanningTree, Refusal};
+    /// # let code = Bounds { lowest: 4, highest: 8 };
+    /// let mut plan = PlanningTree::<8>::new(code)?;
+    /// plan.insert(None, code)?;
+    /// assert_eq!((plan.next(0), plan.next(1)), (Ok(Some(1)), Ok(None)));
+    /// # Ok::<(), Refusal>(())
+    /// ```
     pub fn next(&self, id: EntryId) -> Result<Option<EntryId>, Refusal> {
         let reply = planning::next(&self.0.head, self.0.lent(), id);
         Refusal::unless(reply.number, || Some(reply.value).filter(|&id| id != raw::NONE))
     }
 
     /// The least position at which the entry can stand: where all before it are as short as they may be.
+    ///
+    /// ```
+    /// # use smelvock::{Bounds, PlanningTree, Refusal};
+    /// # let code = Bounds { lowest: 4, highest: 8 };
+    /// let mut plan = PlanningTree::<8>::new(code)?;
+    /// plan.insert(None, code)?;
+    /// assert_eq!(plan.earliest(1), Ok(4));
+    /// # Ok::<(), Refusal>(())
+    /// ```
     pub fn earliest(&self, id: EntryId) -> Result<u32, Refusal> {
         let reply = planning::earliest(&self.0.head, self.0.lent(), id);
         Refusal::unless(reply.number, || reply.value)
     }
 
     /// The greatest position at which the entry can stand.
+    ///
+    /// ```
+    /// # use smelvock::{Bounds, PlanningTree, Refusal};
+    /// # let code = Bounds { lowest: 4, highest: 8 };
+    /// let mut plan = PlanningTree::<8>::new(code)?;
+    /// plan.insert(None, code)?;
+    /// assert_eq!(plan.latest(1), Ok(8));
+    /// # Ok::<(), Refusal>(())
+    /// ```
     pub fn latest(&self, id: EntryId) -> Result<u32, Refusal> {
         let reply = planning::latest(&self.0.head, self.0.lent(), id);
         Refusal::unless(reply.number, || reply.value)
@@ -168,6 +283,16 @@ impl<const N: usize> PlanningTree<N> {
 
     /// The first entry that could hold `position`: under some choice of lengths the sum before it is at or below the position, and with
     /// its own length above it. Refused by 5 at or past the highest total, where none could.
+    ///
+    /// ```
+    /// # use smelvock::{Bounds, PlanningTree, Refusal};
+    /// # let code = Bounds { lowest: 4, highest: 8 };
+    /// let mut plan = PlanningTree::<8>::new(code)?;
+    /// plan.insert(None, code)?;
+    /// assert_eq!((plan.first_at(7), plan.first_at(8)), (Ok(0), Ok(1)));
+    /// assert_eq!(plan.first_at(16), Err(Refusal::POSITION));
+    /// # Ok::<(), Refusal>(())
+    /// ```
     pub fn first_at(&mut self, position: u32) -> Result<EntryId, Refusal> {
         let (head, areas) = self.0.looked();
         let reply = planning::first_at(head, areas, position);
@@ -196,6 +321,14 @@ impl<const N: usize> PlanningTree<N> {
     }
 
     /// Whether the tree is sound.
+    ///
+    /// ```
+    /// # use smelvock::{Bounds, PlanningTree, Refusal};
+    /// # let code = Bounds { lowest: 4, highest: 8 };
+    /// let plan = PlanningTree::<8>::new(code)?;
+    /// assert_eq!(plan.audit(), Ok(true));
+    /// # Ok::<(), Refusal>(())
+    /// ```
     pub fn audit(&self) -> Result<bool, Refusal> {
         let reply = planning::audit(&self.0.head, self.0.lent());
         Refusal::unless(reply.number, || reply.value == 1)

@@ -1,6 +1,16 @@
 use std::{error, fmt};
 
-/// Why a call was not done. Head, areas and a lent buffer are as they were, but for [`LINK`](Refusal::LINK).
+/// Why a call was not done. Head, areas and a lent buffer are as they were, but for [`LINK`](Refusal::LINK). Its text is the number and
+/// the cause.
+///
+/// ```
+/// use smelvock::{Lengths, PrepareEffectTree, Refusal};
+///
+/// let refusal = PrepareEffectTree::<3>::new(Lengths::default()).unwrap_err();
+/// assert_eq!((refusal, refusal.number), (Refusal::SIZE, 1));
+/// let error: Box<dyn std::error::Error> = refusal.into();
+/// assert_eq!(error.to_string(), "refused by 1: the fan is not 4 to 32, or the limit not 1 to 65,536");
+/// ```
 #[derive(Clone, Copy, PartialEq, Eq, Debug)]
 pub struct Refusal {
     /// Document 01's number, 1 to 11, or document 02's 12 to 21.
@@ -11,7 +21,8 @@ pub struct Refusal {
 macro_rules! refusals {
     ($($name:ident = $number:literal: $cause:literal;)*) => {
         impl Refusal {
-            $(#[doc = concat!("Number ", $number, ": ", $cause, ".")]
+            $(#[doc = concat!("Number ", $number, ": ", $cause, ".\n\n```\n# use smelvock::Refusal;\n")]
+            #[doc = concat!("assert_eq!(Refusal::", stringify!($name), ".to_string(), \"refused by ", $number, ": ", $cause, "\");\n```")]
             pub const $name: Refusal = Refusal { number: $number };)*
 
             fn cause(self) -> &'static str {

@@ -1,6 +1,8 @@
 //! Each refusal has a name that a caller compares with and matches on.
 
 use smelvock::{raw, Cursor, Lengths, PrepareEffectTree, Refusal};
+use std::collections::HashSet;
+use std::error::Error;
 
 /// The names in the order of their numbers, from 1.
 const NAMED: [Refusal; 21] = [
@@ -44,6 +46,16 @@ fn the_names_are_those_of_1_to_21() {
         "refused by 21: no sound tree has the head, lens, child numbers and lengths that repair trusts"
     );
     assert_eq!(Refusal { number: 99 }.to_string(), "refused by 99: no call answers this number");
+}
+
+/// A refusal is an error like any other, and no two numbers have one text.
+#[test]
+fn every_number_has_a_text_of_its_own() {
+    let texts = NAMED.map(|refusal| Box::<dyn Error>::from(refusal).to_string());
+    let causes = texts.iter().map(|text| text.split_once(": ").expect("number and cause").1).collect::<HashSet<_>>();
+    assert_eq!(causes.len(), NAMED.len());
+    let unknown = Refusal { number: NAMED.len() as u32 + 1 }.to_string();
+    assert!(!causes.contains(unknown.split_once(": ").expect("number and cause").1), "{causes:?}");
 }
 
 /// What an editor does with the three numbers of a cursor.
