@@ -17,8 +17,6 @@
 //! smaller than that of a character which the author saw.
 
 pub mod example;
-pub mod plain;
-pub mod random;
 pub mod side_by_side;
 pub mod tree;
 

@@ -1,14 +1,15 @@
 //! Random histories merged on the proved tree and on lib.rs's, at several fans, and without a tree; in other orders; and in the versions
 //! that authors saw.
 
-use merge::plain::Plain;
-use merge::random::{history, listed, reordered};
+use histories::plain::Plain;
+use histories::{history, listed, reordered};
 use merge::tree::Tree;
 use merge::{example, merge, Change, Edit, Merged};
 use oracle::random::Random;
 use oracle::tree as lib_rs;
 use smelvock::edits::NONE;
 use smelvock::{PrepareEffectTree, Refusal};
+use std::fs;
 
 fn merged<T: Tree>(sheet: &str, edits: &[Edit]) -> Merged {
     merge::<T>(sheet, edits).expect("the history is a good one")
@@ -81,6 +82,14 @@ fn readme_has_the_merged_sheet() {
         on_every_tree(example::SHEET, &example::edits()).sheet
     );
     assert!(include_str!("../../../README.md").contains(&told), "README hasn't\n{told}");
+}
+
+/// Short enough to be read and taken over.
+#[test]
+fn the_example_has_at_most_400_lines() {
+    let files = fs::read_dir(concat!(env!("CARGO_MANIFEST_DIR"), "/src")).expect("the folder is there");
+    let lines = files.map(|file| fs::read_to_string(file.unwrap().path()).expect("a file").lines().count());
+    assert!((1..=400).contains(&lines.sum::<usize>()));
 }
 
 #[test]

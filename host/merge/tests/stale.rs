@@ -1,9 +1,9 @@
 //! What a stale memory of the last lookup does to a sheet: lib.rs's tree with one mistake books a laboratory twice.
 
+use histories::history;
+use histories::plain::Plain;
 use merge::example::{edits, SHEET};
 use merge::merge;
-use merge::plain::Plain;
-use merge::random::history;
 use merge::tree::Tree;
 use oracle::random::Random;
 use oracle::tree::PrepareEffectTree;

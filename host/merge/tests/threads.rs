@@ -1,6 +1,6 @@
 //! Many sheets on many threads are merged as one after the other.
 
-use merge::random::history;
+use histories::history;
 use merge::side_by_side::{merged, History};
 use oracle::random::Random;
 use oracle::tree as lib_rs;

@@ -1,8 +1,8 @@
-//! The same merge without a tree of entries, without prepare and effect lengths, and without the difference of two edits: every
+//! The merge without a tree of entries, without prepare and effect lengths, and without the difference of two edits: every
 //! character ever written, with those that hang on it, read from the top. Each edit's position is looked up in a list of the characters
 //! that its author saw.
 
-use crate::{Change, Edit};
+use merge::{Change, Edit};
 use oracle::edits::NONE;
 use std::collections::BTreeSet;
 

@@ -1,9 +1,11 @@
-//! Random histories, and one history in other orders.
+//! Random histories of a sheet, and one history in other orders.
 
-use crate::plain::Plain;
-use crate::{Change, Edit};
+pub mod plain;
+
+use merge::{Change, Edit};
 use oracle::edits::NONE;
 use oracle::random::Random;
+use plain::Plain;
 
 /// The first version of a sheet, and edits of so many departments. Each is written on its department's last edit and, one time in three,
 /// on any other too, as if the department had fetched that.

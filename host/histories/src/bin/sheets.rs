@@ -1,7 +1,7 @@
-//! `cargo run --release -p merge --bin sheets [SHEETS [EDITS [THREADS]]]`: how many sheets of so many edits are merged in a second, on
+//! `cargo run --release -p histories --bin sheets [SHEETS [EDITS [THREADS]]]`: how many sheets of so many edits are merged in a second, on
 //! one thread, on two, on four and so on up to THREADS, on the proved tree and on lib.rs's; the best of five rounds.
 
-use merge::random::history;
+use histories::history;
 use merge::side_by_side::{merged, History};
 use merge::tree::Tree;
 use oracle::random::Random;
