@@ -1,9 +1,11 @@
 -- A slot's words written one by one, as many as the slot has: two to four. Assumes nothing.
 use mathlib.Core.Path.{_≡_, refl, sym, ap, _∙_}
-use mathlib.Core.Bool.{Bool, cond}
+use mathlib.Core.Bool.{Bool, true, false, cond}
 use mathlib.Core.List.{List, [], _∷_, zipWith}
-use Prim.Native.Nat.{ℕ, zero, suc, _+_, _-_, _*_, _^_, _<_, _≤_}
+use Prim.Native.Nat.{ℕ, zero, suc, _+_, _-_, _*_, _%_, _^_, _<_, _≤_}
 use native.Mathlib.Omega.{arith}
+use lib.Dec.{ltb}
+use borrow.Author.Tests.{ltb-true, ltb-false}
 use lib.ListN.{length, getD, take, drop, set, length-take, length-drop, length-set}
 use Rattle.model.specs.Lists.{part, putAt}
 use Rattle.laws.specs.Words.{part-none, part-front, set-put, put-on, put-next, getD-after}
@@ -24,6 +26,17 @@ three-words (a ∷ b ∷ d ∷ u ∷ x) e = absurd (omega arith)
 pub four-words : (x : List ℕ) → length x ≡ 4 → getD x 0 0 ∷ getD x 1 0 ∷ getD x 2 0 ∷ getD x 3 0 ∷ [] ≡ x
 four-words [] e = absurd (omega arith)
 four-words (a ∷ x) e = ap (λ (l : List ℕ). a ∷ l) (three-words x (omega arith))
+
+-- the words of slots i up to n are even in number where a slot has two
+pub even-two : (i n s : ℕ) → 2 ≤ s → (3 + n * s - (3 + i * s)) % 2 ≤ s - 2
+even-two i n s k = go (ltb 2 s) refl
+  where
+    go : (t : Bool) → ltb 2 s ≡ t → (3 + n * s - (3 + i * s)) % 2 ≤ s - 2
+    go true e = let z = ltb-true 2 s e in omega (arith, z)
+    go false e =
+        let z = ltb-false 2 s e in
+        let two : s ≡ 2 = omega (arith, z) in
+        rw two (omega arith)
 
 -- as many of them as a slot has
 pub front-length : (s : ℕ) (x : List ℕ) → s ≤ length x → length (take s x) ≡ s

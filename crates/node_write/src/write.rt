@@ -1,7 +1,7 @@
 // How one node changes: a slot's lengths, a slot put in, a slot divided. A slot is lent as four words, the child first; those count
 // that a slot of the tree has.
 use model::shape::Shape;
-use words::run::shift;
+use words::run::open_gap;
 ghost use mathlib.Core.Path.{_≡_};
 ghost use Prim.Native.Nat.{_+_, _-_, _^_, _<_, _≤_};
 ghost use lib.ListN.{length, getD, take};
@@ -90,7 +90,7 @@ pub fn insert(node: &mut [u32], g: Shape, i: usize, x: &[u32; 4])
     let len = node[0];
     let p = 3 + i * stride;
     let q = 3 + len as usize * stride;
-    shift(node, p, q, stride);
+    open_gap(node, p, q, stride);
     put_slot(node, g, p, x);
     node[0] = len + 1;
 }

@@ -10,7 +10,7 @@ use Rattle.model.specs.Node.{none, wrap, emptySlot, emptySlots}
 use Rattle.laws.specs.Lists.{row-end}
 use Rattle.laws.specs.Slots.{flat, flat-append, flat-one, length-flat}
 use Rattle.laws.specs.Formed.{length-empty, empty-wide}
-use Rattle.laws.specs.Words.{length-part, part-front, part-part, part-same, part-after, put-next, put-on, put-back, put-same, put-put, getD-before}
+use Rattle.laws.specs.Words.{length-part, length-put, part-none, part-front, part-part, part-add, part-same, part-before, part-after, put-none, put-next, put-prev, put-on, put-back, put-same, put-put, put-over, getD-before}
 
 -- the difference modulo 2 ^ 32 is the number that, added again, gives the first
 pub wrapped-less : (a b r : ℕ) → (r + b) % 2 ^ 32 ≡ a → r < 2 ^ 32 → b < 2 ^ 32 → r ≡ wrap (a + (2 ^ 32 - b))
@@ -31,6 +31,57 @@ shift-turn s w q ws h hw hq =
       part-front (w - 1) (q - w) ws (omega arith),
       f,
     )
+
+-- the same with the words moved so far in `now`, and four words at once
+up-turn : (s w v n : ℕ) (ws now : List ℕ) → v ≡ w + 1 → v + s + n ≤ length ws → now ≡ putAt (v + s) (part v n ws) ws → set now (w + s) (getD now w 0) ≡ putAt (w + s) (part w (n + 1) ws) ws
+up-turn s w v n ws now ev h en =
+    let l : length (part v n ws) ≡ n = length-part v n ws (omega arith) in
+    rw (
+      en,
+      getD-before (v + s) w (part v n ws) ws (omega arith) (omega arith),
+      put-back (v + s) (w + s) (getD ws w 0) (part v n ws) ws (omega arith) (omega arith),
+      part-front w n ws (omega arith),
+      ev,
+    )
+
+pub four-up : (s w : ℕ) (ws a b c : List ℕ) → w + 4 + s ≤ length ws → a ≡ set ws (w + 3 + s) (getD ws (w + 3) 0) → b ≡ set a (w + 2 + s) (getD a (w + 2) 0) → c ≡ set b (w + 1 + s) (getD b (w + 1) 0)
+    → set c (w + s) (getD c w 0) ≡ putAt (w + s) (part w 4 ws) ws
+four-up s w ws a b c h ea eb ec =
+    let e0 : ws ≡ putAt (w + 4 + s) (part (w + 4) 0 ws) ws = rw (part-none, put-none) in
+    let e1 : a ≡ putAt (w + 3 + s) (part (w + 3) 1 ws) ws = ea ∙ up-turn s (w + 3) (w + 4) 0 ws ws (omega arith) (omega arith) e0 in
+    let e2 : b ≡ putAt (w + 2 + s) (part (w + 2) 2 ws) ws = eb ∙ up-turn s (w + 2) (w + 3) 1 ws a (omega arith) (omega arith) e1 in
+    let e3 : c ≡ putAt (w + 1 + s) (part (w + 1) 3 ws) ws = ec ∙ up-turn s (w + 1) (w + 2) 2 ws b (omega arith) (omega arith) e2 in
+    up-turn s w (w + 1) 3 ws c refl (omega arith) e3
+
+-- four words more moved up; at last words below p may be among them, over which x comes
+pub gap-turn : (s w v q : ℕ) (ws now last : List ℕ) → v ≡ w + 4 → v ≤ q → q + s ≤ length ws → now ≡ putAt (v + s) (part v (q - v) ws) ws → last ≡ putAt (w + s) (part w 4 now) now → last ≡ putAt (w + s) (part w (q - w) ws) ws
+gap-turn s w v q ws now last ev h g en el =
+    let l : length (part v (q - v) ws) ≡ q - v = length-part v (q - v) ws (omega arith) in
+    let m : length (part w 4 ws) ≡ 4 = length-part w 4 ws (omega arith) in
+    let e : q - w ≡ 4 + (q - v) = omega arith in
+    rw (
+      el,
+      en,
+      part-before w 4 (v + s) (part v (q - v) ws) ws (omega arith) (omega arith),
+      put-prev (w + s) (v + s) (part w 4 ws) (part v (q - v) ws) ws (omega arith) (omega arith),
+      e,
+      part-add w 4 (q - v) ws,
+      ev,
+    )
+
+pub gap-end : (s p w q : ℕ) (ws now x : List ℕ) → w ≤ p → p ≤ w + s → p ≤ q → q + s ≤ length ws → length x ≡ s → now ≡ putAt (w + s) (part w (q - w) ws) ws
+    → putAt p x now ≡ putAt p x (putAt (p + s) (part p (q - p) ws) ws)
+gap-end s p w q ws now x h k g r lx en =
+    let l : length (part p (q - p) ws) ≡ q - p = length-part p (q - p) ws (omega arith) in
+    let m : length (part w (p - w) ws) ≡ p - w = length-part w (p - w) ws (omega arith) in
+    let z : length (putAt (p + s) (part p (q - p) ws) ws) ≡ length ws = length-put (p + s) (part p (q - p) ws) ws (omega arith) in
+    let e : q - w ≡ p - w + (q - p) = omega arith in
+    let f : w + (p - w) ≡ p = omega arith in
+    let at : w + s ≡ p + (w + s - p) = omega arith in
+    let split : part w (q - w) ws ≡ part w (p - w) ws ++ part p (q - p) ws = rw e (part-add w (p - w) (q - p) ws ∙ ap (λ (i : ℕ). part w (p - w) ws ++ part i (q - p) ws) f) in
+    let moved : now ≡ putAt (p + (w + s - p)) (part w (p - w) ws) (putAt (p + s) (part p (q - p) ws) ws) =
+    en ∙ ap (λ (y : List ℕ). putAt (w + s) y ws) split ∙ sym (put-prev (w + s) (p + s) (part w (p - w) ws) (part p (q - p) ws) ws (omega arith) (omega arith)) ∙ ap (λ (i : ℕ). putAt i (part w (p - w) ws) (putAt (p + s) (part p (q - p) ws) ws)) at in
+    rw moved (put-over p (w + s - p) (part w (p - w) ws) x (putAt (p + s) (part p (q - p) ws) ws) (omega arith) (omega arith))
 
 -- a filled run of words: one word more, and an empty slot made of one
 pub fill-turn : (p w a : ℕ) (now ws : List ℕ) → p ≤ w → w < length ws → now ≡ putAt p (replicate (w - p) a) ws → set now w a ≡ putAt p (replicate (w + 1 - p) a) ws

@@ -1,7 +1,8 @@
 // Runs of words: moved up, and emptied.
 use model::length::Slot;
 ghost use mathlib.Core.Path.{_≡_};
-ghost use Prim.Native.Nat.{_+_, _-_, _*_, _<_, _≤_};
+ghost use mathlib.Core.List.{List};
+ghost use Prim.Native.Nat.{ℕ, _+_, _-_, _*_, _%_, _<_, _≤_};
 ghost use lib.ListN.{length, replicate};
 ghost use Rattle.model.specs.Lists.{part, putAt};
 ghost use Rattle.model.specs.Node.{emptySlots};
@@ -16,6 +17,30 @@ pub fn shift(ws: &mut [u32], p: usize, q: usize, s: usize)
     while p < w {
         w -= 1;
         ws[w + s] = ws[w];
+    }
+}
+
+// Moves four words from word w on up by s words.
+fn four_up(ws: &mut [u32], w: usize, s: usize)
+    requires { ⌜ w + 4 + s ≤ length (now ws) ⌝ }
+    ensures { λ _. ⌜ now (ws .exit) ≡ putAt (w + s) (part w 4 (now (ws .entry))) (now (ws .entry)) ⌝ }
+{
+    ws[w + 3 + s] = ws[w + 3];
+    ws[w + 2 + s] = ws[w + 2];
+    ws[w + 1 + s] = ws[w + 1];
+    ws[w + s] = ws[w];
+}
+
+// As shift, four words a turn, to make room for s words from word p on: what stands there then is left open, for up to s words below p
+// may have moved along. Of slots of four words each turn moves one, by one load and one store.
+pub fn open_gap(ws: &mut [u32], p: usize, q: usize, s: usize)
+    requires { ⌜ (3 ≤ p) × (p ≤ q) × (q + s ≤ length (now ws)) × (2 ≤ s) × (s ≤ 4) × ((q - p) % 2 ≤ s - 2) ⌝ }
+    ensures { λ _. ⌜ ((x : List ℕ) → length x ≡ s → putAt p x (now (ws .exit)) ≡ putAt p x (putAt (p + s) (part p (q - p) (now (ws .entry))) (now (ws .entry)))) ⌝ }
+{
+    let mut w = q;
+    while p < w {
+        w -= 4;
+        four_up(ws, w, s);
     }
 }
 

@@ -2,10 +2,10 @@
 use Prim.Native.Nat.{_+_, _*_, _≤_}
 use mathlib.Core.Path.{_∙_}
 use native.Mathlib.Omega.{arith}
-use lib.ListN.{length, getD, length-set}
+use lib.ListN.{length, getD, take, length-set}
 use Rattle.laws.specs.Lists.{rows-le}
 use Rattle.laws.specs.Changes.{insert-words}
-use Rattle.node_write.proofs.WriteLaws.{front-length}
+use Rattle.node_write.proofs.WriteLaws.{front-length, even-two}
 use Rattle.node.specs.Shaped.{whole, slot-in}
 use Rattle.node_write.proofs.write.insert.Statement.{statement}
 use Rattle.node_write.proofs.write.insert.Tie as tie
@@ -33,15 +33,25 @@ mul-q c = omega (arith, room (c .before .before))
 add-q : tie.Need-add-q
 add-q c = omega (arith, room (c .before .before))
 
-shift-requires : tie.Need-shift-requires
-shift-requires c κs = omega (arith, room (c .before .before .before))
+open-gap-requires : tie.Need-open-gap-requires
+open-gap-requires c κs =
+    let s = c .before .before .before in
+    let r = room s in
+    let shaped = s .pre .0 in (
+      omega arith,
+      omega (arith, r),
+      omega (arith, r),
+      omega (arith, shaped .columns),
+      omega (arith, shaped .narrow),
+      even-two (s .args .i) (getD (s .args .node .now) 0 0) (s .args .g .stride) (shaped .columns),
+    )
 
 put-slot-requires : tie.Need-put-slot-requires
 put-slot-requires c κs =
     let pre = c .before .before .before .before .before .before .before .pre in
     let before = c .before .before .before .before .before .before .before in
-    let shift = c .before .before .before .shift in
-    (pre .0, omega (arith, room before, shift .kept .0), pre .4)
+    let open-gap = c .before .before .before .open-gap in
+    (pre .0, omega (arith, room before, open-gap .kept .0), pre .4)
 
 add-node : tie.Need-add-node
 add-node c =
@@ -51,19 +61,20 @@ add-node c =
 slice-write-node : tie.Need-slice-write-node
 slice-write-node c =
     let before = c .before .before .before .before .before .before .before .before .before .before in
-    let shift = c .before .before .before .before .before .before .shift in
-    omega (arith, room before, c .before .before .put-slot .kept .0, shift .kept .0)
+    let open-gap = c .before .before .before .before .before .before .open-gap in
+    omega (arith, room before, c .before .before .put-slot .kept .0, open-gap .kept .0)
 
 same-length : tie.Need-same-length
 same-length c =
-    let shift = c .before .before .before .before .before .before .shift in
-    simp length-set (c .before .before .put-slot .kept .0 ∙ shift .kept .0)
+    let open-gap = c .before .before .before .before .before .before .open-gap in
+    simp length-set (c .before .before .put-slot .kept .0 ∙ open-gap .kept .0)
 
 returns : tie.Need-returns
 returns c =
     let s = c .before .before .before .before .before .before .before .before .before .before in
-    rw (c .before .before .put-slot .ensures, c .before .before .before .before .before .before .shift .ensures)
-    (insert-words _ _ _ (whole _ _ (s .pre .0) (s .pre .1)) _ _ (front-length (s .args .g .stride) (s .args .x .now) (omega (arith, s .pre .0, s .pre .4))) (s .pre .2) (s .pre .3))
+    let long = front-length (s .args .g .stride) (s .args .x .now) (omega (arith, s .pre .0, s .pre .4)) in
+    rw (c .before .before .put-slot .ensures, c .before .before .before .before .before .before .open-gap .ensures (take (s .args .g .stride) (s .args .x .now)) long)
+    (insert-words _ _ _ (whole _ _ (s .pre .0) (s .pre .1)) _ _ long (s .pre .2) (s .pre .3))
 
 pub insert-spec : {M : Type 1} → statement M
 insert-spec =
@@ -75,7 +86,7 @@ insert-spec =
     cast-q
     mul-q
     add-q
-    shift-requires
+    open-gap-requires
     put-slot-requires
     add-node
     slice-write-node
