@@ -74,12 +74,15 @@ impl<const N: usize> Calls for Port<N> {
     fn update(&mut self, at: Cursor, lengths: [u32; 3]) -> u32 {
         done(self.0.update(at, three(lengths)))
     }
+    // Both are compiled into a driver that times them: out of line, they would hand the answer over once more, through memory.
+    #[inline(always)]
     fn insert(&mut self, before: Option<Cursor>, lengths: [u32; 3]) -> (u32, u32) {
         done(match self.1 {
             None => self.0.insert(before, three(lengths)),
             Some(seat) => self.0.insert_for(seat, before, three(lengths)),
         })
     }
+    #[inline(always)]
     fn split_entry(&mut self, at: Cursor, lengths: [u32; 3], before: bool) -> (u32, [Cursor; 2]) {
         done(match self.1 {
             None => self.0.split_entry(at, three(lengths), before),
