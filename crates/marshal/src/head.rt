@@ -7,7 +7,7 @@ use model::number::NodeNo;
 ghost use mathlib.Core.Path.{_≡_};
 ghost use mathlib.Core.Bool.{true, _||_};
 ghost use Prim.Native.Nat.{_<_};
-ghost use lib.Dec.{ltb};
+ghost use lib.Dec.{ltb, eqb};
 ghost use mathlib.Core.List.{[], _∷_, _++_};
 ghost use lib.ListN.{length, getD, take, drop, replicate};
 ghost use lib.Seq.{sets};
@@ -135,6 +135,13 @@ fn present_of(finger: Held) -> u32
         Held::Absent => 0,
         Held::At(f) => 1,
     }
+}
+
+// Whether there is a finger.
+pub fn is_held(finger: Held) -> bool
+    ensures { λ r. ⌜ r ≡ eqb (presentOf finger) 1 ⌝ }
+{
+    present_of(finger) == 1
 }
 
 // The finger's words: zeros where there is none.
@@ -314,7 +321,7 @@ pub fn settle_finger(head: &mut [u32], number: u32, h: Head)
     }
 }
 
-// The same after a lookup; stayed: the finger stayed in its leaf.
+// The same after a call that may leave the finger in its leaf; stayed: it did.
 pub fn settle_found(head: &mut [u32], number: u32, h: Head, stayed: bool)
     requires { ⌜ (length (now head) ≡ 36) × (getD (now head) 17 0 < 4294967296) × (number ≡ 0 → h ≡ withFinger (h .finger) (headFrom (now head))) × (stayed ≡ true → InLeaf (h .finger) (now head)) ⌝ }
     ensures { λ _. ⌜ now (head .exit) ≡ headAfter number h (now (head .entry)) ⌝ }

@@ -1,20 +1,19 @@
--- What a call leaves of the head: a lookup, other lengths and a repair all but the finger. Assumes nothing.
--- What a call leaves of the head: a lookup and other lengths all but the finger, and of that a lookup within its leaf the most. Assumes nothing.
+-- What a call leaves of the head: a lookup, other lengths and a repair all but the finger, and of that the most where it stays in its leaf. Assumes nothing.
 use mathlib.Core.Path.{_≡_, refl, sym, ap, subst, _∙_}
 use mathlib.Core.Bool.{Bool, true, false, cond, _&&_}
 use mathlib.Core.List.{List}
 use Prim.Native.Nat.{ℕ, _≤_}
 use native.Mathlib.Omega.{arith}
-use lib.Dec.{eqb}
+use lib.Dec.{eqb, ltb}
 use lib.ListN.{getD}
-use borrow.Author.Tests.{eqb-false}
+use borrow.Author.Tests.{eqb-false, eqb-true}
 use Rattle.model.specs.declared.shape.Kind.{Kind}
 use Rattle.model.specs.declared.shape.Shape.{Shape}
 use Rattle.model.specs.Lists.{Cause, refusal}
 use Rattle.model.specs.Node.{lengths, start, minus}
 use Rattle.model.specs.State.{State, state, nodeAt}
 use Rattle.model.specs.Climb.{climbUp}
-use Rattle.model.specs.Locate.{servedBy, fromRoot}
+use Rattle.model.specs.Locate.{servedBy, fromRoot, rewound, changing}
 use Rattle.model.specs.Place as place
 use Rattle.model.specs.Place.{Change, withFinger}
 use Rattle.model.specs.Refuse.{shapeOf, opening}
@@ -38,55 +37,79 @@ use Rattle.model.specs.declared.answer.Located.the-variants as located
 use Rattle.place.specs.Asked.{asked}
 use Rattle.calls_size.specs.Size as size
 use Rattle.calls_look.specs.Lookup.{Stayed}
-use Rattle.marshal.specs.Flat.{headFrom, fingerFrom, heldFrom, InLeaf}
+use Rattle.marshal.specs.Flat.{headFrom, fingerFrom, heldFrom, presentOf, InLeaf}
 
 -- t has the head of s but for the finger
 abbrev Fingered : State → State → Type 0
 Fingered s t = t .head ≡ withFinger (t .head .finger) (s .head)
 
-module _ {A : Type 0} (s : State) (refuse : ℕ → A) where
-  unless-fingered : (cs : List Cause) (r : Reply A) → Fingered s (r .after) → Fingered s (calls.unless cs (λ n. reply s (refuse n)) r .after)
-  unless-fingered cs r h = go (eqb (refusal cs) 0)
+-- t is gone, or is a finger in the leaf in which f was
+abbrev Left : Held → Held → Type 0
+Left f held.Absent = Unit {0}
+Left f (held.At m) = Stayed f (held.At m)
+
+left-same : (f : Held) → Left f f
+left-same held.Absent = tt
+left-same (held.At m) = record { view = refl; leaf = refl; start = refl; effect = refl; prepare = refl }
+
+left-changing : (k i : ℕ) (f : Held) → Left f (changing k i f)
+left-changing k i held.Absent = tt
+left-changing k i (held.At m) = go (eqb (m .leaf) k) (ltb i (m .slot))
+  where
+    go : (a b : Bool) → Left (held.At m) (cond a (cond b (held.At (rewound m)) (held.At m)) held.Absent)
+    go true true = record { view = refl; leaf = refl; start = refl; effect = refl; prepare = refl }
+    go true false = left-same (held.At m)
+    go false b = tt
+
+-- what is so of the head before is so of the head of a refused call
+module _ {A : Type 0} (s : State) (refuse : ℕ → A) (P : Head → Type 0) (p : P (s .head)) where
+  unless-kept : (cs : List Cause) (r : Reply A) → P (r .after .head) → P (calls.unless cs (λ n. reply s (refuse n)) r .after .head)
+  unless-kept cs r h = go (eqb (refusal cs) 0)
     where
-      go : (b : Bool) → Fingered s (cond b r (reply s (refuse (refusal cs))) .after)
+      go : (b : Bool) → P (cond b r (reply s (refuse (refusal cs))) .after .head)
       go true = h
-      go false = refl
+      go false = p
 
-  settled-fingered : (r : Change) (a : A) → Fingered s (r .state) → Fingered s (calls.settled s r refuse a .after)
-  settled-fingered r a h = go (eqb (r .number) 0)
+  settled-kept : (r : Change) (a : A) → P (r .state .head) → P (calls.settled s r refuse a .after .head)
+  settled-kept r a h = go (eqb (r .number) 0)
     where
-      go : (b : Bool) → Fingered s (cond b (reply (r .state) a) (reply (state (s .head) (r .state .leaves) (r .state .inners) (r .state .homes)) (refuse (r .number))) .after)
+      go : (b : Bool) → P (cond b (reply (r .state) a) (reply (state (s .head) (r .state .leaves) (r .state .inners) (r .state .homes)) (refuse (r .number))) .after .head)
       go true = h
-      go false = refl
+      go false = p
 
-module _ (g : Shape) (s : State) where
-  replace-fingered : (k i : ℕ) (ls : List ℕ) → Fingered s (place.replace g s k i ls .state)
-  unfolding place.replace
-  replace-fingered k i ls = refl
+module _ (g : Shape) (P : Head → Type 0) where
+  summed-kept : (r : Change) (q : Sum × List ℕ) → P (r .state .head) → P (place.summed g r q .0 .state .head)
+  summed-kept r (sum.Is n, xs) h = h
+  summed-kept r (sum.Broken, xs) h = h
 
-  summed-fingered : (r : Change) (p : Sum × List ℕ) → Fingered s (r .state) → Fingered s (place.summed g r p .0 .state)
-  summed-fingered r (sum.Is n, xs) h = h
-  summed-fingered r (sum.Broken, xs) h = h
-
-  climb-fingered : (e : ℕ) (delta : List ℕ) (r : Change) → Fingered s (r .state) → Fingered s (place.climb g e delta r .0 .state)
+  climb-kept : (e : ℕ) (delta : List ℕ) (r : Change) → P (r .state .head) → P (place.climb g e delta r .0 .state .head)
   unfolding place.climb
-  climb-fingered e delta r h =
+  climb-kept e delta r h =
       let m = nodeAt g (r .leaf) (r .state .leaves) in
       go (eqb (r .number) 0) (climbUp g e delta (r .state .head .levels) (m .parent) (m .at) (start e (r .slot) m) (r .state .inners))
     where
-      go : (b : Bool) (p : Sum × List ℕ) → Fingered s (cond b (place.summed g r p) (r, 0) .0 .state)
-      go true p = summed-fingered r p h
-      go false p = h
+      go : (b : Bool) (q : Sum × List ℕ) → P (cond b (place.summed g r q) (r, 0) .0 .state .head)
+      go true q = summed-kept r q h
+      go false q = h
+
+-- h is k but for the finger, which stayed in its leaf or is gone
+abbrev Refingered : Head → Head → Type 0
+Refingered k h = (h ≡ withFinger (h .finger) k) × Left (k .finger) (h .finger)
 
 module _ (K : Kind) (s : State) where
-  pub resize-fingered : (b : Bool) (c : Cursor) (l : List ℕ) → Fingered s (size.resize K b s c l .after)
-  resize-fingered b c l =
+  replace-left : (g : Shape) (k i : ℕ) (ls : List ℕ) → Refingered (s .head) (place.replace g s k i ls .state .head)
+  unfolding place.replace
+  replace-left g k i ls = (refl, left-changing k i (s .head .finger))
+
+  pub resize-left : (b : Bool) (c : Cursor) (l : List ℕ) → Refingered (s .head) (size.resize K b s c l .after .head)
+  resize-left b c l =
       let g = shapeOf K (s .head) in
       let r = calls.resized K s c l in
       let a = number.Is (asked b (r .1)) in
-      unless-fingered s number.Refused (calls.resizeCauses K s c l) (calls.settled s (r .0) number.Refused a)
-      (settled-fingered s number.Refused (r .0) a
-      (climb-fingered g s (K .effect) (minus l (lengths (calls.slotAt K s c))) (place.replace g s (c .leaf .0) (c .slot) l) (replace-fingered g s (c .leaf .0) (c .slot) l)))
+      let same : Refingered (s .head) (s .head) = (refl, left-same (s .head .finger)) in
+      unless-kept s number.Refused (Refingered (s .head)) same (calls.resizeCauses K s c l) (calls.settled s (r .0) number.Refused a)
+      (settled-kept s number.Refused (Refingered (s .head)) same (r .0) a
+      (climb-kept g (Refingered (s .head)) (K .effect) (minus l (lengths (calls.slotAt K s c))) (place.replace g s (c .leaf .0) (c .slot) l) (replace-left g (c .leaf .0) (c .slot) l)))
 
   search-fingered : (b : Search) → Fingered s (calls.bySearch s b .after)
   search-fingered (search.At f offset) = refl
@@ -105,7 +128,7 @@ module _ (K : Kind) (s : State) where
       let g = shapeOf K h in
       let a = servedBy v (K .effect) g (h .finger) (h .leaves) x (s .leaves) in
       let b = fromRoot v (K .effect) g (h .levels) (h .root .0) (h .leaves) x (s .leaves) (s .inners) in
-      unless-fingered s located.Refused (opening K s) (calls.byFinger s a b) (found-fingered a b)
+      unless-kept s located.Refused (λ h′. h′ ≡ withFinger (h′ .finger) h) refl (opening K s) (calls.byFinger s a b) (found-fingered a b)
 
   mended-fingered : (fit : Bool) → Fingered s (mended.mendIf K fit s .after)
   unfolding mend
@@ -117,12 +140,21 @@ module _ (K : Kind) (s : State) where
   repair-fingered b =
       let h = s .head in
       let fit = isFit K s && isFair (h .limit) (h .entries) b in
-      unless-fingered s number.Refused (areaCauses K (h .fan) (h .limit) (s .leaves) (s .inners) (s .homes)) (mended.mendIf K fit s) (mended-fingered fit)
+      unless-kept s number.Refused (λ h′. h′ ≡ withFinger (h′ .finger) h) refl (areaCauses K (h .fan) (h .limit) (s .leaves) (s .inners) (s .homes)) (mended.mendIf K fit s) (mended-fingered fit)
 
 -- the same of a reply's head h, where the call was given the head k of the words w
 module _ {A : Type 0} (w : List ℕ) (k h : Head) (ls xs hs ls′ xs′ hs′ : List ℕ) (a : A) (y : Reply A) (ek : k ≡ headFrom w) (e : reply (state h ls′ xs′ hs′) a ≡ y) where
   pub finger-alone : Fingered (state k ls xs hs) (y .after) → h ≡ withFinger (h .finger) (headFrom w)
   finger-alone f = subst (λ (z : Reply A). Fingered (state k ls xs hs) (z .after)) (sym e) f ∙ ap (withFinger (h .finger)) ek
+
+-- and of its finger
+module _ {A : Type 0} (k h : Head) (ls xs hs : List ℕ) (a : A) (y : Reply A) (e : reply (state h ls xs hs) a ≡ y) where
+  pub held-left : Refingered k (y .after .head) → presentOf (h .finger) ≡ 1 → Stayed (k .finger) (h .finger)
+  held-left f p = go (h .finger) (subst (λ (z : Reply A). Refingered k (z .after .head)) (sym e) f .1) p
+    where
+      go : (t : Held) → Left (k .finger) t → presentOf t ≡ 1 → Stayed (k .finger) t
+      go held.Absent q z = absurd (omega (arith, z))
+      go (held.At m) q z = q
 
 -- a finger that stayed in its leaf: the words w that aren't written are its own
 module _ (w : List ℕ) (l : getD w 7 0 ≤ 1) where

@@ -18,7 +18,8 @@ use marshal::given::target_from;
 use marshal::head::bad_flag;
 use marshal::head::bad_seated_flag;
 use marshal::head::head_from;
-use marshal::head::settle_finger;
+use marshal::head::is_held;
+use marshal::head::settle_found;
 use marshal::head::settle_grown;
 ghost use mathlib.Core.Path.{_≡_};
 ghost use Rattle.marshal.specs.Flat.{cursorFrom, lengthsFrom};
@@ -59,7 +60,9 @@ pub extern "C" fn smelvock_resize(
     let after = r.head;
     let answer = r.answer;
     let a = number_of(answer);
-    settle_finger(head, a.number, after);
+    let finger = after.finger;
+    let held = is_held(finger);
+    settle_found(head, a.number, after, held);
     a
 }
 
