@@ -112,6 +112,26 @@ pub fn find_in(
     node::read::find(&area[a..e], g, view, effect, from, index, effects, prepares)
 }
 
+// The same from the first slot on, for the way down, which passes most slots.
+pub fn find_first_in(
+    area: &[u32],
+    g: Shape,
+    view: usize,
+    effect: usize,
+    k: u32,
+    index: u32,
+    effects: u64,
+    prepares: u64,
+) -> Found
+    requires { ⌜ Area g (length (now area)) × (k < g .nodes) × (view + 1 < g .stride) × (effect + 1 < g .stride) × (nodeAt g k (now area) .len ≤ g .fan) × (effects ≤ 281474976710656) × (prepares ≤ 281474976710656) ⌝ }
+    ensures { λ r. ⌜ FoundIn effects prepares r (findFrom view effect 0 index effects prepares (used (nodeAt g k (now (area .entry))))) ⌝ }
+{
+    let size = g.size;
+    let a = k as usize * size;
+    let e = a + size;
+    node::read::find_first(&area[a..e], g, view, effect, index, effects, prepares)
+}
+
 // Lengths added to those in slot i of node k.
 pub fn raise_in(area: &mut [u32], g: Shape, delta: &[u32; 3], k: u32, i: u32)
     requires { ⌜ Area g (length (now area)) × (k < g .nodes) × (i < g .fan) × (length (now delta) ≡ 3) ⌝ }

@@ -1,5 +1,6 @@
 // The search from the root.
 use area::word::child_of;
+use area::word::find_first_in;
 use area::word::find_in;
 use area::word::len_of;
 use model::head::Finger;
@@ -47,7 +48,7 @@ pub fn descend(
                 passed: 0,
             };
         }
-        let found = find_in(inners, g, view, effect, node, 0, rest, effects, prepares);
+        let found = find_first_in(inners, g, view, effect, node, rest, effects, prepares);
         let Found::At(slot, offset, before, prior) = found else {
             if n == levels {
                 return Way {

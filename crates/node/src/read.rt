@@ -99,6 +99,90 @@ pub fn find(
     Found::Nothing
 }
 
+// The same from the first slot on, in prepare: its lengths before the slot are what the index has lost.
+fn find_prepare(
+    node: &[u32],
+    g: Shape,
+    effect: usize,
+    index: u32,
+    effects: u64,
+    prepares: u64,
+) -> Found
+    requires { ⌜ Shaped g × (length (now node) ≡ g .size) × (effect + 1 < g .stride) × (getD (now node) 0 0 ≤ g .fan) × (effects ≤ 2 ^ 48) × (prepares ≤ 2 ^ 48) ⌝ }
+    ensures { λ r. ⌜ r ≡ findFrom 0 effect 0 index effects prepares (used (nodeOf (g .stride) (g .fan) (now (node .entry)))) ⌝ }
+{
+    let stride = g.stride;
+    let len = node[0] as usize;
+    let mut rest = index;
+    let mut sum = effects;
+    let mut p: usize = 4;
+    let mut k: usize = 0;
+    while k < len {
+        let here = node[p];
+        if rest < here {
+            return Found::At(k, rest, sum, prepares + wide(index - rest));
+        }
+        rest -= here;
+        sum += wide(node[p + effect]);
+        p += stride;
+        k += 1;
+    }
+    Found::Nothing
+}
+
+// The same in effect.
+fn find_effect(
+    node: &[u32],
+    g: Shape,
+    effect: usize,
+    index: u32,
+    effects: u64,
+    prepares: u64,
+) -> Found
+    requires { ⌜ Shaped g × (length (now node) ≡ g .size) × (effect + 1 < g .stride) × (getD (now node) 0 0 ≤ g .fan) × (effects ≤ 2 ^ 48) × (prepares ≤ 2 ^ 48) ⌝ }
+    ensures { λ r. ⌜ r ≡ findFrom effect effect 0 index effects prepares (used (nodeOf (g .stride) (g .fan) (now (node .entry)))) ⌝ }
+{
+    let stride = g.stride;
+    let len = node[0] as usize;
+    let mut rest = index;
+    let mut sum = prepares;
+    let mut p: usize = 4;
+    let mut k: usize = 0;
+    while k < len {
+        let here = node[p + effect];
+        if rest < here {
+            return Found::At(k, rest, effects + wide(index - rest), sum);
+        }
+        rest -= here;
+        sum += wide(node[p]);
+        p += stride;
+        k += 1;
+    }
+    Found::Nothing
+}
+
+// The same in any view: two sums a slot are faster than three.
+pub fn find_first(
+    node: &[u32],
+    g: Shape,
+    view: usize,
+    effect: usize,
+    index: u32,
+    effects: u64,
+    prepares: u64,
+) -> Found
+    requires { ⌜ Shaped g × (length (now node) ≡ g .size) × (view + 1 < g .stride) × (effect + 1 < g .stride) × (getD (now node) 0 0 ≤ g .fan) × (effects ≤ 2 ^ 48) × (prepares ≤ 2 ^ 48) ⌝ }
+    ensures { λ r. ⌜ r ≡ findFrom view effect 0 index effects prepares (used (nodeOf (g .stride) (g .fan) (now (node .entry)))) ⌝ }
+{
+    if view == 0 {
+        return find_prepare(node, g, effect, index, effects, prepares);
+    }
+    if view == effect {
+        return find_effect(node, g, effect, index, effects, prepares);
+    }
+    find(node, g, view, effect, 0, index, effects, prepares)
+}
+
 // The slot that holds the child, and how many slots were read to know it (Node::index_of): the loop ends where the child is met.
 pub fn index_of(node: &[u32], g: Shape, child: u32) -> Scan
     requires { ⌜ Shaped g × (length (now node) ≡ g .size) × (getD (now node) 0 0 ≤ g .fan) ⌝ }

@@ -84,11 +84,11 @@ returns c =
     (sym (descend-broken _ _ (args .g) _ _ _ _ _ _ _ (c .before .before .loop-test .taken) (sym (c .before .sized .ensures) ∙ not-true _ (c .if1 .taken))) ∙ the-loop .inv .3)
     (λ l r a b q. broken-apart l r a b q)
 
-find-in-requires : tie.Need-find-in-requires Inv-loop μ-loop
-find-in-requires c κs =
+find-first-in-requires : tie.Need-find-first-in-requires Inv-loop μ-loop
+find-first-in-requires c κs =
     let s = c .before .before .before .before .before in
     let t = sized-in (s .args .g) _ _ (turn c) in
-    (s .pre .0, t .0, s .pre .1, s .pre .2, t .1, omega arith, omega (arith, s .pre .3), omega (arith, s .pre .3))
+    (s .pre .0, t .0, s .pre .1, s .pre .2, t .1, omega (arith, s .pre .3), omega (arith, s .pre .3))
 
 enum-known-found : tie.Need-enum-known-found Inv-loop μ-loop
 enum-known-found c = search needs
@@ -102,7 +102,7 @@ returns-2 c =
     let l = c .before .before .before .before .before .before .before .loop in
     lost _ _ (s .args .g) _ _ _ _ _
     (sym (descend-miss _ _ (s .args .g) _ _ _ _ _ _ _ (c .before .before .before .before .before .before .loop-test .taken) (turn (c .before .before .before .before))
-    (sym (c .before .before .before .find-in .ensures .finds) ∙ c .before .enum-told .given .1)
+    (sym (c .before .before .before .find-first-in .ensures .finds) ∙ c .before .enum-told .given .1)
     ∙ rw (le-ltb (l .n) (s .args .levels) (omega (arith, c .if2 .taken)))) ∙ l .inv .3) (λ l r a b q. nothing-apart l r a b q)
 
 returns-3 : tie.Need-returns-3 Inv-loop μ-loop
@@ -111,7 +111,7 @@ returns-3 c =
     let l = c .before .before .before .before .before .before .before .loop in
     lost _ _ (s .args .g) _ _ _ _ _
     (sym (descend-miss _ _ (s .args .g) _ _ _ _ _ _ _ (c .before .before .before .before .before .before .loop-test .taken) (turn (c .before .before .before .before))
-    (sym (c .before .before .before .find-in .ensures .finds) ∙ c .before .enum-told .given .1)
+    (sym (c .before .before .before .find-first-in .ensures .finds) ∙ c .before .enum-told .given .1)
     ∙ rw (lt-ltb (l .n) (s .args .levels) (omega (arith, c .if2 .left)))) ∙ l .inv .3) (λ l r a b q. broken-apart l r a b q)
 
 child-of-requires : tie.Need-child-of-requires Inv-loop μ-loop
@@ -122,7 +122,7 @@ child-of-requires c κs =
       t .0,
       omega (
         arith,
-        used-ranged (s .args .g) _ _ _ 0 _ _ _ _ (t .1) (omega arith) .slot _ _ _ _ (sym (c .before .before .before .find-in .ensures .finds) ∙ c .before .found .given .1),
+        used-ranged (s .args .g) _ _ _ 0 _ _ _ _ (t .1) (omega arith) .slot _ _ _ _ (sym (c .before .before .before .find-first-in .ensures .finds) ∙ c .before .found .given .1),
         t .1,
       ),
     )
@@ -138,7 +138,7 @@ add-passed c =
       s .pre .0 .shaped,
       s .pre .3,
       l .inv .4,
-      found-in (s .args .view) (s .args .effect) (s .args .g) (l .node) (l .rest) (l .effects) (l .prepares) (s .args .inners .now) _ _ _ _ (sym (c .before .before .before .before .find-in .ensures .finds) ∙ c .before .before .found .given .1),
+      found-in (s .args .view) (s .args .effect) (s .args .g) (l .node) (l .rest) (l .effects) (l .prepares) (s .args .inners .now) _ _ _ _ (sym (c .before .before .before .before .find-first-in .ensures .finds) ∙ c .before .before .found .given .1),
     )
 
 sub-n : tie.Need-sub-n Inv-loop μ-loop
@@ -153,8 +153,8 @@ loop-again c =
     let l = c .before .before .before .before .before .before .before .before .loop in
     let more = c .before .before .before .before .before .before .before .loop-test .taken in
     let t = sized-in (s .args .g) _ _ (turn (c .before .before .before .before .before)) in
-    let found = sym (c .before .before .before .before .find-in .ensures .finds) ∙ c .before .before .found .given .1 in
-    let few = c .before .before .before .before .find-in .ensures .few _ _ _ _ (c .before .before .found .given .1) in (
+    let found = sym (c .before .before .before .before .find-first-in .ensures .finds) ∙ c .before .before .found .given .1 in
+    let few = c .before .before .before .before .find-first-in .ensures .few _ _ _ _ (c .before .before .found .given .1) in (
       omega arith,
       omega (arith, few .0),
       omega (arith, few .1),
@@ -192,7 +192,7 @@ descend-spec =
     loop-holds
     sized-requires
     returns
-    find-in-requires
+    find-first-in-requires
     enum-known-found
     enum-told
     returns-2
