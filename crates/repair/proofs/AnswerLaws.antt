@@ -25,8 +25,8 @@ use Rattle.open.specs.declared.open.Opened.the-variants.{Good, Refused}
 use Rattle.open.proofs.Causes.{good-shape, good-number, call-refused, call-good}
 use Rattle.open.proofs.OpenLaws.{areasOf}
 use Rattle.calls_make.proofs.BeginLaws.{room}
-use Rattle.theory.specs.Make.{Sizes, sizes-of}
-use Rattle.theory.specs.MendFit.{areas-of, test-fit}
+use Rattle.theory.specs.CallMake.{Sizes, sizes-of}
+use Rattle.theory.specs.RepairTest.{areas-of, test-fit}
 use Rattle.repair_test.specs.Queue.{kidsOf}
 use Rattle.repair_test.specs.Reach.{Reached}
 use Rattle.repair_test.specs.Fit.{Fresh}

@@ -29,9 +29,9 @@ use Rattle.repair_write.specs.Leaves.{idIn, lenOf, LeavesGoal, LeavesDone}
 use Rattle.repair_write.specs.Nodes.{childIn, nodeOn, lenOn, NodesGoal, NodesDone}
 use Rattle.repair_write.proofs.NearLaws.{Put, kept-same, same-rows}
 use Rattle.repair_write.proofs.SlotLaws.{child-word, all-slots}
-use Rattle.theory.specs.MendLists.{In, Of, in-flat, in-range, in-range-below, Placed, only}
-use Rattle.theory.specs.MendSame.{inner-level, leaf-level, Slotted, slotted, Stored, stored}
-use Rattle.theory.specs.MendSlots.{found}
+use Rattle.theory.specs.RepairLists.{In, Of, in-flat, in-range, in-range-below, Placed, only}
+use Rattle.theory.specs.RepairUnique.{inner-level, leaf-level, Slotted, slotted, Stored, stored}
+use Rattle.theory.specs.RepairSlots.{found}
 use Rattle.repair.proofs.LeafGoal.{leaves-goal}
 use Rattle.repair.proofs.NodeGoal.{nodes-goal, same-level, whole, all-long, front-long, on}
 

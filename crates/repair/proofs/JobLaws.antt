@@ -21,11 +21,11 @@ use Rattle.laws.specs.Words.{length-put}
 use Rattle.node.specs.Shaped.{Shaped}
 use Rattle.area.specs.Area.{Area}
 use Rattle.tally.specs.Tally.{tallied}
-use Rattle.theory.specs.MendFits.{Fits, Areas}
-use Rattle.theory.specs.MendWords.{mend-right, mend-agrees}
-use Rattle.theory.specs.MendElse.{leaves-else, inners-else, homes-else, leaves-long, inners-long, homes-long}
-use Rattle.theory.specs.Mended.{root-first}
-use Rattle.theory.specs.MendSame.{level-below}
+use Rattle.theory.specs.RepairTrusted.{Fits, Areas}
+use Rattle.theory.specs.RepairWords.{mend-right, mend-agrees}
+use Rattle.theory.specs.RepairElse.{leaves-else, inners-else, homes-else, leaves-long, inners-long, homes-long}
+use Rattle.theory.specs.RepairNodes.{root-first}
+use Rattle.theory.specs.RepairUnique.{level-below}
 use Rattle.repair_test.specs.Queue.{kidsOf}
 use Rattle.repair_test.specs.Reach.{Reached}
 use Rattle.repair_write.specs.Blank.{Blank}

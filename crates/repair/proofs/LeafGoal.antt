@@ -18,10 +18,10 @@ use Rattle.node.specs.Shaped.{Shaped}
 use Rattle.repair_write.specs.Toward.{Goal, Empty}
 use Rattle.repair_write.specs.Leaves.{idIn, lenOf, LeavesGoal}
 use Rattle.repair_write.proofs.SlotLaws.{child-word}
-use Rattle.theory.specs.Neat.{neat-of}
-use Rattle.theory.specs.MendLists.{all-in, in-flat, in-map, In}
-use Rattle.theory.specs.MendSame.{leaf-level}
-use Rattle.theory.specs.MendSlots.{unused-words, in-at}
+use Rattle.theory.specs.WordNeat.{neat-of}
+use Rattle.theory.specs.RepairLists.{all-in, in-flat, in-map, In}
+use Rattle.theory.specs.RepairUnique.{leaf-level}
+use Rattle.theory.specs.RepairSlots.{unused-words, in-at}
 
 -- t is given, R aimed at
 module _ (views : ℕ) (h : Head) (ls xs hs lm xm hm : List ℕ) where

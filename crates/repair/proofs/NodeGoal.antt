@@ -27,10 +27,10 @@ use Rattle.repair_test.specs.Reach.{Reached, innersFrom}
 use Rattle.repair_write.specs.Toward.{Goal, slotAt, SlotAim, Ready, Empty}
 use Rattle.repair_write.specs.Nodes.{childIn, nodeOn, lenOn, Later, NodesGoal}
 use Rattle.repair_write.proofs.SlotLaws.{child-word}
-use Rattle.theory.specs.Neat.{neat-of}
-use Rattle.theory.specs.MendLists.{In, all-in, in-flat, in-range, in-children, getD-in}
-use Rattle.theory.specs.MendSame.{level-below, level-as, child-of, child-level}
-use Rattle.theory.specs.MendSlots.{unused-words, slot-is, Behind, behind, Stands, stands}
+use Rattle.theory.specs.WordNeat.{neat-of}
+use Rattle.theory.specs.RepairLists.{In, all-in, in-flat, in-range, in-children, getD-in}
+use Rattle.theory.specs.RepairUnique.{level-below, level-as, child-of, child-level}
+use Rattle.theory.specs.RepairSlots.{unused-words, slot-is, Behind, behind, Stands, stands}
 
 -- levels -----------------------------------------------------------------------------------------------------------------------------------------------
 

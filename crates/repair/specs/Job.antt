@@ -9,7 +9,7 @@ use Rattle.model.specs.Repair.{changes, sizesIn}
 use Rattle.model.specs.declared.head.Head.{Head}
 use Rattle.model.specs.declared.shape.Shape.{Shape}
 use Rattle.node.specs.Shaped.{Shaped}
-use Rattle.theory.specs.MendFits.{Fits, Areas}
+use Rattle.theory.specs.RepairTrusted.{Fits, Areas}
 use Rattle.repair_test.specs.Queue.{kidsOf}
 use Rattle.repair_test.specs.Reach.{Reached}
 

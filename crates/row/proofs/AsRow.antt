@@ -10,7 +10,7 @@ use Rattle.model.specs.Row.{Row, Answer, rowStep}
 use Rattle.model.specs.State.{State}
 use Rattle.model.specs.ById.{treeStep}
 use Rattle.model.specs.Promise.{Stands}
-use Rattle.theory.specs.Whole.{runs-alike, fan-kept, kept-of}
+use Rattle.theory.specs.TopById.{runs-alike, fan-kept, kept-of}
 use Rattle.row.specs.Run.{recordsOf, callsOf, written, left, fit, Ran, runOn, AsRow}
 use Rattle.row.proofs.Words.{Bytes, calls-words}
 

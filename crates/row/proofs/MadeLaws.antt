@@ -14,7 +14,7 @@ use Rattle.model.specs.Calls.{Reply, reply, make}
 use Rattle.model.specs.Promise.{Words, finally, Stands, Kept}
 use Rattle.model.specs.declared.answer.Outcome.{Outcome}
 use Rattle.model.specs.declared.answer.Outcome.the-variants as outcome
-use Rattle.theory.specs.Whole.{whole}
+use Rattle.theory.specs.TopById.{whole}
 use Rattle.row.specs.Run.{fit, Ran, ran, runOn, AsRow}
 use Rattle.row.specs.Made.{runMade, makeAndRun, firstLengths, doorTree, doorRow}
 use Rattle.row.proofs.AsRow.{as-row}

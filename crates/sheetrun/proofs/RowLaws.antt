@@ -13,7 +13,7 @@ use Rattle.model.specs.Row.{Row, Call, Entry, Answer, Moved, moved, unless, ove
 use Rattle.model.specs.State.{State}
 use Rattle.model.specs.Sheet.{pagesFor}
 use Rattle.model.specs.Promise.{finally, Stands}
-use Rattle.theory.specs.Agree.{count-is}
+use Rattle.theory.specs.CallSimulates.{count-is}
 use Rattle.row.specs.Made.{doorRow}
 use Rattle.sheetrun.specs.Turn.{leftRow}
 

@@ -20,7 +20,7 @@ use Rattle.model.specs.declared.answer.Outcome.{Outcome}
 use Rattle.model.specs.declared.answer.Number.{Number}
 use Rattle.model.specs.declared.answer.Number.the-variants as number
 use Rattle.laws.specs.Words.{length-part}
-use Rattle.theory.specs.Printed.{prints-row, print-leaves}
+use Rattle.theory.specs.CallPrint.{prints-row, print-leaves}
 use Rattle.text.specs.Text.{put}
 use Rattle.text.proofs.TextLaws.{behind}
 use Rattle.row.specs.Run.{recordsOf, callsOf, left, fit, Ran, ran, runOn, AsRow}

@@ -33,7 +33,7 @@ use Rattle.model.specs.declared.answer.Inserted.the-variants as inserted
 use Rattle.model.specs.declared.answer.Divided.{Divided}
 use Rattle.model.specs.declared.answer.Divided.the-variants as divided
 use Rattle.laws.specs.Words.{length-part, length-put, getD-part, put-same, getD-before, lent, lent-back}
-use Rattle.theory.specs.Fixed.{insert-fixed, split-entry-fixed}
+use Rattle.theory.specs.AnyFixed.{insert-fixed, split-entry-fixed}
 use Rattle.seating.specs.Words.{seatsFrom, seatsWords}
 use Rattle.seating.proofs.WriteLaws.{seats-back}
 use Rattle.marshal.specs.Flat.{headFrom, headWords, headAfter}

@@ -21,8 +21,8 @@ use Rattle.model.specs.ByCursor as by
 use Rattle.model.specs.ByCursor.{CursorCall, cursorStep, entryStep, meant, meantAll}
 use Rattle.model.specs.Promise.{CursorInWords, answers}
 use Rattle.model.specs.declared.answer.Target.the-variants as target
-use Rattle.theory.specs.WholeByCursor.{demand3-by-cursor}
-use Rattle.theory.specs.Example.{pair, areaWords, start, made, first-words, three}
+use Rattle.theory.specs.TopByCursor.{demand3-by-cursor}
+use Rattle.theory.specs.ExampleById.{pair, areaWords, start, made, first-words, three}
 
 -- an insert makes a cursor stale whose slot still holds its entry (3); a leaf not in use (13); a slot at its leaf's len (14); the cursors of a split
 -- used at once; of two bad cursors the first decides; too many line ends, whatever the cursor (10)

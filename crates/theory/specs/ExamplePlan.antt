@@ -23,7 +23,7 @@ use Rattle.model.specs.Plan.{PlanCall, InPlan, rowPlan, treePlan, PlanDemand}
 use Rattle.model.specs.declared.answer.Outcome.the-variants as outcome
 use Rattle.model.specs.declared.answer.Verdict.the-variants as verdict
 use Rattle.abstract_tree.specs.Lists.{All-append}
-use Rattle.theory.specs.PlanWhole.{plan-whole}
+use Rattle.theory.specs.TopPlan.{plan-whole}
 
 -- fan 4 and limit 6: three nodes of 3 + 4 × 3 words
 abbrev words : List ℕ

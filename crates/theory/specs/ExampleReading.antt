@@ -19,10 +19,10 @@ use Rattle.model.specs.Sound.{entriesOf}
 use Rattle.model.specs.declared.answer.Outcome.the-variants as outcome
 use Rattle.model.specs.Promise.{Words, InWords, Stands, answers, finally}
 use Rattle.model.specs.Reading.{Reads, effectOf, here, effectPart, Other, ProvidedOf, Provided, Agreement}
-use Rattle.theory.specs.Step.{step}
-use Rattle.theory.specs.Whole.{made}
-use Rattle.theory.specs.Example.{three}
-use Rattle.theory.specs.Agreement.{on-trees, words-here, agreement}
+use Rattle.theory.specs.CallById.{step}
+use Rattle.theory.specs.TopById.{made}
+use Rattle.theory.specs.ExampleById.{three}
+use Rattle.theory.specs.TopReading.{on-trees, words-here, agreement}
 
 -- nodes of 3 + 2 × fan words
 pub node-size : (fan limit : ℕ) → shape (stride reading) fan limit .size ≡ 3 + fan * 2

@@ -24,8 +24,8 @@ use Rattle.model.specs.declared.answer.Number.the-variants as number
 use Rattle.model.specs.declared.answer.Verdict.the-variants as verdict
 use Rattle.model.specs.Mend.{holder, depthFrom, fresh, putAll, putEach, deep, mend, isFit}
 use Rattle.model.specs.Repair.{Agrees, Agreeing, Mends, differ, changes, sizesIn, repairIf, repair}
-use Rattle.theory.specs.Audited.{audit-exactly}
-use Rattle.theory.specs.Repaired.{repairs}
+use Rattle.theory.specs.AuditExactly.{audit-exactly}
+use Rattle.theory.specs.RepairExactly.{repairs}
 
 abbrev tree : State
 tree = begun base 4 5 1 (3 ∷ 3 ∷ 1 ∷ []) (replicate 38 0) (replicate 38 0) (replicate 5 0)

@@ -33,9 +33,9 @@ use Rattle.model.specs.declared.seats.Seat.the-variants as seat
 use Rattle.model.specs.declared.answer.Target.the-variants as target
 use Rattle.model.specs.declared.answer.Outcome.the-variants as outcome
 use Rattle.model.specs.declared.answer.Verdict.the-variants as verdict
-use Rattle.theory.specs.Example.{pair, areaWords, first-words, three}
-use Rattle.theory.specs.SeatedRefused.{audit-seated}
-use Rattle.theory.specs.SeatedWhole.{seated-lists}
+use Rattle.theory.specs.ExampleById.{pair, areaWords, first-words, three}
+use Rattle.theory.specs.SeatRefused.{audit-seated}
+use Rattle.theory.specs.TopSeats.{seated-lists}
 
 -- seat 0 has a share of 1, seat 1 of 2
 abbrev shares : List ℕ

@@ -24,10 +24,10 @@ use Rattle.model.specs.ByCursor.{CursorCall, cursorStep}
 use Rattle.model.specs.Promise.{CursorInWords, answers, finally, Stands}
 use Rattle.model.specs.Stamp.{makes, makesAll, GoesRound, Stamped, restamped, SameById}
 use Rattle.model.specs.declared.answer.Target.the-variants as target
-use Rattle.theory.specs.Restamp.{same-by-id, any-stamp, same-row}
-use Rattle.theory.specs.AcrossReset.{never-again, goes-round, stamped}
-use Rattle.theory.specs.Example as example
-use Rattle.theory.specs.Example.{pair, areaWords, start, made, first-words, three, stands-start, sound-start, loose}
+use Rattle.theory.specs.StampById.{same-by-id, any-stamp, same-row}
+use Rattle.theory.specs.TopStamps.{never-again, goes-round, stamped}
+use Rattle.theory.specs.ExampleById as example
+use Rattle.theory.specs.ExampleById.{pair, areaWords, start, made, first-words, three, stands-start, sound-start, loose}
 
 -- a second entry, whose cursor bears the stamp 2; then a reset and another second entry: as many entries as before, and the stamp is 4
 abbrev sheet : List CursorCall

@@ -17,9 +17,9 @@ use Rattle.model.specs.Row.{Row, Entry, Moved, moved, done, refused, found, len
 use Rattle.model.specs.Choice.{behind, CouldHold, FirstToHold, LastToHold, Earliest, Latest}
 use Rattle.model.specs.Plan as plan
 use Rattle.model.specs.Plan.{idOnly, rowPlan, Ordered, ByChoice}
-use Rattle.theory.specs.Agree.{row-passed}
-use Rattle.theory.specs.Bounds.{Level, step-level}
-use Rattle.theory.specs.Numbers.{number-is}
+use Rattle.theory.specs.CallSimulates.{row-passed}
+use Rattle.theory.specs.RowBounds.{Level, step-level}
+use Rattle.theory.specs.RowNumbers.{number-is}
 use Rattle.theory.specs.PlanChoice.{upTo, Holds, holder, first-is, last-low, last-high, none-could, totals-high, earliest-is, latest-is}
 
 -- no lowest above a highest, as the kind tests it
