@@ -11,7 +11,7 @@ use Rattle.model.specs.Lists.{All}
 use Rattle.abstract_tree.specs.Lists.{cat, All-map, All-map₂, All-every, All-append, All-left, All-right, map-cong, cat-cong}
 use Rattle.abstract_tree.specs.Levels.{Slot, Area, told, said, Links, total, none, Parent, find-parent}
 use Rattle.abstract_tree.specs.Apart.{apart}
-use Rattle.abstract_tree.specs.Update.{SameOwn, Same, said-same, total-same, links-frame}
+use Rattle.abstract_tree.specs.Update.{SameOwn, SameNode, said-same, total-same, links-frame}
 use Rattle.abstract_tree.specs.Insert.{Trunk, get, Num, num-map, num-every, leaf-trans, inner-leaf, slotOf, insertChild, Into, Out, real, reals, insert-out}
 use Rattle.abstract_tree.specs.Halve.{growRoot, grow-out, halveAt, Halved, halve-step}
 
@@ -72,7 +72,7 @@ mid-into h s s₁ s₂ t t′ A a B sn P₁ p P₂ st io cp e1 hv o = into₂
     upper₂ : Links (total (s₂ .inner)) (s₂ .inner) (s₂ .inner) (s₂ .root) (P₁ ++ p ∷ s .next ∷ P₂) (o .st′)
     upper₂ = links-frame (total (s₁ .inner)) (total (s₂ .inner)) (s₂ .inner) (s₂ .inner) (s₂ .inner) (s₂ .inner) (s₂ .root) (P₁ ++ p ∷ s .next ∷ P₂) (o .st′) (o .links)
         (All-map (λ x. s₂ .inner .slots x ≡ s₁ .inner .slots x) (λ x. said (total (s₂ .inner)) (s₂ .inner) x ≡ said (total (s₁ .inner)) (s₂ .inner) x) (λ x z. said-same (total (s₁ .inner)) (total (s₂ .inner)) (s₂ .inner) (s₂ .inner) x (refl, refl) (total-same (s₁ .inner) (s₂ .inner) x z)) (P₁ ++ p ∷ s .next ∷ P₂) slots₂)
-        (All-every (All (Same (s₂ .inner) (s₂ .inner))) (λ Q. All-every (Same (s₂ .inner) (s₂ .inner)) (λ x. (refl, (refl, refl))) Q) (o .st′))
+        (All-every (All (SameNode (s₂ .inner) (s₂ .inner))) (λ Q. All-every (SameNode (s₂ .inner) (s₂ .inner)) (λ x. (refl, (refl, refl))) Q) (o .st′))
 
     le : s .next < s₂ .next
     le = omega (arith, o .grew)

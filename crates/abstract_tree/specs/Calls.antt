@@ -17,7 +17,7 @@ use Rattle.abstract_tree.specs.Update.{upd, upd-same, upd-other}
 use Rattle.abstract_tree.specs.Insert.{slotOf, lessen}
 use Rattle.abstract_tree.specs.Carry.{carry}
 use Rattle.abstract_tree.specs.Tree.{Tree, half, leafSlots, row, BodyAt, Right, Sound, to-body, same-row}
-use Rattle.abstract_tree.specs.Change.{withLeaf, rowWith, Change, change-body, order-nodup, row-change}
+use Rattle.abstract_tree.specs.Change.{withLeaf, rowWith, LeafChange, change-body, order-nodup, row-change}
 use Rattle.abstract_tree.specs.Edit.{leaf-here, set-change, put-change, divide-change, divided}
 use Rattle.abstract_tree.specs.Split.{splitFull, SplitAt, split-full}
 use Rattle.abstract_tree.specs.Finger.{changing-new, right-change, climb-at}
@@ -67,7 +67,7 @@ makeRoom s k j = elim (ltb (length (leafSlots s k)) (s .fan)) [
 ]
 
 -- the place p, in a tree that has s's row, stands between R₁ and R₂; a change there leaves the finger right
-pub record Room (ε : ℕ) (s : Tree) (p : Spot) (R₁ R₂ : List Slot) : Type 0 where
+pub record Between (ε : ℕ) (s : Tree) (p : Spot) (R₁ R₂ : List Slot) : Type 0 where
   pub A : List ℕ
   pub B : List ℕ
   pub st : List (List ℕ)
@@ -84,7 +84,7 @@ pub record Room (ε : ℕ) (s : Tree) (p : Spot) (R₁ R₂ : List Slot) : Type 
 
 -- the place as it stands
 pub here : (ε : ℕ) (s : Tree) (A : List ℕ) (k : ℕ) (B : List ℕ) (st : List (List ℕ)) (j : ℕ) → BodyAt s (A ++ k ∷ B) st → Right ε s (s .finger) → j ≤ length (leafSlots s k)
-    → Room ε s (spot s k j) (cat (s .body .leaf .slots) A ++ take j (leafSlots s k)) (drop j (leafSlots s k) ++ cat (s .body .leaf .slots) B)
+    → Between ε s (spot s k j) (cat (s .body .leaf .slots) A ++ take j (leafSlots s k)) (drop j (leafSlots s k) ++ cat (s .body .leaf .slots) B)
 here ε s A k B st j b r le = record {
   A = A;
   B = B;
@@ -105,8 +105,8 @@ pub record Done (ε : ℕ) (p : Spot) (R₁ : List Slot) (s′ : Tree) (new : Li
   pub is : row s′ ≡ new
   pub rank : (v : ℕ) → rankAt s′ v (p .leaf) (p .slot) ≡ sumBy (len v) R₁
 
-pub finish : (ε : ℕ) (s : Tree) (p : Spot) (R₁ R₂ : List Slot) (r : Room ε s p R₁ R₂) (ss : List Slot) (up : Area) (homes : ℕ → ℕ) (entries : ℕ)
-    → Change (p .tree) (r .A) (p .leaf) (r .B) (r .st) ss up homes entries
+pub finish : (ε : ℕ) (s : Tree) (p : Spot) (R₁ R₂ : List Slot) (r : Between ε s p R₁ R₂) (ss : List Slot) (up : Area) (homes : ℕ → ℕ) (entries : ℕ)
+    → LeafChange (p .tree) (r .A) (p .leaf) (r .B) (r .st) ss up homes entries
     → ((i : ℕ) → i ≤ p .slot → take i ss ≡ take i (leafSlots (p .tree) (p .leaf))) → p .slot < length ss
     → Done ε p R₁ (withLeaf (p .tree) (p .leaf) ss up homes entries (changing (p .leaf) (p .slot) (p .tree .finger))) (rowWith (p .tree) (r .A) ss (r .B))
 finish ε s p R₁ R₂ r ss up homes entries c kp lt =
@@ -134,7 +134,7 @@ regroup : (X T D Y : List Slot) → X ++ ((T ++ D) ++ Y) ≡ (X ++ T) ++ (D ++ Y
 regroup X T D Y = simp append-assoc
 
 -- insert at a place with room
-pub put-done : (ε : ℕ) (s : Tree) (p : Spot) (R₁ R₂ : List Slot) (r : Room ε s p R₁ R₂) (u : ℕ → ℕ)
+pub put-done : (ε : ℕ) (s : Tree) (p : Spot) (R₁ R₂ : List Slot) (r : Between ε s p R₁ R₂) (u : ℕ → ℕ)
     → length (leafSlots (p .tree) (p .leaf)) < p .tree .fan → s .entries < s .limit → ((v : ℕ) → sumBy (len v) (R₁ ++ slotOf (s .entries) u ∷ R₂) < 4294967296)
     → Done ε p R₁ (putIn (p .tree) (p .leaf) (p .slot) u) (R₁ ++ slotOf (s .entries) u ∷ R₂)
 put-done ε s p R₁ R₂ r u space few tot =
@@ -147,8 +147,8 @@ put-done ε s p R₁ R₂ r u space few tot =
     ∙ ap₂ (λ (X Y : List Slot). X ++ n ∷ Y) (r .front) (r .rest) ∙ ap (λ (i : ℕ). R₁ ++ slotOf i u ∷ R₂) (r .entries) in
     let c = put-change t (r .A) (p .leaf) (r .B) (r .st) (r .body) (take (p .slot) l) (drop (p .slot) l) u (sym (take-append-drop (p .slot) l)) space
     (let z = r .entries in let y = r .limit in omega arith) (λ v. rw rw1 (tot v)) in
-    let c′ : Change t (r .A) (p .leaf) (r .B) (r .st) ss (carried (λ v x. (x + u v) % 4294967296) t (p .leaf)) (upd (t .homes) (t .entries) (p .leaf)) (suc (t .entries))
-    = subst (λ (d : ℕ). Change t (r .A) (p .leaf) (r .B) (r .st) ss (carry (λ v x. (x + u v) % 4294967296) d (t .body .inner) (t .body .leaf .parent (p .leaf)) (t .body .leaf .place (p .leaf))) (upd (t .homes) (t .entries) (p .leaf)) (suc (t .entries))) (r .body .deep) c in
+    let c′ : LeafChange t (r .A) (p .leaf) (r .B) (r .st) ss (carried (λ v x. (x + u v) % 4294967296) t (p .leaf)) (upd (t .homes) (t .entries) (p .leaf)) (suc (t .entries))
+    = subst (λ (d : ℕ). LeafChange t (r .A) (p .leaf) (r .B) (r .st) ss (carry (λ v x. (x + u v) % 4294967296) d (t .body .inner) (t .body .leaf .parent (p .leaf)) (t .body .leaf .place (p .leaf))) (upd (t .homes) (t .entries) (p .leaf)) (suc (t .entries))) (r .body .deep) c in
     let d = finish ε s p R₁ R₂ r ss (carried (λ v x. (x + u v) % 4294967296) t (p .leaf)) (upd (t .homes) (t .entries) (p .leaf)) (suc (t .entries)) c′
     (λ i le. front-kept l (p .slot) (n ∷ drop (p .slot) l) (r .fits) i le) (past-front l (p .slot) n (drop (p .slot) l) (r .fits)) in
     record { sound = d .sound; is = d .is ∙ rw1; rank = d .rank }
@@ -162,7 +162,7 @@ own p B e R₃ lt q =
     (head-eq-of-cons-eq z, tail-eq-of-cons-eq z)
 
 -- set the lengths of the entry at a place
-pub set-done : (ε : ℕ) (s : Tree) (p : Spot) (R₁ : List Slot) (e : Slot) (R₃ : List Slot) (r : Room ε s p R₁ (e ∷ R₃)) (u : ℕ → ℕ)
+pub set-done : (ε : ℕ) (s : Tree) (p : Spot) (R₁ : List Slot) (e : Slot) (R₃ : List Slot) (r : Between ε s p R₁ (e ∷ R₃)) (u : ℕ → ℕ)
     → p .slot < length (leafSlots (p .tree) (p .leaf)) → ((v : ℕ) → sumBy (len v) (R₁ ++ slotOf (e .child) u ∷ R₃) < 4294967296)
     → Done ε p R₁ (setIn (p .tree) (p .leaf) (p .slot) u) (R₁ ++ slotOf (e .child) u ∷ R₃)
 set-done ε s p R₁ e R₃ r u lt tot =
@@ -177,8 +177,8 @@ set-done ε s p R₁ e R₃ r u lt tot =
     = regroup (cat (t .body .leaf .slots) (r .A)) (take (p .slot) l) (n ∷ drop (suc (p .slot)) l) (cat (t .body .leaf .slots) (r .B))
     ∙ ap₂ (λ (X Y : List Slot). X ++ n ∷ Y) (r .front) (o .1) ∙ ap (λ (x : Slot). R₁ ++ slotOf (x .child) u ∷ R₃) (o .0) in
     let c = set-change t (r .A) (p .leaf) (r .B) (r .st) (r .body) (take (p .slot) l) e₀ (drop (suc (p .slot)) l) u (split-at l (p .slot) noSlot lt) (λ v. rw rw1 (tot v)) in
-    let c′ : Change t (r .A) (p .leaf) (r .B) (r .st) ss (carried f t (p .leaf)) (t .homes) (t .entries)
-    = subst (λ (d : ℕ). Change t (r .A) (p .leaf) (r .B) (r .st) ss (carry f d (t .body .inner) (t .body .leaf .parent (p .leaf)) (t .body .leaf .place (p .leaf))) (t .homes) (t .entries)) (r .body .deep) c in
+    let c′ : LeafChange t (r .A) (p .leaf) (r .B) (r .st) ss (carried f t (p .leaf)) (t .homes) (t .entries)
+    = subst (λ (d : ℕ). LeafChange t (r .A) (p .leaf) (r .B) (r .st) ss (carry f d (t .body .inner) (t .body .leaf .parent (p .leaf)) (t .body .leaf .place (p .leaf))) (t .homes) (t .entries)) (r .body .deep) c in
     let d = finish ε s p R₁ (e ∷ R₃) r ss (carried f t (p .leaf)) (t .homes) (t .entries) c′
     (λ i le. front-kept l (p .slot) (n ∷ drop (suc (p .slot)) l) (r .fits) i le) (past-front l (p .slot) n (drop (suc (p .slot)) l) (r .fits)) in
     let d′ : Done ε p R₁ (setIn t (p .leaf) (p .slot) u) (rowWith t (r .A) ss (r .B))
@@ -194,7 +194,7 @@ past-divided true l j e u id X le = past-front l j (slotOf id u) (lessen e u ∷
 past-divided false l j e u id X le = past-front l j (lessen e u) (slotOf id u ∷ X) le
 
 -- split the entry at a place with room
-pub divide-done : (ε : ℕ) (before : Bool) (s : Tree) (p : Spot) (R₁ : List Slot) (e : Slot) (R₃ : List Slot) (r : Room ε s p R₁ (e ∷ R₃)) (u : ℕ → ℕ)
+pub divide-done : (ε : ℕ) (before : Bool) (s : Tree) (p : Spot) (R₁ : List Slot) (e : Slot) (R₃ : List Slot) (r : Between ε s p R₁ (e ∷ R₃)) (u : ℕ → ℕ)
     → p .slot < length (leafSlots (p .tree) (p .leaf)) → length (leafSlots (p .tree) (p .leaf)) < p .tree .fan → s .entries < s .limit → ((v : ℕ) → u v ≤ e .lens v)
     → Done ε p R₁ (divideIn before (p .tree) (p .leaf) (p .slot) u) (R₁ ++ divided before e u (s .entries) R₃)
 divide-done ε before s p R₁ e R₃ r u lt space few le =
@@ -214,14 +214,14 @@ divide-done ε before s p R₁ e R₃ r u lt space few le =
     record { sound = d .sound; is = d .is ∙ rw1; rank = d .rank }
 
 -- room is made
-pub record Made (ε : ℕ) (s : Tree) (k j : ℕ) (p : Spot) (R₁ R₂ : List Slot) : Type 0 where
-  pub room : Room ε s p R₁ R₂
+pub record RoomMade (ε : ℕ) (s : Tree) (k j : ℕ) (p : Spot) (R₁ R₂ : List Slot) : Type 0 where
+  pub room : Between ε s p R₁ R₂
   pub space : length (leafSlots (p .tree) (p .leaf)) < p .tree .fan
   pub inside : j < length (leafSlots s k) → p .slot < length (leafSlots (p .tree) (p .leaf))
 
 module _ (ε : ℕ) (s : Tree) (A : List ℕ) (k : ℕ) (B : List ℕ) (st : List (List ℕ)) (j : ℕ) (b : BodyAt s (A ++ k ∷ B) st) (rt : Right ε s (s .finger)) (le : j ≤ length (leafSlots s k)) where
   lower-made : length (leafSlots s k) ≡ s .fan → j < half (s .fan) → SplitAt s (splitFull s k) A k B
-      → Made ε s k j (spot (splitFull s k) k j) (cat (s .body .leaf .slots) A ++ take j (leafSlots s k)) (drop j (leafSlots s k) ++ cat (s .body .leaf .slots) B)
+      → RoomMade ε s k j (spot (splitFull s k) k j) (cat (s .body .leaf .slots) A ++ take j (leafSlots s k)) (drop j (leafSlots s k) ++ cat (s .body .leaf .slots) B)
   lower-made full lt q =
       let l : List Slot = leafSlots s k in
       let hf : ℕ = half (s .fan) in
@@ -266,7 +266,7 @@ module _ (ε : ℕ) (s : Tree) (A : List ℕ) (k : ℕ) (B : List ℕ) (st : Lis
       cancel (x ∷ X) Y Z e = cancel X Y Z (tail-eq-of-cons-eq e)
 
   upper-made : length (leafSlots s k) ≡ s .fan → half (s .fan) ≤ j → SplitAt s (splitFull s k) A k B
-      → Made ε s k j (spot (splitFull s k) (s .leaves) (j - half (s .fan))) (cat (s .body .leaf .slots) A ++ take j (leafSlots s k)) (drop j (leafSlots s k) ++ cat (s .body .leaf .slots) B)
+      → RoomMade ε s k j (spot (splitFull s k) (s .leaves) (j - half (s .fan))) (cat (s .body .leaf .slots) A ++ take j (leafSlots s k)) (drop j (leafSlots s k) ++ cat (s .body .leaf .slots) B)
   unfolding All
   upper-made full ge q =
       let l : List Slot = leafSlots s k in
@@ -309,11 +309,11 @@ module _ (ε : ℕ) (s : Tree) (A : List ℕ) (k : ℕ) (B : List ℕ) (st : Lis
         inside = λ h. omega arith;
       }
 
-  pub make-room : Made ε s k j (makeRoom s k j) (cat (s .body .leaf .slots) A ++ take j (leafSlots s k)) (drop j (leafSlots s k) ++ cat (s .body .leaf .slots) B)
+  pub make-room : RoomMade ε s k j (makeRoom s k j) (cat (s .body .leaf .slots) A ++ take j (leafSlots s k)) (drop j (leafSlots s k) ++ cat (s .body .leaf .slots) B)
   make-room = go (ltb (length (leafSlots s k)) (s .fan)) refl (ltb j (half (s .fan))) refl
     where
       go : (x : Bool) → ltb (length (leafSlots s k)) (s .fan) ≡ x → (y : Bool) → ltb j (half (s .fan)) ≡ y
-          → Made ε s k j (makeRoom s k j) (cat (s .body .leaf .slots) A ++ take j (leafSlots s k)) (drop j (leafSlots s k) ++ cat (s .body .leaf .slots) B)
+          → RoomMade ε s k j (makeRoom s k j) (cat (s .body .leaf .slots) A ++ take j (leafSlots s k)) (drop j (leafSlots s k) ++ cat (s .body .leaf .slots) B)
       go true e y e′ = rw (e, makeRoom) (record { room = here ε s A k B st j b rt le; space = ltb→lt (length (leafSlots s k)) (s .fan) (rw e tt); inside = λ h. h })
       go false e true e′ =
           let full : length (leafSlots s k) ≡ s .fan = let z = b .leaf-most k (leaf-here s A k B st b) in let y = nltb→le (length (leafSlots s k)) (s .fan) (rw e tt) in omega arith in

@@ -11,7 +11,7 @@ use Rattle.model.specs.Lists.{sumBy, All}
 use Rattle.abstract_tree.specs.Lists.{cat, cat-append, map-append, sumBy-append, sumBy-map, sumBy-cat, All-map, All-every, All-right, Pairs-before, Pairs-after, NoDup, map-cong, cat-cong}
 use Rattle.abstract_tree.specs.Levels.{noSlot, len, Slot, Area, marks, marks-append, sum-marks, wtOf, told, said, Links, total, Parent, find-parent}
 use Rattle.abstract_tree.specs.Apart.{links-nodup, Real, apart}
-use Rattle.abstract_tree.specs.Update.{upd-same, upd-other, setSlots, SameOwn, Same, said-same, total-same, links-frame}
+use Rattle.abstract_tree.specs.Update.{upd-same, upd-other, setSlots, SameOwn, SameNode, said-same, total-same, links-frame}
 
 abbrev pub change : (ℕ → ℕ → ℕ) → Slot → Slot
 change f s = record { child = s .child; lens = λ v. f v (s .lens v) }
@@ -82,7 +82,7 @@ ready f t t′ low low′ up root A c B P st most l re ow ta tb mo fp r =
     (ap₂ _∷_ mc (map-cong (said t′ low′) (said t low) B (All-map (λ x. t′ x ≡ t x) (λ x. said t′ low′ x ≡ said t low x) one B tb) ∙ r .after))
     ∙ sym (up-set up up₁ (r .P₁) p (r .P₂) (r .S₁) s′ (r .S₂) sp u1 u2) in
     let pst : All (All (λ m. p ≢ m)) st = (All-right (λ c. All (All (λ m. c ≢ m)) st) (r .P₁) (p ∷ r .P₂) (rw (r .row) at (apart (total up) up root P st (l .1) (re .0) (re .1)))) .0 in
-    let sames : All (All (Same up up₁)) st = All-map (All (λ m. p ≢ m)) (All (Same up up₁)) (λ Q x. All-map (λ m. p ≢ m) (Same up up₁) (λ m ne. (so m (λ e. ne (sym e)), (refl, refl))) Q x) st pst in
+    let sames : All (All (SameNode up up₁)) st = All-map (All (λ m. p ≢ m)) (All (SameNode up up₁)) (λ Q x. All-map (λ m. p ≢ m) (SameNode up up₁) (λ m ne. (so m (λ e. ne (sym e)), (refl, refl))) Q x) st pst in
     let sums : (v : ℕ) → sumBy (λ x. t′ x v) (A ++ c ∷ B) ≡ sumBy (λ x. total up₁ x v) P′
     = λ v. simp (sumBy-map, sumBy-cat, sum-marks) at (ap (sumBy (wtOf v)) lk) in
     record {
@@ -116,7 +116,7 @@ finish f t t′ low low′ up root A c B P st most l re r up₁ up₂ so q k =
     let top : Links (total up₂) up₂ up₂ root P′ st
     = links-frame (total up₁) (total up₂) up₂ up₂ up₂ up₂ root P′ st (k .links)
     (All-map (λ x. up₂ .slots x ≡ up₁ .slots x) (λ x. said (total up₂) up₂ x ≡ said (total up₁) up₂ x) (λ x z. said-same (total up₁) (total up₂) up₂ up₂ x (refl, refl) (total-same up₁ up₂ x z)) P′ slots₂)
-    (All-every (All (Same up₂ up₂)) (λ Q. All-every (Same up₂ up₂) (λ x. (refl, (refl, refl))) Q) st) in
+    (All-every (All (SameNode up₂ up₂)) (λ Q. All-every (SameNode up₂ up₂) (λ x. (refl, (refl, refl))) Q) st) in
     let lk : map (said t′ low′) (A ++ c ∷ B) ≡ cat (told up₂) P′
     = q .link ∙ sym (cat-cong (told up₂) (told up₁) P′ (All-map (λ x. up₂ .slots x ≡ up₁ .slots x) (λ x. told up₂ x ≡ told up₁ x) (λ x z. rw z) P′ slots₂)) in
     record {

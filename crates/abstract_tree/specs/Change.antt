@@ -52,7 +52,7 @@ row-change leaf A k B ss nd =
 abbrev pub rowWith : Tree → List ℕ → List Slot → List ℕ → List Slot
 rowWith s A ss B = cat (s .body .leaf .slots) A ++ (ss ++ cat (s .body .leaf .slots) B)
 
-pub record Change (s : Tree) (A : List ℕ) (k : ℕ) (B : List ℕ) (st : List (List ℕ)) (ss : List Slot) (up : Area) (homes : ℕ → ℕ) (entries : ℕ) : Type 0 where
+pub record LeafChange (s : Tree) (A : List ℕ) (k : ℕ) (B : List ℕ) (st : List (List ℕ)) (ss : List Slot) (up : Area) (homes : ℕ → ℕ) (entries : ℕ) : Type 0 where
   pub links : Links (total (setSlots (s .body .leaf) k ss)) (setSlots (s .body .leaf) k ss) up (s .body .root) (A ++ k ∷ B) st
   pub sizes : (p : ℕ) → length (up .slots p) ≡ length (s .body .inner .slots p)
   pub most : length ss ≤ s .fan
@@ -78,7 +78,7 @@ fit-same m fan half a b n r h f = record {
 }
 
 pub change-body : (s : Tree) (A : List ℕ) (k : ℕ) (B : List ℕ) (st : List (List ℕ)) (ss : List Slot) (up : Area) (homes : ℕ → ℕ) (entries : ℕ) (f : Held)
-    → BodyAt s (A ++ k ∷ B) st → Change s A k B st ss up homes entries → BodyAt (withLeaf s k ss up homes entries f) (A ++ k ∷ B) st
+    → BodyAt s (A ++ k ∷ B) st → LeafChange s A k B st ss up homes entries → BodyAt (withLeaf s k ss up homes entries f) (A ++ k ∷ B) st
 change-body s A k B st ss up homes entries f b c =
     let leaf : Area = s .body .leaf in
     let s′ : Tree = withLeaf s k ss up homes entries f in

@@ -25,7 +25,7 @@ use Rattle.abstract_tree.specs.Place.{treeTotal, root-sum}
 abbrev pub depth : Tree → ℕ → ℕ
 depth s k = dep (s .body .inner) 17 k
 
-pub record Checks (s : Tree) : Type 0 where
+pub record TreeChecks (s : Tree) : Type 0 where
   pub fan-low : 4 ≤ s .fan
   pub fan-high : s .fan ≤ 32
   pub limit-low : 1 ≤ s .limit
@@ -126,7 +126,7 @@ leaf-at leaf up root nodes leaves (suc d) K c =
     All-cat (λ k. k < leaves) (kidsOf up) (lvl up root d) (All-map (λ k. (k < nodes) × (dep up (suc K) k ≡ suc d)) (λ p. All (λ k. k < leaves) (kidsOf up p)) (λ p x. (c .lowest p (x .0) (x .1)) .1) (lvl up root d)
     (depths leaf up root nodes leaves (suc d) K c d (omega arith)))
 
-module _ (s : Tree) (c : Checks s) where
+module _ (s : Tree) (c : TreeChecks s) where
   checked : Checked (s .body .leaf) (s .body .inner) (s .body .root) (s .body .next) (s .leaves) (s .body .levels) 16
   checked = record { few = c .few; deep = (let z = c .shallow in omega arith); some = c .some; root-in = c .fit .root-in; root-parent = c .root-parent; root-place = c .root-place; upper = c .upper; lowest = c .lowest }
 

@@ -21,7 +21,7 @@ use Rattle.abstract_tree.specs.Split.{nodup-slots, Pairs-left, Pairs-rig
 use Rattle.abstract_tree.specs.Cursor.{indexOf, index-at}
 use Rattle.abstract_tree.specs.Change.{order-nodup}
 use Rattle.abstract_tree.specs.Place.{total-is}
-use Rattle.abstract_tree.specs.Check.{depth, Checks, level-at}
+use Rattle.abstract_tree.specs.Check.{depth, TreeChecks, level-at}
 
 pub All-in : (Q : ℕ → Type 0) (k : ℕ) (l : List ℕ) → In k l → All Q l → Q k
 unfolding All
@@ -57,15 +57,15 @@ find-level up root (suc n) k h = go (in-or k (lvl up root n)) (λ x. find-level 
     go (inr a) ih = let r = ih (λ x. h (a, x)) in (r .0, (let z = r .1 in omega arith), r .2)
 
 -- a child of a level: its parent stands in the level above and holds it
-pub record Held (low up : Area) (k : ℕ) (P : List ℕ) : Type 0 where
+pub record HeldAbove (low up : Area) (k : ℕ) (P : List ℕ) : Type 0 where
   pub here : In (low .parent k) P
   pub place : low .place k < length (up .slots (low .parent k))
   pub child : (getD (up .slots (low .parent k)) (low .place k) noSlot) .child ≡ k
 
-pub held-of : (t : ℕ → ℕ → ℕ) (low up : Area) (C P : List ℕ) (k : ℕ) → map (said t low) C ≡ cat (told up) P → In k C → Held low up k P
+pub held-of : (t : ℕ → ℕ → ℕ) (low up : Area) (C P : List ℕ) (k : ℕ) → map (said t low) C ≡ cat (told up) P → In k C → HeldAbove low up k P
 held-of t low up C P k e i = go (find-parent t low up (i .before) k (i .after) P (subst (λ (D : List ℕ). map (said t low) D ≡ cat (told up) P) (i .row) e))
   where
-    go : Parent t low up (i .before) k (i .after) P → Held low up k P
+    go : Parent t low up (i .before) k (i .after) P → HeldAbove low up k P
     go r =
         let ll : length (up .slots (low .parent k)) ≡ length (r .S₁) + suc (length (r .S₂)) = ap length (r .slots) ∙ length-append (r .S₁) (r .s ∷ r .S₂) in
         let pl = r .place in
@@ -195,7 +195,7 @@ module _ (s : Tree) (b : Body s) where
           let w = Pairs-before (λ (x y : Slot). x .child ≢ y .child) (take j l) e (drop (suc j) l) (subst (Pairs (λ (x y : Slot). x .child ≢ y .child)) sp mine) in
           ap (indexOf (e .child)) sp ∙ index-at (e .child) (take j l) e (drop (suc j) l) w refl ∙ length-take-le j l (omega arith)
 
-  pub body-checks : Checks s
+  pub body-checks : TreeChecks s
   body-checks =
       let ro = root-own (total (s .body .inner)) (s .body .inner) (s .body .root) (lvl (s .body .inner) (s .body .root) 0) (stack (s .body .inner) (s .body .root) 0) (level-links 0 (b .some)) in
       record {

@@ -11,7 +11,7 @@ use borrow.Author.Tests.{eq-eqb, ne-eqb}
 use lib.ListN.{length, length-append, length-map, getD}
 use lib.Seq.{getD-append-seam}
 use Rattle.model.specs.Lists.{All}
-use Rattle.abstract_tree.specs.Lists.{cat, cat-append, map-append, All-map, All-right, All-cat, NoDup, Pairs-before, At, cat-split, MapAt, map-split}
+use Rattle.abstract_tree.specs.Lists.{cat, cat-append, map-append, All-map, All-right, All-cat, NoDup, Pairs-before, InCat, cat-split, MapAt, map-split}
 use Rattle.abstract_tree.specs.Levels.{noSlot, Slot, Area}
 use Rattle.abstract_tree.specs.Sound.{lvl, stack, kidsOf}
 use Rattle.abstract_tree.specs.Pigeon.{In, each-in}
@@ -34,7 +34,7 @@ index-at id [] e F₂ w q = rw (eq-eqb (e .child) id q, indexOf)
 index-at id (x ∷ F₁) e F₂ w q = rw (ne-eqb (x .child) id (w .0), indexOf) (ap suc (index-at id F₁ e F₂ (w .1) q))
 
 -- the entry of an id: its leaf is its home
-pub record Entry (s : Tree) (id : ℕ) : Type 0 where
+pub record EntrySlot (s : Tree) (id : ℕ) : Type 0 where
   pub A : List ℕ
   pub B : List ℕ
   pub F₁ : List Slot
@@ -47,7 +47,7 @@ pub record Entry (s : Tree) (id : ℕ) : Type 0 where
   pub row : row s ≡ (cat (s .body .leaf .slots) A ++ F₁) ++ e ∷ (F₂ ++ cat (s .body .leaf .slots) B)
   pub apart : Without id (cat (s .body .leaf .slots) A ++ F₁)
 
-pub entry-of : (s : Tree) → Body s → (id : ℕ) → id < s .entries → Entry s id
+pub entry-of : (s : Tree) → Body s → (id : ℕ) → id < s .entries → EntrySlot s id
 unfolding All
 entry-of s b id lt = go1 (each-in (map idOf (row s)) (s .entries) (b .once) ids (length-map (row s) idOf ∙ b .count) id lt)
   where
@@ -55,7 +55,7 @@ entry-of s b id lt = go1 (each-in (map idOf (row s)) (s .entries) (b .once) ids 
     ids = All-mapped (λ k. k < s .entries) idOf (row s) (All-cat (λ e. e .child < s .entries) (s .body .leaf .slots) (order s)
         (All-map (λ x. x < s .leaves) (λ x. All (λ e. e .child < s .entries) (leafSlots s x)) (λ x lt. b .below x lt) (order s) (b .leaf-in)))
 
-    go3 : (X : List Slot) (e : Slot) (Y : List Slot) → row s ≡ X ++ e ∷ Y → e .child ≡ id → At (s .body .leaf .slots) (order s) X e Y → Entry s id
+    go3 : (X : List Slot) (e : Slot) (Y : List Slot) → row s ≡ X ++ e ∷ Y → e .child ≡ id → InCat (s .body .leaf .slots) (order s) X e Y → EntrySlot s id
     go3 X e Y q own z =
         let lk : z .p < s .leaves = (All-right (λ x. x < s .leaves) (z .P₁) (z .p ∷ z .P₂) (subst (λ (l : List ℕ). All (λ x. x < s .leaves) l) (z .row) (b .leaf-in))) .0 in
         let hm : s .homes (e .child) ≡ z .p = (All-right (λ x. s .homes (x .child) ≡ z .p) (z .F₁) (e ∷ z .F₂) (subst (λ (l : List Slot). All (λ x. s .homes (x .child) ≡ z .p) l) (z .own) (b .homed (z .p) lk))) .0 in
@@ -79,10 +79,10 @@ entry-of s b id lt = go1 (each-in (map idOf (row s)) (s .entries) (b .once) ids 
           apart = ap;
         }
 
-    go2 : (i : In id (map idOf (row s))) → MapAt idOf (row s) (i .before) id (i .after) → Entry s id
+    go2 : (i : In id (map idOf (row s))) → MapAt idOf (row s) (i .before) id (i .after) → EntrySlot s id
     go2 i m = go3 (m .A₁) (m .c) (m .A₂) (m .row) (m .own) (cat-split (s .body .leaf .slots) (order s) (m .A₁) (m .c) (m .A₂) (m .row))
 
-    go1 : In id (map idOf (row s)) → Entry s id
+    go1 : In id (map idOf (row s)) → EntrySlot s id
     go1 i = go2 i (map-split idOf (row s) (i .before) id (i .after) (i .row))
 
 -- down the right edge, down the left edge

@@ -11,14 +11,14 @@ use Rattle.model.specs.Lists.{sumBy, All}
 use Rattle.abstract_tree.specs.Lists.{cat, cat-append, map-append, sumBy-append, All-map, All-map₂, All-every, All-append, All-left, All-right, All-cat, NoDup}
 use Rattle.abstract_tree.specs.Levels.{len, Slot, Area, Links, total, said}
 use Rattle.abstract_tree.specs.Apart.{Real}
-use Rattle.abstract_tree.specs.Update.{upd, upd-same, upd-other, setSlots, Same, said-same, total-same, links-frame}
+use Rattle.abstract_tree.specs.Update.{upd, upd-same, upd-other, setSlots, SameNode, said-same, total-same, links-frame}
 use Rattle.abstract_tree.specs.Insert.{slotOf, lessen}
 use Rattle.abstract_tree.specs.Carry.{carry}
 use Rattle.abstract_tree.specs.Floor.{wrap}
 use Rattle.abstract_tree.specs.Sound.{Changed, change-leaf}
 use Rattle.abstract_tree.specs.Tree.{Tree, leafSlots, idOf, BodyAt}
 use Rattle.abstract_tree.specs.Follows.{reals}
-use Rattle.abstract_tree.specs.Change.{carry-size, rowWith, Change}
+use Rattle.abstract_tree.specs.Change.{carry-size, rowWith, LeafChange}
 
 pub All-mapped : {A B : Type 0} (Q : B → Type 0) (f : A → B) (l : List A) → All (λ x. Q (f x)) l → All Q (map f l)
 unfolding All
@@ -73,7 +73,7 @@ module _ (s : Tree) (A : List ℕ) (k : ℕ) (B : List ℕ) (st : List (List ℕ
   -- set: the entry e of the leaf gets the lengths u
   pub set-change : (S₁ : List Slot) (e : Slot) (S₂ : List Slot) (u : ℕ → ℕ) → leafSlots s k ≡ S₁ ++ e ∷ S₂
       → ((v : ℕ) → sumBy (len v) (rowWith s A (S₁ ++ slotOf (e .child) u ∷ S₂) B) < 4294967296)
-      → Change s A k B st (S₁ ++ slotOf (e .child) u ∷ S₂) (carry (λ v x. (x + (u v + (4294967296 - e .lens v)) % 4294967296) % 4294967296) (length st) (s .body .inner) (s .body .leaf .parent k) (s .body .leaf .place k)) (s .homes) (s .entries)
+      → LeafChange s A k B st (S₁ ++ slotOf (e .child) u ∷ S₂) (carry (λ v x. (x + (u v + (4294967296 - e .lens v)) % 4294967296) % 4294967296) (length st) (s .body .inner) (s .body .leaf .parent k) (s .body .leaf .place k)) (s .homes) (s .entries)
   unfolding All sumBy
   set-change S₁ e S₂ u sl tot =
       let ss : List Slot = S₁ ++ slotOf (e .child) u ∷ S₂ in
@@ -118,19 +118,19 @@ module _ (s : Tree) (A : List ℕ) (k : ℕ) (B : List ℕ) (st : List (List ℕ
       }
 
   -- an entry more in leaf k, under the next id
-  abbrev pub Known : Slot → Type 0
-  Known x = (x .child ≡ s .entries) ⊎ ((x .child < s .entries) × (s .homes (x .child) ≡ k))
+  abbrev pub KnownSlot : Slot → Type 0
+  KnownSlot x = (x .child ≡ s .entries) ⊎ ((x .child < s .entries) × (s .homes (x .child) ≡ k))
 
-  pub known : (l : List Slot) → All (λ x. s .homes (x .child) ≡ k) l → All (λ x. x .child < s .entries) l → All Known l
-  known l h g = All-map₂ (λ x. s .homes (x .child) ≡ k) (λ x. x .child < s .entries) Known (λ x a c. inr (c, a)) l h g
+  pub known : (l : List Slot) → All (λ x. s .homes (x .child) ≡ k) l → All (λ x. x .child < s .entries) l → All KnownSlot l
+  known l h g = All-map₂ (λ x. s .homes (x .child) ≡ k) (λ x. x .child < s .entries) KnownSlot (λ x a c. inr (c, a)) l h g
 
   pub plus-change : (ss : List Slot) (up : Area) (I₁ I₂ : List ℕ)
       → Links (total (setSlots (s .body .leaf) k ss)) (setSlots (s .body .leaf) k ss) up (s .body .root) (A ++ k ∷ B) st
       → ((p : ℕ) → length (up .slots p) ≡ length (s .body .inner .slots p))
-      → map idOf (leafSlots s k) ≡ I₁ ++ I₂ → map idOf ss ≡ I₁ ++ s .entries ∷ I₂ → All Known ss
+      → map idOf (leafSlots s k) ≡ I₁ ++ I₂ → map idOf ss ≡ I₁ ++ s .entries ∷ I₂ → All KnownSlot ss
       → length (leafSlots s k) < s .fan → s .entries < s .limit
       → ((v : ℕ) → sumBy (len v) (rowWith s A ss B) < 4294967296)
-      → Change s A k B st ss up (upd (s .homes) (s .entries) k) (suc (s .entries))
+      → LeafChange s A k B st ss up (upd (s .homes) (s .entries) k) (suc (s .entries))
   plus-change ss up I₁ I₂ lk sz io ie kn room few tot =
       let homes : ℕ → ℕ = upd (s .homes) (s .entries) k in
       let ls : length ss ≡ suc (length (leafSlots s k))
@@ -144,11 +144,11 @@ module _ (s : Tree) (A : List ℕ) (k : ℕ) (B : List ℕ) (st : List (List ℕ
         sizes = sz;
         most = omega arith;
         least = omega arith;
-        home = All-map Known (λ x. homes (x .child) ≡ k) (λ x d. elim d [ inl q ↦ (ap (λ (n : ℕ). homes n) q ∙ upd-same (s .homes) (s .entries) k) | inr q ↦ kept (x .child) (q .0) ∙ q .1 ]) ss kn;
+        home = All-map KnownSlot (λ x. homes (x .child) ≡ k) (λ x d. elim d [ inl q ↦ (ap (λ (n : ℕ). homes n) q ∙ upd-same (s .homes) (s .entries) k) | inr q ↦ kept (x .child) (q .0) ∙ q .1 ]) ss kn;
         kept = kept;
         more = omega arith;
         room = few;
-        below = All-map Known (λ x. x .child < suc (s .entries)) (λ x d. elim d [ inl q ↦ omega arith | inr q ↦ omega (arith, q .0) ]) ss kn;
+        below = All-map KnownSlot (λ x. x .child < suc (s .entries)) (λ x d. elim d [ inl q ↦ omega arith | inr q ↦ omega (arith, q .0) ]) ss kn;
         once = plus-once ss I₁ I₂ io ie;
         count = (let x : length (rowWith s A ss B) ≡ length (cat (s .body .leaf .slots) A) + (length ss + length (cat (s .body .leaf .slots) B)) = simp length-append in
             let y : length (rowWith s A (leafSlots s k) B) ≡ length (cat (s .body .leaf .slots) A) + (length (leafSlots s k) + length (cat (s .body .leaf .slots) B)) = simp length-append in
@@ -160,7 +160,7 @@ module _ (s : Tree) (A : List ℕ) (k : ℕ) (B : List ℕ) (st : List (List ℕ
   pub put-change : (S₁ S₂ : List Slot) (u : ℕ → ℕ) → leafSlots s k ≡ S₁ ++ S₂
       → length (leafSlots s k) < s .fan → s .entries < s .limit
       → ((v : ℕ) → sumBy (len v) (rowWith s A (S₁ ++ slotOf (s .entries) u ∷ S₂) B) < 4294967296)
-      → Change s A k B st (S₁ ++ slotOf (s .entries) u ∷ S₂) (carry (λ v x. (x + u v) % 4294967296) (length st) (s .body .inner) (s .body .leaf .parent k) (s .body .leaf .place k)) (upd (s .homes) (s .entries) k) (suc (s .entries))
+      → LeafChange s A k B st (S₁ ++ slotOf (s .entries) u ∷ S₂) (carry (λ v x. (x + u v) % 4294967296) (length st) (s .body .inner) (s .body .leaf .parent k) (s .body .leaf .place k)) (upd (s .homes) (s .entries) k) (suc (s .entries))
   unfolding All sumBy
   put-change S₁ S₂ u sl room few tot =
       let n : Slot = slotOf (s .entries) u in
@@ -177,11 +177,11 @@ module _ (s : Tree) (A : List ℕ) (k : ℕ) (B : List ℕ) (st : List (List ℕ
       let lt : total (s .body .leaf) k v + y + u v < 4294967296 = omega arith in
       small (total (s .body .leaf) k v + y + u v) lt ∙ a) in
       let lk : k < s .leaves = leaf-here in
-      let kn : All Known (S₁ ++ S₂) = subst (λ (l : List Slot). All Known l) sl (known (leafSlots s k) (b .homed k lk) (b .below k lk)) in
+      let kn : All KnownSlot (S₁ ++ S₂) = subst (λ (l : List Slot). All KnownSlot l) sl (known (leafSlots s k) (b .homed k lk) (b .below k lk)) in
       plus-change ss (carry f (length st) (s .body .inner) (s .body .leaf .parent k) (s .body .leaf .place k)) (map idOf S₁) (map idOf S₂) (cl .links)
       (λ p. carry-size f (length st) (s .body .inner) (s .body .leaf .parent k) (s .body .leaf .place k) p)
       (ap (map idOf) sl ∙ map-append idOf S₁ S₂) (map-append idOf S₁ (n ∷ S₂))
-      (All-append Known S₁ (n ∷ S₂) (All-left Known S₁ S₂ kn) (inl refl, All-right Known S₁ S₂ kn)) room few tot
+      (All-append KnownSlot S₁ (n ∷ S₂) (All-left KnownSlot S₁ S₂ kn) (inl refl, All-right KnownSlot S₁ S₂ kn)) room few tot
     where
       small : (x : ℕ) → x < 4294967296 → x % 4294967296 ≡ x
       small x lt = omega arith
@@ -199,19 +199,19 @@ module _ (s : Tree) (A : List ℕ) (k : ℕ) (B : List ℕ) (st : List (List ℕ
       ] in
       links-frame (total leaf) (total leaf′) leaf leaf′ (s .body .inner) (s .body .inner) (s .body .root) (A ++ k ∷ B) st (b .links)
       (All-every (λ x. said (total leaf′) leaf′ x ≡ said (total leaf) leaf x) (λ x. said-same (total leaf) (total leaf′) leaf leaf′ x (refl, refl) (tk x (ℕ-discrete x k))) (A ++ k ∷ B))
-      (All-every (All (Same (s .body .inner) (s .body .inner))) (λ Q. All-every (Same (s .body .inner) (s .body .inner)) (λ x. (refl, (refl, refl))) Q) st)
+      (All-every (All (SameNode (s .body .inner) (s .body .inner))) (λ Q. All-every (SameNode (s .body .inner) (s .body .inner)) (λ x. (refl, (refl, refl))) Q) st)
 
   pub divide-change : (before : Bool) (S₁ : List Slot) (e : Slot) (S₂ : List Slot) (u : ℕ → ℕ) → leafSlots s k ≡ S₁ ++ e ∷ S₂ → ((v : ℕ) → u v ≤ e .lens v)
       → length (leafSlots s k) < s .fan → s .entries < s .limit
-      → Change s A k B st (S₁ ++ divided before e u (s .entries) S₂) (s .body .inner) (upd (s .homes) (s .entries) k) (suc (s .entries))
+      → LeafChange s A k B st (S₁ ++ divided before e u (s .entries) S₂) (s .body .inner) (upd (s .homes) (s .entries) k) (suc (s .entries))
   unfolding All sumBy
   divide-change before S₁ e S₂ u sl le room few = go before
     where
       lk : k < s .leaves
       lk = leaf-here
 
-      kn : All Known (S₁ ++ e ∷ S₂)
-      kn = subst (λ (l : List Slot). All Known l) sl (known (leafSlots s k) (b .homed k lk) (b .below k lk))
+      kn : All KnownSlot (S₁ ++ e ∷ S₂)
+      kn = subst (λ (l : List Slot). All KnownSlot l) sl (known (leafSlots s k) (b .homed k lk) (b .below k lk))
 
       even : (d : Bool) (v : ℕ) → sumBy (len v) (S₁ ++ divided d e u (s .entries) S₂) ≡ sumBy (len v) (leafSlots s k)
       even true v =
@@ -228,11 +228,11 @@ module _ (s : Tree) (A : List ℕ) (k : ℕ) (B : List ℕ) (st : List (List ℕ
           ∙ sym (sumBy-append (len v) (cat (s .body .leaf .slots) A) (leafSlots s k ++ cat (s .body .leaf .slots) B)) ∙ ap (sumBy (len v)) (sym old-row) in
           rw x (b .totals v)
 
-      go : (d : Bool) → Change s A k B st (S₁ ++ divided d e u (s .entries) S₂) (s .body .inner) (upd (s .homes) (s .entries) k) (suc (s .entries))
+      go : (d : Bool) → LeafChange s A k B st (S₁ ++ divided d e u (s .entries) S₂) (s .body .inner) (upd (s .homes) (s .entries) k) (suc (s .entries))
       go true = plus-change (S₁ ++ divided true e u (s .entries) S₂) (s .body .inner) (map idOf S₁) (e .child ∷ map idOf S₂) (even-links (S₁ ++ divided true e u (s .entries) S₂) (even true)) (λ p. refl)
           (ap (map idOf) sl ∙ map-append idOf S₁ (e ∷ S₂)) (map-append idOf S₁ (slotOf (s .entries) u ∷ lessen e u ∷ S₂))
-          (All-append Known S₁ (slotOf (s .entries) u ∷ lessen e u ∷ S₂) (All-left Known S₁ (e ∷ S₂) kn) (inl refl, All-right Known S₁ (e ∷ S₂) kn)) room few (tots true)
+          (All-append KnownSlot S₁ (slotOf (s .entries) u ∷ lessen e u ∷ S₂) (All-left KnownSlot S₁ (e ∷ S₂) kn) (inl refl, All-right KnownSlot S₁ (e ∷ S₂) kn)) room few (tots true)
       go false = plus-change (S₁ ++ divided false e u (s .entries) S₂) (s .body .inner) (map idOf S₁ ++ e .child ∷ []) (map idOf S₂) (even-links (S₁ ++ divided false e u (s .entries) S₂) (even false)) (λ p. refl)
           (ap (map idOf) sl ∙ map-append idOf S₁ (e ∷ S₂) ∙ sym (append-assoc (map idOf S₁) (e .child ∷ []) (map idOf S₂)))
           (map-append idOf S₁ (lessen e u ∷ slotOf (s .entries) u ∷ S₂) ∙ sym (append-assoc (map idOf S₁) (e .child ∷ []) (s .entries ∷ map idOf S₂)))
-          (All-append Known S₁ (lessen e u ∷ slotOf (s .entries) u ∷ S₂) (All-left Known S₁ (e ∷ S₂) kn) ((All-right Known S₁ (e ∷ S₂) kn) .0, (inl refl, (All-right Known S₁ (e ∷ S₂) kn) .1))) room few (tots false)
+          (All-append KnownSlot S₁ (lessen e u ∷ slotOf (s .entries) u ∷ S₂) (All-left KnownSlot S₁ (e ∷ S₂) kn) ((All-right KnownSlot S₁ (e ∷ S₂) kn) .0, (inl refl, (All-right KnownSlot S₁ (e ∷ S₂) kn) .1))) room few (tots false)

@@ -39,7 +39,7 @@ module _ (f : ℕ → Mark) (A : List ℕ) (a : ℕ) (B : List ℕ) (X Y Z : Lis
   in-second d h = in-all d ∙ ap (λ (n : ℕ). getD (Y ++ Z) n d) (let z : i ≡ length Y + (i - length Y) = omega arith in z) ∙ getD-append-add Y Z (i - length Y) d
 
 -- the parent p of a is full: s₁ with p halved, s₂ after the work above
-pub record Full (fan half h : ℕ) (s s₁ s₂ : Trunk) (t t′ : ℕ → ℕ → ℕ) (A : List ℕ) (a : ℕ) (B : List ℕ) (sn : Slot) (p : ℕ) (P : List ℕ) (st : List (List ℕ)) : Type 0 where
+pub record FullParent (fan half h : ℕ) (s s₁ s₂ : Trunk) (t t′ : ℕ → ℕ → ℕ) (A : List ℕ) (a : ℕ) (B : List ℕ) (sn : Slot) (p : ℕ) (P : List ℕ) (st : List (List ℕ)) : Type 0 where
   pub P₁ : List ℕ
   pub P₂ : List ℕ
   pub row : P ≡ P₁ ++ p ∷ P₂
@@ -62,7 +62,7 @@ new-kept (suc h) s s₁ s₂ t C P₁ p P₂ st c hv o e n =
 
 pub full-step : (fan half h : ℕ) (s : Trunk) (t t′ : ℕ → ℕ → ℕ) (A : List ℕ) (a : ℕ) (B : List ℕ) (sn : Slot) (P : List ℕ) (st : List (List ℕ))
     → 2 ≤ half → half + half ≤ fan → Into h s t t′ A a B sn (P ∷ st) → s .next + length (P ∷ st) < none → length (s .inner .slots ((get h s) .parent a)) ≡ fan
-    → Full fan half h s (parentHalved half h s a)
+    → FullParent fan half h s (parentHalved half h s a)
     (addChild fan half (length st) (suc h) (parentHalved half h s a) ((get h s) .parent a) (upperSlot half h s a))
     t t′ A a B sn ((get h s) .parent a) P st
 unfolding All
@@ -80,7 +80,7 @@ full-step fan half h s t t′ A a B sn P st h2 hf io room ef = go (find-parent t
     s₂ : Trunk
     s₂ = addChild fan half (length st) (suc h) (parentHalved half h s a) ((get h s) .parent a) (upperSlot half h s a)
 
-    go : Parent t (get h s) (s .inner) A a B P → Full fan half h s s₁ s₂ t t′ A a B sn p P st
+    go : Parent t (get h s) (s .inner) A a B P → FullParent fan half h s s₁ s₂ t t′ A a B sn p P st
     go r =
         let ss : List Slot = s .inner .slots p in
         let Ls : List Slot = take half ss in

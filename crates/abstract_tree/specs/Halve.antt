@@ -8,7 +8,7 @@ use Rattle.model.specs.Lists.{All}
 use Rattle.abstract_tree.specs.Lists.{cat, cat-append, sumBy-append, All-map, All-map₂, All-every, All-left, All-right, Pairs-before, Pairs-after, NoDup, map-cong, single-split}
 use Rattle.abstract_tree.specs.Levels.{Slot, Area, Mark, told, said, Links, total, none}
 use Rattle.abstract_tree.specs.Apart.{links-nodup, apart}
-use Rattle.abstract_tree.specs.Update.{upd, upd-same, upd-other, setSlots, adopt, adoptAll, adopt-other, SameOwn, Same, said-same, said-adopt, total-same, links-frame, all-kids, all-said, halve-low, halve-up}
+use Rattle.abstract_tree.specs.Update.{upd, upd-same, upd-other, setSlots, adopt, adoptAll, adopt-other, SameOwn, SameNode, said-same, said-adopt, total-same, links-frame, all-kids, all-said, halve-low, halve-up}
 use Rattle.abstract_tree.specs.Insert.{Trunk, get, adoptAt, Num, LeafSame, num-map, num-every, at-slots, at-inner, at-leaf, slotOf, Into, Out, real, reals, out-of}
 
 -- a new root above a and the node of sn
@@ -168,9 +168,9 @@ halve-step h s t C P₁ p P₂ st L U l b cp n sl =
     let pst : All (All (λ m. m ≢ p)) st
     = All-map (All (λ m. p ≢ m)) (All (λ m. m ≢ p)) (λ Q x. All-map (λ m. p ≢ m) (λ m. m ≢ p) (λ m ne e. ne (sym e)) Q x) st
     ((All-right (λ c. All (All (λ m. c ≢ m)) st) P₁ (p ∷ P₂) (apart (total (s .inner)) (s .inner) (s .root) P st (l .1) (real (s .next) cp P (b .0)) (reals (s .next) cp st (b .1)))) .0) in
-    let sames : All (All (Same (s .inner) (s₁ .inner))) st
-    = All-map₂ (λ Q. All (λ m. m < s .next) Q × All (λ m. m ≢ p) Q) (All (SameOwn (s .inner) (s₁ .inner))) (All (Same (s .inner) (s₁ .inner)))
-    (λ Q x y. All-map₂ (λ m. (m < s .next) × (m ≢ p)) (SameOwn (s .inner) (s₁ .inner)) (Same (s .inner) (s₁ .inner)) (λ m x y. (same m (x .1) (x .0), y)) Q
+    let sames : All (All (SameNode (s .inner) (s₁ .inner))) st
+    = All-map₂ (λ Q. All (λ m. m < s .next) Q × All (λ m. m ≢ p) Q) (All (SameOwn (s .inner) (s₁ .inner))) (All (SameNode (s .inner) (s₁ .inner)))
+    (λ Q x y. All-map₂ (λ m. (m < s .next) × (m ≢ p)) (SameOwn (s .inner) (s₁ .inner)) (SameNode (s .inner) (s₁ .inner)) (λ m x y. (same m (x .1) (x .0), y)) Q
     (All-map₂ (λ m. m < s .next) (λ m. m ≢ p) (λ m. (m < s .next) × (m ≢ p)) (λ m x y. (x, y)) Q (x .0) (x .1)) y) st
     (All-map₂ (All (λ m. m < s .next)) (All (λ m. m ≢ p)) (λ Q. All (λ m. m < s .next) Q × All (λ m. m ≢ p) Q) (λ Q x y. (x, y)) st (b .1) pst) (ups .1) in
     let q-fresh : All (All (λ m. m ≢ q)) (P ∷ st) = All-map (All (λ m. m < s .next)) (All (λ m. m ≢ q)) (λ Q x. All-map (λ m. m < s .next) (λ m. m ≢ q) (λ m k e. omega arith) Q x) (P ∷ st) b in

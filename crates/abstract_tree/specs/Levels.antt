@@ -6,7 +6,7 @@ use native.Mathlib.Nat.{zero-add, add-zero, add-suc, suc-add}
 use native.Mathlib.Omega.{arith}
 use lib.ListN.{length, take}
 use Rattle.model.specs.Lists.{sumBy}
-use Rattle.abstract_tree.specs.Lists.{cat, map-append, At, cat-split}
+use Rattle.abstract_tree.specs.Lists.{cat, map-append, InCat, cat-split}
 
 pub record Slot : Type 0 where
   pub child : ℕ
@@ -142,7 +142,7 @@ pub record Parent (t : ℕ → ℕ → ℕ) (low up : Area) (A : List ℕ) (c : 
 pub find-parent : (t : ℕ → ℕ → ℕ) (low up : Area) (A : List ℕ) (c : ℕ) (B : List ℕ) (P : List ℕ) → map (said t low) (A ++ c ∷ B) ≡ cat (told up) P → Parent t low up A c B P
 find-parent t low up A c B P e = go (cat-split (told up) P (map (said t low) A) (said t low c) (map (said t low) B) (sym e ∙ map-append (said t low) A (c ∷ B)))
   where
-    go2 : (r : At (told up) P (map (said t low) A) (said t low c) (map (said t low) B)) → MarkAt (r .p) 0 (up .slots (r .p)) (r .F₁) (said t low c) (r .F₂) → Parent t low up A c B P
+    go2 : (r : InCat (told up) P (map (said t low) A) (said t low c) (map (said t low) B)) → MarkAt (r .p) 0 (up .slots (r .p)) (r .F₁) (said t low c) (r .F₂) → Parent t low up A c B P
     go2 r q = record {
       P₁ = r .P₁;
       P₂ = r .P₂;
@@ -158,5 +158,5 @@ find-parent t low up A c B P e = go (cat-split (told up) P (map (said t low) A) 
       after = r .after ∙ rw (q .last, q .par, zero-add);
     }
 
-    go : At (told up) P (map (said t low) A) (said t low c) (map (said t low) B) → Parent t low up A c B P
+    go : InCat (told up) P (map (said t low) A) (said t low c) (map (said t low) B) → Parent t low up A c B P
     go r = go2 r (mark-at (r .p) 0 (up .slots (r .p)) (r .F₁) (said t low c) (r .F₂) (r .own))

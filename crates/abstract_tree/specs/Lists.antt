@@ -35,7 +35,7 @@ module _ {A : Type 0} where
       go (inr r) = inr (r .0, ap₂ _∷_ (sym (head-eq-of-cons-eq e)) (r .1), r .2)
 
 -- where the element y of `cat f P` stands: in `f p`, for one p of P
-pub record At {A B : Type 0} (f : A → List B) (P : List A) (X : List B) (y : B) (Z : List B) : Type 0 where
+pub record InCat {A B : Type 0} (f : A → List B) (P : List A) (X : List B) (y : B) (Z : List B) : Type 0 where
   pub P₁ : List A
   pub p : A
   pub P₂ : List A
@@ -46,12 +46,12 @@ pub record At {A B : Type 0} (f : A → List B) (P : List A) (X : List B) (y : B
   pub before : X ≡ cat f P₁ ++ F₁
   pub after : Z ≡ F₂ ++ cat f P₂
 
-pub cat-split : {A B : Type 0} (f : A → List B) (P : List A) (X : List B) (y : B) (Z : List B) → cat f P ≡ X ++ y ∷ Z → At f P X y Z
+pub cat-split : {A B : Type 0} (f : A → List B) (P : List A) (X : List B) (y : B) (Z : List B) → cat f P ≡ X ++ y ∷ Z → InCat f P X y Z
 cat-split f [] [] y Z e = absurd (nil≢cons e)
 cat-split f [] (x ∷ X) y Z e = absurd (nil≢cons e)
 cat-split {A} {B} f (p ∷ P) X y Z e = go (λ Y. cat-split f P Y y Z) (append-split (f p) (cat f P) X y Z e)
   where
-    more : (Y : List B) → X ≡ f p ++ Y → At f P Y y Z → At f (p ∷ P) X y Z
+    more : (Y : List B) → X ≡ f p ++ Y → InCat f P Y y Z → InCat f (p ∷ P) X y Z
     more Y x r = record {
       P₁ = p ∷ r .P₁;
       p = r .p;
@@ -64,7 +64,7 @@ cat-split {A} {B} f (p ∷ P) X y Z e = go (λ Y. cat-split f P Y y Z) (append-s
       after = r .after;
     }
 
-    go : ((Y : List B) → cat f P ≡ Y ++ y ∷ Z → At f P Y y Z) → ((F : List B) × (f p ≡ X ++ y ∷ F) × (Z ≡ F ++ cat f P)) ⊎ ((Y : List B) × (X ≡ f p ++ Y) × (cat f P ≡ Y ++ y ∷ Z)) → At f (p ∷ P) X y Z
+    go : ((Y : List B) → cat f P ≡ Y ++ y ∷ Z → InCat f P Y y Z) → ((F : List B) × (f p ≡ X ++ y ∷ F) × (Z ≡ F ++ cat f P)) ⊎ ((Y : List B) × (X ≡ f p ++ Y) × (cat f P ≡ Y ++ y ∷ Z)) → InCat f (p ∷ P) X y Z
     go ih (inl r) = record { P₁ = []; p = p; P₂ = P; F₁ = X; F₂ = r .0; row = refl; own = r .1; before = refl; after = r .2 }
     go ih (inr r) = more (r .0) (r .1) (ih (r .0) (r .2))
 

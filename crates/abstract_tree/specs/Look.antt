@@ -15,7 +15,7 @@ use Rattle.abstract_tree.specs.Finger.{climb-at}
 use Rattle.abstract_tree.specs.Calls.{slotAt}
 
 -- the finger f stands at the entry that holds position x of view v, at that offset into it; ε is the effect view
-pub record Looked (ε : ℕ) (s : Tree) (v x : ℕ) (f : Finger) (offset : ℕ) : Type 0 where
+pub record LooksAt (ε : ℕ) (s : Tree) (v x : ℕ) (f : Finger) (offset : ℕ) : Type 0 where
   pub front : List Slot
   pub behind : List Slot
   pub right : FingerRight ε s f
@@ -26,10 +26,10 @@ pub record Looked (ε : ℕ) (s : Tree) (v x : ℕ) (f : Finger) (offset : ℕ) 
   pub prepare : f .prepare + f .«prepare_within» ≡ sumBy (len 0) front
 
 pub at-finger : (ε : ℕ) (s : Tree) → Body s → (v x : ℕ) (f : Finger) (offset : ℕ) → FingerRight ε s f → f .view ≡ v → f .start + f .within + offset ≡ x
-    → offset < len v (slotAt s (f .leaf) (f .slot)) → Looked ε s v x f offset
+    → offset < len v (slotAt s (f .leaf) (f .slot)) → LooksAt ε s v x f offset
 at-finger ε s b v x f offset r vw sm lt = go (is-in (f .leaf) (order s) (b .leaf-all (f .leaf) (r .leaf-in)))
   where
-    go : In (f .leaf) (order s) → Looked ε s v x f offset
+    go : In (f .leaf) (order s) → LooksAt ε s v x f offset
     go i =
         let b′ : BodyAt s (i .before ++ f .leaf ∷ i .after) (above s) = subst (λ (C : List ℕ). BodyAt s C (above s)) (i .row) b in
         let l : List Slot = leafSlots s (f .leaf) in

@@ -12,27 +12,27 @@ use Rattle.model.specs.Lists.{All}
 use Rattle.abstract_tree.specs.Lists.{cat, map-append, append-split, cat-split, single-split, All-right}
 use Rattle.abstract_tree.specs.Levels.{noSlot, Slot, Area, Mark, marks, told, said, Links, total, mark-at, Parent, find-parent}
 
-pub data Step : Type 0 where
-  node : ℕ → Step
-  end : Step
+pub data NodeOrEnd : Type 0 where
+  node : ℕ → NodeOrEnd
+  end : NodeOrEnd
 
-abbrev pub firstOf : Area → Step → Step
+abbrev pub firstOf : Area → NodeOrEnd → NodeOrEnd
 firstOf up (node q) = node ((getD (up .slots q) 0 noSlot) .child)
 firstOf up end = end
 
-abbrev pub nextOf : Area → Area → ℕ → ℕ → Step
+abbrev pub nextOf : Area → Area → ℕ → ℕ → NodeOrEnd
 nextOf low up zero c = end
 nextOf low up (suc d) c = elim (ltb (suc (low .place c)) (length (up .slots (low .parent c)))) [
   | true ↦ node ((getD (up .slots (low .parent c)) (suc (low .place c)) noSlot) .child)
   | false ↦ firstOf up (nextOf up up d (low .parent c))
 ]
 
-abbrev pub headOf : List ℕ → Step
+abbrev pub headOf : List ℕ → NodeOrEnd
 headOf [] = end
 headOf (b ∷ B) = node b
 
-abbrev pub Full : Area → List (List ℕ) → Type 0
-Full up st = All (All (λ p. 0 < length (up .slots p))) st
+abbrev pub NoneEmpty : Area → List (List ℕ) → Type 0
+NoneEmpty up st = All (All (λ p. 0 < length (up .slots p))) st
 
 head-said : (t : ℕ → ℕ → ℕ) (low : Area) (B : List ℕ) (m : Mark) (Z : List Mark) → map (said t low) B ≡ m ∷ Z → node (m .num) ≡ headOf B
 head-said t low [] m Z e = absurd (nil≢cons e)
@@ -47,7 +47,7 @@ getD-next [] y z zs d = refl
 getD-next (x ∷ xs) y z zs d = getD-next xs y z zs d
 
 pub next-is : (t : ℕ → ℕ → ℕ) (low up : Area) (root : ℕ) (A : List ℕ) (c : ℕ) (B : List ℕ) (st : List (List ℕ))
-    → Links t low up root (A ++ c ∷ B) st → Full up st → nextOf low up (length st) c ≡ headOf B
+    → Links t low up root (A ++ c ∷ B) st → NoneEmpty up st → nextOf low up (length st) c ≡ headOf B
 unfolding All
 next-is t low up root A c B [] l f = rw (single-split A c B root (l .0) .2)
 next-is t low up root A c B (P ∷ st) l f =

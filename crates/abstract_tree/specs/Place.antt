@@ -11,10 +11,10 @@ use lib.Seq.{take-append-seam, drop-append-seam, getD-append-seam, take-length, 
 use Rattle.model.specs.Lists.{sumBy, All}
 use Rattle.abstract_tree.specs.Lists.{cat, cat-append, sumBy-cat, sumBy-map, All-map, All-right}
 use Rattle.abstract_tree.specs.Levels.{noSlot, len, Slot, Area, Links, total, sum-marks, wtOf}
-use Rattle.abstract_tree.specs.Next.{Step, node, end, nextOf, headOf, next-is}
+use Rattle.abstract_tree.specs.Next.{NodeOrEnd, node, end, nextOf, headOf, next-is}
 use Rattle.abstract_tree.specs.Tree.{Tree, leafSlots, order, above, row, BodyAt, Body, Sound}
-use Rattle.abstract_tree.specs.Cursor.{Without, indexOf, Entry, entry-of, lastAt, firstAt, last-of, first-of}
-use Rattle.abstract_tree.specs.Calls.{slotAt, spot, makeRoom, Room, Made, here, make-room, rankAt, rank-here}
+use Rattle.abstract_tree.specs.Cursor.{Without, indexOf, EntrySlot, entry-of, lastAt, firstAt, last-of, first-of}
+use Rattle.abstract_tree.specs.Calls.{slotAt, spot, makeRoom, Between, RoomMade, here, make-room, rankAt, rank-here}
 
 -- the child of the first of some slots
 abbrev pub firstChild : List Slot → ℕ
@@ -42,8 +42,8 @@ pub record Cur (ε : ℕ) (s : Tree) (id k j : ℕ) : Type 0 where
   pub inside : j < length (leafSlots s k)
   pub at : slotAt s k j ≡ e
   pub rank : (v : ℕ) → rankAt s v k j ≡ sumBy (len v) (cat (s .body .leaf .slots) A ++ F₁)
-  pub room : Room ε s (spot s k j) (cat (s .body .leaf .slots) A ++ F₁) (e ∷ (F₂ ++ cat (s .body .leaf .slots) B))
-  pub made : Made ε s k j (makeRoom s k j) (cat (s .body .leaf .slots) A ++ F₁) (e ∷ (F₂ ++ cat (s .body .leaf .slots) B))
+  pub room : Between ε s (spot s k j) (cat (s .body .leaf .slots) A ++ F₁) (e ∷ (F₂ ++ cat (s .body .leaf .slots) B))
+  pub made : RoomMade ε s k j (makeRoom s k j) (cat (s .body .leaf .slots) A ++ F₁) (e ∷ (F₂ ++ cat (s .body .leaf .slots) B))
 
 -- the slots before the entry
 abbrev pub front : {ε : ℕ} {s : Tree} {id k j : ℕ} → Cur ε s id k j → List Slot
@@ -56,7 +56,7 @@ behind {s = s} c = c .F₂ ++ cat (s .body .leaf .slots) (c .B)
 pub cur : (ε : ℕ) (s : Tree) → Sound ε s → (id : ℕ) → id < s .entries → Cur ε s id (leafOf s id) (slotNo s id)
 cur ε s so id lt = go (entry-of s (so .body) id lt)
   where
-    go : Entry s id → Cur ε s id (leafOf s id) (slotNo s id)
+    go : EntrySlot s id → Cur ε s id (leafOf s id) (slotNo s id)
     go n =
         let k : ℕ = s .homes id in
         let l : List Slot = leafSlots s k in
@@ -85,10 +85,10 @@ cur ε s so id lt = go (entry-of s (so .body) id lt)
           inside = lt;
           at = ap₂ (λ (i : ℕ) (m : List Slot). getD m i noSlot) ji (n .slots) ∙ getD-append-seam (n .F₁) (n .e) (n .F₂) noSlot;
           rank = λ v. rank-here s (n .A) k (n .B) (above s) b v j ∙ ap (sumBy (len v)) front;
-          room = subst (λ (X : List Slot). Room ε s (spot s k j) X (n .e ∷ (n .F₂ ++ cat (s .body .leaf .slots) (n .B)))) front
-              (subst (λ (Y : List Slot). Room ε s (spot s k j) (cat (s .body .leaf .slots) (n .A) ++ take j l) Y) rest (here ε s (n .A) k (n .B) (above s) j b (so .finger) (omega arith)));
-          made = subst (λ (X : List Slot). Made ε s k j (makeRoom s k j) X (n .e ∷ (n .F₂ ++ cat (s .body .leaf .slots) (n .B)))) front
-              (subst (λ (Y : List Slot). Made ε s k j (makeRoom s k j) (cat (s .body .leaf .slots) (n .A) ++ take j l) Y) rest (make-room ε s (n .A) k (n .B) (above s) j b (so .finger) (omega arith)));
+          room = subst (λ (X : List Slot). Between ε s (spot s k j) X (n .e ∷ (n .F₂ ++ cat (s .body .leaf .slots) (n .B)))) front
+              (subst (λ (Y : List Slot). Between ε s (spot s k j) (cat (s .body .leaf .slots) (n .A) ++ take j l) Y) rest (here ε s (n .A) k (n .B) (above s) j b (so .finger) (omega arith)));
+          made = subst (λ (X : List Slot). RoomMade ε s k j (makeRoom s k j) X (n .e ∷ (n .F₂ ++ cat (s .body .leaf .slots) (n .B)))) front
+              (subst (λ (Y : List Slot). RoomMade ε s k j (makeRoom s k j) (cat (s .body .leaf .slots) (n .A) ++ take j l) Y) rest (make-room ε s (n .A) k (n .B) (above s) j b (so .finger) (omega arith)));
         }
 
 -- every inner node has a child
@@ -106,10 +106,10 @@ abbrev pub lastLeaf : Tree → ℕ
 lastLeaf s = lastAt (s .body .inner) (s .body .root) (s .body .levels)
 
 -- the end
-pub end-made : (ε : ℕ) (s : Tree) → Sound ε s → Made ε s (lastLeaf s) (length (leafSlots s (lastLeaf s))) (makeRoom s (lastLeaf s) (length (leafSlots s (lastLeaf s)))) (row s) []
+pub end-made : (ε : ℕ) (s : Tree) → Sound ε s → RoomMade ε s (lastLeaf s) (length (leafSlots s (lastLeaf s))) (makeRoom s (lastLeaf s) (length (leafSlots s (lastLeaf s)))) (row s) []
 end-made ε s so = go (last-of (s .body .inner) (s .body .root) (s .body .levels) (full s (so .body)))
   where
-    go : (X : List ℕ) × (order s ≡ X ++ lastLeaf s ∷ []) → Made ε s (lastLeaf s) (length (leafSlots s (lastLeaf s))) (makeRoom s (lastLeaf s) (length (leafSlots s (lastLeaf s)))) (row s) []
+    go : (X : List ℕ) × (order s ≡ X ++ lastLeaf s ∷ []) → RoomMade ε s (lastLeaf s) (length (leafSlots s (lastLeaf s))) (makeRoom s (lastLeaf s) (length (leafSlots s (lastLeaf s)))) (row s) []
     go r =
         let k : ℕ = lastLeaf s in
         let l : List Slot = leafSlots s k in
@@ -117,8 +117,8 @@ end-made ε s so = go (last-of (s .body .inner) (s .body .root) (s .body .levels
         let front : cat (s .body .leaf .slots) (r .0) ++ take (length l) l ≡ row s
         = ap (λ (m : List Slot). cat (s .body .leaf .slots) (r .0) ++ m) (take-length l ∙ sym (append-nil l)) ∙ sym (cat-append (s .body .leaf .slots) (r .0) (k ∷ [])) ∙ ap (cat (s .body .leaf .slots)) (sym (r .1)) in
         let rest : drop (length l) l ++ cat (s .body .leaf .slots) [] ≡ [] = append-nil (drop (length l) l) ∙ drop-length l in
-        subst (λ (X : List Slot). Made ε s k (length l) (makeRoom s k (length l)) X []) front
-        (subst (λ (Y : List Slot). Made ε s k (length l) (makeRoom s k (length l)) (cat (s .body .leaf .slots) (r .0) ++ take (length l) l) Y) rest (make-room ε s (r .0) k [] (above s) (length l) b (so .finger) (omega arith)))
+        subst (λ (X : List Slot). RoomMade ε s k (length l) (makeRoom s k (length l)) X []) front
+        (subst (λ (Y : List Slot). RoomMade ε s k (length l) (makeRoom s k (length l)) (cat (s .body .leaf .slots) (r .0) ++ take (length l) l) Y) rest (make-room ε s (r .0) k [] (above s) (length l) b (so .finger) (omega arith)))
 
 -- the total of a view stands in the root
 pub root-sum : (v : ℕ) (t : ℕ → ℕ → ℕ) (low up : Area) (root : ℕ) (C P : List ℕ) (st : List (List ℕ)) → Links t low up root C (P ∷ st) → total up root v ≡ sumBy (λ c. t c v) C
@@ -141,7 +141,7 @@ total-is s b v = go (above s) (b .links) (b .deep) ∙ sym (sumBy-cat (len v) (s
     go (P ∷ st) l e = root-sum v (total (s .body .leaf)) (s .body .leaf) (s .body .inner) (s .body .root) (order s) P st l
 
 -- the entry after
-abbrev pub leafFirst : Tree → Step → ℕ
+abbrev pub leafFirst : Tree → NodeOrEnd → ℕ
 leafFirst s (node c) = slotAt s c 0 .child
 leafFirst s end = 4294967295
 

@@ -10,27 +10,27 @@ use Rattle.model.specs.declared.shape.Kind.{Kind}
 use Rattle.model.specs.Kind.{prepare}
 use Rattle.model.specs.Row.{Entry, before, from, found, lengthIn, total}
 
-abbrev pub Without : ℕ → List Entry → Type 0
-Without i l = All (λ x. x .id ≢ i) l
+abbrev pub RowWithout : ℕ → List Entry → Type 0
+RowWithout i l = All (λ x. x .id ≢ i) l
 
 module _ (i : ℕ) where
-  pub before-at : (l : List Entry) (e : Entry) (m : List Entry) → Without i l → e .id ≡ i → before i (l ++ e ∷ m) ≡ l
+  pub before-at : (l : List Entry) (e : Entry) (m : List Entry) → RowWithout i l → e .id ≡ i → before i (l ++ e ∷ m) ≡ l
   unfolding before All
   before-at [] e m w q = rw (eq-eqb (e .id) i q)
   before-at (x ∷ l) e m w q = rw (ne-eqb (x .id) i (w .0)) (ap {B = List Entry} (λ k. x ∷ k) (before-at l e m (w .1) q))
 
-  pub from-at : (l : List Entry) (e : Entry) (m : List Entry) → Without i l → e .id ≡ i → from i (l ++ e ∷ m) ≡ e ∷ m
+  pub from-at : (l : List Entry) (e : Entry) (m : List Entry) → RowWithout i l → e .id ≡ i → from i (l ++ e ∷ m) ≡ e ∷ m
   unfolding from All
   from-at [] e m w q = rw (eq-eqb (e .id) i q)
   from-at (x ∷ l) e m w q = rw (ne-eqb (x .id) i (w .0)) (from-at l e m (w .1) q)
 
   -- where no entry has that id
-  pub before-end : (l : List Entry) → Without i l → before i l ≡ l
+  pub before-end : (l : List Entry) → RowWithout i l → before i l ≡ l
   unfolding before All
   before-end [] w = refl
   before-end (x ∷ l) w = rw (ne-eqb (x .id) i (w .0)) (ap {B = List Entry} (λ k. x ∷ k) (before-end l (w .1)))
 
-  pub from-end : (l : List Entry) → Without i l → from i l ≡ []
+  pub from-end : (l : List Entry) → RowWithout i l → from i l ≡ []
   unfolding from All
   from-end [] w = refl
   from-end (x ∷ l) w = rw (ne-eqb (x .id) i (w .0)) (from-end l (w .1))

@@ -9,7 +9,7 @@ use Rattle.model.specs.Lists.{sumBy, All}
 use Rattle.abstract_tree.specs.Lists.{cat, cat-append, map-append, sumBy-append, sumBy-cat, All-map, All-map₂, All-every, All-left, All-right, Pairs-before, Pairs-after, NoDup, cat-cong}
 use Rattle.abstract_tree.specs.Levels.{len, Slot, Area, Mark, marks, told, said, Links, total, none}
 use Rattle.abstract_tree.specs.Apart.{links-nodup, Real}
-use Rattle.abstract_tree.specs.Update.{adopt, adopt-other, upd, upd-same, upd-other, setSlots, Same, said-same, total-same, links-frame}
+use Rattle.abstract_tree.specs.Update.{adopt, adopt-other, upd, upd-same, upd-other, setSlots, SameNode, said-same, total-same, links-frame}
 use Rattle.abstract_tree.specs.Insert.{Trunk, Into, Out, slotOf}
 use Rattle.abstract_tree.specs.AddChild.{addChild, add-links}
 use Rattle.abstract_tree.specs.Carry.{carry, carry-links}
@@ -123,7 +123,7 @@ split-leaf fan half s A a n B st L U l ln b room sl = go (add-links fan half 0 s
       links = links-frame (total (s .leaf)) (total (s .leaf)) (s .leaf) (cutLeaf (s .leaf) a n L U) (s .inner) (s .inner) (s .root) (A ++ a ∷ B) st l
           (All-map (λ x. x < n) (λ x. said (total (s .leaf)) (cutLeaf (s .leaf) a n L U) x ≡ said (total (s .leaf)) (s .leaf) x)
           (λ x lt. said-same (total (s .leaf)) (total (s .leaf)) (s .leaf) (cutLeaf (s .leaf) a n L U) x (adopt-other (s .leaf) n (s .leaf .parent a) 0 x (λ e. omega arith)) refl) (A ++ a ∷ B) ln)
-          (All-every (All (Same (s .inner) (s .inner))) (λ Q. All-every (Same (s .inner) (s .inner)) (λ x. (refl, (refl, refl))) Q) st);
+          (All-every (All (SameNode (s .inner) (s .inner))) (λ Q. All-every (SameNode (s .inner) (s .inner)) (λ x. (refl, (refl, refl))) Q) st);
       fresh = All-map (λ m. m < n) (λ x. x ≢ n) (λ m k e. omega arith) (A ++ a ∷ B) ln;
       below = b;
       num = tt;
@@ -140,7 +140,7 @@ split-leaf fan half s A a n B st L U l ln b room sl = go (add-links fan half 0 s
           st′ = o .st′;
           links = links-frame (total leaf₁) (total (s′ .leaf)) (s′ .leaf) (s′ .leaf) (s′ .inner) (s′ .inner) (s′ .root) (A ++ a ∷ n ∷ B) (o .st′) (o .links)
               (All-every (λ x. said (total (s′ .leaf)) (s′ .leaf) x ≡ said (total leaf₁) (s′ .leaf) x) (λ x. said-same (total leaf₁) (total (s′ .leaf)) (s′ .leaf) (s′ .leaf) x (refl, refl) (total-same leaf₁ (s′ .leaf) x (o .leafs x))) (A ++ a ∷ n ∷ B))
-              (All-every (All (Same (s′ .inner) (s′ .inner))) (λ Q. All-every (Same (s′ .inner) (s′ .inner)) (λ x. (refl, (refl, refl))) Q) (o .st′));
+              (All-every (All (SameNode (s′ .inner) (s′ .inner))) (λ Q. All-every (SameNode (s′ .inner) (s′ .inner)) (λ x. (refl, (refl, refl))) Q) (o .st′));
           row = slots-cong leaf₁ (s′ .leaf) (A ++ a ∷ n ∷ B) (All-every (λ x. s′ .leaf .slots x ≡ leaf₁ .slots x) (o .leafs) (A ++ a ∷ n ∷ B))
               ∙ cat-append (leaf₁ .slots) A (a ∷ n ∷ B)
               ∙ ap₂ _++_ (slots-cong (s .leaf) leaf₁ A uA) (ap₂ _++_ lo (ap₂ _++_ hi (slots-cong (s .leaf) leaf₁ B uB)) ∙ sym (append-assoc L U (cat (s .leaf .slots) B)) ∙ rw sl)

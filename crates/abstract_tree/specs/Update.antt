@@ -48,8 +48,8 @@ adoptAll-slots a p i (s ∷ ss) k = adoptAll-slots (adopt a (s .child) p i) p (s
 abbrev pub SameOwn : Area → Area → ℕ → Type 0
 SameOwn a b k = (b .parent k ≡ a .parent k) × (b .place k ≡ a .place k)
 
-abbrev pub Same : Area → Area → ℕ → Type 0
-Same a b k = (b .slots k ≡ a .slots k) × SameOwn a b k
+abbrev pub SameNode : Area → Area → ℕ → Type 0
+SameNode a b k = (b .slots k ≡ a .slots k) × SameOwn a b k
 
 pub adopt-other : (a : Area) (c p i k : ℕ) → k ≢ c → SameOwn a (adopt a c p i) k
 adopt-other a c p i k ne = (upd-other (a .parent) c p k ne, upd-other (a .place) c i k ne)
@@ -69,15 +69,15 @@ pub total-same : (a b : Area) (k : ℕ) → b .slots k ≡ a .slots k → total 
 total-same a b k e = ap {B = ℕ → ℕ} (λ (ss : List Slot) (v : ℕ). sumBy (len v) ss) e
 
 pub links-frame : (t t′ : ℕ → ℕ → ℕ) (low low′ up up′ : Area) (root : ℕ) (C : List ℕ) (st : List (List ℕ))
-    → Links t low up root C st → All (λ c. said t′ low′ c ≡ said t low c) C → All (All (Same up up′)) st → Links t′ low′ up′ root C st
+    → Links t low up root C st → All (λ c. said t′ low′ c ≡ said t low c) C → All (All (SameNode up up′)) st → Links t′ low′ up′ root C st
 unfolding All
 links-frame t t′ low low′ up up′ root C [] l h k =
     let e : said t′ low′ root ≡ said t low root = (rw (l .0) at h) .0 in
     (l .0, ap (λ (m : Mark). m .par) e ∙ l .1, ap (λ (m : Mark). m .pos) e ∙ l .2)
 links-frame t t′ low low′ up up′ root C (P ∷ st) l h k = (
-  map-cong (said t′ low′) (said t low) C h ∙ l .0 ∙ sym (cat-cong (told up′) (told up) P (All-map (Same up up′) (λ p. told up′ p ≡ told up p) (λ p s. rw (s .0)) P (k .0))),
+  map-cong (said t′ low′) (said t low) C h ∙ l .0 ∙ sym (cat-cong (told up′) (told up) P (All-map (SameNode up up′) (λ p. told up′ p ≡ told up p) (λ p s. rw (s .0)) P (k .0))),
   links-frame (total up) (total up′) up up′ up up′ root P st (l .1)
-      (All-map (Same up up′) (λ p. said (total up′) up′ p ≡ said (total up) up p) (λ p s. said-same (total up) (total up′) up up′ p (s .1) (total-same up up′ p (s .0))) P (k .0)) (k .1),
+      (All-map (SameNode up up′) (λ p. said (total up′) up′ p ≡ said (total up) up p) (λ p s. said-same (total up) (total up′) up up′ p (s .1) (total-same up up′ p (s .0))) P (k .0)) (k .1),
 )
 
 pub said-adopt : (t : ℕ → ℕ → ℕ) (low : Area) (c p i : ℕ) → said t (adopt low c p i) c ≡ record { num = c; par = p; pos = i; wt = t c }
@@ -224,9 +224,9 @@ insert-links t t′ low low′ up up′ root A a B P st sa sn l r fr ta tb sac s
           All-map₂ (λ x. x ≢ low .parent a) (SameOwn up up′) (λ c. said (total up′) up′ c ≡ said (total up) up c) other (r .P₂) b2 ((All-right (SameOwn up up′) (r .P₁) (low .parent a ∷ r .P₂) op′) .1),
         ))
 
-    all-st : All (All (Same up up′)) st
-    all-st = All-map₂ (All (λ m. m ≢ low .parent a)) (All (SameOwn up up′)) (All (Same up up′))
-        (λ Q h o. All-map₂ (λ m. m ≢ low .parent a) (SameOwn up up′) (Same up up′) (λ m ne o. (so m ne, o)) Q h o) st apt os
+    all-st : All (All (SameNode up up′)) st
+    all-st = All-map₂ (All (λ m. m ≢ low .parent a)) (All (SameOwn up up′)) (All (SameNode up up′))
+        (λ Q h o. All-map₂ (λ m. m ≢ low .parent a) (SameOwn up up′) (SameNode up up′) (λ m ne o. (so m ne, o)) Q h o) st apt os
 
 -- a full node's slots L ++ U divided between it and q: what the children say, what the parents say
 pub halve-low : (t : ℕ → ℕ → ℕ) (low up : Area) (C : List ℕ) (P₁ : List ℕ) (p : ℕ) (P₂ : List ℕ) (L U : List Slot) (q : ℕ)

@@ -10,18 +10,18 @@ use Rattle.model.specs.State.{nodeAt, putNode}
 use Rattle.model.specs.declared.shape.Shape.{Shape}
 use Rattle.laws.specs.AreaRead.{node-end, node-length}
 use Rattle.laws.specs.Put.{change-back}
-use Rattle.area.specs.Area.{Area}
+use Rattle.area.specs.Area.{AreaHolds}
 
 -- node k ends within the area
-pub ends : {g : Shape} {n : ℕ} (k : ℕ) → Area g n → k < g .nodes → k * g .size + g .size ≤ n
+pub ends : {g : Shape} {n : ℕ} (k : ℕ) → AreaHolds g n → k < g .nodes → k * g .size + g .size ≤ n
 ends {g} {n} k a h = node-end g k n h (a .room)
 
 -- node k has all its words
-pub whole : {g : Shape} (k : ℕ) (xs : List ℕ) → Area g (length xs) → k < g .nodes → length (part (k * g .size) (g .size) xs) ≡ g .size
+pub whole : {g : Shape} (k : ℕ) (xs : List ℕ) → AreaHolds g (length xs) → k < g .nodes → length (part (k * g .size) (g .size) xs) ≡ g .size
 whole {g} k xs a h = node-length g k xs h (a .room)
 
 -- the area when node k's part is back as the words of f of that node
-pub back : {g : Shape} (k : ℕ) (xs ys : List ℕ) (f : Node → Node) → Area g (length xs) → k < g .nodes
+pub back : {g : Shape} (k : ℕ) (xs ys : List ℕ) (f : Node → Node) → AreaHolds g (length xs) → k < g .nodes
     → length ys ≡ length (take (k * g .size + g .size - k * g .size) (drop (k * g .size) xs))
     → ys ≡ wordsOf (f (nodeOf (g .stride) (g .fan) (take (k * g .size + g .size - k * g .size) (drop (k * g .size) xs))))
     → putMid (k * g .size) (k * g .size + g .size - k * g .size) xs ys ≡ putNode g k (f (nodeAt g k xs)) xs

@@ -6,10 +6,10 @@ use Rattle.laws.specs.Lists.{row-end}
 use Rattle.node.specs.Shaped.{Shaped}
 
 -- n is the area's length
-pub record Area (g : Shape) (n : ℕ) : Type 0 where
+pub record AreaHolds (g : Shape) (n : ℕ) : Type 0 where
   pub shaped : Shaped g
   pub room : g .nodes * g .size ≤ n
 
 -- each of its nodes ends within it
-pub node-in : (g : Shape) (n k : ℕ) → Area g n → k < g .nodes → k * g .size + g .size ≤ n
+pub node-in : (g : Shape) (n k : ℕ) → AreaHolds g n → k < g .nodes → k * g .size + g .size ≤ n
 node-in g n k a h = omega (arith, a .room, row-end k (g .nodes) (g .size) h)

@@ -8,12 +8,12 @@ ghost use lib.ListN.{length, getD, take, drop};
 ghost use Rattle.model.specs.Node.{start, child, lengthIn, used, findFrom, wrap};
 ghost use Rattle.model.specs.State.{nodeAt};
 ghost use Rattle.model.specs.Climb.{raised};
-ghost use Rattle.area.specs.Area.{Area};
+ghost use Rattle.area.specs.Area.{AreaHolds};
 ghost use Rattle.area.specs.Found.{FoundIn};
 
 // Word i of node k.
 fn word_of(area: &[u32], g: Shape, k: u32, i: usize) -> u32
-    requires { ⌜ Area g (length (now area)) × (k < g .nodes) × (i < g .size) ⌝ }
+    requires { ⌜ AreaHolds g (length (now area)) × (k < g .nodes) × (i < g .size) ⌝ }
     ensures { λ r. ⌜ r ≡ getD (now (area .entry)) (k * g .size + i) 0 ⌝ }
 {
     let size = g.size;
@@ -22,7 +22,7 @@ fn word_of(area: &[u32], g: Shape, k: u32, i: usize) -> u32
 
 // How many slots node k uses.
 pub fn len_of(area: &[u32], g: Shape, k: u32) -> u32
-    requires { ⌜ Area g (length (now area)) × (k < g .nodes) ⌝ }
+    requires { ⌜ AreaHolds g (length (now area)) × (k < g .nodes) ⌝ }
     ensures { λ r. ⌜ r ≡ nodeAt g k (now (area .entry)) .len ⌝ }
 {
     word_of(area, g, k, 0)
@@ -30,7 +30,7 @@ pub fn len_of(area: &[u32], g: Shape, k: u32) -> u32
 
 // The parent of node k.
 pub fn parent_of(area: &[u32], g: Shape, k: u32) -> u32
-    requires { ⌜ Area g (length (now area)) × (k < g .nodes) ⌝ }
+    requires { ⌜ AreaHolds g (length (now area)) × (k < g .nodes) ⌝ }
     ensures { λ r. ⌜ r ≡ nodeAt g k (now (area .entry)) .parent ⌝ }
 {
     word_of(area, g, k, 1)
@@ -38,7 +38,7 @@ pub fn parent_of(area: &[u32], g: Shape, k: u32) -> u32
 
 // The place of node k in its parent.
 pub fn at_of(area: &[u32], g: Shape, k: u32) -> u32
-    requires { ⌜ Area g (length (now area)) × (k < g .nodes) ⌝ }
+    requires { ⌜ AreaHolds g (length (now area)) × (k < g .nodes) ⌝ }
     ensures { λ r. ⌜ r ≡ nodeAt g k (now (area .entry)) .at ⌝ }
 {
     word_of(area, g, k, 2)
@@ -46,7 +46,7 @@ pub fn at_of(area: &[u32], g: Shape, k: u32) -> u32
 
 // Column c of slot i of node k.
 fn column_of(area: &[u32], g: Shape, k: u32, i: usize, c: usize) -> u32
-    requires { ⌜ Area g (length (now area)) × (k < g .nodes) × (i < g .fan) × (c < g .stride) ⌝ }
+    requires { ⌜ AreaHolds g (length (now area)) × (k < g .nodes) × (i < g .fan) × (c < g .stride) ⌝ }
     ensures { λ r. ⌜ r ≡ getD (getD (nodeAt g k (now (area .entry)) .slots) i []) c 0 ⌝ }
 {
     let stride = g.stride;
@@ -55,7 +55,7 @@ fn column_of(area: &[u32], g: Shape, k: u32, i: usize, c: usize) -> u32
 
 // The child in slot i of node k.
 pub fn child_of(area: &[u32], g: Shape, k: u32, i: usize) -> u32
-    requires { ⌜ Area g (length (now area)) × (k < g .nodes) × (i < g .fan) ⌝ }
+    requires { ⌜ AreaHolds g (length (now area)) × (k < g .nodes) × (i < g .fan) ⌝ }
     ensures { λ r. ⌜ r ≡ child (getD (nodeAt g k (now (area .entry)) .slots) i []) ⌝ }
 {
     column_of(area, g, k, i, 0)
@@ -63,7 +63,7 @@ pub fn child_of(area: &[u32], g: Shape, k: u32, i: usize) -> u32
 
 // The length in view of slot i of node k.
 pub fn length_of(area: &[u32], g: Shape, view: usize, k: u32, i: usize) -> u32
-    requires { ⌜ Area g (length (now area)) × (view + 1 < g .stride) × (k < g .nodes) × (i < g .fan) ⌝ }
+    requires { ⌜ AreaHolds g (length (now area)) × (view + 1 < g .stride) × (k < g .nodes) × (i < g .fan) ⌝ }
     ensures { λ r. ⌜ r ≡ lengthIn view (getD (nodeAt g k (now (area .entry)) .slots) i []) ⌝ }
 {
     column_of(area, g, k, i, view + 1)
@@ -71,7 +71,7 @@ pub fn length_of(area: &[u32], g: Shape, view: usize, k: u32, i: usize) -> u32
 
 // The lengths before slot i of node k: at most 32 words.
 pub fn start_in(area: &[u32], g: Shape, view: usize, k: u32, i: u32) -> u64
-    requires { ⌜ Area g (length (now area)) × (k < g .nodes) × (view + 1 < g .stride) × (i ≤ g .fan) ⌝ }
+    requires { ⌜ AreaHolds g (length (now area)) × (k < g .nodes) × (view + 1 < g .stride) × (i ≤ g .fan) ⌝ }
     ensures { λ r. ⌜ (r ≡ start view i (nodeAt g k (now (area .entry)))) × (r ≤ 137438953440) ⌝ }
 {
     let size = g.size;
@@ -82,7 +82,7 @@ pub fn start_in(area: &[u32], g: Shape, view: usize, k: u32, i: u32) -> u64
 
 // The same modulo 2^32.
 pub fn start_low_in(area: &[u32], g: Shape, view: usize, k: u32, i: u32) -> u32
-    requires { ⌜ Area g (length (now area)) × (k < g .nodes) × (view + 1 < g .stride) × (i ≤ g .fan) ⌝ }
+    requires { ⌜ AreaHolds g (length (now area)) × (k < g .nodes) × (view + 1 < g .stride) × (i ≤ g .fan) ⌝ }
     ensures { λ r. ⌜ r ≡ wrap (start view i (nodeAt g k (now (area .entry)))) ⌝ }
 {
     let size = g.size;
@@ -103,7 +103,7 @@ pub fn find_in(
     effects: u64,
     prepares: u64,
 ) -> Found
-    requires { ⌜ Area g (length (now area)) × (k < g .nodes) × (view + 1 < g .stride) × (effect + 1 < g .stride) × (nodeAt g k (now area) .len ≤ g .fan) × (from ≤ nodeAt g k (now area) .len) × (effects ≤ 281474976710656) × (prepares ≤ 281474976710656) ⌝ }
+    requires { ⌜ AreaHolds g (length (now area)) × (k < g .nodes) × (view + 1 < g .stride) × (effect + 1 < g .stride) × (nodeAt g k (now area) .len ≤ g .fan) × (from ≤ nodeAt g k (now area) .len) × (effects ≤ 281474976710656) × (prepares ≤ 281474976710656) ⌝ }
     ensures { λ r. ⌜ FoundIn effects prepares r (findFrom view effect from index effects prepares (drop from (used (nodeAt g k (now (area .entry)))))) ⌝ }
 {
     let size = g.size;
@@ -123,7 +123,7 @@ pub fn find_first_in(
     effects: u64,
     prepares: u64,
 ) -> Found
-    requires { ⌜ Area g (length (now area)) × (k < g .nodes) × (view + 1 < g .stride) × (effect + 1 < g .stride) × (nodeAt g k (now area) .len ≤ g .fan) × (effects ≤ 281474976710656) × (prepares ≤ 281474976710656) ⌝ }
+    requires { ⌜ AreaHolds g (length (now area)) × (k < g .nodes) × (view + 1 < g .stride) × (effect + 1 < g .stride) × (nodeAt g k (now area) .len ≤ g .fan) × (effects ≤ 281474976710656) × (prepares ≤ 281474976710656) ⌝ }
     ensures { λ r. ⌜ FoundIn effects prepares r (findFrom view effect 0 index effects prepares (used (nodeAt g k (now (area .entry))))) ⌝ }
 {
     let size = g.size;
@@ -134,7 +134,7 @@ pub fn find_first_in(
 
 // Lengths added to those in slot i of node k.
 pub fn raise_in(area: &mut [u32], g: Shape, delta: &[u32; 3], k: u32, i: u32)
-    requires { ⌜ Area g (length (now area)) × (k < g .nodes) × (i < g .fan) × (length (now delta) ≡ 3) ⌝ }
+    requires { ⌜ AreaHolds g (length (now area)) × (k < g .nodes) × (i < g .fan) × (length (now delta) ≡ 3) ⌝ }
     ensures { λ _. ⌜ now (area .exit) ≡ raised g (take (g .stride - 1) (now (delta .entry))) k i (now (area .entry)) ⌝ }
 {
     let size = g.size;

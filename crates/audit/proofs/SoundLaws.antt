@@ -19,7 +19,7 @@ use Rattle.model.specs.declared.head.Held.{Held}
 use Rattle.model.specs.declared.head.Held.the-variants as held
 use Rattle.model.specs.declared.answer.Verdict.{Verdict}
 use Rattle.model.specs.declared.answer.Verdict.the-variants as verdict
-use Rattle.area.specs.Area.{Area}
+use Rattle.area.specs.Area.{AreaHolds}
 use Rattle.open.specs.Open.{openedBy}
 use Rattle.open.specs.declared.open.Opened.{Opened}
 use Rattle.open.specs.declared.open.Opened.the-variants.{Good, Refused}
@@ -58,7 +58,7 @@ module _ (h : Head) (g : Shape) (e : countsBy h g ≡ true) where
   to-second : second ≡ true
   to-second = and-true second (leb (h .inners) (g .nodes)) to-third .0
 
-  pub known : (n m : ℕ) → Area g n → Area g m → Known h g n m
+  pub known : (n m : ℕ) → AreaHolds g n → AreaHolds g m → Known h g n m
   known n m ls xs =
       record {
         leaf-area = ls;

@@ -30,7 +30,7 @@ ghost use Rattle.model.specs.State.{state, nodeAt};
 ghost use Rattle.model.specs.Refuse.{shapeOf};
 ghost use Rattle.model.specs.Audit.{every, isSum, isInner, isLeaf, isFinger, isHeldFinger, isSound, audit};
 ghost use Rattle.model.specs.declared.shape.Kind.{Kind};
-ghost use Rattle.area.specs.Area.{Area};
+ghost use Rattle.area.specs.Area.{AreaHolds};
 ghost use Rattle.audit_link.specs.Known.{Known};
 ghost use Rattle.audit.specs.Counts.{countsBy};
 ghost use Rattle.audit.specs.Part.{partBy, besideBy};
@@ -56,7 +56,7 @@ fn is_part(
     start: u32,
     within: u32,
 ) -> bool
-    requires { ⌜ Area g (length (now leaves)) × Area g (length (now inners)) × (levels ≤ 15) × (view + 1 < g .stride) × (leaf .0 < g .nodes) ⌝ }
+    requires { ⌜ AreaHolds g (length (now leaves)) × AreaHolds g (length (now inners)) × (levels ≤ 15) × (view + 1 < g .stride) × (leaf .0 < g .nodes) ⌝ }
     ensures { λ r. ⌜ r ≡ partBy g levels view (nodeAt g (leaf .0) (now (leaves .entry))) slot start within (now (inners .entry)) ⌝ }
 {
     let k = leaf.0;
@@ -78,7 +78,7 @@ fn is_beside(
     effect: usize,
     f: Finger,
 ) -> bool
-    requires { ⌜ Area g (length (now leaves)) × Area g (length (now inners)) × (levels ≤ 15) × (effect + 1 < g .stride) × (f .leaf < g .nodes) ⌝ }
+    requires { ⌜ AreaHolds g (length (now leaves)) × AreaHolds g (length (now inners)) × (levels ≤ 15) × (effect + 1 < g .stride) × (f .leaf < g .nodes) ⌝ }
     ensures { λ r. ⌜ r ≡ besideBy g levels effect f (now (leaves .entry)) (now (inners .entry)) ⌝ }
 {
     let leaf = LeafNo(f.leaf);
@@ -222,7 +222,7 @@ fn every_leaf(
 
 // The slots in use of the first leaves.
 fn slots_used(leaves: &[u32], g: Shape, count: u32) -> u64
-    requires { ⌜ Area g (length (now leaves)) × (count ≤ g .nodes) ⌝ }
+    requires { ⌜ AreaHolds g (length (now leaves)) × (count ≤ g .nodes) ⌝ }
     ensures { λ r. ⌜ r ≡ sumBy (λ k. nodeAt g k (now (leaves .entry)) .len) (range 0 count) ⌝ }
 {
     let mut sum: u64 = 0;
@@ -236,7 +236,7 @@ fn slots_used(leaves: &[u32], g: Shape, count: u32) -> u64
 
 // The totals of the root within u32, in every view.
 fn totals(inners: &[u32], g: Shape, root: NodeNo) -> bool
-    requires { ⌜ Area g (length (now inners)) × (root .0 < g .nodes) ⌝ }
+    requires { ⌜ AreaHolds g (length (now inners)) × (root .0 < g .nodes) ⌝ }
     ensures { λ r. ⌜ r ≡ every (λ v. leb (total v (used (nodeAt g (root .0) (now (inners .entry))))) 4294967295) 0 (g .stride - 1) ⌝ }
 {
     let stride = g.stride;
@@ -259,7 +259,7 @@ fn is_sound(
     effect: usize,
     ordered: bool,
 ) -> bool
-    requires { ⌜ Area g (length (now leaves)) × Area g (length (now inners)) × (effect + 1 < g .stride) × (head .limit ≤ length (now homes)) ⌝ }
+    requires { ⌜ AreaHolds g (length (now leaves)) × AreaHolds g (length (now inners)) × (effect + 1 < g .stride) × (head .limit ≤ length (now homes)) ⌝ }
     ensures { λ r. ⌜ ((views : ℕ) → g ≡ shapeOf (kindOf views effect ordered) head → r ≡ isSound (kindOf views effect ordered) (state head (now (leaves .entry)) (now (inners .entry)) (now (homes .entry)))) ⌝ }
 {
     let finger = head.finger;

@@ -25,13 +25,13 @@ ghost use Rattle.model.specs.Refuse.{shapeOf};
 ghost use Rattle.model.specs.Sound.{leastLeaf};
 ghost use Rattle.model.specs.Audit.{every, isOther, isLeaf};
 ghost use Rattle.model.specs.declared.shape.Kind.{Kind};
-ghost use Rattle.area.specs.Area.{Area};
+ghost use Rattle.area.specs.Area.{AreaHolds};
 ghost use Rattle.audit_link.specs.Known.{Known};
 ghost use Rattle.audit_link.specs.Links.{entryBy};
 
 // Whether no slot of leaf k before slot i holds the id.
 fn is_new(leaves: &[u32], g: Shape, k: LeafNo, i: u32, id: EntryId) -> bool
-    requires { ⌜ Area g (length (now leaves)) × (k .0 < g .nodes) × (i < g .fan) ⌝ }
+    requires { ⌜ AreaHolds g (length (now leaves)) × (k .0 < g .nodes) × (i < g .fan) ⌝ }
     ensures { λ r. ⌜ r ≡ every (isOther (nodeAt g (k .0) (now (leaves .entry))) (id .0)) 0 i ⌝ }
 {
     let mut j: u32 = 0;
@@ -46,7 +46,7 @@ fn is_new(leaves: &[u32], g: Shape, k: LeafNo, i: u32, id: EntryId) -> bool
 
 // Whether slot i of leaf k has a lowest above a highest length, where they are ordered.
 fn is_crossed(leaves: &[u32], g: Shape, ordered: bool, k: LeafNo, i: u32) -> bool
-    requires { ⌜ Area g (length (now leaves)) × (k .0 < g .nodes) × (i < g .fan) ⌝ }
+    requires { ⌜ AreaHolds g (length (now leaves)) × (k .0 < g .nodes) × (i < g .fan) ⌝ }
     ensures { λ r. ⌜ r ≡ crossed (kindOf (g .stride - 1) 0 ordered) (lengths (getD (nodeAt g (k .0) (now (leaves .entry)) .slots) i [])) ⌝ }
 {
     let stride = g.stride;
@@ -67,7 +67,7 @@ fn is_entry(
     k: LeafNo,
     i: u32,
 ) -> bool
-    requires { ⌜ Area g (length (now leaves)) × (entries ≤ length (now homes)) × (k .0 < g .nodes) × (i < g .fan) ⌝ }
+    requires { ⌜ AreaHolds g (length (now leaves)) × (entries ≤ length (now homes)) × (k .0 < g .nodes) × (i < g .fan) ⌝ }
     ensures { λ r. ⌜ r ≡ entryBy g ordered entries (now (leaves .entry)) (now (homes .entry)) (k .0) i ⌝ }
 {
     let stride = g.stride;
@@ -99,7 +99,7 @@ fn are_entries(
     k: LeafNo,
     len: u32,
 ) -> bool
-    requires { ⌜ Area g (length (now leaves)) × (entries ≤ length (now homes)) × (k .0 < g .nodes) × (len ≤ g .fan) ⌝ }
+    requires { ⌜ AreaHolds g (length (now leaves)) × (entries ≤ length (now homes)) × (k .0 < g .nodes) × (len ≤ g .fan) ⌝ }
     ensures { λ r. ⌜ r ≡ every (entryBy g ordered entries (now (leaves .entry)) (now (homes .entry)) (k .0)) 0 len ⌝ }
 {
     let mut i: u32 = 0;

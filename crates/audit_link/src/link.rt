@@ -19,13 +19,13 @@ ghost use Rattle.model.specs.Refuse.{shapeOf};
 ghost use Rattle.model.specs.Sound.{leastInner};
 ghost use Rattle.model.specs.Audit.{every, isInner};
 ghost use Rattle.model.specs.declared.shape.Kind.{Kind};
-ghost use Rattle.area.specs.Area.{Area};
+ghost use Rattle.area.specs.Area.{AreaHolds};
 ghost use Rattle.audit_link.specs.Known.{Known};
 ghost use Rattle.audit_link.specs.Links.{depthBy, heldBy, totalsBy, childBy, rootBy};
 
 // How many inner nodes stand from the root down to node k; more than levels where a climb doesn't end at the root.
 pub fn depth(inners: &[u32], g: Shape, used: u32, levels: u32, k: NodeNo) -> u32
-    requires { ⌜ Area g (length (now inners)) × (used ≤ g .nodes) × (levels ≤ 15) ⌝ }
+    requires { ⌜ AreaHolds g (length (now inners)) × (used ≤ g .nodes) × (levels ≤ 15) ⌝ }
     ensures { λ r. ⌜ r ≡ depthBy g used (now (inners .entry)) levels (k .0) ⌝ }
 {
     let empty = Slot::EMPTY;
@@ -52,7 +52,7 @@ pub fn depth(inners: &[u32], g: Shape, used: u32, levels: u32, k: NodeNo) -> u32
 
 // Whether inner node parent holds k, a leaf or an inner node, in its slot at.
 pub fn is_held(inners: &[u32], g: Shape, used: u32, k: u32, parent: NodeNo, at: u32) -> bool
-    requires { ⌜ Area g (length (now inners)) × (used ≤ g .nodes) ⌝ }
+    requires { ⌜ AreaHolds g (length (now inners)) × (used ≤ g .nodes) ⌝ }
     ensures { λ r. ⌜ r ≡ heldBy g used (now (inners .entry)) k (parent .0) at ⌝ }
 {
     let fan = g.fan;
@@ -72,7 +72,7 @@ pub fn is_held(inners: &[u32], g: Shape, used: u32, k: u32, parent: NodeNo, at: 
 
 // Whether slot i of inner node k has the totals of node child of low, in every view.
 fn has_totals(inners: &[u32], low: &[u32], g: Shape, k: NodeNo, i: u32, child: u32) -> bool
-    requires { ⌜ Area g (length (now inners)) × Area g (length (now low)) × (k .0 < g .nodes) × (i < g .fan) × (child < g .nodes) ⌝ }
+    requires { ⌜ AreaHolds g (length (now inners)) × AreaHolds g (length (now low)) × (k .0 < g .nodes) × (i < g .fan) × (child < g .nodes) ⌝ }
     ensures { λ r. ⌜ r ≡ totalsBy g (now (low .entry)) (now (inners .entry)) (k .0) i child ⌝ }
 {
     let stride = g.stride;
@@ -89,7 +89,7 @@ fn has_totals(inners: &[u32], low: &[u32], g: Shape, k: NodeNo, i: u32, child: u
 
 // Whether the child in slot i of inner node k, a node of low, is in use, knows its parent and place, and the slot has its totals.
 fn is_child(inners: &[u32], low: &[u32], g: Shape, used: u32, k: NodeNo, i: u32) -> bool
-    requires { ⌜ Area g (length (now inners)) × Area g (length (now low)) × (used ≤ g .nodes) × (k .0 < g .nodes) × (i < g .fan) ⌝ }
+    requires { ⌜ AreaHolds g (length (now inners)) × AreaHolds g (length (now low)) × (used ≤ g .nodes) × (k .0 < g .nodes) × (i < g .fan) ⌝ }
     ensures { λ r. ⌜ r ≡ childBy g used (now (low .entry)) (now (inners .entry)) (k .0) i ⌝ }
 {
     let child = child_of(inners, g, k.0, i as usize);
@@ -107,7 +107,7 @@ fn is_child(inners: &[u32], low: &[u32], g: Shape, used: u32, k: NodeNo, i: u32)
 
 // The same of each slot in use.
 fn are_children(inners: &[u32], low: &[u32], g: Shape, used: u32, k: NodeNo, len: u32) -> bool
-    requires { ⌜ Area g (length (now inners)) × Area g (length (now low)) × (used ≤ g .nodes) × (k .0 < g .nodes) × (len ≤ g .fan) ⌝ }
+    requires { ⌜ AreaHolds g (length (now inners)) × AreaHolds g (length (now low)) × (used ≤ g .nodes) × (k .0 < g .nodes) × (len ≤ g .fan) ⌝ }
     ensures { λ r. ⌜ r ≡ every (childBy g used (now (low .entry)) (now (inners .entry)) (k .0)) 0 len ⌝ }
 {
     let mut i: u32 = 0;
@@ -135,7 +135,7 @@ fn least_inner(head: Head, k: NodeNo) -> u32
 
 // Whether inner node k stands where it must: the root below nothing, any other node in its parent.
 fn is_below(head: Head, inners: &[u32], g: Shape, k: NodeNo) -> bool
-    requires { ⌜ Area g (length (now inners)) × (head .inners ≤ g .nodes) × (k .0 < g .nodes) ⌝ }
+    requires { ⌜ AreaHolds g (length (now inners)) × (head .inners ≤ g .nodes) × (k .0 < g .nodes) ⌝ }
     ensures { λ r. ⌜ r ≡ rootBy g head (now (inners .entry)) (k .0) ⌝ }
 {
     let empty = Slot::EMPTY;

@@ -17,11 +17,11 @@ ghost use Rattle.model.specs.State.{state, nodeAt};
 ghost use Rattle.model.specs.Refuse.{shapeOf};
 ghost use Rattle.model.specs.Audit.{every, isEmptySlot, isFilled};
 ghost use Rattle.model.specs.declared.shape.Kind.{Kind};
-ghost use Rattle.area.specs.Area.{Area};
+ghost use Rattle.area.specs.Area.{AreaHolds};
 
 // The lengths of the slots in use of node k.
 pub fn total_in(area: &[u32], g: Shape, view: usize, k: u32) -> u64
-    requires { ⌜ Area g (length (now area)) × (k < g .nodes) × (view + 1 < g .stride) ⌝ }
+    requires { ⌜ AreaHolds g (length (now area)) × (k < g .nodes) × (view + 1 < g .stride) ⌝ }
     ensures { λ r. ⌜ r ≡ total view (used (nodeAt g k (now (area .entry)))) ⌝ }
 {
     let size = g.size;
@@ -32,7 +32,7 @@ pub fn total_in(area: &[u32], g: Shape, view: usize, k: u32) -> u64
 
 // The lengths before slot i of node k, however large i is.
 pub fn start_any(area: &[u32], g: Shape, view: usize, k: u32, i: u32) -> u64
-    requires { ⌜ Area g (length (now area)) × (k < g .nodes) × (view + 1 < g .stride) ⌝ }
+    requires { ⌜ AreaHolds g (length (now area)) × (k < g .nodes) × (view + 1 < g .stride) ⌝ }
     ensures { λ r. ⌜ r ≡ start view i (nodeAt g k (now (area .entry))) ⌝ }
 {
     let fan = g.fan;
@@ -44,7 +44,7 @@ pub fn start_any(area: &[u32], g: Shape, view: usize, k: u32, i: u32) -> u64
 
 // Whether slot i of node k is empty: Slot::EMPTY's child, and 0 in every view.
 fn is_empty_slot(area: &[u32], g: Shape, k: u32, i: usize) -> bool
-    requires { ⌜ Area g (length (now area)) × (k < g .nodes) × (i < g .fan) ⌝ }
+    requires { ⌜ AreaHolds g (length (now area)) × (k < g .nodes) × (i < g .fan) ⌝ }
     ensures { λ r. ⌜ ((K : Kind) → g .stride ≡ stride K → r ≡ isEmptySlot K (getD (nodeAt g k (now (area .entry)) .slots) i [])) ⌝ }
 {
     let stride = g.stride;
@@ -64,7 +64,7 @@ fn is_empty_slot(area: &[u32], g: Shape, k: u32, i: usize) -> bool
 
 // Whether the slots of node k are empty from slot len on.
 fn is_empty_from(area: &[u32], g: Shape, k: u32, len: usize) -> bool
-    requires { ⌜ Area g (length (now area)) × (k < g .nodes) ⌝ }
+    requires { ⌜ AreaHolds g (length (now area)) × (k < g .nodes) ⌝ }
     ensures { λ r. ⌜ ((K : Kind) → g .stride ≡ stride K → r ≡ every (λ i. isEmptySlot K (getD (nodeAt g k (now (area .entry)) .slots) i [])) len (g .fan - len)) ⌝ }
 {
     let fan = g.fan;
@@ -80,7 +80,7 @@ fn is_empty_from(area: &[u32], g: Shape, k: u32, len: usize) -> bool
 
 // Whether the len of node k is within its bounds and its unused slots are empty.
 pub fn is_filled(head: Head, area: &[u32], g: Shape, k: u32, least: u32) -> bool
-    requires { ⌜ Area g (length (now area)) × (k < g .nodes) ⌝ }
+    requires { ⌜ AreaHolds g (length (now area)) × (k < g .nodes) ⌝ }
     ensures { λ r. ⌜ ((K : Kind) → g ≡ shapeOf K head → r ≡ isFilled K (state head [] [] []) least (nodeAt g k (now (area .entry)))) × (r ≡ true → nodeAt g k (now (area .entry)) .len ≤ g .fan) ⌝ }
 {
     let fan = g.fan;

@@ -14,7 +14,7 @@ use Rattle.model.specs.State.{State}
 use Rattle.model.specs.Answer.{outcomeAnswer, numberAnswer, comparedAnswer, insertedAnswer}
 use Rattle.model.specs.Calls as calls
 use Rattle.model.specs.Calls.{Reply, reply, cursorAt, cursor}
-use Rattle.model.specs.ById.{withCursor, nextAnswer, dividedAnswer, told, treeMove}
+use Rattle.model.specs.ById.{withCursor, nextAnswer, dividedIdAnswer, told, treeMove}
 use Rattle.model.specs.declared.shape.Kind.{Kind}
 use Rattle.model.specs.declared.head.Cursor.{Cursor}
 use Rattle.model.specs.declared.answer.Target.{Target}
@@ -59,11 +59,11 @@ module _ (K : Kind) (s : State) (i : ℕ) (t : Standing) where
 
     pub split-stops : (flag : Bool) (l : List ℕ) (n : ℕ) → t ≡ standing.Refused n → moved s (refused n) ≡ treeMove K s (row.split flag i l)
     unfolding treeMove
-    split-stops flag l n d = stops (λ c. told (calls.splitEntry K s c l flag) dividedAnswer) n d
+    split-stops flag l n d = stops (λ c. told (calls.splitEntry K s c l flag) dividedIdAnswer) n d
 
-    pub split-goes : (flag : Bool) (l : List ℕ) (c : Cursor) → t ≡ standing.At c → (u : State) (r : Divided) → reply u r ≡ calls.splitEntry K s c l flag → moved u (dividedAnswer r) ≡ treeMove K s (row.split flag i l)
+    pub split-goes : (flag : Bool) (l : List ℕ) (c : Cursor) → t ≡ standing.At c → (u : State) (r : Divided) → reply u r ≡ calls.splitEntry K s c l flag → moved u (dividedIdAnswer r) ≡ treeMove K s (row.split flag i l)
     unfolding treeMove
-    split-goes flag l c d u r q = ap (λ (x : Reply Divided). told x dividedAnswer) q ∙ goes (λ c. told (calls.splitEntry K s c l flag) dividedAnswer) c d
+    split-goes flag l c d u r q = ap (λ (x : Reply Divided). told x dividedIdAnswer) q ∙ goes (λ c. told (calls.splitEntry K s c l flag) dividedIdAnswer) c d
 
     pub set-stops : (l : List ℕ) (n : ℕ) → t ≡ standing.Refused n → moved s (refused n) ≡ treeMove K s (row.setLengths i l)
     unfolding treeMove

@@ -24,7 +24,7 @@ ghost use Rattle.model.specs.Row as row;
 ghost use Rattle.model.specs.Row.{moved};
 ghost use Rattle.model.specs.State.{state};
 ghost use Rattle.model.specs.Answer.{outcomeAnswer, insertedAnswer};
-ghost use Rattle.model.specs.ById.{dividedAnswer, treeMove};
+ghost use Rattle.model.specs.ById.{dividedIdAnswer, treeMove};
 ghost use Rattle.by_id.specs.Place.{placeOf};
 
 // The cursor of the entry before which a new one comes; at the end there is none, and one of no account stands for it.
@@ -102,7 +102,7 @@ pub fn split_entry(
     before: bool,
 ) -> DividedReply
     requires { ⌜ (1 ≤ views) × (views ≤ 3) × (getD (now x) 0 0 ≡ head .entries) × (length (now x) ≡ 4) ⌝ }
-    ensures { λ r. ⌜ ((effect : ℕ) → moved (state (r .head) (now (leaves .exit)) (now (inners .exit)) (now (homes .exit))) (dividedAnswer (r .answer)) ≡ treeMove (kindOf views effect ordered) (state head (now (leaves .entry)) (now (inners .entry)) (now (homes .entry))) (row.split before (id .0) (lengthsIn views (now (x .entry))))) ⌝ }
+    ensures { λ r. ⌜ ((effect : ℕ) → moved (state (r .head) (now (leaves .exit)) (now (inners .exit)) (now (homes .exit))) (dividedIdAnswer (r .answer)) ≡ treeMove (kindOf views effect ordered) (state head (now (leaves .entry)) (now (inners .entry)) (now (homes .entry))) (row.split before (id .0) (lengthsIn views (now (x .entry))))) ⌝ }
 {
     match cursor(views, head, leaves, inners, homes, id) {
         Standing::Refused(n) => DividedReply {

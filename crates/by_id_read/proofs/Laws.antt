@@ -12,7 +12,7 @@ use Rattle.model.specs.Refuse.{shapeOf}
 use Rattle.model.specs.Calls as calls
 use Rattle.model.specs.Examined as count
 use Rattle.model.specs.Examined.{Counted, counted}
-use Rattle.model.specs.ById.{idAnswer, standingAnswer, nextAnswer, locatedAnswer, treeMove, treeStep}
+use Rattle.model.specs.ById.{idAnswer, standingIdAnswer, nextAnswer, locatedAnswer, treeMove, treeStep}
 use Rattle.model.specs.declared.shape.Kind.{Kind}
 use Rattle.model.specs.declared.shape.Shape.{Shape}
 use Rattle.model.specs.declared.head.Cursor.{Cursor}
@@ -52,11 +52,11 @@ module _ (s : State) where
   module _ (t : Standing) (e : t ≡ calls.first base s) where
     pub first-stops : (n : ℕ) → t ≡ standing.Refused n → moved s (refused n) ≡ treeStep base s row.first
     unfolding treeStep treeMove
-    first-stops n d = ap (λ (x : Standing). moved s (standingAnswer base s x)) (sym d ∙ e)
+    first-stops n d = ap (λ (x : Standing). moved s (standingIdAnswer base s x)) (sym d ∙ e)
 
     pub first-goes : (c : Cursor) → t ≡ standing.At c → (r : Named) → r ≡ calls.id base s c → moved s (namedAnswer r) ≡ treeStep base s row.first
     unfolding treeStep treeMove
-    first-goes c d r q = ap (moved s) (id-same r [] refl ∙ ap (λ (x : Named). idAnswer x []) q) ∙ ap (λ (x : Standing). moved s (standingAnswer base s x)) (sym d ∙ e)
+    first-goes c d r q = ap (moved s) (id-same r [] refl ∙ ap (λ (x : Named). idAnswer x []) q) ∙ ap (λ (x : Standing). moved s (standingIdAnswer base s x)) (sym d ∙ e)
 
 -- the entry after a cursor's, and a lookup, on a tree of any kind
 module _ (K : Kind) where

@@ -31,7 +31,7 @@ use Rattle.model.specs.declared.answer.Inserted.the-variants as inserted
 use Rattle.laws.specs.Lens.{by-test, both}
 use Rattle.node.specs.Shaped.{Shaped}
 use Rattle.node_write.proofs.WriteLaws.{four-words}
-use Rattle.area.specs.Area.{Area}
+use Rattle.area.specs.Area.{AreaHolds}
 use Rattle.walk.specs.Low.{lowWay}
 use Rattle.place.specs.Asked.{wayUp}
 use Rattle.place.specs.Room.{settledIn, Entering}
@@ -48,7 +48,7 @@ use Rattle.calls_insert.specs.Put.{aimAt, inUse, aimed, Aimed, insertedB
 use Rattle.calls_insert.specs.declared.any.Aim.{Aim}
 
 -- the slot that is aimed at is in a leaf in use, at or before the first that isn't
-pub record Within (K : Kind) (s : State) (t : Target) (g : Shape) (a : Aim) : Type 0 where
+pub record AimWithin (K : Kind) (s : State) (t : Target) (g : Shape) (a : Aim) : Type 0 where
   pub same : aim K s t ≡ change 0 s (a .leaf .0) (a .slot)
   pub leaf : a .leaf .0 < s .head .leaves
   pub slot : a .slot ≤ nodeAt g (a .leaf .0) (s .leaves) .len
@@ -75,7 +75,7 @@ module _ (K : Kind) (s : State) where
   ending leaf.Nothing z = let y : _≡_ {A = ℕ} 9 0 = z in absurd (omega arith)
   ending leaf.Broken z = let y : _≡_ {A = ℕ} 9 0 = z in absurd (omega arith)
 
-  pub in-leaf : (t : Target) (g : Shape) (a : Aim) → g ≡ shapeOf K (s .head) → Aimed K s t → a ≡ aimed K s t → a .number ≡ 0 → Within K s t g a
+  pub in-leaf : (t : Target) (g : Shape) (a : Aim) → g ≡ shapeOf K (s .head) → Aimed K s t → a ≡ aimed K s t → a .number ≡ 0 → AimWithin K s t g a
   unfolding Aimed
   in-leaf (target.Before c) g a eg h e z = rw (e, eg) (record { same = refl; leaf = h .0; slot = omega (arith, h .1); few = h .2 })
   in-leaf target.End g a eg h e z =
@@ -158,11 +158,11 @@ place-ends g s k i l =
     by-test (λ (x : Change). Ends (x .number)) (eqb (makeRoom g s k i .number) 0) _ _ (λ _. enter-ends g _ 0 (r .state) (r .leaf) (r .slot)) (λ _. room-ends g s k i)
 
 -- an area after a call that keeps its length
-still : (g : Shape) (n m : ℕ) → Shaped g → g .nodes * g .size ≤ n → m ≡ n → Area g m
+still : (g : Shape) (n m : ℕ) → Shaped g → g .nodes * g .size ≤ n → m ≡ n → AreaHolds g m
 still g n m h r e = record { shaped = h; room = omega arith }
 
 -- what `place` asks
-pub place-in : (K : Kind) (s : State) (t : Target) (g : Shape) (a : Aim) (x : List ℕ) → Ready K s g → Within K s t g a → s .head .entries < s .head .limit → getD x 0 0 ≡ s .head .entries
+pub place-in : (K : Kind) (s : State) (t : Target) (g : Shape) (a : Aim) (x : List ℕ) → Ready K s g → AimWithin K s t g a → s .head .entries < s .head .limit → getD x 0 0 ≡ s .head .entries
     → Entering (K .views) g (s .head) (s .leaves) (s .inners) (s .homes) (a .leaf .0) x
 place-in K s t g a x h w below next =
     record {
@@ -183,7 +183,7 @@ wrapped : (n m : ℕ) → n ≡ wrap m → wrap n ≡ wrap m
 wrapped n m e = omega arith
 
 -- what `enter` answers, from the entry placed before slot i of leaf k, as `place` settles it: x holds its lengths
-module _ (K : Kind) (s : State) (t : Target) (g : Shape) (a : Aim) (x : List ℕ) (w : Within K s t g a) (n k i : ℕ) (h1 : Head) (ls xs hs : List ℕ)
+module _ (K : Kind) (s : State) (t : Target) (g : Shape) (a : Aim) (x : List ℕ) (w : AimWithin K s t g a) (n k i : ℕ) (h1 : Head) (ls xs hs : List ℕ)
     (er : change n (state h1 ls xs hs) k i ≡ settledIn (s .head) (place g s (a .leaf .0) (a .slot) (lengthsIn (K .views) x))) where
   abbrev new : List ℕ
   new = lengthsIn (K .views) x
@@ -220,7 +220,7 @@ module _ (K : Kind) (s : State) (t : Target) (g : Shape) (a : Aim) (x : List ℕ
   module _ (z : n ≡ 0) where
     -- the way up is in the areas
     pub way-in : Ready K s g → (u v : ℕ) → u ≡ length (s .leaves) → v ≡ length (s .inners)
-        → Area (shapeFor (K .views) (g .fan) (g .nodes)) u × Area (shapeFor (K .views) (g .fan) (g .nodes)) v × (h1 .levels ≤ 16) × (k < g .nodes) × (i < g .fan)
+        → AreaHolds (shapeFor (K .views) (g .fan) (g .nodes)) u × AreaHolds (shapeFor (K .views) (g .fan) (g .nodes)) v × (h1 .levels ≤ 16) × (k < g .nodes) × (i < g .fan)
     unfolding place
     way-in h u v eu ev =
         let f : ℕ → Node → Node = λ j. node.inserted j (s .head .entries ∷ new) in

@@ -33,7 +33,7 @@ ghost use Rattle.model.specs.Calls.{reply, targetCauses, insertCauses};
 ghost use Rattle.model.specs.declared.shape.Kind.{Kind};
 ghost use Rattle.model.specs.declared.answer.Target.the-variants.{End};
 ghost use Rattle.model.specs.declared.answer.Inserted.the-variants as inserted;
-ghost use Rattle.area.specs.Area.{Area};
+ghost use Rattle.area.specs.Area.{AreaHolds};
 ghost use Rattle.open.specs.Open.{openedBy};
 ghost use Rattle.open.specs.Ready.{Ready};
 ghost use Rattle.calls_insert.specs.Put.{Aimed, aimed, insertedBy};
@@ -102,7 +102,7 @@ fn open_insert(
 
 // The slot behind the last in use (last_leaf); 9 where that leaf isn't one in use, or says more slots than it has.
 fn aim_end(head: Head, leaves: &[u32], inners: &[u32], g: Shape) -> Aim
-    requires { ⌜ Area g (length (now leaves)) × Area g (length (now inners)) ⌝ }
+    requires { ⌜ AreaHolds g (length (now leaves)) × AreaHolds g (length (now inners)) ⌝ }
     ensures { λ r. ⌜ ((K : Kind) (hs : List ℕ) → g ≡ shapeOf K head → r ≡ aimed K (state head (now (leaves .entry)) (now (inners .entry)) hs) End) ⌝ }
 {
     let lost = Aim {
@@ -132,7 +132,7 @@ fn aim_end(head: Head, leaves: &[u32], inners: &[u32], g: Shape) -> Aim
 
 // The slot before which the entry comes: the cursor's, or the one behind the last.
 fn aim_at(head: Head, leaves: &[u32], inners: &[u32], g: Shape, before: Target) -> Aim
-    requires { ⌜ Area g (length (now leaves)) × Area g (length (now inners)) ⌝ }
+    requires { ⌜ AreaHolds g (length (now leaves)) × AreaHolds g (length (now inners)) ⌝ }
     ensures { λ r. ⌜ ((K : Kind) (hs : List ℕ) → g ≡ shapeOf K head → r ≡ aimed K (state head (now (leaves .entry)) (now (inners .entry)) hs) before) ⌝ }
 {
     match before {

@@ -17,7 +17,7 @@ use Rattle.model.specs.declared.head.Held.{Held}
 use Rattle.model.specs.declared.head.Held.the-variants as held
 use Rattle.model.specs.declared.way.Search.{Search}
 use Rattle.model.specs.declared.way.Search.the-variants as search
-use Rattle.calls_look.specs.Lookup.{Moved, Stayed}
+use Rattle.calls_look.specs.Lookup.{MovedInLeaf, Stayed}
 
 nothing-apart : (m : Finger) (o : ℕ) → search.Nothing ≡ search.At m o → ⊥
 nothing-apart m o q = let z : _≡_ {A = ℕ} 0 1 = cc in omega arith
@@ -27,7 +27,7 @@ broken-apart m o q = let z : _≡_ {A = ℕ} 0 1 = cc in omega arith
 
 -- where a search gives a finger, it is f moved within its leaf
 abbrev InLeaf : Finger → Search → Type 0
-InLeaf f r = (m : Finger) (o : ℕ) → r ≡ search.At m o → Moved f m
+InLeaf f r = (m : Finger) (o : ℕ) → r ≡ search.At m o → MovedInLeaf f m
 
 module _ (v e : ℕ) where
   moved-in : (f : Finger) (index : ℕ) (r : Found) → InLeaf f (movedTo v e f index r)

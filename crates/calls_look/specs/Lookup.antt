@@ -28,7 +28,7 @@ searchOf h search.Nothing n = locatedReply h (located.Refused 5) 0 false
 searchOf h search.Broken n = locatedReply h (located.Refused 9) 0 false
 
 -- the finger m is f moved within its leaf: all but its slot and what stands before that in the leaf is as it was
-pub record Moved (f m : Finger) : Type 0 where
+pub record MovedInLeaf (f m : Finger) : Type 0 where
   pub view : m .view ≡ f .view
   pub leaf : m .leaf ≡ f .leaf
   pub start : m .start ≡ f .start
@@ -38,4 +38,4 @@ pub record Moved (f m : Finger) : Type 0 where
 abbrev pub Stayed : Held → Held → Type 0
 Stayed held.Absent t = ⊥
 Stayed (held.At f) held.Absent = ⊥
-Stayed (held.At f) (held.At m) = Moved f m
+Stayed (held.At f) (held.At m) = MovedInLeaf f m

@@ -56,7 +56,7 @@ module _ (K : Kind) (fan limit stamp : ℕ) (g : Shape) (e : g ≡ shape (stride
       rw (el, en) (ap (λ (y : Shape). made y (take (y .stride) x)) e ∙ ap (made (shape (stride K) fan limit)) (first-slot x z four))
 
 -- the areas of make and reset are long enough
-pub record Room (K : Kind) (fan limit : ℕ) (g : Shape) (ls xs hs : List ℕ) : Type 0 where
+pub record MakeAreas (K : Kind) (fan limit : ℕ) (g : Shape) (ls xs hs : List ℕ) : Type 0 where
   pub same : g ≡ shape (stride K) fan limit
   pub shaped : Shaped g
   pub leaf-area : g .nodes * g .size ≤ length ls
@@ -75,7 +75,7 @@ one-node true n s m h f = omega arith
 one-node false n s m h f = omega (arith, rows-le 1 n s (f refl))
 
 module _ (K : Kind) (w : (1 ≤ K .views) × (K .views ≤ 3)) (fan limit : ℕ) (ls xs hs : List ℕ) (o : Opened) (e : o ≡ openedBy (areaCauses K fan limit ls xs hs) (shape (stride K) fan limit)) where
-  pub room : (g : Shape) → o ≡ Good g → Room K fan limit g ls xs hs
+  pub room : (g : Shape) → o ≡ Good g → MakeAreas K fan limit g ls xs hs
   unfolding All
   room g d =
       let n = none-applies (areaCauses K fan limit ls xs hs) (area-numbered K fan limit ls xs hs) (good-number (areaCauses K fan limit ls xs hs) (shape (stride K) fan limit) g (sym e ∙ d)) in
@@ -99,7 +99,7 @@ module _ (K : Kind) (w : (1 ≤ K .views) × (K .views ≤ 3)) (fan limit : ℕ)
 
 -- the same where `open_make` gives no number
 pub make-room : (K : Kind) → (1 ≤ K .views) × (K .views ≤ 3) → (fan limit : ℕ) (l ls xs hs : List ℕ) (o : Opened) → o ≡ openedBy (makeCauses K fan limit l ls xs hs) (shape (stride K) fan limit)
-    → (g : Shape) → o ≡ Good g → Room K fan limit g ls xs hs
+    → (g : Shape) → o ≡ Good g → MakeAreas K fan limit g ls xs hs
 make-room K w fan limit l ls xs hs o e g d =
     room K w fan limit ls xs hs _ refl g
     (good-front (areaCauses K fan limit ls xs hs) (crossedBounds K l ∷ []) (shape (stride K) fan limit) g
@@ -158,7 +158,7 @@ module _ (K : Kind) (more : List Cause) (fan limit : ℕ) (l ls xs hs : List ℕ
       call-good (λ (m : ℕ). reply (state (headOf 0 0 0 0 0 0 0 0 held.Absent) ls xs hs) (outcome.Refused m))
       (λ (y : Shape). reply (begun K fan limit 1 l ls xs hs) outcome.Done) _ _ o e g d _ (ap (λ (t : State). reply t outcome.Done) q)
 
-  pub new-room : (1 ≤ K .views) × (K .views ≤ 3) → (g : Shape) → o ≡ Good g → Room K fan limit g ls xs hs
+  pub new-room : (1 ≤ K .views) × (K .views ≤ 3) → (g : Shape) → o ≡ Good g → MakeAreas K fan limit g ls xs hs
   new-room w g d = make-room K w fan limit l ls xs hs _ refl g (good-front (makeCauses K fan limit l ls xs hs) more (shape (stride K) fan limit) g (sym e ∙ d))
 
 -- without more causes

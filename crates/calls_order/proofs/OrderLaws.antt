@@ -27,7 +27,7 @@ use Rattle.model.specs.declared.answer.Next.{Next}
 use Rattle.model.specs.declared.answer.Next.the-variants as next
 use Rattle.model.specs.declared.answer.Compared.{Compared}
 use Rattle.model.specs.declared.answer.Compared.the-variants as compared
-use Rattle.area.specs.Area.{Area}
+use Rattle.area.specs.Area.{AreaHolds}
 use Rattle.walk.specs.Steps.{stepsBy}
 use Rattle.open.proofs.Causes.{opened-stop, opened-more, good-shape, call-refused, call-good, opened-number, opened-zero}
 use Rattle.open.proofs.OpenLaws.{opening-numbered}
@@ -169,7 +169,7 @@ module _ (K : Kind) (w : (1 ≤ K .views) × (K .views ≤ 3)) (s : State) (a b 
 
       module _ (hm : m ≡ 0) where
         -- where the paths of two current cursors begin
-        pub paths-in : Area g (length (s .leaves)) × Area g (length (s .inners)) × (a .leaf .0 < g .nodes) × (b .leaf .0 < g .nodes) × (1 ≤ s .head .levels) × (s .head .levels ≤ 15)
+        pub paths-in : AreaHolds g (length (s .leaves)) × AreaHolds g (length (s .inners)) × (a .leaf .0 < g .nodes) × (b .leaf .0 < g .nodes) × (1 ≤ s .head .levels) × (s .head .levels ≤ 15)
         paths-in = (
           leaf-area s g open-here,
           inner-area s g open-here,

@@ -32,7 +32,7 @@ ghost use Rattle.model.specs.Kind.{kind};
 ghost use Rattle.model.specs.Climb.{stepsUp};
 ghost use Rattle.model.specs.State.{state, nodeAt};
 ghost use Rattle.model.specs.Calls as calls;
-ghost use Rattle.area.specs.Area.{Area};
+ghost use Rattle.area.specs.Area.{AreaHolds};
 ghost use Rattle.walk.specs.Steps.{stepsBy};
 
 // The position in a view of the entry at a cursor: the lengths before it.
@@ -147,7 +147,7 @@ fn path(
     k: LeafNo,
     steps: &mut [u8; 16],
 ) -> bool
-    requires { ⌜ Area g (length (now leaves)) × Area g (length (now inners)) × (k .0 < g .nodes) × (levels ≤ 15) × (length (now steps) ≡ 16) ⌝ }
+    requires { ⌜ AreaHolds g (length (now leaves)) × AreaHolds g (length (now inners)) × (k .0 < g .nodes) × (levels ≤ 15) × (length (now steps) ≡ 16) ⌝ }
     ensures { λ r. ⌜ (stepsBy r levels (now (steps .exit)) ≡ stepsUp g levels (nodeAt g (k .0) (now (leaves .entry)) .parent) (nodeAt g (k .0) (now (leaves .entry)) .at) [] (now (inners .entry))) × (length (now (steps .exit)) ≡ 16) ⌝ }
 {
     let parent = parent_of(leaves, g, k.0);
@@ -158,7 +158,7 @@ fn path(
 // The leaves a and b by their paths. The steps are lent, not copied: bytes written one by one and then read as one block stall the
 // processor.
 fn by_path(leaves: &[u32], inners: &[u32], g: Shape, levels: u32, a: LeafNo, b: LeafNo) -> Compared
-    requires { ⌜ Area g (length (now leaves)) × Area g (length (now inners)) × (a .0 < g .nodes) × (b .0 < g .nodes) × (1 ≤ levels) × (levels ≤ 15) ⌝ }
+    requires { ⌜ AreaHolds g (length (now leaves)) × AreaHolds g (length (now inners)) × (a .0 < g .nodes) × (b .0 < g .nodes) × (1 ≤ levels) × (levels ≤ 15) ⌝ }
     ensures { λ r. ⌜ r ≡ calls.byPath (stepsUp g levels (nodeAt g (a .0) (now (leaves .entry)) .parent) (nodeAt g (a .0) (now (leaves .entry)) .at) [] (now (inners .entry))) (stepsUp g levels (nodeAt g (b .0) (now (leaves .entry)) .parent) (nodeAt g (b .0) (now (leaves .entry)) .at) [] (now (inners .entry))) ⌝ }
 {
     let len = levels as usize;

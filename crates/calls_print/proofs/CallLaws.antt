@@ -20,7 +20,7 @@ use Rattle.model.specs.declared.answer.Number.the-variants as number
 use Rattle.laws.specs.Words.{put-next}
 use Rattle.laws.specs.Sheet.{length-slot-lines, length-blank-lines}
 use Rattle.laws.specs.Met.{met}
-use Rattle.area.specs.Area.{Area}
+use Rattle.area.specs.Area.{AreaHolds}
 use Rattle.open.proofs.Causes.{call-refused, call-good}
 use Rattle.open.proofs.ReadyLaws.{leaf-area, inner-area, view-in}
 use Rattle.open.specs.Open.{openedBy}
@@ -46,7 +46,7 @@ module _ (K : Kind) (s : State) (page : List ℕ) (o : Opened) (e : o ≡ opened
 
   module _ (w : (1 ≤ K .views) × (K .views ≤ 3)) (g : Shape) (d : o ≡ Good g) where
     -- what the lines ask for
-    pub room : K .effect < K .views → Area g (length (s .leaves)) × Area g (length (s .inners)) × (K .effect + 1 < g .stride) × (s .head .levels ≤ 15) × (55 * s .head .entries ≤ length page)
+    pub room : K .effect < K .views → AreaHolds g (length (s .leaves)) × AreaHolds g (length (s .inners)) × (K .effect + 1 < g .stride) × (s .head .levels ≤ 15) × (55 * s .head .entries ≤ length page)
     room v =
         let r = print-ready K s (length page) w g o e d in
         (leaf-area s g (r .0), inner-area s g (r .0), view-in s g (K .effect) (r .0) v, r .0 .levels-most, omega (arith, r .1))

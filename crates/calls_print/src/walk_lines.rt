@@ -21,7 +21,7 @@ ghost use Rattle.model.specs.Lists.{putAt};
 ghost use Rattle.model.specs.State.{nodeAt};
 ghost use Rattle.model.specs.Climb.{firstDown};
 ghost use Rattle.model.specs.Print.{metFrom, slotLines};
-ghost use Rattle.area.specs.Area.{Area};
+ghost use Rattle.area.specs.Area.{AreaHolds};
 ghost use Rattle.calls_print.specs.Laid.{laid, laidBy};
 
 // The place behind some lines, and the positions of the entry after them.
@@ -41,7 +41,7 @@ fn leaf_lines(
     page: &mut [u8],
     from: Lines,
 ) -> Lines
-    requires { ⌜ Area g (length (now leaves)) × (view + 1 < g .stride) × (k .0 < g .nodes) × (n ≤ g .fan) × (from .at + 55 * n ≤ length (now page)) ⌝ }
+    requires { ⌜ AreaHolds g (length (now leaves)) × (view + 1 < g .stride) × (k .0 < g .nodes) × (n ≤ g .fan) × (from .at + 55 * n ≤ length (now page)) ⌝ }
     ensures { λ r. ⌜ laid (r .at) (r .p) (r .q) (now (page .exit)) ≡ laidBy view (take n (nodeAt g (k .0) (now (leaves .entry)) .slots)) (laid (from .at) (from .p) (from .q) (now (page .entry))) ⌝ }
 {
     let mut at = from.at;
@@ -81,7 +81,7 @@ pub fn entry_lines(
     entries: usize,
     page: &mut [u8],
 ) -> bool
-    requires { ⌜ Area g (length (now leaves)) × Area g (length (now inners)) × (effect + 1 < g .stride) × (levels ≤ 15) × (55 * entries ≤ length (now page)) ⌝ }
+    requires { ⌜ AreaHolds g (length (now leaves)) × AreaHolds g (length (now inners)) × (effect + 1 < g .stride) × (levels ≤ 15) × (55 * entries ≤ length (now page)) ⌝ }
     ensures { λ r. ⌜ (r ≡ eqb (length (metFrom g levels (now (leaves .entry)) (now (inners .entry)) entries (firstDown g levels root (now (inners .entry))) 0)) entries) × ((views : ℕ) → now (page .exit) ≡ putAt 0 (slotLines (kind views effect) 0 0 (metFrom g levels (now (leaves .entry)) (now (inners .entry)) entries (firstDown g levels root (now (inners .entry))) 0)) (now (page .entry))) ⌝ }
 {
     let fan = g.fan;

@@ -12,7 +12,7 @@ use Rattle.model.specs.Node.{child, lengths, used, indexFrom}
 use Rattle.model.specs.State.{State, nodeAt}
 use Rattle.model.specs.Refuse.{shapeOf, opening, atCursor, noSuchId}
 use Rattle.model.specs.Length.{lengthsIn}
-use Rattle.model.specs.Calls.{entryId, id, lengthsOf, standingIn, cursor}
+use Rattle.model.specs.Calls.{entryId, id, entryLengths, standingIn, cursor}
 use Rattle.model.specs.declared.shape.Kind.{Kind}
 use Rattle.model.specs.declared.shape.Shape.{Shape}
 use Rattle.model.specs.declared.head.Cursor.{Cursor}
@@ -48,8 +48,8 @@ module _ (K : Kind) (s : State) (c : Cursor) (o : Opened) (e : o ≡ openedBy (o
   unfolding id
   id-refused n d = call-refused named.Refused (idBy s c) _ (shapeOf K (s .head)) o e n d
 
-  pub lengths-refused : (n : ℕ) → o ≡ Refused n → (ls : List ℕ) → lengthsBy n ls ≡ lengthsOf K s c
-  unfolding lengthsOf
+  pub lengths-refused : (n : ℕ) → o ≡ Refused n → (ls : List ℕ) → lengthsBy n ls ≡ entryLengths K s c
+  unfolding entryLengths
   lengths-refused n d ls =
       let h = refused-number (opening K s ++ atCursor K s c) (shapeOf K (s .head)) n (sym e ∙ d) .1 in
       rw (ne-eqb n 0 (λ z. omega arith)) (call-refused refused (lengthsAt s c) _ (shapeOf K (s .head)) o e n d)
@@ -59,8 +59,8 @@ module _ (K : Kind) (s : State) (c : Cursor) (o : Opened) (e : o ≡ openedBy (o
     unfolding id
     id-good x q = call-good named.Refused (idBy s c) _ (shapeOf K (s .head)) o e g d _ (ap (λ (y : ℕ). named.Entry (entryId y)) q)
 
-    pub lengths-good : (views : ℕ) (x : List ℕ) → g .stride - 1 ≡ views → lengthsIn (g .stride - 1) x ≡ lengths (slotBy s c g) → lengthsBy 0 (lengthsIn views x) ≡ lengthsOf K s c
-    unfolding lengthsOf
+    pub lengths-good : (views : ℕ) (x : List ℕ) → g .stride - 1 ≡ views → lengthsIn (g .stride - 1) x ≡ lengths (slotBy s c g) → lengthsBy 0 (lengthsIn views x) ≡ entryLengths K s c
+    unfolding entryLengths
     lengths-good views x w p =
         call-good refused (lengthsAt s c) _ (shapeOf K (s .head)) o e g d _ (ap (λ (n : ℕ). done (lengthsIn n x)) (sym w) ∙ ap done p)
 

@@ -21,7 +21,7 @@ ghost use Rattle.model.specs.Length.{lengthsIn};
 ghost use Rattle.model.specs.Node.{used, indexFrom};
 ghost use Rattle.model.specs.State.{state, nodeAt};
 ghost use Rattle.model.specs.Calls as calls;
-ghost use Rattle.area.specs.Area.{Area};
+ghost use Rattle.area.specs.Area.{AreaHolds};
 ghost use Rattle.calls_read.specs.Read.{cursorIn, lengthsBy};
 
 // The id of the entry at a cursor.
@@ -58,7 +58,7 @@ pub fn lengths(
     x: &mut [u32; 4],
 ) -> u32
     requires { ⌜ (1 ≤ views) × (views ≤ 3) × (length (now x) ≡ 4) ⌝ }
-    ensures { λ r. ⌜ ((effect : ℕ) → lengthsBy r (lengthsIn views (now (x .exit))) ≡ calls.lengthsOf (kind views effect) (state head (now (leaves .entry)) (now (inners .entry)) (now (homes .entry))) at) × (length (now (x .exit)) ≡ 4) ⌝ }
+    ensures { λ r. ⌜ ((effect : ℕ) → lengthsBy r (lengthsIn views (now (x .exit))) ≡ calls.entryLengths (kind views effect) (state head (now (leaves .entry)) (now (inners .entry)) (now (homes .entry))) at) × (length (now (x .exit)) ≡ 4) ⌝ }
 {
     match open_at(views, head, leaves, inners, homes, at) {
         Opened::Refused(n) => n,
@@ -71,7 +71,7 @@ pub fn lengths(
 
 // The slot of leaf k that holds the entry id.
 fn slot_of(leaves: &[u32], g: Shape, k: LeafNo, id: EntryId) -> Place
-    requires { ⌜ Area g (length (now leaves)) × (k .0 < g .nodes) × (nodeAt g (k .0) (now leaves) .len ≤ g .fan) ⌝ }
+    requires { ⌜ AreaHolds g (length (now leaves)) × (k .0 < g .nodes) × (nodeAt g (k .0) (now leaves) .len ≤ g .fan) ⌝ }
     ensures { λ r. ⌜ r ≡ indexFrom (id .0) 0 (used (nodeAt g (k .0) (now (leaves .entry)))) ⌝ }
 {
     let size = g.size;
@@ -83,7 +83,7 @@ fn slot_of(leaves: &[u32], g: Shape, k: LeafNo, id: EntryId) -> Place
 
 // The cursor of the entry id, where leaf k holds it.
 fn cursor_in(leaves: &[u32], g: Shape, k: LeafNo, id: EntryId, stamp: u64) -> Standing
-    requires { ⌜ Area g (length (now leaves)) × (k .0 < g .nodes) ⌝ }
+    requires { ⌜ AreaHolds g (length (now leaves)) × (k .0 < g .nodes) ⌝ }
     ensures { λ r. ⌜ r ≡ cursorIn g (now (leaves .entry)) (k .0) (id .0) stamp ⌝ }
 {
     let fan = g.fan;

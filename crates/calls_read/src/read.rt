@@ -48,7 +48,7 @@ pub fn id(head: Head, leaves: &[u32], inners: &[u32], homes: &[u32], at: Cursor)
 
 // The lengths of the entry at a cursor.
 pub fn lengths(head: Head, leaves: &[u32], inners: &[u32], homes: &[u32], at: Cursor) -> Measured
-    ensures { λ r. ⌜ measuredAnswer r ≡ calls.lengthsOf base (state head (now (leaves .entry)) (now (inners .entry)) (now (homes .entry))) at ⌝ }
+    ensures { λ r. ⌜ measuredAnswer r ≡ calls.entryLengths base (state head (now (leaves .entry)) (now (inners .entry)) (now (homes .entry))) at ⌝ }
 {
     let mut x: [u32; 4] = [0; 4];
     let n = crate::any::lengths(3, head, leaves, inners, homes, at, &mut x);

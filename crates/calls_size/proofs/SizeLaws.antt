@@ -26,18 +26,18 @@ use Rattle.model.specs.declared.answer.Number.the-variants as number
 use Rattle.model.specs.declared.answer.Outcome.{Outcome}
 use Rattle.model.specs.declared.answer.Outcome.the-variants as outcome
 use Rattle.node_write.proofs.WriteLaws.{three-words, four-words}
-use Rattle.area.specs.Area.{Area}
+use Rattle.area.specs.Area.{AreaHolds}
 use Rattle.walk.specs.Low.{lowWay}
 use Rattle.place.specs.Asked.{asked, askedWay, wayUp}
 use Rattle.place.proofs.SizeLaws.{asked-whole, asked-lost, asked-wrap}
 use Rattle.place.proofs.CallLaws.{low-whole, low-lost}
 use Rattle.open.proofs.Causes.{opened-first, opened-next, opened-none, opened-stop, opened-more, good-shape, good-front, good-tail, call-refused, call-good}
-use Rattle.open.proofs.CursorLaws.{at-numbered, stands, slot-in, own-lengths}
+use Rattle.open.proofs.CursorLaws.{at-numbered, cursor-ready, slot-in, own-lengths}
 use Rattle.open.proofs.ReadyLaws.{inner-area}
 use Rattle.open.proofs.WidthLaws.{own-shape, own-views, past-same}
 use Rattle.open.specs.Lengths.{pastIn}
 use Rattle.open.specs.Open.{openedBy}
-use Rattle.open.specs.Ready.{Stands}
+use Rattle.open.specs.Ready.{CursorReady}
 use Rattle.open.specs.declared.open.Opened.{Opened}
 use Rattle.open.specs.declared.open.Opened.the-variants.{Good, Refused}
 use Rattle.calls_size.specs.Size.{oldBy, resize, unnumbered}
@@ -117,15 +117,15 @@ module _ (K : Kind) (s : State) (c : Cursor) (l : List ℕ) (m : Bool) (em : m �
       resize-good h = (sym (last ∙ opened-next 7 _ [] _ (sym here ∙ h) ∙ opened-none _ ∙ ap Good same), λ _ _. own)
 
 -- what is known where `open_resize` gives no number
-pub resize-stands : (K : Kind) → (1 ≤ K .views) × (K .views ≤ 3) → (s : State) (c : Cursor) (l : List ℕ) (g : Shape) (o : Opened)
-    → o ≡ openedBy (resizeCauses K s c l) (shapeOf K (s .head)) → o ≡ Good g → Stands K s c g
-resize-stands K w s c l g o e d =
-    stands K w s c g _ refl
+pub resize-ready : (K : Kind) → (1 ≤ K .views) × (K .views ≤ 3) → (s : State) (c : Cursor) (l : List ℕ) (g : Shape) (o : Opened)
+    → o ≡ openedBy (resizeCauses K s c l) (shapeOf K (s .head)) → o ≡ Good g → CursorReady K s c g
+resize-ready K w s c l g o e d =
+    cursor-ready K w s c g _ refl
     (good-front (opening K s ++ atCursor K s c) (crossedBounds K l ∷ past K s (lengths (slotAt K s c)) l ∷ []) (shapeOf K (s .head)) g (good-tail 9 (tooManyLines K l) _ (shapeOf K (s .head)) g (sym e ∙ d)))
 
 -- the way up from a leaf of n words is in the areas
-pub climb-in : {K : Kind} (s : State) (c : Cursor) (g : Shape) → Stands K s c g → (n : ℕ) → n ≡ length (s .leaves)
-    → Area (shapeFor (K .views) (g .fan) (g .nodes)) n × Area (shapeFor (K .views) (g .fan) (g .nodes)) (length (s .inners)) × (s .head .levels ≤ 16)
+pub climb-in : {K : Kind} (s : State) (c : Cursor) (g : Shape) → CursorReady K s c g → (n : ℕ) → n ≡ length (s .leaves)
+    → AreaHolds (shapeFor (K .views) (g .fan) (g .nodes)) n × AreaHolds (shapeFor (K .views) (g .fan) (g .nodes)) (length (s .inners)) × (s .head .levels ≤ 16)
 climb-in {K} s c g h n en =
     let m = h .ready .levels-most in
     rw (own-shape K (s .head) g (h .ready .same), en) (slot-in s c g h .0, inner-area s g (h .ready), omega arith)

@@ -24,11 +24,11 @@ use Rattle.place.specs.Room.{settledIn, Entering}
 use Rattle.place.proofs.LevelLaws.{entered-in}
 use Rattle.place.proofs.CallLaws.{settled-head, settled-again}
 use Rattle.open.proofs.Causes.{one-cause, opened-first, opened-next, opened-number, opened-zero, opened-stop, opened-more, good-number, good-shape, good-front, good-tail, call-refused, call-good}
-use Rattle.open.proofs.CursorLaws.{at-numbered, stands, own-lengths}
+use Rattle.open.proofs.CursorLaws.{at-numbered, cursor-ready, own-lengths}
 use Rattle.open.proofs.WidthLaws.{own-shape, own-views, more-same, hollow-same}
 use Rattle.open.specs.Lengths.{moreIn, hollowIn}
 use Rattle.open.specs.Open.{openedBy}
-use Rattle.open.specs.Ready.{Stands}
+use Rattle.open.specs.Ready.{CursorReady}
 use Rattle.open.specs.declared.open.Opened.{Opened}
 use Rattle.open.specs.declared.open.Opened.the-variants.{Good, Refused}
 
@@ -116,8 +116,8 @@ module _ (K : Kind) (w : (1 ≤ K .views) × (K .views ≤ 3)) (s : State) (c : 
   front : openedBy (opening K s ++ atCursor K s c) (shapeOf K (s .head)) ≡ Good g
   front = good-front (opening K s ++ atCursor K s c) _ (shapeOf K (s .head)) g behind-lines
 
-  split-stands : Stands K s c g
-  split-stands = stands K w s c g _ refl front
+  split-ready : CursorReady K s c g
+  split-ready = cursor-ready K w s c g _ refl front
 
   no-number : openedBy spaceless (shapeOf K (s .head)) ≡ Good g
   no-number = good-tail 19 _ _ _ g (good-tail 16 _ _ _ g (good-tail 5 _ _ _ g (sym (opened-more (opening K s ++ atCursor K s c) _ _ g (at-numbered K s c) front) ∙ behind-lines)))
@@ -126,12 +126,12 @@ module _ (K : Kind) (w : (1 ≤ K .views) × (K .views ≤ 3)) (s : State) (c : 
   below-limit = some (sym (one-cause room) ∙ good-number spaceless _ g no-number)
 
   few-entries : s .head .entries < 65536
-  few-entries = omega (arith, below-limit, split-stands .ready .limit-most)
+  few-entries = omega (arith, below-limit, split-ready .ready .limit-most)
 
   pub divide-in : (x : List ℕ) → getD x 0 0 ≡ s .head .entries
       → Entering (K .views) g (s .head) (s .leaves) (s .inners) (s .homes) (c .leaf .0) x × (c .slot < nodeAt g (c .leaf .0) (s .leaves) .len)
   divide-in x next =
-      let h = split-stands in
+      let h = split-ready in
       let r = h .ready in (
         record {
           same = sym (own-shape K (s .head) g (r .same));
@@ -154,7 +154,7 @@ module _ (K : Kind) (w : (1 ≤ K .views) × (K .views ≤ 3)) (s : State) (c : 
   unfolding divide
   answer-in flag r er h =
       let i = entered-in g (λ j. childSplit flag j (s .head .entries ∷ l)) 1 s (c .leaf .0) (c .slot) r er h in
-      omega (arith, i .1, split-stands .ready .shaped .few)
+      omega (arith, i .1, split-ready .ready .shaped .few)
 
 -- the call
 module _ (K : Kind) (causes : List Cause) (s : State) (c : Cursor) (l : List ℕ) (flag : Bool) (o : Opened) (e : o ≡ openedBy (splitCauses K causes s c l) (shapeOf K (s .head))) where

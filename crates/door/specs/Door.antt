@@ -8,12 +8,12 @@ use Rattle.row.specs.Run.{recordsOf, played, fit}
 use Rattle.row.specs.Made.{doorRow}
 
 -- the number returned, and the output
-pub record Opened : Type 0 where
+pub record DoorAnswer : Type 0 where
   pub number : ℕ
   pub out : List ℕ
 
-abbrev pub opened : ℕ → List ℕ → Opened
-opened n out = record { number = n; out = out }
+abbrev pub doorAnswer : ℕ → List ℕ → DoorAnswer
+doorAnswer n out = record { number = n; out = out }
 
-unfoldable pub doorOn : List ℕ → List ℕ → Opened
-doorOn bs out = cond (fit bs out) (opened 0 (played (rowStep base) doorRow (recordsOf bs))) (opened 11 out)
+unfoldable pub doorOn : List ℕ → List ℕ → DoorAnswer
+doorOn bs out = cond (fit bs out) (doorAnswer 0 (played (rowStep base) doorRow (recordsOf bs))) (doorAnswer 11 out)

@@ -8,21 +8,21 @@ use Rattle.model.specs.Row.{rowStep}
 use Rattle.row.specs.Run.{recordsOf, played, fit}
 use Rattle.row.specs.Made.{doorRow}
 use Rattle.row.specs.KindThree.{ButForKind, asTwos, alike, same-fit, played-three}
-use Rattle.door.specs.Door.{Opened, opened, doorOn}
+use Rattle.door.specs.Door.{DoorAnswer, doorAnswer, doorOn}
 
 -- two answers of the door that are alike but for the kind of an answer record
-pub record OpenedAlike (a b : Opened) : Type 0 where
+pub record DoorAlike (a b : DoorAnswer) : Type 0 where
   pub number : a .number ≡ b .number
   pub out : ButForKind (a .out) (b .out)
 
-abbrev wholeDoor : List ℕ → Opened
-wholeDoor bs = opened 0 (played (rowStep base) doorRow (recordsOf bs))
+abbrev wholeDoor : List ℕ → DoorAnswer
+wholeDoor bs = doorAnswer 0 (played (rowStep base) doorRow (recordsOf bs))
 
-pub door-three : (bs out : List ℕ) → OpenedAlike (doorOn (asTwos bs) out) (doorOn bs out)
+pub door-three : (bs out : List ℕ) → DoorAlike (doorOn (asTwos bs) out) (doorOn bs out)
 unfolding doorOn
 door-three bs out =
-    subst (λ (c : Bool). OpenedAlike (cond c (wholeDoor (asTwos bs)) (opened 11 out)) (cond (fit bs out) (wholeDoor bs) (opened 11 out))) (sym (same-fit bs out)) (go (fit bs out))
+    subst (λ (c : Bool). DoorAlike (cond c (wholeDoor (asTwos bs)) (doorAnswer 11 out)) (cond (fit bs out) (wholeDoor bs) (doorAnswer 11 out))) (sym (same-fit bs out)) (go (fit bs out))
   where
-    go : (b : Bool) → OpenedAlike (cond b (wholeDoor (asTwos bs)) (opened 11 out)) (cond b (wholeDoor bs) (opened 11 out))
+    go : (b : Bool) → DoorAlike (cond b (wholeDoor (asTwos bs)) (doorAnswer 11 out)) (cond b (wholeDoor bs) (doorAnswer 11 out))
     go true = record { number = refl; out = played-three bs (rowStep base) doorRow }
     go false = record { number = refl; out = alike out }

@@ -7,12 +7,12 @@ use row::made::FIRST;
 use row::made::LIMIT;
 use row::made::make_and_run;
 ghost use mathlib.Core.Path.{_≡_};
-ghost use Rattle.door.specs.Door.{opened, doorOn};
+ghost use Rattle.door.specs.Door.{doorAnswer, doorOn};
 
 // Answers 0, or 11 with the output as it was.
 #[no_mangle]
 pub extern "C" fn door(records: &[u8], out: &mut [u8]) -> u32
-    ensures { λ r. ⌜ opened r (now (out .exit)) ≡ doorOn (now (records .entry)) (now (out .entry)) ⌝ }
+    ensures { λ r. ⌜ doorAnswer r (now (out .exit)) ≡ doorOn (now (records .entry)) (now (out .entry)) ⌝ }
 {
     let mut leaves = [0u32; 4480];
     let mut inners = [0u32; 4480];

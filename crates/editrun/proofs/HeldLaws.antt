@@ -13,7 +13,7 @@ use Rattle.model.specs.Lists.{part}
 use Rattle.laws.specs.Words.{length-part}
 use Rattle.calls_edits.specs.Edits.{difference}
 use Rattle.calls_edits.specs.Answered.{checks, differs}
-use Rattle.editrun.specs.Held.{folded, Held, Turned, Holds}
+use Rattle.editrun.specs.Held.{folded, InputHeld, Turned, HoldsInput}
 use Rattle.editrun.specs.declared.Input.{Input}
 use Rattle.editrun.specs.declared.Input.the-variants as input′
 
@@ -54,7 +54,7 @@ module _ (n : ℕ) where
   fold-front l = by-size (λ k. take 8208 (take k l) ≡ take 8208 (take n l)) (λ h. refl)
       (λ h. take-take 8208 (8208 + n % 16) l (omega arith) ∙ sym (take-take 8208 n l (omega arith)))
 
-module _ (input block : List ℕ) (have : ℕ) (held : Held input block have) where
+module _ (input block : List ℕ) (have : ℕ) (held : InputHeld input block have) where
   pub held-small : have ≤ 8223
   held-small = subst (λ (k : ℕ). k ≤ 8223) (sym (held .long)) (folded-small (length input))
 
@@ -108,7 +108,7 @@ module _ (input block : List ℕ) (have : ℕ) (held : Held input block have) wh
             take-take 8208 (have + n) b (omega arith)
             ∙ (sym (take-take 8208 have b k) ∙ (ap (take 8208) same ∙ (held .front ∙ sym (take-append-le 8208 input (take n (drop have b)) l))))
 
-    pub held-more : Held (input ++ part have n b) b (folded (have + n))
+    pub held-more : InputHeld (input ++ part have n b) b (folded (have + n))
     held-more = record {
       long = ap (λ (k : ℕ). folded (k + n)) (held .long) ∙ (fold-add (length input) n ∙ ap folded (sym (length-append input (part have n b) ∙ ap (λ (k : ℕ). length input + k) (length-part have n b room))));
       room = omega (arith, folded-le (have + n));
@@ -116,16 +116,16 @@ module _ (input block : List ℕ) (have : ℕ) (held : Held input block have) wh
     }
 
 -- the loop
-pub held-none : (block : List ℕ) → Holds block 0
+pub held-none : (block : List ℕ) → HoldsInput block 0
 unfolding folded
 held-none block = record { input = []; held = record { long = refl; room = omega arith; front = refl } }
 
-pub turned-more : (r : Input) (block : List ℕ) (kept : ℕ) (b : List ℕ) → Turned r block kept b → (have : ℕ) → r ≡ input′.More have → Holds block kept → Holds b have
+pub turned-more : (r : Input) (block : List ℕ) (kept : ℕ) (b : List ℕ) → Turned r block kept b → (have : ℕ) → r ≡ input′.More have → HoldsInput block kept → HoldsInput b have
 turned-more r block kept b turned have e h =
     let t = subst (λ (x : Input). Turned x block kept b) e turned in
     record { input = h .input ++ part kept (t .0) b; held = t .2 (h .input) (h .held) }
 
-pub turned-end : (r : Input) (block : List ℕ) (kept : ℕ) (b : List ℕ) → Turned r block kept b → r ≡ input′.End → Holds block kept → Holds b kept
+pub turned-end : (r : Input) (block : List ℕ) (kept : ℕ) (b : List ℕ) → Turned r block kept b → r ≡ input′.End → HoldsInput block kept → HoldsInput b kept
 turned-end r block kept b turned e h =
     let t = subst (λ (x : Input). Turned x block kept b) e turned in
     record { input = h .input; held = record { long = h .held .long; room = t .1; front = ap (take 8208) (t .0) ∙ h .held .front } }

@@ -14,7 +14,7 @@ use Rattle.calls_edits.specs.Promised.{Listed}
 use Rattle.calls_edits.specs.Answered.{differs}
 use Rattle.text.specs.Text.{put}
 use Rattle.text.proofs.TextLaws.{put-more, put-nil}
-use Rattle.editrun.specs.Held.{Held, Holds}
+use Rattle.editrun.specs.Held.{InputHeld, HoldsInput}
 use Rattle.editrun.specs.Printed.{lines, Printed, Answered}
 use Rattle.editrun.specs.declared.Shown.{Shown}
 use Rattle.editrun.specs.declared.Shown.the-variants as shown
@@ -67,7 +67,7 @@ module _ (block : List ℕ) (have : ℕ) (area : List ℕ) (a b : ℕ) (r : Numb
   pub lines-fit : (n : ℕ) → r ≡ number.Is n → length area ≡ 512 → (out : List ℕ) → 5632 ≤ length out → (n ≤ length new) × (11 * n ≤ length out)
   lines-fit n d l out h = (count-in n d .0, omega (arith, count-in n d .0, count-in n d .1, l, h))
 
-  module _ (input : List ℕ) (held : Held input block have) where
+  module _ (input : List ℕ) (held : InputHeld input block have) where
     on-input : (r, new) ≡ difference input area a b
     on-input = e ∙ as-whole input block have held area a b
 
@@ -86,7 +86,7 @@ module _ (block : List ℕ) (have : ℕ) (area : List ℕ) (a b : ℕ) (r : Numb
         both : (x : Number × List ℕ) → x .0 ≡ number.Refused n → x .1 ≡ area → x ≡ (number.Refused n, area)
         both x p q = ap₂ (λ (y : Number) (z : List ℕ). (y, z)) p q
 
-pub shown-in : (r : Shown) (block : List ℕ) (have a b : ℕ) (area out o : List ℕ) → ((input : List ℕ) → Held input block have → Answered r input a b area out o) → Holds block have
+pub shown-in : (r : Shown) (block : List ℕ) (have a b : ℕ) (area out o : List ℕ) → ((input : List ℕ) → InputHeld input block have → Answered r input a b area out o) → HoldsInput block have
     → (end : ℕ) → r ≡ shown.Text end → end ≤ length o
 shown-in r block have a b area out o f h end e =
     let t = subst (λ (x : Shown). Answered x (h .input) a b area out o) e (f (h .input) (h .held)) in

@@ -14,18 +14,18 @@ use Rattle.editrun.specs.declared.Input.the-variants as input′
 unfoldable pub folded : ℕ → ℕ
 folded n = cond (leb 8208 n) (8208 + n % 16) n
 
-pub record Held (input block : List ℕ) (have : ℕ) : Type 0 where
+pub record InputHeld (input block : List ℕ) (have : ℕ) : Type 0 where
   pub long : have ≡ folded (length input)
   pub room : have ≤ length block
   pub front : take 8208 (take have block) ≡ take 8208 input
 
 -- a turn after which the input goes on: n bytes were read behind those held, and the block holds them too
 abbrev pub Turned : Input → List ℕ → ℕ → List ℕ → Type 0
-Turned (input′.More have) block kept b = (n : ℕ) × (0 < n) × ((input : List ℕ) → Held input block kept → Held (input ++ part kept n b) b have)
+Turned (input′.More have) block kept b = (n : ℕ) × (0 < n) × ((input : List ℕ) → InputHeld input block kept → InputHeld (input ++ part kept n b) b have)
 Turned input′.End block kept b = (take kept b ≡ take kept block) × (kept ≤ length b)
 Turned input′.Failed block kept b = Unit {0}
 
 -- some input is held
-pub record Holds (block : List ℕ) (have : ℕ) : Type 0 where
+pub record HoldsInput (block : List ℕ) (have : ℕ) : Type 0 where
   pub input : List ℕ
-  pub held : Held input block have
+  pub held : InputHeld input block have

@@ -13,7 +13,7 @@ ghost use Prim.Native.Nat.{ℕ, _*_, _<_, _≤_};
 ghost use lib.ListN.{length, take};
 ghost use Rattle.text.specs.Text.{put};
 ghost use Rattle.editrun.specs.Asked.{word, asked};
-ghost use Rattle.editrun.specs.Held.{folded, Held, Turned, Holds};
+ghost use Rattle.editrun.specs.Held.{folded, InputHeld, Turned, HoldsInput};
 ghost use Rattle.editrun.specs.Printed.{lines, Answered};
 
 // An argument: an edit's number, or none.
@@ -130,7 +130,7 @@ fn answer(
     out: &mut [u8],
 ) -> Shown
     requires { ⌜ (have ≤ length (now block)) × (length (now area) ≡ 512) × (5632 ≤ length (now out)) ⌝ }
-    ensures { λ r. ⌜ ((input : List ℕ) → Held input (now (block .entry)) have → Answered r input first second (now (area .entry)) (now (out .entry)) (now (out .exit))) ⌝ }
+    ensures { λ r. ⌜ ((input : List ℕ) → InputHeld input (now (block .entry)) have → Answered r input first second (now (area .entry)) (now (out .entry)) (now (out .exit))) ⌝ }
 {
     match difference(&block[..have], area, first, second) {
         Number::Is(n) => Shown::Text(list_lines(area, n as usize, out)),
@@ -147,7 +147,7 @@ fn refuse(n: u32) {
 
 // The text printed, or the refusal said.
 fn show(block: &[u8], have: usize, first: u32, second: u32, area: &mut [u32], out: &mut [u8])
-    requires { ⌜ Holds (now block) have × (length (now area) ≡ 512) × (length (now out) ≡ 5632) ⌝ }
+    requires { ⌜ HoldsInput (now block) have × (length (now area) ≡ 512) × (length (now out) ≡ 5632) ⌝ }
 {
     match answer(block, have, first, second, area, out) {
         Shown::Text(end) => {

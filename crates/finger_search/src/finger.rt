@@ -16,7 +16,7 @@ ghost use Rattle.model.specs.Node.{used};
 ghost use Rattle.model.specs.State.{nodeAt};
 ghost use Rattle.model.specs.Locate.{stand, back, walked, served, servedBy, rewound, changing};
 ghost use Rattle.model.specs.Examined.{span, withSlots, fingerSlots, servedSlots, heldSlots};
-ghost use Rattle.area.specs.Area.{Area};
+ghost use Rattle.area.specs.Area.{AreaHolds};
 
 // A slot of a leaf and what stands before it in the leaf.
 pub struct Stand {
@@ -28,7 +28,7 @@ pub struct Stand {
 
 // Back from the finger's slot to the first that doesn't start past the index, which counts from the leaf's start.
 fn back(leaves: &[u32], g: Shape, view: usize, effect: usize, f: Finger, index: u32) -> Stand
-    requires { ⌜ Area g (length (now leaves)) × (view + 1 < g .stride) × (effect + 1 < g .stride) × (f .leaf < g .nodes) × (nodeAt g (f .leaf) (now leaves) .len ≤ g .fan) × (f .slot < nodeAt g (f .leaf) (now leaves) .len) ⌝ }
+    requires { ⌜ AreaHolds g (length (now leaves)) × (view + 1 < g .stride) × (effect + 1 < g .stride) × (f .leaf < g .nodes) × (nodeAt g (f .leaf) (now leaves) .len ≤ g .fan) × (f .slot < nodeAt g (f .leaf) (now leaves) .len) ⌝ }
     ensures { λ r. ⌜ stand (r .slot) (r .within) (r .«effect_within») (r .«prepare_within») ≡ back view effect (used (nodeAt g (f .leaf) (now (leaves .entry)))) index (f .slot) (f .within) (f .«effect_within») (f .«prepare_within») ⌝ }
 {
     let leaf = f.leaf;
@@ -98,7 +98,7 @@ fn walked(
     len: u32,
     index: u32,
 ) -> Searched
-    requires { ⌜ Area g (length (now leaves)) × (view + 1 < g .stride) × (effect + 1 < g .stride) × (f .leaf < g .nodes) × (nodeAt g (f .leaf) (now leaves) .len ≤ g .fan) × (f .slot < nodeAt g (f .leaf) (now leaves) .len) × (len ≡ nodeAt g (f .leaf) (now leaves) .len) ⌝ }
+    requires { ⌜ AreaHolds g (length (now leaves)) × (view + 1 < g .stride) × (effect + 1 < g .stride) × (f .leaf < g .nodes) × (nodeAt g (f .leaf) (now leaves) .len ≤ g .fan) × (f .slot < nodeAt g (f .leaf) (now leaves) .len) × (len ≡ nodeAt g (f .leaf) (now leaves) .len) ⌝ }
     ensures { λ r. ⌜ r ≡ withSlots (walked view effect f index (used (nodeAt g (f .leaf) (now (leaves .entry))))) (fingerSlots f len (walked view effect f index (used (nodeAt g (f .leaf) (now (leaves .entry)))))) ⌝ }
 {
     let leaf = f.leaf;
@@ -150,7 +150,7 @@ pub fn served(
     used: u32,
     index: u32,
 ) -> Searched
-    requires { ⌜ Area g (length (now leaves)) × (view + 1 < g .stride) × (effect + 1 < g .stride) × (used ≤ g .nodes) ⌝ }
+    requires { ⌜ AreaHolds g (length (now leaves)) × (view + 1 < g .stride) × (effect + 1 < g .stride) × (used ≤ g .nodes) ⌝ }
     ensures { λ r. ⌜ r ≡ withSlots (served view effect g f used index (now (leaves .entry))) (servedSlots view effect g f used index (now (leaves .entry))) ⌝ }
 {
     let own = f.view;
@@ -202,7 +202,7 @@ pub fn served_by(
     used: u32,
     index: u32,
 ) -> Searched
-    requires { ⌜ Area g (length (now leaves)) × (view + 1 < g .stride) × (effect + 1 < g .stride) × (used ≤ g .nodes) ⌝ }
+    requires { ⌜ AreaHolds g (length (now leaves)) × (view + 1 < g .stride) × (effect + 1 < g .stride) × (used ≤ g .nodes) ⌝ }
     ensures { λ r. ⌜ r ≡ withSlots (servedBy view effect g held used index (now (leaves .entry))) (heldSlots view effect g held used index (now (leaves .entry))) ⌝ }
 {
     match held {

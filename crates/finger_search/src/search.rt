@@ -18,7 +18,7 @@ ghost use Prim.Native.Nat.{_+_, _<_, _≤_};
 ghost use lib.ListN.{length};
 ghost use Rattle.model.specs.Locate.{fromRoot};
 ghost use Rattle.model.specs.Examined.{downward, withSlots, foundSlots};
-ghost use Rattle.area.specs.Area.{Area};
+ghost use Rattle.area.specs.Area.{AreaHolds};
 ghost use Rattle.finger_search.specs.Went.{Went, leafSlots};
 
 // Down to the leaf that holds position index of view, with the effect and the prepare lengths before it, and how many slots stand before those
@@ -32,7 +32,7 @@ pub fn descend(
     root: NodeNo,
     index: u32,
 ) -> Way
-    requires { ⌜ Area g (length (now inners)) × (view + 1 < g .stride) × (effect + 1 < g .stride) × (levels ≤ 15) ⌝ }
+    requires { ⌜ AreaHolds g (length (now inners)) × (view + 1 < g .stride) × (effect + 1 < g .stride) × (levels ≤ 15) ⌝ }
     ensures { λ r. ⌜ Went view effect g levels (root .0) index (now (inners .entry)) (r .end) (r .passed) ⌝ }
 {
     let mut n = levels;
@@ -88,7 +88,7 @@ fn search_leaf(
     prepares: u64,
     taken: u32,
 ) -> Searched
-    requires { ⌜ Area g (length (now leaves)) × (view + 1 < g .stride) × (effect + 1 < g .stride) × (used ≤ g .nodes) × (rest ≤ index) × (taken ≤ 65535) ⌝ }
+    requires { ⌜ AreaHolds g (length (now leaves)) × (view + 1 < g .stride) × (effect + 1 < g .stride) × (used ≤ g .nodes) × (rest ≤ index) × (taken ≤ 65535) ⌝ }
     ensures { λ r. ⌜ r ≡ leafSlots view effect g used index (now (leaves .entry)) k rest effects prepares taken ⌝ }
 {
     let fan = g.fan;
@@ -142,7 +142,7 @@ pub fn from_root(
     used: u32,
     index: u32,
 ) -> Searched
-    requires { ⌜ Area g (length (now leaves)) × Area g (length (now inners)) × (view + 1 < g .stride) × (effect + 1 < g .stride) × (levels ≤ 15) × (used ≤ g .nodes) ⌝ }
+    requires { ⌜ AreaHolds g (length (now leaves)) × AreaHolds g (length (now inners)) × (view + 1 < g .stride) × (effect + 1 < g .stride) × (levels ≤ 15) × (used ≤ g .nodes) ⌝ }
     ensures { λ r. ⌜ r ≡ withSlots (fromRoot view effect g levels (root .0) used index (now (leaves .entry)) (now (inners .entry))) (foundSlots (fromRoot view effect g levels (root .0) used index (now (leaves .entry)) (now (inners .entry))) (downward view g (now (leaves .entry)) (now (inners .entry)) levels (root .0) index)) ⌝ }
 {
     let way = descend(inners, g, view, effect, levels, root, index);

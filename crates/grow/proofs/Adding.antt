@@ -12,10 +12,10 @@ use Rattle.model.specs.declared.shape.Shape.{Shape}
 use Rattle.model.specs.declared.shape.Place.{Place}
 use Rattle.model.specs.declared.shape.Place.the-variants.{Slot, Missing}
 use Rattle.laws.specs.Grow.{half-bad, half-low, half-high}
-use Rattle.links.specs.Fits.{Fits, Room}
+use Rattle.links.specs.Fits.{AreasHold, NodeRoom}
 use Rattle.links.specs.Tops.{topIn, grownIn}
 use Rattle.grow.specs.Standing.{standing}
-use Rattle.grow.proofs.Steps.{Stands, stands, toppedBy, add-missing, add-room, add-none, add-split, halves}
+use Rattle.grow.proofs.Steps.{GoodPlace, good-place, toppedBy, add-missing, add-room, add-none, add-split, halves}
 
 -- g is the shape w, made anew
 module _ {w g : Shape} (e : g ≡ w) where
@@ -34,36 +34,36 @@ module _ (w : Shape) (left : ℕ) (t : List ℕ) (level p after new : ℕ) (ls x
   astray s = add-missing w (aboveOf w left) (topIn t) level p after new (areas ls xs) s
 
   -- the place i is found, and inner node p has len slots in use
-  pub record Found (i len : ℕ) : Type 0 where
-    pub fits : Fits w (length ls) (length xs)
+  pub record PlaceFound (i len : ℕ) : Type 0 where
+    pub fits : AreasHold w (length ls) (length xs)
     pub used : getD t 0 0 ≤ w .nodes
     pub three : length t ≡ 3
     pub slot : Slot i ≡ standing w (getD t 0 0) level p after new (areas ls xs)
     pub count : len ≡ getD (part (p * w .size) (w .size) xs) 0 0
 
   -- node new gets its slot behind place at of inner node to; all is ls₁, xs₁ and u by then
-  pub record Ready (to at : ℕ) (u ls₁ xs₁ : List ℕ) : Type 0 where
-    pub fits : Fits w (length ls₁) (length xs₁)
+  pub record ReadyToLink (to at : ℕ) (u ls₁ xs₁ : List ℕ) : Type 0 where
+    pub fits : AreasHold w (length ls₁) (length xs₁)
     pub node : to < w .nodes
     pub fresh : new < w .nodes
-    pub room : Room w to at xs₁
+    pub room : NodeRoom w to at xs₁
     pub same-leaves : length ls₁ ≡ length ls
     pub same-inners : length xs₁ ≡ length xs
     pub three : length u ≡ 3
     pub done : toppedBy (topIn u) (link w level to at new (areas ls₁ xs₁)) ≡ added
 
 module _ {w : Shape} {left : ℕ} {t : List ℕ} {level p after new : ℕ} {ls xs : List ℕ} where
-  pub moved : {to at to₁ at₁ : ℕ} {u ls₂ xs₂ u₁ ls₁ xs₁ : List ℕ} → ls₂ ≡ ls₁ → xs₂ ≡ xs₁ → u ≡ u₁ → to ≡ to₁ → at ≡ at₁ → Ready w left t level p after new ls xs to₁ at₁ u₁ ls₁ xs₁
-      → Ready w left t level p after new ls xs to at u ls₂ xs₂
+  pub moved : {to at to₁ at₁ : ℕ} {u ls₂ xs₂ u₁ ls₁ xs₁ : List ℕ} → ls₂ ≡ ls₁ → xs₂ ≡ xs₁ → u ≡ u₁ → to ≡ to₁ → at ≡ at₁ → ReadyToLink w left t level p after new ls xs to₁ at₁ u₁ ls₁ xs₁
+      → ReadyToLink w left t level p after new ls xs to at u ls₂ xs₂
   moved el ex eu et ea o = rw (el, ex, eu, et, ea) o
 
-  pub ended : {g : Shape} {to at : ℕ} {u ls₁ xs₁ : List ℕ} {r : ℕ} {b : Areas} → g ≡ w → Ready w left t level p after new ls xs to at u ls₁ xs₁ → linked r b ≡ link g level to at new (areas ls₁ xs₁)
+  pub ended : {g : Shape} {to at : ℕ} {u ls₁ xs₁ : List ℕ} {r : ℕ} {b : Areas} → g ≡ w → ReadyToLink w left t level p after new ls xs to at u ls₁ xs₁ → linked r b ≡ link g level to at new (areas ls₁ xs₁)
       → grown r (topIn u) b ≡ added w left t level p after new ls xs
   ended {g} {to} {at} {u} {ls₁} {xs₁} e o q = ap (toppedBy (topIn u)) (q ∙ ap (λ (h : Shape). link h level to at new (areas ls₁ xs₁)) e) ∙ o .done
 
-  module _ {i len : ℕ} (f : Found w left t level p after new ls xs i len) where
-    o : Stands w (getD t 0 0) level p after new (areas ls xs) i
-    o = stands w (getD t 0 0) level p after new (areas ls xs) i (f .slot)
+  module _ {i len : ℕ} (f : PlaceFound w left t level p after new ls xs i len) where
+    o : GoodPlace w (getD t 0 0) level p after new (areas ls xs) i
+    o = good-place w (getD t 0 0) level p after new (areas ls xs) i (f .slot)
 
     -- a node that isn't full
     module _ (h : len ≡ w .fan → ⊥) where
@@ -71,11 +71,11 @@ module _ {w : Shape} {left : ℕ} {t : List ℕ} {level p after new : ℕ} {ls x
       unfolding nodeOf
       short = omega (arith, h, o .full, f .count)
 
-      space : Room w p i xs
+      space : NodeRoom w p i xs
       unfolding nodeOf
       space = record { place = o .place; space = omega (arith, short, f .count) }
 
-      pub ready-here : Ready w left t level p after new ls xs p i t ls xs
+      pub ready-here : ReadyToLink w left t level p after new ls xs p i t ls xs
       ready-here =
           record {
             fits = f .fits;
@@ -103,13 +103,13 @@ module _ {w : Shape} {left : ℕ} {t : List ℕ} {level p after new : ℕ} {ls x
         failed d = half-bad w level p (getD t 0 0) i new (grownIn n u ls₁ xs₁) d ∙ onward
 
         module _ (z : n ≡ 0) (kl : length ls₁ ≡ length ls) (kx : length xs₁ ≡ length xs) (k3 : length u ≡ 3) where
-          rooms : (i < half (w .fan) → Room w p i xs₁) × (half (w .fan) ≤ i → Room w (getD t 0 0) (i - half (w .fan)) xs₁)
+          rooms : (i < half (w .fan) → NodeRoom w p i xs₁) × (half (w .fan) ≤ i → NodeRoom w (getD t 0 0) (i - half (w .fan)) xs₁)
           rooms = halves w left (topIn t) level p i ls xs (grownIn n u ls₁ xs₁) (f .fits) (o .node) m (omega (arith, o .place, o .full)) r
 
-          fit : Fits w (length ls₁) (length xs₁)
+          fit : AreasHold w (length ls₁) (length xs₁)
           fit = rw (kl, kx) (f .fits)
 
-          pub ready-low : i < half (w .fan) → Ready w left t level p after new ls xs p i u ls₁ xs₁
+          pub ready-low : i < half (w .fan) → ReadyToLink w left t level p after new ls xs p i u ls₁ xs₁
           ready-low l =
               record {
                 fits = fit;
@@ -122,7 +122,7 @@ module _ {w : Shape} {left : ℕ} {t : List ℕ} {level p after new : ℕ} {ls x
                 done = half-low w level p (getD t 0 0) i new (grownIn n u ls₁ xs₁) z l ∙ onward;
               }
 
-          pub ready-high : half (w .fan) ≤ i → Ready w left t level p after new ls xs (getD t 0 0) (i - half (w .fan)) u ls₁ xs₁
+          pub ready-high : half (w .fan) ≤ i → ReadyToLink w left t level p after new ls xs (getD t 0 0) (i - half (w .fan)) u ls₁ xs₁
           ready-high l =
               record {
                 fits = fit;

@@ -13,8 +13,8 @@ use Rattle.model.specs.State.{nodeAt}
 use Rattle.model.specs.Grow.{Areas, areas, areaOf, nodeIn, Linked, Top, Grown, grown, Above, link, linkHalf, splitNode, addTo, aboveOf}
 use Rattle.model.specs.declared.shape.Shape.{Shape}
 use Rattle.model.specs.declared.shape.Place.the-variants.{Slot, Missing}
-use Rattle.laws.specs.Lens.{both, Roomy, Parted, split-room}
-use Rattle.links.specs.Fits.{Fits, Room}
+use Rattle.laws.specs.Lens.{both, Roomy, PartedLens, split-room}
+use Rattle.links.specs.Fits.{AreasHold, NodeRoom}
 use Rattle.grow.specs.Standing.{tests, standing}
 
 module _ (g : Shape) (c level p after new : ℕ) (a : Areas) where
@@ -46,18 +46,18 @@ module _ (g : Shape) (c level p after new : ℕ) (a : Areas) where
     stands-at h₄ h₅ = simp (lt-ltb _ _ h₁, lt-ltb _ _ h₂, lt-ltb _ _ h₃, lt-ltb _ _ (rw (ei, el) at h₄), le-leb _ _ (rw el at h₅)) (ap Slot ei)
 
   -- what a place says of the nodes
-  pub record Stands (i : ℕ) : Type 0 where
+  pub record GoodPlace (i : ℕ) : Type 0 where
     pub node : p < c
     pub fresh : new < g .nodes
     pub place : i < nodeAt g p (a .inners) .len
     pub full : nodeAt g p (a .inners) .len ≤ g .fan
 
-  pub stands : (i : ℕ) → Slot i ≡ standing g c level p after new a → Stands i
+  pub good-place : (i : ℕ) → Slot i ≡ standing g c level p after new a → GoodPlace i
   unfolding standing
-  stands i e = go (tests g c level p after new a) refl e
+  good-place i e = go (tests g c level p after new a) refl e
     where
       go : (b : Bool) → tests g c level p after new a ≡ b
-          → Slot i ≡ cond b (Slot (nodeIn g level after a .at)) Missing → Stands i
+          → Slot i ≡ cond b (Slot (nodeIn g level after a .at)) Missing → GoodPlace i
       go true q s =
           let e₁ = both _ _ q in
           let e₂ = both _ _ (e₁ .0) in
@@ -111,9 +111,9 @@ module _ (g : Shape) (above : Above) (t : Top) (level p after new : ℕ) (a : Ar
     add-split h l = rw (placed, le-ltb _ _ h, lt-ltb _ _ l)
 
 -- the halves of a node that was divided have room when all above is done
-pub halves : (g : Shape) (n : ℕ) (t : Top) (level k i : ℕ) (ls xs : List ℕ) (r : Grown) → Fits g (length ls) (length xs) → k < t .inners → t .inners < g .nodes → i < g .fan
+pub halves : (g : Shape) (n : ℕ) (t : Top) (level k i : ℕ) (ls xs : List ℕ) (r : Grown) → AreasHold g (length ls) (length xs) → k < t .inners → t .inners < g .nodes → i < g .fan
     → r ≡ splitNode g (aboveOf g n) t level k (areas ls xs)
-    → (i < g .fan / 2 → Room g k i (r .areas .inners)) × (g .fan / 2 ≤ i → Room g (t .inners) (i - g .fan / 2) (r .areas .inners))
+    → (i < g .fan / 2 → NodeRoom g k i (r .areas .inners)) × (g .fan / 2 ≤ i → NodeRoom g (t .inners) (i - g .fan / 2) (r .areas .inners))
 halves g n t level k i ls xs r f hk hm hi e =
     rw e (
       (λ l. record { place = omega (arith, l, o .low-least); space = omega (arith, o .low-most, f .shaped .slots) }),
@@ -123,5 +123,5 @@ halves g n t level k i ls xs r f hk hm hi e =
     roomy : Roomy g (areas ls xs)
     roomy = record { words = f .shaped .words; columns = omega (arith, f .shaped .columns); slots = f .shaped .slots; leaves = f .leaves; inners = f .inners }
 
-    o : Parted g k (t .inners) (areas ls xs) (splitNode g (aboveOf g n) t level k (areas ls xs) .areas)
+    o : PartedLens g k (t .inners) (areas ls xs) (splitNode g (aboveOf g n) t level k (areas ls xs) .areas)
     o = split-room g n t level k (areas ls xs) roomy hk hm

@@ -13,7 +13,7 @@ ghost use Prim.Native.Nat.{_<_, _≤_};
 ghost use lib.ListN.{length, getD};
 ghost use Rattle.model.specs.State.{shapeFor};
 ghost use Rattle.model.specs.Grow.{areas, splitNode, addTo, aboveOf};
-ghost use Rattle.links.specs.Fits.{Fits};
+ghost use Rattle.links.specs.Fits.{AreasHold};
 ghost use Rattle.links.specs.Tops.{topIn, grownIn};
 ghost use Rattle.grow.specs.Standing.{standing};
 
@@ -28,7 +28,7 @@ fn standing(
     after: u32,
     new: u32,
 ) -> Place
-    requires { ⌜ Fits g (length (now leaves)) (length (now inners)) × (used ≤ g .nodes) ⌝ }
+    requires { ⌜ AreasHold g (length (now leaves)) (length (now inners)) × (used ≤ g .nodes) ⌝ }
     ensures { λ r. ⌜ r ≡ standing g used level (p .0) after new (areas (now (leaves .entry)) (now (inners .entry))) ⌝ }
 {
     let nodes = g.nodes;
@@ -71,7 +71,7 @@ pub fn add_child(
     new: u32,
     left: u32,
 ) -> u32
-    requires { ⌜ Fits (shapeFor views fan nodes) (length (now leaves)) (length (now inners)) × (getD (now top) 0 0 ≤ nodes) × (getD (now top) 2 0 ≤ 16) × (length (now top) ≡ 3) ⌝ }
+    requires { ⌜ AreasHold (shapeFor views fan nodes) (length (now leaves)) (length (now inners)) × (getD (now top) 0 0 ≤ nodes) × (getD (now top) 2 0 ≤ 16) × (length (now top) ≡ 3) ⌝ }
     ensures { λ r. ⌜ (grownIn r (now (top .exit)) (now (leaves .exit)) (now (inners .exit)) ≡ addTo (shapeFor views fan nodes) (aboveOf (shapeFor views fan nodes) left) (topIn (now (top .entry))) level (p .0) after new (areas (now (leaves .entry)) (now (inners .entry)))) × (length (now (top .exit)) ≡ 3) ⌝ }
 {
     let g = shape_for(views, fan, nodes);
@@ -110,7 +110,7 @@ pub fn split_node(
     k: NodeNo,
     left: u32,
 ) -> u32
-    requires { ⌜ Fits (shapeFor views fan nodes) (length (now leaves)) (length (now inners)) × (k .0 < getD (now top) 0 0) × (getD (now top) 0 0 < nodes) × (getD (now top) 2 0 ≤ 16) × (length (now top) ≡ 3) ⌝ }
+    requires { ⌜ AreasHold (shapeFor views fan nodes) (length (now leaves)) (length (now inners)) × (k .0 < getD (now top) 0 0) × (getD (now top) 0 0 < nodes) × (getD (now top) 2 0 ≤ 16) × (length (now top) ≡ 3) ⌝ }
     ensures { λ r. ⌜ (grownIn r (now (top .exit)) (now (leaves .exit)) (now (inners .exit)) ≡ splitNode (shapeFor views fan nodes) (aboveOf (shapeFor views fan nodes) left) (topIn (now (top .entry))) level (k .0) (areas (now (leaves .entry)) (now (inners .entry)))) × (length (now (top .exit)) ≡ 3) ⌝ }
 {
     let g = shape_for(views, fan, nodes);

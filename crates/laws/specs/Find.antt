@@ -55,20 +55,20 @@ columns-fit s zero p c ws h f = tt
 columns-fit s (suc n) p c ws h f = (rw (getD-part p s c ws h) (f (p + c)), columns-fit s n (p + s) c ws h f)
 
 -- what was found: a slot passed in, and no more than the index is left
-pub record Ranged (k index count : ℕ) (r : Found) : Type 0 where
+pub record FoundWithin (k index count : ℕ) (r : Found) : Type 0 where
   pub slot : (j o t u : ℕ) → r ≡ At j o t u → j < k + count
   pub offset : (j o t u : ℕ) → r ≡ At j o t u → o ≤ index
 
 not-found : (j o t u : ℕ) → _≡_ {A = Found} Nothing (At j o t u) → ⊥
 not-found j o t u q = let z : _≡_ {A = ℕ} 0 1 = cc in omega arith
 
-pub find-ranged : (v e k index a b : ℕ) (slots : List (List ℕ)) → Ranged k index (length slots) (findFrom v e k index a b slots)
+pub find-ranged : (v e k index a b : ℕ) (slots : List (List ℕ)) → FoundWithin k index (length slots) (findFrom v e k index a b slots)
 unfolding findFrom
 find-ranged v e k index a b [] = record { slot = λ j o t u q. absurd (not-found j o t u q); offset = λ j o t u q. absurd (not-found j o t u q) }
 find-ranged v e k index a b (x ∷ xs) = go (ltb index (lengthIn v x)) (find-ranged v e (k + 1) (index - lengthIn v x) (a + lengthIn e x) (b + lengthIn prepare x) xs)
   where
-    go : (c : Bool) → Ranged (k + 1) (index - lengthIn v x) (length xs) (findFrom v e (k + 1) (index - lengthIn v x) (a + lengthIn e x) (b + lengthIn prepare x) xs)
-        → Ranged k index (suc (length xs)) (cond c (At k index a b) (findFrom v e (k + 1) (index - lengthIn v x) (a + lengthIn e x) (b + lengthIn prepare x) xs))
+    go : (c : Bool) → FoundWithin (k + 1) (index - lengthIn v x) (length xs) (findFrom v e (k + 1) (index - lengthIn v x) (a + lengthIn e x) (b + lengthIn prepare x) xs)
+        → FoundWithin k index (suc (length xs)) (cond c (At k index a b) (findFrom v e (k + 1) (index - lengthIn v x) (a + lengthIn e x) (b + lengthIn prepare x) xs))
     go true r = record { slot = λ j o t u q. let f : k ≡ j = cc in omega arith; offset = λ j o t u q. let f : index ≡ o = cc in omega arith }
     go false r = record { slot = λ j o t u q. omega (arith, r .slot j o t u q); offset = λ j o t u q. omega (arith, r .offset j o t u q) }
 
@@ -97,7 +97,8 @@ module _ (g : Shape) (v e k from index a b : ℕ) (xs : List ℕ) (hl : nodeAt g
   left-length : length (drop from (used (nodeAt g k xs))) ≡ nodeAt g k xs .len - from
   left-length = length-drop from (used (nodeAt g k xs)) ∙ ap (λ (n : ℕ). n - from) (used-length g k xs hl)
 
-  pub used-ranged : from ≤ nodeAt g k xs .len → Ranged from index (nodeAt g k xs .len - from) (findFrom v e from index a b (drop from (used (nodeAt g k xs))))
+  pub used-ranged : from ≤ nodeAt g k xs .len
+      → FoundWithin from index (nodeAt g k xs .len - from) (findFrom v e from index a b (drop from (used (nodeAt g k xs))))
   used-ranged hf = rw left-length at (find-ranged v e from index a b (drop from (used (nodeAt g k xs))))
 
   fits : (c : ℕ) → c + 1 < g .stride → ((i : ℕ) → Word (getD xs i 0)) → All (λ x. Word (lengthIn c x)) (drop from (used (nodeAt g k xs)))
@@ -113,24 +114,24 @@ module _ (g : Shape) (v e k from index a b : ℕ) (xs : List ℕ) (hl : nodeAt g
       (omega (arith, left-length, z .0), omega (arith, left-length, z .1))
 
 -- the position left after a descent is no more than the position asked for
-pub record Rests (index : ℕ) (d : Descent) : Type 0 where
+pub record RestWithin (index : ℕ) (d : Descent) : Type 0 where
   pub rest : (l : LeafNo) (r t u : ℕ) → d ≡ descent.At l r t u → r ≤ index
 
-no-rest : (index : ℕ) (d : Descent) → ((l : LeafNo) (r t u : ℕ) → d ≡ descent.At l r t u → ⊥) → Rests index d
+no-rest : (index : ℕ) (d : Descent) → ((l : LeafNo) (r t u : ℕ) → d ≡ descent.At l r t u → ⊥) → RestWithin index d
 no-rest index d never = record { rest = λ l r t u q. absurd (never l r t u q) }
 
-broken-rests : (index : ℕ) → Rests index descent.Broken
+broken-rests : (index : ℕ) → RestWithin index descent.Broken
 broken-rests index = no-rest index descent.Broken (λ l r t u q. let z : _≡_ {A = ℕ} 0 1 = cc in omega arith)
 
-pub nothing-rests : (index : ℕ) → Rests index descent.Nothing
+pub nothing-rests : (index : ℕ) → RestWithin index descent.Nothing
 nothing-rests index = no-rest index descent.Nothing (λ l r t u q. let z : _≡_ {A = ℕ} 0 1 = cc in omega arith)
 
-through : (go : ℕ → ℕ → ℕ → ℕ → Descent) (miss : Descent) (m : Node) (index : ℕ) (f : Found) → ((j o t u : ℕ) → f ≡ At j o t u → o ≤ index) → ((c r t u : ℕ) → Rests r (go c r t u)) → Rests index miss
-    → Rests index (into go miss m f)
+through : (go : ℕ → ℕ → ℕ → ℕ → Descent) (miss : Descent) (m : Node) (index : ℕ) (f : Found) → ((j o t u : ℕ) → f ≡ At j o t u → o ≤ index) → ((c r t u : ℕ) → RestWithin r (go c r t u)) → RestWithin index miss
+    → RestWithin index (into go miss m f)
 through go miss m index (At j o t u) h on r = record { rest = λ l r y z q. omega (arith, h j o t u refl, on (child (getD (m .slots) j [])) o t u .rest l r y z q) }
 through go miss m index Nothing h on r = r
 
-pub descend-rests : (v e : ℕ) (g : Shape) (miss : Descent) (n k index a b : ℕ) (xs : List ℕ) → Rests index miss → Rests index (descend v e g miss n k index a b xs)
+pub descend-rests : (v e : ℕ) (g : Shape) (miss : Descent) (n k index a b : ℕ) (xs : List ℕ) → RestWithin index miss → RestWithin index (descend v e g miss n k index a b xs)
 unfolding descend
 descend-rests v e g miss zero k index a b xs h = record { rest = λ l r t u q. let f : index ≡ r = cc in omega arith }
 descend-rests v e g miss (suc n) k index a b xs h =
@@ -138,7 +139,7 @@ descend-rests v e g miss (suc n) k index a b xs h =
     (through (λ c r t u. descend v e g descent.Broken n c r t u xs) miss (nodeAt g k xs) index (findFrom v e 0 index a b (used (nodeAt g k xs)))
     (find-ranged v e 0 index a b (used (nodeAt g k xs)) .offset) (λ c r t u. descend-rests v e g descent.Broken n c r t u xs (broken-rests r)) h)
   where
-    either : (b : Bool) {d : Descent} → Rests index d → Rests index (cond b d descent.Broken)
+    either : (b : Bool) {d : Descent} → RestWithin index d → RestWithin index (cond b d descent.Broken)
     either true r = r
     either false r = broken-rests index
 

@@ -67,14 +67,14 @@ upper-len s fan n = refl
 
 module _ (g : Shape) where
   -- b has the lengths of a
-  pub record Alike (a b : Areas) : Type 0 where
+  pub record SameLens (a b : Areas) : Type 0 where
     pub roomy : Roomy g b
     pub same : (j : ℕ) → lenOf g j b ≡ lenOf g j a
 
-  alike-self : (a : Areas) → Roomy g a → Alike a a
+  alike-self : (a : Areas) → Roomy g a → SameLens a a
   alike-self a r = record { roomy = r; same = λ j. refl }
 
-  alike-next : (a b c : Areas) → Alike a b → Alike b c → Alike a c
+  alike-next : (a b c : Areas) → SameLens a b → SameLens b c → SameLens a c
   alike-next a b c p q = record { roomy = q .roomy; same = λ j. q .same j ∙ p .same j }
 
   -- a node of either area is written
@@ -109,7 +109,7 @@ module _ (g : Shape) where
     inner-there j d = ap (λ (m : Node). m .len) (node-other g k (a .inners) (r .words) room n f j d)
 
   module _ (level k p i : ℕ) (a : Areas) (r : Roomy g a) (h : k < g .nodes) where
-    pub adopt-alike : Alike a (adopt g level k p i a)
+    pub adopt-alike : SameLens a (adopt g level k p i a)
     unfolding adopt
     adopt-alike = go (eqb level 1)
       where
@@ -125,16 +125,16 @@ module _ (g : Shape) where
             (λ e. rw e (inner-here a k (adopted p i (nodeAt g k (a .inners))) r h fi))
             (λ d. inner-there a k (adopted p i (nodeAt g k (a .inners))) r h fi j d)
 
-        go : (b : Bool) → Alike a (cond b (areas (putNode g k (adopted p i (nodeAt g k (cond b (a .leaves) (a .inners)))) (a .leaves)) (a .inners))
+        go : (b : Bool) → SameLens a (cond b (areas (putNode g k (adopted p i (nodeAt g k (cond b (a .leaves) (a .inners)))) (a .leaves)) (a .inners))
             (areas (a .leaves) (putNode g k (adopted p i (nodeAt g k (cond b (a .leaves) (a .inners)))) (a .inners))))
         go true = record { roomy = leaf-roomy a k _ r h fl; same = λ j. refl }
         go false = record { roomy = inner-roomy a k _ r h fi; same = same }
 
-  pub all-alike : (level p n i : ℕ) (a : Areas) → Roomy g a → Alike a (adoptAll g level p n i a .areas)
+  pub all-alike : (level p n i : ℕ) (a : Areas) → Roomy g a → SameLens a (adoptAll g level p n i a .areas)
   unfolding adoptAll
   all-alike level p zero i a r = alike-self a r
   all-alike level p (suc n) i a r =
-      by-test (λ (x : Linked). Alike a (x .areas)) (ltb (child (getD (nodeAt g p (a .inners) .slots) i [])) (g .nodes)) _ _
+      by-test (λ (x : Linked). SameLens a (x .areas)) (ltb (child (getD (nodeAt g p (a .inners) .slots) i [])) (g .nodes)) _ _
       (λ e. let o = adopt-alike level (child (getD (nodeAt g p (a .inners) .slots) i [])) p i a r (ltb-true _ _ e) in
       alike-next a (adopt g level (child (getD (nodeAt g p (a .inners) .slots) i [])) p i a) _ o (all-alike level p n (i + 1) _ (o .roomy)))
       (λ _. alike-self a r)
@@ -161,7 +161,7 @@ module _ (g : Shape) where
       b : Areas
       b = areas (a .leaves) (putNode g p m (a .inners))
 
-      o : Alike b (adoptAll g level p (lenOf g p a - i) (i + 1) b .areas)
+      o : SameLens b (adoptAll g level p (lenOf g p a - i) (i + 1) b .areas)
       o = all-alike level p (lenOf g p a - i) (i + 1) b (inner-roomy a p m r hp f)
 
       here : lenOf g p b ≡ lenOf g p a + 1
@@ -171,13 +171,13 @@ module _ (g : Shape) where
       there j d = inner-there a p m r hp f j d
 
   -- b is a with inner node k divided, its upper half in node m
-  pub record Halved (k m : ℕ) (a b : Areas) : Type 0 where
+  pub record HalvedLens (k m : ℕ) (a b : Areas) : Type 0 where
     pub roomy : Roomy g b
     pub low : lenOf g k b ≡ half (g .fan)
     pub high : lenOf g m b ≡ g .fan - half (g .fan)
     pub same : (j : ℕ) → (j ≡ k → ⊥) → (j ≡ m → ⊥) → lenOf g j b ≡ lenOf g j a
 
-  pub divide-halved : (level k m : ℕ) (a : Areas) → Roomy g a → k < m → m < g .nodes → Halved k m a (divide g level k m a .areas)
+  pub divide-halved : (level k m : ℕ) (a : Areas) → Roomy g a → k < m → m < g .nodes → HalvedLens k m a (divide g level k m a .areas)
   unfolding divide
   divide-halved level k m a r h hm =
       record {
@@ -214,26 +214,26 @@ module _ (g : Shape) where
       c : Areas
       c = areas (a .leaves) (putNode g m up (b .inners))
 
-      o : Alike c (adoptAll g level m (g .fan - half (g .fan)) 0 c .areas)
+      o : SameLens c (adoptAll g level m (g .fan - half (g .fan)) 0 c .areas)
       o = all-alike level m (g .fan - half (g .fan)) 0 c (inner-roomy b m up rb hm fu)
 
   -- each of the first c inner nodes that is not full in a has one slot more in b at most
-  pub record Within (c : ℕ) (a b : Areas) : Type 0 where
+  pub record WithinLens (c : ℕ) (a b : Areas) : Type 0 where
     pub roomy : Roomy g b
     pub least : (j : ℕ) → j < c → lenOf g j a < g .fan → lenOf g j a ≤ lenOf g j b
     pub most : (j : ℕ) → j < c → lenOf g j a < g .fan → lenOf g j b ≤ lenOf g j a + 1
 
-  within-self : (c : ℕ) (a : Areas) → Roomy g a → Within c a a
+  within-self : (c : ℕ) (a : Areas) → Roomy g a → WithinLens c a a
   within-self c a r = record { roomy = r; least = λ j l h. omega arith; most = λ j l h. omega arith }
 
   -- as it is when another node has one slot more
-  within-longer : (c p : ℕ) (a b : Areas) → p < c → lenOf g p a < g .fan → Longer p a b → Within c a b
+  within-longer : (c p : ℕ) (a b : Areas) → p < c → lenOf g p a < g .fan → Longer p a b → WithinLens c a b
   within-longer c p a b hp hl o = record { roomy = o .roomy; least = λ j l h. dite (ℕ-discrete j p) (λ e. rw e (omega (arith, o .more))) (λ d. omega (arith, o .same j d)); most = λ j l h. dite (ℕ-discrete j p) (λ e. rw e (omega (arith, o .more))) (λ d. omega (arith, o .same j d)) }
 
-  pub root-within : (t : Top) (k m : ℕ) (a : Areas) → Roomy g a → Within (t .inners) a (growRoot g t k m a .areas)
+  pub root-within : (t : Top) (k m : ℕ) (a : Areas) → Roomy g a → WithinLens (t .inners) a (growRoot g t k m a .areas)
   unfolding growRoot All
   root-within t k m a r =
-      by-test (λ (x : Grown). Within (t .inners) a (x .areas)) (ltb (t .inners) (g .nodes)) _ _ (λ e. grows (ltb-true _ _ e)) (λ _. within-self (t .inners) a r)
+      by-test (λ (x : Grown). WithinLens (t .inners) a (x .areas)) (ltb (t .inners) (g .nodes)) _ _ (λ e. grows (ltb-true _ _ e)) (λ _. within-self (t .inners) a r)
     where
       x : List ℕ
       x = slotFor (g .stride) k (nodeAt g k (a .inners))
@@ -250,7 +250,7 @@ module _ (g : Shape) where
       b : Areas
       b = areas (a .leaves) (putNode g (t .inners) n (a .inners))
 
-      grows : t .inners < g .nodes → Within (t .inners) a (adoptAll g 2 (t .inners) 2 0 b .areas)
+      grows : t .inners < g .nodes → WithinLens (t .inners) a (adoptAll g 2 (t .inners) 2 0 b .areas)
       grows h =
           let o = all-alike 2 (t .inners) 2 0 b (inner-roomy a (t .inners) n r h f) in
           record {
@@ -260,7 +260,7 @@ module _ (g : Shape) where
           }
 
   -- b is a with inner node k divided and its upper half in node m, each with one slot more at most, as any node before m that is not full
-  pub record Parted (k m : ℕ) (a b : Areas) : Type 0 where
+  pub record PartedLens (k m : ℕ) (a b : Areas) : Type 0 where
     pub roomy : Roomy g b
     pub low-least : half (g .fan) ≤ lenOf g k b
     pub low-most : lenOf g k b ≤ half (g .fan) + 1
@@ -269,7 +269,7 @@ module _ (g : Shape) where
     pub least : (j : ℕ) → j < m → (j ≡ k → ⊥) → lenOf g j a < g .fan → lenOf g j a ≤ lenOf g j b
     pub most : (j : ℕ) → j < m → (j ≡ k → ⊥) → lenOf g j a < g .fan → lenOf g j b ≤ lenOf g j a + 1
 
-  parted : (k m : ℕ) (a d b : Areas) → k < m → Halved k m a d → Within (m + 1) d b → Parted k m a b
+  parted : (k m : ℕ) (a d b : Areas) → k < m → HalvedLens k m a d → WithinLens (m + 1) d b → PartedLens k m a b
   parted k m a d b h o w =
       record {
         roomy = w .roomy;
@@ -292,29 +292,29 @@ module _ (g : Shape) where
 
   -- what is done above a divided node lengthens no other by more than one
   abbrev Gentle : Above → Type 0
-  Gentle above = (t : Top) (k m : ℕ) (a : Areas) → Roomy g a → t .inners ≤ g .nodes → Within (t .inners) a (above t k m a .areas)
+  Gentle above = (t : Top) (k m : ℕ) (a : Areas) → Roomy g a → t .inners ≤ g .nodes → WithinLens (t .inners) a (above t k m a .areas)
 
   split-parted : (above : Above) → Gentle above → (t : Top) (level k : ℕ) (a : Areas) → Roomy g a → k < t .inners → t .inners < g .nodes
-      → Parted k (t .inners) a (splitNode g above t level k a .areas)
+      → PartedLens k (t .inners) a (splitNode g above t level k a .areas)
   unfolding splitNode
   split-parted above ok t level k a r h l =
-      by-test (λ (x : Grown). Parted k (t .inners) a (x .areas)) (eqb (divide g level k (t .inners) a .number) 0) _ _
+      by-test (λ (x : Grown). PartedLens k (t .inners) a (x .areas)) (eqb (divide g level k (t .inners) a .number) 0) _ _
       (λ _. parted k (t .inners) a d _ h o (ok (top (t .inners + 1) (t .root) (t .levels)) k (t .inners) d (o .roomy) (omega arith)))
       (λ _. parted k (t .inners) a d d h o (within-self (t .inners + 1) d (o .roomy)))
     where
       d : Areas
       d = divide g level k (t .inners) a .areas
 
-      o : Halved k (t .inners) a d
+      o : HalvedLens k (t .inners) a d
       o = divide-halved level k (t .inners) a r h l
 
   -- one half then gets the new node
-  half-within : (level k m i new : ℕ) (a : Areas) (x : Grown) → k < m → m < g .nodes → lenOf g k a ≡ g .fan → i < g .fan → Parted k m a (x .areas)
-      → Within m a (linkHalf g level k m i new x .areas)
+  half-within : (level k m i new : ℕ) (a : Areas) (x : Grown) → k < m → m < g .nodes → lenOf g k a ≡ g .fan → i < g .fan → PartedLens k m a (x .areas)
+      → WithinLens m a (linkHalf g level k m i new x .areas)
   unfolding linkHalf
   half-within level k m i new a x h l full hi o =
-      by-test (λ (z : Grown). Within m a (z .areas)) (eqb (x .number) 0) _ _
-      (λ _. by-test (λ (z : Linked). Within m a (z .areas)) (ltb i (half (g .fan))) _ _
+      by-test (λ (z : Grown). WithinLens m a (z .areas)) (eqb (x .number) 0) _ _
+      (λ _. by-test (λ (z : Linked). WithinLens m a (z .areas)) (ltb i (half (g .fan))) _ _
       (λ e. after k _ (λ j q n. other j n) (link-longer level k i new (x .areas) (o .roomy) (omega arith) (omega (arith, ltb-true i (half (g .fan)) e, o .low-least)) (omega (arith, o .low-most, o .roomy .slots))))
       (λ e. after m _ (λ j q n z. omega arith) (link-longer level m (i - half (g .fan)) new (x .areas) (o .roomy) l (omega (arith, ltb-false i (half (g .fan)) e, o .high-least)) (omega (arith, o .high-most, o .roomy .slots)))))
       (λ _. record { roomy = o .roomy; least = λ j q n. o .least j q (other j n) n; most = λ j q n. o .most j q (other j n) n })
@@ -323,7 +323,7 @@ module _ (g : Shape) where
       other j n e = let z : lenOf g k a < g .fan = rw e at n in omega arith
 
       -- p is k or m, neither of which counts
-      after : (p : ℕ) (b : Areas) → ((j : ℕ) → j < m → lenOf g j a < g .fan → j ≡ p → ⊥) → Longer p (x .areas) b → Within m a b
+      after : (p : ℕ) (b : Areas) → ((j : ℕ) → j < m → lenOf g j a < g .fan → j ≡ p → ⊥) → Longer p (x .areas) b → WithinLens m a b
       after p b d q =
           record {
             roomy = q .roomy;
@@ -332,7 +332,7 @@ module _ (g : Shape) where
           }
 
   add-within : (above : Above) → Gentle above → (t : Top) (level p after new : ℕ) (a : Areas) → Roomy g a → t .inners ≤ g .nodes
-      → Within (t .inners) a (addTo g above t level p after new a .areas)
+      → WithinLens (t .inners) a (addTo g above t level p after new a .areas)
   unfolding addTo
   add-within above ok t level p after new a r h =
       by-test P (ltb p (t .inners) && ltb after (g .nodes) && ltb new (g .nodes) && ltb i len && leb len (g .fan)) _ _
@@ -343,7 +343,7 @@ module _ (g : Shape) where
       (λ _. within-self (t .inners) a r)
     where
       P : Grown → Type 0
-      P x = Within (t .inners) a (x .areas)
+      P x = WithinLens (t .inners) a (x .areas)
 
       i : ℕ
       i = nodeIn g level after a .at
@@ -368,5 +368,5 @@ module _ (g : Shape) where
 
   -- a full inner node is divided, and all above is done: both halves have room for one more
   pub split-room : (n : ℕ) (t : Top) (level k : ℕ) (a : Areas) → Roomy g a → k < t .inners → t .inners < g .nodes
-      → Parted k (t .inners) a (splitNode g (aboveOf g n) t level k a .areas)
+      → PartedLens k (t .inners) a (splitNode g (aboveOf g n) t level k a .areas)
   split-room n t level k a r h l = split-parted (aboveOf g n) (above-gentle n) t level k a r h l

@@ -11,7 +11,7 @@ ghost use Rattle.model.specs.Node.{slotFor};
 ghost use Rattle.model.specs.State.{nodeAt};
 ghost use Rattle.model.specs.Grow.{areas, linked, nodeIn, link};
 ghost use Rattle.node.specs.Shaped.{Shaped};
-ghost use Rattle.links.specs.Fits.{Fits, Room};
+ghost use Rattle.links.specs.Fits.{AreasHold, NodeRoom};
 
 // The slot that stands for node k of an area in its parent.
 pub fn sum_node(area: &[u32], g: Shape, k: u32, x: &mut [u32; 4])
@@ -26,7 +26,7 @@ pub fn sum_node(area: &[u32], g: Shape, k: u32, x: &mut [u32; 4])
 
 // The same for a node of the area that the level names.
 pub fn slot_of(leaves: &[u32], inners: &[u32], g: Shape, level: u32, k: u32, x: &mut [u32; 4])
-    requires { ⌜ Fits g (length (now leaves)) (length (now inners)) × (k < g .nodes) × (length (now x) ≡ 4) ⌝ }
+    requires { ⌜ AreasHold g (length (now leaves)) (length (now inners)) × (k < g .nodes) × (length (now x) ≡ 4) ⌝ }
     ensures { λ _. ⌜ (take (g .stride) (now (x .exit)) ≡ slotFor (g .stride) k (nodeIn g level k (areas (now (leaves .entry)) (now (inners .entry))))) × (length (now (x .exit)) ≡ 4) ⌝ }
 {
     if level == 1 {
@@ -46,7 +46,7 @@ pub fn link(
     i: usize,
     new: u32,
 ) -> u32
-    requires { ⌜ Fits g (length (now leaves)) (length (now inners)) × (p .0 < g .nodes) × (new < g .nodes) × Room g (p .0) i (now inners) ⌝ }
+    requires { ⌜ AreasHold g (length (now leaves)) (length (now inners)) × (p .0 < g .nodes) × (new < g .nodes) × NodeRoom g (p .0) i (now inners) ⌝ }
     ensures { λ r. ⌜ linked r (areas (now (leaves .exit)) (now (inners .exit))) ≡ link g level (p .0) i new (areas (now (leaves .entry)) (now (inners .entry))) ⌝ }
 {
     let k = p.0 as usize;

@@ -6,7 +6,7 @@ ghost use Prim.Native.Nat.{_+_, _-_, _*_, _<_, _≤_};
 ghost use lib.ListN.{length, getD, set};
 ghost use Rattle.model.specs.Lists.{part};
 ghost use Rattle.model.specs.Grow.{areas, areaOf, adopt, linked, adoptAll};
-ghost use Rattle.links.specs.Fits.{Fits};
+ghost use Rattle.links.specs.Fits.{AreasHold};
 
 // Word i of node k.
 pub fn word(area: &[u32], g: Shape, k: usize, i: usize) -> u32
@@ -20,7 +20,7 @@ pub fn word(area: &[u32], g: Shape, k: usize, i: usize) -> u32
 
 // Word i of node k of the area that the level names: leaves at level 1.
 pub fn word_of(leaves: &[u32], inners: &[u32], g: Shape, level: u32, k: usize, i: usize) -> u32
-    requires { ⌜ Fits g (length (now leaves)) (length (now inners)) × (k < g .nodes) × (i < g .size) ⌝ }
+    requires { ⌜ AreasHold g (length (now leaves)) (length (now inners)) × (k < g .nodes) × (i < g .size) ⌝ }
     ensures { λ r. ⌜ r ≡ getD (part (k * g .size) (g .size) (areaOf level (areas (now (leaves .entry)) (now (inners .entry))))) i 0 ⌝ }
 {
     if level == 1 {
@@ -56,7 +56,7 @@ pub fn adopt(
     p: NodeNo,
     i: u32,
 )
-    requires { ⌜ Fits g (length (now leaves)) (length (now inners)) × (k < g .nodes) ⌝ }
+    requires { ⌜ AreasHold g (length (now leaves)) (length (now inners)) × (k < g .nodes) ⌝ }
     ensures { λ _. ⌜ areas (now (leaves .exit)) (now (inners .exit)) ≡ adopt g level k (p .0) i (areas (now (leaves .entry)) (now (inners .entry))) ⌝ }
 {
     let size = g.size;
@@ -79,7 +79,7 @@ pub fn adopt_all(
     from: usize,
     to: usize,
 ) -> u32
-    requires { ⌜ Fits g (length (now leaves)) (length (now inners)) × (p .0 < g .nodes) × (to ≤ g .fan) ⌝ }
+    requires { ⌜ AreasHold g (length (now leaves)) (length (now inners)) × (p .0 < g .nodes) × (to ≤ g .fan) ⌝ }
     ensures { λ r. ⌜ linked r (areas (now (leaves .exit)) (now (inners .exit))) ≡ adoptAll g level (p .0) (to - from) from (areas (now (leaves .entry)) (now (inners .entry))) ⌝ }
 {
     let nodes = g.nodes;

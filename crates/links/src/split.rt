@@ -10,7 +10,7 @@ ghost use Prim.Native.Nat.{_<_, _≤_};
 ghost use lib.ListN.{length, getD};
 ghost use Rattle.model.specs.State.{shapeFor};
 ghost use Rattle.model.specs.Grow.{areas, linked, divide, growRoot};
-ghost use Rattle.links.specs.Fits.{Fits};
+ghost use Rattle.links.specs.Fits.{AreasHold};
 ghost use Rattle.links.specs.Tops.{topIn, grownIn};
 
 // The upper half of inner node k goes to node m, and its children learn it.
@@ -24,7 +24,7 @@ pub fn divide(
     k: NodeNo,
     m: NodeNo,
 ) -> u32
-    requires { ⌜ Fits (shapeFor views fan nodes) (length (now leaves)) (length (now inners)) × (k .0 < m .0) × (m .0 < nodes) ⌝ }
+    requires { ⌜ AreasHold (shapeFor views fan nodes) (length (now leaves)) (length (now inners)) × (k .0 < m .0) × (m .0 < nodes) ⌝ }
     ensures { λ r. ⌜ linked r (areas (now (leaves .exit)) (now (inners .exit))) ≡ divide (shapeFor views fan nodes) level (k .0) (m .0) (areas (now (leaves .entry)) (now (inners .entry))) ⌝ }
 {
     let g = shape_for(views, fan, nodes);
@@ -43,7 +43,7 @@ pub fn grow_root(
     k: NodeNo,
     m: NodeNo,
 ) -> u32
-    requires { ⌜ Fits (shapeFor views fan nodes) (length (now leaves)) (length (now inners)) × (k .0 < nodes) × (m .0 < nodes) × (getD (now top) 0 0 ≤ nodes) × (getD (now top) 2 0 ≤ 16) × (length (now top) ≡ 3) ⌝ }
+    requires { ⌜ AreasHold (shapeFor views fan nodes) (length (now leaves)) (length (now inners)) × (k .0 < nodes) × (m .0 < nodes) × (getD (now top) 0 0 ≤ nodes) × (getD (now top) 2 0 ≤ 16) × (length (now top) ≡ 3) ⌝ }
     ensures { λ r. ⌜ (grownIn r (now (top .exit)) (now (leaves .exit)) (now (inners .exit)) ≡ growRoot (shapeFor views fan nodes) (topIn (now (top .entry))) (k .0) (m .0) (areas (now (leaves .entry)) (now (inners .entry)))) × (length (now (top .exit)) ≡ 3) ⌝ }
 {
     let g = shape_for(views, fan, nodes);

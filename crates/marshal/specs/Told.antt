@@ -42,7 +42,7 @@ abbrev zeros : FlatCursor
 zeros = record { leaf = 0; slot = 0; stamp = 0 }
 
 -- number 0 and the values; audit's yes is 1, and after the last entry the leaf is 4,294,967,295
-pub record Reads (c d : Cursor) (i : EntryId) (l : Lengths) (n offset position prepare examined : ℕ) : Type 0 where
+pub record ToldValues (c d : Cursor) (i : EntryId) (l : Lengths) (n offset position prepare examined : ℕ) : Type 0 where
   pub reset : outcomeAnswer outcome.Done .number ≡ 0
   pub len : numberOf (numberAnswer (number.Is n)) ≡ record { number = 0; value = n }
   pub id : numberOf (namedAnswer (named.Entry i)) ≡ record { number = 0; value = i .0 }
@@ -59,7 +59,7 @@ pub record Reads (c d : Cursor) (i : EntryId) (l : Lengths) (n offset position p
   pub insert : insertedOf (insertedAnswer (inserted.At i position)) ≡ record { number = 0; id = i .0; position = position }
   pub split : dividedOf (dividedAnswer (divided.At i c d)) ≡ record { number = 0; id = i .0; first = at c; second = at d }
 
-pub reads : (c d : Cursor) (i : EntryId) (l : Lengths) (n offset position prepare examined : ℕ) → Reads c d i l n offset position prepare examined
+pub reads : (c d : Cursor) (i : EntryId) (l : Lengths) (n offset position prepare examined : ℕ) → ToldValues c d i l n offset position prepare examined
 reads c d i l n offset position prepare examined = record {
   reset = refl;
   len = refl;
@@ -79,7 +79,7 @@ reads c d i l n offset position prepare examined = record {
 }
 
 -- a refusal's number, and zeros
-pub record Refused (n : ℕ) : Type 0 where
+pub record ToldRefusal (n : ℕ) : Type 0 where
   pub reset : outcomeAnswer (outcome.Refused n) .number ≡ n
   pub len : numberOf (numberAnswer (number.Refused n)) ≡ record { number = n; value = 0 }
   pub id : numberOf (namedAnswer (named.Refused n)) ≡ record { number = n; value = 0 }
@@ -92,7 +92,7 @@ pub record Refused (n : ℕ) : Type 0 where
   pub insert : insertedOf (insertedAnswer (inserted.Refused n)) ≡ record { number = n; id = 0; position = 0 }
   pub split : dividedOf (dividedAnswer (divided.Refused n)) ≡ record { number = n; id = 0; first = zeros; second = zeros }
 
-pub refuses : (n : ℕ) → Refused n
+pub refuses : (n : ℕ) → ToldRefusal n
 refuses n = record {
   reset = refl;
   len = refl;

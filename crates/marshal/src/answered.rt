@@ -270,7 +270,7 @@ pub fn divided_of(a: Divided) -> FlatDivided
 
 // The new id without the cursors.
 pub fn number_of_divided(a: Divided) -> FlatNumber
-    ensures { λ r. ⌜ r ≡ numberOf (byId.dividedAnswer a) ⌝ }
+    ensures { λ r. ⌜ r ≡ numberOf (byId.dividedIdAnswer a) ⌝ }
 {
     match a {
         Divided::At(id, b, c) => FlatNumber {

@@ -15,7 +15,7 @@ use Rattle.model.specs.Row.{Row, Call, Answer, done, refused, Moved, mov
 use Rattle.model.specs.Refuse.{stale}
 use Rattle.model.specs.Calls as calls
 use Rattle.model.specs.Answer.{outcomeAnswer, numberAnswer, verdictAnswer, namedAnswer, comparedAnswer, insertedAnswer}
-use Rattle.model.specs.ById.{told, idAnswer, standingAnswer, nextAnswer, locatedAnswer}
+use Rattle.model.specs.ById.{told, idAnswer, standingIdAnswer, nextAnswer, locatedAnswer}
 use Rattle.model.specs.declared.head.Cursor.{Cursor}
 use Rattle.model.specs.declared.answer.Target.{Target}
 use Rattle.model.specs.declared.answer.Target.the-variants as target
@@ -48,9 +48,9 @@ pub data CursorCall : Type 0 where
 -- on a tree ---------------------------------------------------------------------------------------------------------------------------------
 
 -- answers read: a cursor as the id at which it stands in the tree after the call (ById's reading, `calls.id`); one that isn't current reads as its refusal
-abbrev pub selectedAnswer : Kind → State → Selected → Answer
-selectedAnswer K s (selected.At c offset) = idAnswer (calls.id K s c) (offset ∷ [])
-selectedAnswer K s (selected.Refused n) = refused n
+abbrev pub selectedIdAnswer : Kind → State → Selected → Answer
+selectedIdAnswer K s (selected.At c offset) = idAnswer (calls.id K s c) (offset ∷ [])
+selectedIdAnswer K s (selected.Refused n) = refused n
 
 -- the new id, and both parts in order
 abbrev pub partsOf : ℕ → Named → Named → Answer
@@ -69,14 +69,14 @@ cursorStep K s (split flag c l) = let r = calls.splitEntry K s c l flag in moved
 cursorStep K s (setLengths c l) = told (calls.setLengths K s c l) outcomeAnswer
 cursorStep K s (update c l) = told (calls.update K s c l) numberAnswer
 cursorStep K s (locate v x) = let r = calls.locate K s v x in moved (r .after) (locatedAnswer K (r .after) (r .answer))
-cursorStep K s (select v x) = let r = calls.charIndexToEntry K s v x in moved (r .after) (selectedAnswer K (r .after) (r .answer))
+cursorStep K s (select v x) = let r = calls.charIndexToEntry K s v x in moved (r .after) (selectedIdAnswer K (r .after) (r .answer))
 cursorStep K s (rank v c) = moved s (numberAnswer (calls.entryToCharIndex K s v c))
 cursorStep K s (next c) = moved s (nextAnswer K s (calls.nextAfter K s c))
 cursorStep K s (compare a b) = moved s (comparedAnswer (calls.cmp K s a b))
-cursorStep K s (lengths c) = moved s (calls.lengthsOf K s c)
+cursorStep K s (lengths c) = moved s (calls.entryLengths K s c)
 cursorStep K s (id c) = moved s (namedAnswer (calls.id K s c))
-cursorStep K s (cursor i) = moved s (standingAnswer K s (calls.cursor K s i))
-cursorStep K s first = moved s (standingAnswer K s (calls.first K s))
+cursorStep K s (cursor i) = moved s (standingIdAnswer K s (calls.cursor K s i))
+cursorStep K s first = moved s (standingIdAnswer K s (calls.first K s))
 cursorStep K s len = moved s (numberAnswer (calls.len (s .head)))
 cursorStep K s isEmpty = moved s (verdictAnswer (calls.isEmpty (s .head)))
 

@@ -40,9 +40,9 @@ abbrev pub idAnswer : Named → List ℕ → Answer
 idAnswer (named.Entry i) vs = done (i .0 ∷ vs)
 idAnswer (named.Refused n) vs = refused n
 
-abbrev pub standingAnswer : Kind → State → Standing → Answer
-standingAnswer K s (standing.At c) = idAnswer (calls.id K s c) []
-standingAnswer K s (standing.Refused n) = refused n
+abbrev pub standingIdAnswer : Kind → State → Standing → Answer
+standingIdAnswer K s (standing.At c) = idAnswer (calls.id K s c) []
+standingIdAnswer K s (standing.Refused n) = refused n
 
 abbrev pub nextAnswer : Kind → State → Next → Answer
 nextAnswer K s (next′.At c) = idAnswer (calls.id K s c) []
@@ -53,9 +53,9 @@ abbrev pub locatedAnswer : Kind → State → Located → Answer
 locatedAnswer K s (located.At c offset effect prepare) = idAnswer (calls.id K s c) (offset ∷ effect ∷ prepare ∷ [])
 locatedAnswer K s (located.Refused n) = refused n
 
-abbrev pub dividedAnswer : Divided → Answer
-dividedAnswer (divided.At i a b) = done (i .0 ∷ [])
-dividedAnswer (divided.Refused n) = refused n
+abbrev pub dividedIdAnswer : Divided → Answer
+dividedIdAnswer (divided.At i a b) = done (i .0 ∷ [])
+dividedIdAnswer (divided.Refused n) = refused n
 
 -- a call's reply with its answer in the row's form
 abbrev pub told : {A : Type 0} → calls.Reply A → (A → Answer) → Moved State
@@ -65,16 +65,16 @@ told r f = moved (r .after) (f (r .answer))
 unfoldable pub treeMove : Kind → State → Call → Moved State
 treeMove K s (reset l) = told (calls.reset K s l) outcomeAnswer
 treeMove K s (insert i l) = withTarget K s i (λ t. told (calls.insert K s t l) insertedAnswer)
-treeMove K s (split flag i l) = withCursor s (calls.cursor K s i) (λ c. told (calls.splitEntry K s c l flag) dividedAnswer)
+treeMove K s (split flag i l) = withCursor s (calls.cursor K s i) (λ c. told (calls.splitEntry K s c l flag) dividedIdAnswer)
 treeMove K s (setLengths i l) = withCursor s (calls.cursor K s i) (λ c. told (calls.setLengths K s c l) outcomeAnswer)
 treeMove K s (update i l) = withCursor s (calls.cursor K s i) (λ c. told (calls.update K s c l) numberAnswer)
 treeMove K s (lookup v index) = let r = calls.locate K s v index in moved (r .after) (locatedAnswer K (r .after) (r .answer))
 treeMove K s (rank v i) = withCursor s (calls.cursor K s i) (λ c. moved s (numberAnswer (calls.entryToCharIndex K s v c)))
 treeMove K s (next i) = withCursor s (calls.cursor K s i) (λ c. moved s (nextAnswer K s (calls.nextAfter K s c)))
 treeMove K s (compare i j) = withCursor s (calls.cursor K s i) (λ a. withCursor s (calls.cursor K s j) (λ b. moved s (comparedAnswer (calls.cmp K s a b))))
-treeMove K s (lengths i) = withCursor s (calls.cursor K s i) (λ c. moved s (calls.lengthsOf K s c))
+treeMove K s (lengths i) = withCursor s (calls.cursor K s i) (λ c. moved s (calls.entryLengths K s c))
 treeMove K s count = let h = s .head in moved s (numberAnswer (calls.unless (calls.areaCauses K (h .fan) (h .limit) (s .leaves) (s .inners) (s .homes)) number.Refused (calls.len h)))
-treeMove K s first = moved s (standingAnswer K s (calls.first K s))
+treeMove K s first = moved s (standingIdAnswer K s (calls.first K s))
 treeMove K s malformed = moved s (refused 10)
 
 unfoldable pub treeStep : Kind → State → Call → Moved State

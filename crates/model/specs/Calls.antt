@@ -145,8 +145,8 @@ nextAfter K s c =
 unfoldable pub id : Kind → State → Cursor → Named
 id K s c = unless (opening K s ++ atCursor K s c) named.Refused (named.Entry (entryId (child (slotAt K s c))))
 
-unfoldable pub lengthsOf : Kind → State → Cursor → Answer
-lengthsOf K s c = unless (opening K s ++ atCursor K s c) refused (done (lengths (slotAt K s c)))
+unfoldable pub entryLengths : Kind → State → Cursor → Answer
+entryLengths K s c = unless (opening K s ++ atCursor K s c) refused (done (lengths (slotAt K s c)))
 
 abbrev pub standingIn : ℕ → ℕ → Place → Standing
 standingIn stamp k (slot.Slot i) = standing.At (cursorAt stamp k i)

@@ -12,10 +12,10 @@ viewNumber Prepare = 0
 viewNumber Effect = 1
 viewNumber Lines = 2
 
-abbrev pub lengthsOf : Lengths → View → ℕ
-lengthsOf l Prepare = l .prepare
-lengthsOf l Effect = l .effect
-lengthsOf l Lines = l .lines
+abbrev pub lengthInView : Lengths → View → ℕ
+lengthInView l Prepare = l .prepare
+lengthInView l Effect = l .effect
+lengthInView l Lines = l .lines
 
 abbrev pub slotOf : ℕ → Lengths → Slot
 slotOf c l = record { child = c; «prepare_len» = l .prepare; «effect_len» = l .effect; «line_ends» = l .lines }
@@ -29,7 +29,7 @@ abbrev pub lengthsIn : ℕ → List ℕ → List ℕ
 lengthsIn views x = take views (drop 1 x)
 
 -- the length in a view stands at the view's number
-pub by-view : (l : Lengths) (v : View) → getD (listOf l) (viewNumber v) 0 ≡ lengthsOf l v
+pub by-view : (l : Lengths) (v : View) → getD (listOf l) (viewNumber v) 0 ≡ lengthInView l v
 by-view l Prepare = refl
 by-view l Effect = refl
 by-view l Lines = refl

@@ -16,7 +16,7 @@ use Rattle.model.specs.Choice.{low, high, behind, CouldHold, FirstToHold
 use Rattle.model.specs.Refuse.{totalOf}
 use Rattle.model.specs.Calls as calls
 use Rattle.model.specs.ById.{treeStep}
-use Rattle.model.specs.Promise.{Words, IsWord, Leaves, Kept, answers}
+use Rattle.model.specs.Promise.{Words, IsWord, Leaves, Invariant, answers}
 
 -- beside make: those that a full tree's list has too; an entry's earliest and latest position; the first and the last entry that could hold a position
 pub data PlanCall : Type 0 where
@@ -108,9 +108,9 @@ pub record ByChoice (r : Row) : Type 0 where
 
 -- each call of a list gets the row's answer, never 9, and the state before it and after the last one is kept
 unfoldable pub AlongPlan : ℕ → State → Row → List PlanCall → Type 0
-AlongPlan fan s r [] = Kept planning fan s r × ByChoice r
+AlongPlan fan s r [] = Invariant planning fan s r × ByChoice r
 AlongPlan fan s r (c ∷ cs) =
-    Kept planning fan s r × ByChoice r × (treePlan s c .answer ≡ rowPlan r c .answer) × (treePlan s c .answer .number ≡ 9 → ⊥)
+    Invariant planning fan s r × ByChoice r × (treePlan s c .answer ≡ rowPlan r c .answer) × (treePlan s c .answer .number ≡ 9 → ⊥)
     × AlongPlan fan (treePlan s c .after) (rowPlan r c .after) cs
 
 -- the list theorem of the planning tree, of what a make leaves, whatever the areas held before

@@ -182,7 +182,7 @@ otherAnswers move s [] = []
 otherAnswers move s (c ∷ cs) = let rest = otherAnswers move (move s c .after) cs in cond (isLookup c) rest (move s c .answer ∷ rest)
 
 -- a sound state and the row that it stands for
-pub record Stands (K : Kind) (t : State) (r : Row) : Type 0 where
+pub record Represents (K : Kind) (t : State) (r : Row) : Type 0 where
   pub sound : Sound K t
   pub entries : entriesOf K t ≡ r .entries
   pub limit : t .head .limit ≡ r .limit
@@ -231,8 +231,8 @@ pub record Numbers (K : Kind) (s : State) (r : Row) (c : Call) : Type 0 where
 abbrev pub Hollow : Kind → List ℕ → Type 0
 Hollow K l = (v : ℕ) → v < K .views → getD l v 0 ≡ 0
 
-abbrev pub Filled : Kind → List ℕ → Type 0
-Filled K l = (v : ℕ) × (v < K .views) × (0 < getD l v 0)
+abbrev pub NotHollow : Kind → List ℕ → Type 0
+NotHollow K l = (v : ℕ) × (v < K .views) × (0 < getD l v 0)
 
 -- the row's refusal of a split up to 6, and the hollow parts that 17 is for
 abbrev pub upToSix : Kind → Row → ℕ → List ℕ → ℕ
@@ -246,11 +246,11 @@ HollowPart K r i l = Hollow K l ⊎ Hollow K (zipWith _-_ (row.lengthsOf i (r .e
 pub record Parts (K : Kind) (r : Row) (flag : Bool) (i : ℕ) (l : List ℕ) : Type 0 where
   pub only : rowStep K r (row.split flag i l) .answer .number ≡ 17 → (upToSix K r i l ≡ 0) × HollowPart K r i l
   pub exactly : upToSix K r i l ≡ 0 → HollowPart K r i l → rowStep K r (row.split flag i l) .answer .number ≡ 17
-  pub made : rowStep K r (row.split flag i l) .answer .number ≡ 0 → Filled K (row.lengthsOf (length (r .entries)) (rowStep K r (row.split flag i l) .after .entries))
-  pub left : rowStep K r (row.split flag i l) .answer .number ≡ 0 → Filled K (row.lengthsOf i (rowStep K r (row.split flag i l) .after .entries))
+  pub made : rowStep K r (row.split flag i l) .answer .number ≡ 0 → NotHollow K (row.lengthsOf (length (r .entries)) (rowStep K r (row.split flag i l) .after .entries))
+  pub left : rowStep K r (row.split flag i l) .answer .number ≡ 0 → NotHollow K (row.lengthsOf i (rowStep K r (row.split flag i l) .after .entries))
 
 -- what holds of a state of that fan that stands for the row r
-pub record Kept (K : Kind) (fan : ℕ) (s : State) (r : Row) : Type 0 where
+pub record Invariant (K : Kind) (fan : ℕ) (s : State) (r : Row) : Type 0 where
   pub sound : Sound K s
   pub entries : entriesOf K s ≡ r .entries
   pub fan-is : s .head .fan ≡ fan
@@ -265,8 +265,8 @@ pub record Kept (K : Kind) (fan : ℕ) (s : State) (r : Row) : Type 0 where
 
 -- each call of a list gets the row's answer, and the state before it and after the last one is kept
 unfoldable pub Along : Kind → ℕ → State → Row → List Call → Type 0
-Along K fan s r [] = Kept K fan s r
-Along K fan s r (c ∷ cs) = Kept K fan s r × (treeStep K s c .answer ≡ rowStep K r c .answer) × Along K fan (treeStep K s c .after) (rowStep K r c .after) cs
+Along K fan s r [] = Invariant K fan s r
+Along K fan s r (c ∷ cs) = Invariant K fan s r × (treeStep K s c .answer ≡ rowStep K r c .answer) × Along K fan (treeStep K s c .after) (rowStep K r c .after) cs
 
 -- demand 3, of the tree that a make leaves, whatever the areas held before
 pub record Demand3 (K : Kind) (fan limit : ℕ) (l ls xs hs : List ℕ) : Type 0 where
@@ -302,9 +302,9 @@ CursorInWords K by.isEmpty = Unit {0}
 
 -- each call of a list gets the row's answer to what it means in the tree before it, never 9, and the state before it and after the last one is kept
 unfoldable pub AlongCursors : Kind → ℕ → State → Row → List CursorCall → Type 0
-AlongCursors K fan s r [] = Kept K fan s r
+AlongCursors K fan s r [] = Invariant K fan s r
 AlongCursors K fan s r (c ∷ cs) =
-    Kept K fan s r × (cursorStep K s c .answer ≡ entryStep K r (meant K s c) .answer) × (cursorStep K s c .answer .number ≢ 9)
+    Invariant K fan s r × (cursorStep K s c .answer ≡ entryStep K r (meant K s c) .answer) × (cursorStep K s c .answer .number ≢ 9)
     × AlongCursors K fan (cursorStep K s c .after) (entryStep K r (meant K s c) .after) cs
 
 -- demand 3 in its cursor form, of the tree that a make leaves

@@ -32,8 +32,8 @@ fieldsOf bs = record { kind = getD bs 0 0; flag = getD bs 1 0; lines = getD bs 2
 abbrev pub viewOf : ℕ → View
 viewOf n = cond (eqb n 0) Prepare (cond (eqb n 1) Effect Lines)
 
-abbrev pub lengthsOf : Fields → Lengths
-lengthsOf f = record { prepare = f .b; effect = f .c; lines = f .lines }
+abbrev pub fieldLengths : Fields → Lengths
+fieldLengths f = record { prepare = f .b; effect = f .c; lines = f .lines }
 
 -- the call where the unused fields are zero, a flag is 0 or 1 and a view 0, 1 or 2
 abbrev pub only : Bool → Call → Call
@@ -55,12 +55,12 @@ noLengths f = eqb (f .b) 0 && eqb (f .c) 0 && eqb (f .lines) 0
 unfoldable pub kinds : Fields → List Call
 kinds f =
     malformed
-    ∷ only (plain f && eqb (f .a) 0) (reset (listOf (lengthsOf f)))
-    ∷ only (plain f) (insert (f .a) (listOf (lengthsOf f)))
-    ∷ only (plain f) (insert (f .a) (listOf (lengthsOf f)))
-    ∷ only (binary f) (split (eqb (f .flag) 1) (f .a) (listOf (lengthsOf f)))
-    ∷ only (plain f) (setLengths (f .a) (listOf (lengthsOf f)))
-    ∷ only (plain f) (update (f .a) (listOf (lengthsOf f)))
+    ∷ only (plain f && eqb (f .a) 0) (reset (listOf (fieldLengths f)))
+    ∷ only (plain f) (insert (f .a) (listOf (fieldLengths f)))
+    ∷ only (plain f) (insert (f .a) (listOf (fieldLengths f)))
+    ∷ only (binary f) (split (eqb (f .flag) 1) (f .a) (listOf (fieldLengths f)))
+    ∷ only (plain f) (setLengths (f .a) (listOf (fieldLengths f)))
+    ∷ only (plain f) (update (f .a) (listOf (fieldLengths f)))
     ∷ only (viewed f && noLengths f) (lookup (viewNumber (viewOf (f .flag))) (f .a))
     ∷ only (viewed f && noLengths f) (rank (viewNumber (viewOf (f .flag))) (f .a))
     ∷ only (plain f && noLengths f) (next (f .a))

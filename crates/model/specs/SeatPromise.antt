@@ -18,7 +18,7 @@ use Rattle.model.specs.ById.{treeStep}
 use Rattle.model.specs.ByCursor.{CursorCall}
 use Rattle.model.specs.Sound.{Sound}
 use Rattle.model.specs.Audit.{audit}
-use Rattle.model.specs.Promise.{Words, InWords, CursorInWords, Leaves, Fixed, Adds, earlier, Kept, answers, finally}
+use Rattle.model.specs.Promise.{Words, InWords, CursorInWords, Leaves, Fixed, Adds, earlier, Invariant, answers, finally}
 use Rattle.model.specs.Stamp.{one}
 use Rattle.model.specs.Seats.{seatsOf, noCharges, noSeats, share, charge, othersUnused, free, badSeat, Fair}
 use Rattle.model.specs.SeatedCalls.{SeatedReply, seatedReply, makeSeated, resetSeated, insertSeated, splitSeated, auditSeated}
@@ -106,9 +106,9 @@ pub record SeatedNumbers (K : Kind) (s : Seated State) (r : Seated Row) (c : Nam
   pub eight : r .seats .seated ≡ true → seatedTree K s c .answer .number ≢ 8
   pub nine : seatedTree K s c .answer .number ≢ 9
 
--- what holds of a seated state of that fan beside a seated row: demand 3's `Kept`, it is sound, seats and all, and the charges are the row's
-pub record SeatedKept (K : Kind) (fan : ℕ) (s : Seated State) (r : Seated Row) : Type 0 where
-  pub kept : Kept K fan (s .of) (r .of)
+-- what holds of a seated state of that fan beside a seated row: demand 3's `Invariant`, it is sound, seats and all, and the charges are the row's
+pub record SeatedInvariant (K : Kind) (fan : ℕ) (s : Seated State) (r : Seated Row) : Type 0 where
+  pub kept : Invariant K fan (s .of) (r .of)
   pub sound : SoundSeated K s
   pub seats : s .seats ≡ r .seats
   pub numbers : (c : Naming Call) → InWords K (c .call) → SeatedNumbers K s r c
@@ -118,8 +118,8 @@ NamingInWords K c = InWords K (c .call)
 
 -- each call of a list gets the row's answer, and the state before it and after the last one is kept
 unfoldable pub AlongSeats : Kind → ℕ → Seated State → Seated Row → List (Naming Call) → Type 0
-AlongSeats K fan s r [] = SeatedKept K fan s r
-AlongSeats K fan s r (c ∷ cs) = SeatedKept K fan s r × (seatedTree K s c .answer ≡ seatedRow K r c .answer) × AlongSeats K fan (seatedTree K s c .after) (seatedRow K r c .after) cs
+AlongSeats K fan s r [] = SeatedInvariant K fan s r
+AlongSeats K fan s r (c ∷ cs) = SeatedInvariant K fan s r × (seatedTree K s c .answer ≡ seatedRow K r c .answer) × AlongSeats K fan (seatedTree K s c .after) (seatedRow K r c .after) cs
 
 -- on cursors
 abbrev pub CursorNamingInWords : Kind → Naming CursorCall → Type 0
@@ -135,9 +135,9 @@ pub record BelowShare (r : Seated Row) (x : Seat) : Type 0 where
 
 -- each call gets the row's answer to what it means in the tree before it; never 9, in a seated tree never 8, and for a seat below its share never 18
 unfoldable pub AlongSeatedCursors : Kind → ℕ → Seated State → Seated Row → List (Naming CursorCall) → Type 0
-AlongSeatedCursors K fan s r [] = SeatedKept K fan s r
+AlongSeatedCursors K fan s r [] = SeatedInvariant K fan s r
 AlongSeatedCursors K fan s r (c ∷ cs) =
-    SeatedKept K fan s r × (seatedCursor K s c .answer ≡ seatedEntry K r (seatedMeant K s c) .answer)
+    SeatedInvariant K fan s r × (seatedCursor K s c .answer ≡ seatedEntry K r (seatedMeant K s c) .answer)
     × (seatedCursor K s c .answer .number ≢ 9)
     × (r .seats .seated ≡ true → seatedCursor K s c .answer .number ≢ 8)
     × (BelowShare r (c .seat) → seatedCursor K s c .answer .number ≢ 18)

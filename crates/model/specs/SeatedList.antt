@@ -12,7 +12,7 @@ use Rattle.model.specs.Row as row
 use Rattle.model.specs.Row.{Row, Call, Answer, refused, Moved, moved, rowMove, overlong}
 use Rattle.model.specs.Answer.{outcomeAnswer, insertedAnswer}
 use Rattle.model.specs.Calls as calls
-use Rattle.model.specs.ById.{withCursor, atTarget, dividedAnswer, treeMove}
+use Rattle.model.specs.ById.{withCursor, atTarget, dividedIdAnswer, treeMove}
 use Rattle.model.specs.ByCursor as by
 use Rattle.model.specs.ByCursor.{CursorCall, EntryCall, cursorStep, entryStep, meant, partsAnswer, withParts}
 use Rattle.model.specs.Seats.{badSeat, over, chargedTo, uncharged}
@@ -107,7 +107,7 @@ toldSeated r f = moved (seated (r .after) (r .seats)) (f (r .answer))
 unfoldable pub seatedTreeMove : Kind → State → Seats → Seat → Call → Deed ℕ ℕ → Moved (Seated State)
 seatedTreeMove K s b seat c (resets l) = toldSeated (resetSeated K s b l) outcomeAnswer
 seatedTreeMove K s b seat c (inserts i l) = atTarget (seated s b) i (calls.cursor K s i) (λ t. toldSeated (insertSeated K s b seat t l) insertedAnswer)
-seatedTreeMove K s b seat c (splits flag i l) = withCursor (seated s b) (calls.cursor K s i) (λ at. toldSeated (splitSeated K s b seat at l flag) dividedAnswer)
+seatedTreeMove K s b seat c (splits flag i l) = withCursor (seated s b) (calls.cursor K s i) (λ at. toldSeated (splitSeated K s b seat at l flag) dividedIdAnswer)
 seatedTreeMove K s b seat c nothing = beside b (treeMove K s c)
 
 unfoldable pub seatedTree : Kind → Seated State → Naming Call → Moved (Seated State)

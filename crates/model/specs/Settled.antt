@@ -39,8 +39,8 @@ abbrev pub seen : Answer → List ℕ → List ℕ → Verdict → Seen
 seen a o n v = record { answer = a; order = o; newest = n; audit = v }
 
 -- fan 4, limit 5: two nodes of 19 words in each area, five homes; what they held before make is of no account
-abbrev pub before : State
-before = state (headOf 0 0 0 0 0 0 0 0 Absent) (replicate 38 7) (replicate 38 7) (replicate 5 7)
+abbrev pub beforeMake : State
+beforeMake = state (headOf 0 0 0 0 0 0 0 0 Absent) (replicate 38 7) (replicate 38 7) (replicate 5 7)
 
 unfoldable pub treePlay : State → Play → Moved State
 treePlay s (made l) = told (calls.make base 4 5 l (s .leaves) (s .inners) (s .homes)) outcomeAnswer
@@ -69,11 +69,11 @@ unfoldable pub rowRun : Row → List Case → List Seen
 rowRun r [] = []
 rowRun r (c ∷ cs) = let m = rowPlay r (c .play) in rowSeen c m ∷ rowRun (m .after) cs
 
-abbrev pub said : Case → Seen
-said c = seen (c .answer) (c .order) (c .newest) verdict.Yes
+abbrev pub seenIn : Case → Seen
+seenIn c = seen (c .answer) (c .order) (c .newest) verdict.Yes
 
 -- after each case the tree's audit says yes; a plain row has neither leaves nor an audit: these two are taken from the table
-pub settled : (treeRun before table ≡ map said table) × (rowRun (row.row 0 []) table ≡ map said table)
+pub table-holds : (treeRun beforeMake table ≡ map seenIn table) × (rowRun (row.row 0 []) table ≡ map seenIn table)
 unfolding treePlay newestIn treeSeen treeRun rowPlay rowSeen rowRun
     part putAt sumBy some range refusal flatMap zipWith
     node.slotsFrom node.nodeOf node.wordsOf node.emptySlot node.plus node.minus node.totalsFrom node.slotFor node.findFrom node.indexFrom node.inserted node.childSplit node.lowerHalf node.upperHalf
@@ -86,7 +86,7 @@ unfolding treePlay newestIn treeSeen treeRun rowPlay rowSeen rowRun
     calls.begun calls.make calls.first calls.nextAfter calls.id calls.cursor calls.locate calls.insertBy calls.splitBy
     treeMove treeStep entriesOf level
     check.every check.depth check.isFilled check.isHeld check.isChild check.isInner check.isEntry check.isLeaf check.isFinger check.isSound audit
-settled = (refl, refl)
+table-holds = (refl, refl)
 
 -- the number of a make with so many line ends and areas of these lengths
 unfoldable pub makeNumber : ℕ → ℕ → ℕ → ℕ → ℕ → ℕ → ℕ

@@ -15,7 +15,7 @@ use Rattle.model.specs.Kind.{base, tooManyLines}
 use Rattle.model.specs.Lists.{All}
 use Rattle.model.specs.Length.{viewNumber, listOf}
 use Rattle.model.specs.Row.{Call, reset, insert, split, setLengths, update, lookup, rank, next, compare, lengths, count, first, malformed, overlong}
-use Rattle.model.specs.Record.{Fields, fieldsOf, viewOf, lengthsOf, only, plain, binary, viewed, noLengths, kinds, decode, encode}
+use Rattle.model.specs.Record.{Fields, fieldsOf, viewOf, fieldLengths, only, plain, binary, viewed, noLengths, kinds, decode, encode}
 use Rattle.model.specs.Spelling.{fields, fieldsFor, Sayable, asTwo, records, calls, given, written}
 
 -- what some fields say
@@ -121,14 +121,14 @@ module _ (f : Fields) (other : f .kind ≢ 3) where
   unfolding kinds
   of-kind zero e n = absurd (n refl)
   of-kind (suc zero) e n =
-      fits (plain f && eqb (f .a) 0) (reset (listOf (lengthsOf f)))
+      fits (plain f && eqb (f .a) 0) (reset (listOf (fieldLengths f)))
       (λ t. let h = both (plain f) (eqb (f .a) 0) t in (alike 1 0 (f .lines) 0 (f .b) (f .c) e (eqb-true (f .flag) 0 (h .0)) refl (eqb-true (f .a) 0 (h .1)) refl refl, refl)) n
-  of-kind (suc (suc zero)) e n = fits (plain f) (insert (f .a) (listOf (lengthsOf f))) (λ t. (changing 2 e t, refl)) n
+  of-kind (suc (suc zero)) e n = fits (plain f) (insert (f .a) (listOf (fieldLengths f))) (λ t. (changing 2 e t, refl)) n
   of-kind (suc (suc (suc zero))) e n = absurd (other e)
   of-kind (suc (suc (suc (suc zero)))) e n =
-      fits (binary f) (split (eqb (f .flag) 1) (f .a) (listOf (lengthsOf f))) (λ t. (alike 4 (cond (eqb (f .flag) 1) 1 0) (f .lines) (f .a) (f .b) (f .c) e (flagged t) refl refl refl refl, refl)) n
-  of-kind (suc (suc (suc (suc (suc zero))))) e n = fits (plain f) (setLengths (f .a) (listOf (lengthsOf f))) (λ t. (changing 5 e t, refl)) n
-  of-kind (suc (suc (suc (suc (suc (suc zero)))))) e n = fits (plain f) (update (f .a) (listOf (lengthsOf f))) (λ t. (changing 6 e t, refl)) n
+      fits (binary f) (split (eqb (f .flag) 1) (f .a) (listOf (fieldLengths f))) (λ t. (alike 4 (cond (eqb (f .flag) 1) 1 0) (f .lines) (f .a) (f .b) (f .c) e (flagged t) refl refl refl refl, refl)) n
+  of-kind (suc (suc (suc (suc (suc zero))))) e n = fits (plain f) (setLengths (f .a) (listOf (fieldLengths f))) (λ t. (changing 5 e t, refl)) n
+  of-kind (suc (suc (suc (suc (suc (suc zero)))))) e n = fits (plain f) (update (f .a) (listOf (fieldLengths f))) (λ t. (changing 6 e t, refl)) n
   of-kind (suc (suc (suc (suc (suc (suc (suc zero))))))) e n =
       fits (viewed f && noLengths f) (lookup (viewNumber (viewOf (f .flag))) (f .a)) (λ t. let h = both (viewed f) (noLengths f) t in (viewing 7 e (h .0) (h .1), in-view (h .0))) n
   of-kind (suc (suc (suc (suc (suc (suc (suc (suc zero)))))))) e n =
@@ -189,7 +189,7 @@ module _ (f : Fields) (few : f .lines ≤ 65535) where
   abbrev Few : Call → Type 0
   Few c = overlong base c ≡ false
 
-  lines-few : tooManyLines base (listOf (lengthsOf f)) ≡ false
+  lines-few : tooManyLines base (listOf (fieldLengths f)) ≡ false
   lines-few = le-ltb 65535 (f .lines) few
 
   only-few : (b : Bool) (c : Call) → Few c → Few (only b c)
@@ -204,7 +204,7 @@ module _ (f : Fields) (few : f .lines ≤ 65535) where
 
   kinds-few : All Few (kinds f)
   unfolding All kinds
-  kinds-few = (refl, (only-few (plain f && eqb (f .a) 0) (reset (listOf (lengthsOf f))) lines-few, (only-few (plain f) (insert (f .a) (listOf (lengthsOf f))) lines-few, (only-few (plain f) (insert (f .a) (listOf (lengthsOf f))) lines-few, (only-few (binary f) (split (eqb (f .flag) 1) (f .a) (listOf (lengthsOf f))) lines-few, (only-few (plain f) (setLengths (f .a) (listOf (lengthsOf f))) lines-few, (only-few (plain f) (update (f .a) (listOf (lengthsOf f))) lines-few, (only-few (viewed f && noLengths f) (lookup (viewNumber (viewOf (f .flag))) (f .a)) refl, (only-few (viewed f && noLengths f) (rank (viewNumber (viewOf (f .flag))) (f .a)) refl, (only-few (plain f && noLengths f) (next (f .a)) refl, (only-few (plain f && eqb (f .c) 0 && eqb (f .lines) 0) (compare (f .a) (f .b)) refl, (only-few (plain f && noLengths f) (lengths (f .a)) refl, (only-few (plain f && eqb (f .a) 0 && noLengths f) count refl, (only-few (plain f && eqb (f .a) 0 && noLengths f) first refl, tt))))))))))))))
+  kinds-few = (refl, (only-few (plain f && eqb (f .a) 0) (reset (listOf (fieldLengths f))) lines-few, (only-few (plain f) (insert (f .a) (listOf (fieldLengths f))) lines-few, (only-few (plain f) (insert (f .a) (listOf (fieldLengths f))) lines-few, (only-few (binary f) (split (eqb (f .flag) 1) (f .a) (listOf (fieldLengths f))) lines-few, (only-few (plain f) (setLengths (f .a) (listOf (fieldLengths f))) lines-few, (only-few (plain f) (update (f .a) (listOf (fieldLengths f))) lines-few, (only-few (viewed f && noLengths f) (lookup (viewNumber (viewOf (f .flag))) (f .a)) refl, (only-few (viewed f && noLengths f) (rank (viewNumber (viewOf (f .flag))) (f .a)) refl, (only-few (plain f && noLengths f) (next (f .a)) refl, (only-few (plain f && eqb (f .c) 0 && eqb (f .lines) 0) (compare (f .a) (f .b)) refl, (only-few (plain f && noLengths f) (lengths (f .a)) refl, (only-few (plain f && eqb (f .a) 0 && noLengths f) count refl, (only-few (plain f && eqb (f .a) 0 && noLengths f) first refl, tt))))))))))))))
 
 pub few-said : (bs : List ℕ) → getD bs 2 0 < 256 → getD bs 3 0 < 256 → overlong base (decode bs) ≡ false
 unfolding decode fieldsOf

@@ -64,15 +64,15 @@ four w x y z = w ∷ x ∷ y ∷ z ∷ []
 abbrev pub low : ℕ → List ℕ
 low n = four n 0 0 0
 
-abbrev pub top : List ℕ
-top = four 255 255 255 255
+abbrev pub topWord : List ℕ
+topWord = four 255 255 255 255
 
 -- the six records of document 01's run; one in whose fields all bytes differ; two of one line end and of 256; two that give none, with a byte behind the
 -- flag that isn't zero; a lookup and a rank in view 2, both in a view 3, and a split with the flag 2; one of kind 3, and one of kind 3 with a flag
 abbrev pub records : List (List ℕ)
 records =
     bytes 1 0 0 0 (low 0) (low 3) (low 3)
-    ∷ bytes 2 0 0 0 top (low 2) (low 0)
+    ∷ bytes 2 0 0 0 topWord (low 2) (low 0)
     ∷ bytes 2 0 0 0 (low 0) (low 0) (low 5)
     ∷ bytes 7 0 0 0 (low 0) (low 0) (low 0)
     ∷ bytes 7 0 0 0 (low 5) (low 0) (low 0)
@@ -87,8 +87,8 @@ records =
     ∷ bytes 7 3 0 0 (low 5) (low 0) (low 0)
     ∷ bytes 8 3 0 0 (low 1) (low 0) (low 0)
     ∷ bytes 4 2 0 0 (low 1) (low 0) (low 0)
-    ∷ bytes 3 0 0 0 top (low 2) (low 0)
-    ∷ bytes 3 1 0 0 top (low 2) (low 0)
+    ∷ bytes 3 0 0 0 topWord (low 2) (low 0)
+    ∷ bytes 3 1 0 0 topWord (low 2) (low 0)
     ∷ []
 
 -- 67,305,985 is 1 + 2 * 256 + 3 * 65,536 + 4 * 16,777,216, and so the others; 3,597 is 13 + 14 * 256
@@ -115,16 +115,16 @@ calls =
     ∷ []
 
 -- an answer and the kind that its record gave
-pub record Given : Type 0 where
+pub record KindAnswer : Type 0 where
   pub kind : ℕ
   pub answer : Answer
 
-abbrev pub to : ℕ → Answer → Given
+abbrev pub to : ℕ → Answer → KindAnswer
 to kind answer = record { kind = kind; answer = answer }
 
 -- the six answers, a refusal among them; one of four values: a record has room for three; the three lengths of an entry; and one to kind 3, with its
 -- position
-abbrev pub given : List Given
+abbrev pub given : List KindAnswer
 given =
     to 1 (done [])
     ∷ to 2 (done (1 ∷ 3 ∷ []))
@@ -144,7 +144,7 @@ written =
     ∷ bytes 0 2 0 0 (low 2) (low 0) (low 0)
     ∷ bytes 0 7 0 0 (low 0) (low 0) (low 5)
     ∷ bytes 5 7 0 0 (low 0) (low 0) (low 0)
-    ∷ bytes 0 9 0 0 top (low 0) (low 0)
+    ∷ bytes 0 9 0 0 topWord (low 0) (low 0)
     ∷ bytes 0 7 0 0 (four 1 2 3 4) (four 5 6 7 8) (four 9 10 11 12)
     ∷ bytes 0 11 0 0 (low 3) (low 2) (low 1)
     ∷ bytes 0 3 0 0 (low 1) (low 3) (low 0)

@@ -20,7 +20,7 @@ use Rattle.model.specs.Audit.{audit}
 use Rattle.model.specs.ById.{treeStep}
 use Rattle.model.specs.ByCursor as by
 use Rattle.model.specs.ByCursor.{CursorCall, cursorStep}
-use Rattle.model.specs.Promise.{Words, CursorInWords, answers, finally, Stands}
+use Rattle.model.specs.Promise.{Words, CursorInWords, answers, finally, Represents}
 use Rattle.model.specs.declared.head.Cursor.{Cursor}
 
 -- 1 for a call that isn't refused
@@ -91,7 +91,7 @@ restamped m s =
 -- any stamp is sound, and audit doesn't read it
 pub record AnyStamp (K : Kind) (m : ℕ) (s : State) : Type 0 where
   pub sound : Sound K s → Sound K (restamped m s)
-  pub stands : (r : Row) → Stands K s r → Stands K (restamped m s) r
+  pub stands : (r : Row) → Represents K s r → Represents K (restamped m s) r
   pub audited : audit K (restamped m s) ≡ audit K s
 
 -- on any tree, sound or not, a list by ids gets the same answers with another stamp, and leaves a tree that differs in the stamp alone

@@ -1,7 +1,7 @@
 // Views, lengths and slots.
 use crate::number::NONE;
 ghost use mathlib.Core.Path.{_≡_};
-ghost use Rattle.model.specs.Length.{viewNumber, lengthsOf, slotOf, listOf};
+ghost use Rattle.model.specs.Length.{viewNumber, lengthInView, slotOf, listOf};
 ghost use Rattle.model.specs.Kind.{base, tooManyLines};
 
 // What a length or a position is measured in: the characters of either version, or visible line ends.
@@ -33,7 +33,7 @@ pub struct Lengths {
 
 impl Lengths {
     pub fn of(self, view: View) -> u32
-        ensures { λ r. ⌜ r ≡ lengthsOf self view ⌝ }
+        ensures { λ r. ⌜ r ≡ lengthInView self view ⌝ }
     {
         match view {
             View::Prepare => self.prepare,

@@ -16,12 +16,12 @@ use Rattle.model.specs.Calls.{slotAt}
 use Rattle.model.specs.declared.shape.Kind.{Kind}
 use Rattle.model.specs.declared.shape.Shape.{Shape}
 use Rattle.model.specs.declared.head.Cursor.{Cursor}
-use Rattle.area.specs.Area.{Area}
+use Rattle.area.specs.Area.{AreaHolds}
 use Rattle.open.proofs.Causes.{opened-first, opened-next, opened-none, opened-number, opened-zero, opened-stop, opened-more, good-number, good-shape, none-applies, Numbered}
 use Rattle.open.proofs.OpenLaws.{opening-numbered}
 use Rattle.open.proofs.ReadyLaws.{ready, ready-here, leaf-area}
 use Rattle.open.specs.Open.{openedBy}
-use Rattle.open.specs.Ready.{Stands}
+use Rattle.open.specs.Ready.{CursorReady}
 use Rattle.open.specs.declared.open.Opened.{Opened}
 use Rattle.open.specs.declared.open.Opened.the-variants.{Good, Refused}
 
@@ -75,7 +75,7 @@ module _ (K : Kind) (w : (1 ≤ K .views) × (K .views ≤ 3)) (s : State) (c : 
     at-stale h = sym (rest ∙ opened-stop (stale K s c) (overfull K s c ∷ []) _ n (opened-number (stale K s c) _ n (sym en) h))
 
     -- the cursor is current: its leaf can be read
-    pub at-leaf : n ≡ 0 → Area g (length (s .leaves)) × (c .leaf .0 < g .nodes)
+    pub at-leaf : n ≡ 0 → AreaHolds g (length (s .leaves)) × (c .leaf .0 < g .nodes)
     at-leaf h =
         let r = ready K w s g o e d in
         (leaf-area s g r, lt-of-lt-of-le (clear-leaf K s c (sym en ∙ h) .0) (r .leaves))
@@ -102,9 +102,9 @@ unfolding opening All
 at-numbered K s c = (omega arith, (omega arith, (omega arith, (omega arith, (omega arith, (omega arith, (omega arith, tt)))))))
 
 -- what is known where `open_at` gives no number
-pub stands : (K : Kind) → (1 ≤ K .views) × (K .views ≤ 3) → (s : State) (c : Cursor) (g : Shape) (o : Opened) → o ≡ openedBy (opening K s ++ atCursor K s c) (shapeOf K (s .head)) → o ≡ Good g → Stands K s c g
+pub cursor-ready : (K : Kind) → (1 ≤ K .views) × (K .views ≤ 3) → (s : State) (c : Cursor) (g : Shape) (o : Opened) → o ≡ openedBy (opening K s ++ atCursor K s c) (shapeOf K (s .head)) → o ≡ Good g → CursorReady K s c g
 unfolding opening All
-stands K w s c g o e d =
+cursor-ready K w s c g o e d =
     let n = none-applies (opening K s ++ atCursor K s c) (at-numbered K s c) (good-number (opening K s ++ atCursor K s c) (shapeOf K (s .head)) g (sym e ∙ d)) in
     rw (← good-shape (opening K s ++ atCursor K s c) (shapeOf K (s .head)) g (sym e ∙ d))
     (record { ready = ready-here K w s (n .0) (n .1 .0) (n .1 .1 .0); leaf = leb-false _ _ (n .1 .1 .1 .1 .0); slot = leb-false _ _ (n .1 .1 .1 .1 .1 .0); few = ltb-false _ _ (n .1 .1 .1 .1 .1 .1 .0) })
@@ -121,7 +121,8 @@ module _ (views effect : ℕ) (ordered : Bool) (s : State) (o : Opened) where
   at-ordered c e = e
 
 -- the slot of a cursor can be read
-pub slot-in : {K : Kind} (s : State) (c : Cursor) (g : Shape) → Stands K s c g → Area g (length (s .leaves)) × (c .leaf .0 < g .nodes) × (c .slot < g .fan)
+pub slot-in : {K : Kind} (s : State) (c : Cursor) (g : Shape) → CursorReady K s c g
+    → AreaHolds g (length (s .leaves)) × (c .leaf .0 < g .nodes) × (c .slot < g .fan)
 slot-in s c g h = (leaf-area s g (h .ready), lt-of-lt-of-le (h .leaf) (h .ready .leaves), lt-of-lt-of-le (h .slot) (h .few))
 
 -- the lengths that were read are those of the cursor's slot

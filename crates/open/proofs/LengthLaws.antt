@@ -21,7 +21,7 @@ use Rattle.laws.specs.Lens.{by-test}
 use Rattle.laws.specs.Slots.{slots-at, slots-length, slots-take}
 use Rattle.laws.specs.Areas.{length-node}
 use Rattle.laws.specs.AreaRead.{node-end}
-use Rattle.area.specs.Area.{Area}
+use Rattle.area.specs.Area.{AreaHolds}
 use Rattle.open.specs.Lengths.{moreIn, hollowIn}
 
 -- the lengths of a slot of two, three, four words
@@ -67,7 +67,7 @@ module _ (slot : List ℕ) (p : ℕ) (first : p ≡ lengthIn 0 slot) where
   put-lengths s (a ∷ b ∷ c ∷ d ∷ u ∷ x) y z f e h g y₁ y₂ z₁ z₂ = absurd (omega arith)
 
 -- the lengths that are read are all that slot i of node k has
-module _ (g : Shape) (xs : List ℕ) (k i : ℕ) (a : Area g (length xs)) (hk : k < g .nodes) (hi : i < g .fan) where
+module _ (g : Shape) (xs : List ℕ) (k i : ℕ) (a : AreaHolds g (length xs)) (hk : k < g .nodes) (hi : i < g .fan) where
   width : length (getD (nodeAt g k xs .slots) i []) ≡ g .stride
   unfolding nodeOf
   width =

@@ -17,7 +17,7 @@ use Rattle.model.specs.declared.shape.Shape.{Shape}
 use Rattle.model.specs.declared.length.View.{View}
 use Rattle.model.specs.declared.length.View.the-variants.{Prepare, Effect, Lines}
 use Rattle.node.specs.Shaped.{Shaped}
-use Rattle.area.specs.Area.{Area}
+use Rattle.area.specs.Area.{AreaHolds}
 use Rattle.open.proofs.Bools.{or-false}
 use Rattle.open.proofs.Causes.{good-number, good-shape, none-applies}
 use Rattle.open.proofs.OpenLaws.{Sized, sized, opening-numbered}
@@ -78,10 +78,10 @@ module _ (K : Kind) (w : (1 ≤ K .views) × (K .views ≤ 3)) (s : State) where
       rw (← good-shape (opening K s) (shapeOf K (s .head)) g (sym e ∙ d)) (ready-here (n .0) (n .1 .0) (n .1 .1 .0))
 
 -- an area of a ready tree
-pub leaf-area : {K : Kind} (s : State) (g : Shape) → Ready K s g → Area g (length (s .leaves))
+pub leaf-area : {K : Kind} (s : State) (g : Shape) → Ready K s g → AreaHolds g (length (s .leaves))
 leaf-area s g h = record { shaped = h .shaped; room = h .leaf-area }
 
-pub inner-area : {K : Kind} (s : State) (g : Shape) → Ready K s g → Area g (length (s .inners))
+pub inner-area : {K : Kind} (s : State) (g : Shape) → Ready K s g → AreaHolds g (length (s .inners))
 inner-area s g h = record { shaped = h .shaped; room = h .inner-area }
 
 -- a view is a column of every slot

@@ -19,7 +19,7 @@ use Rattle.laws.specs.Words.{getD-part, lent}
 use Rattle.laws.specs.AreaRead.{node-length}
 use Rattle.laws.specs.Read.{total-none, total-more}
 use Rattle.node.specs.Shaped.{Shaped, slots-in}
-use Rattle.area.specs.Area.{Area}
+use Rattle.area.specs.Area.{AreaHolds}
 use Rattle.open.specs.Lengths.{pastIn, below}
 use Rattle.open.proofs.LengthLaws.{in-use}
 
@@ -83,7 +83,7 @@ low-total g len ws h l most e low v hv =
     λ j k. omega (arith, getD-part 3 (len * g .stride) j ws k, low j (omega (arith, length-take (len * g .stride) (drop 3 ws), length-drop 3 ws))) in
     rw (← in-use (g .stride) (g .fan) len len ws e (omega arith) (omega arith)) (omega (arith, h .few, total-most (g .stride) len 3 v 67108864 ws hv word))
 
-pub low-node : (g : Shape) (k len : ℕ) (xs : List ℕ) → Area g (length xs) → k < g .nodes → len ≤ g .fan
+pub low-node : (g : Shape) (k len : ℕ) (xs : List ℕ) → AreaHolds g (length xs) → k < g .nodes → len ≤ g .fan
     → len ≡ cond (ltb (getD xs (k * g .size) 0) (g .fan)) (getD xs (k * g .size) 0) (g .fan)
     → below 67108864 (take (len * g .stride) (drop 3 (take (k * g .size + g .size - k * g .size) (drop (k * g .size) xs))))
     → (v : ℕ) → v + 1 < g .stride → total v (used (nodeAt g k xs)) ≤ 2147483648

@@ -9,7 +9,7 @@ use Rattle.model.specs.Refuse.{shapeOf, tooMuch, hollowPart, past}
 use Rattle.model.specs.declared.shape.Kind.{Kind}
 use Rattle.model.specs.declared.shape.Shape.{Shape}
 use Rattle.model.specs.declared.head.Head.{Head}
-use Rattle.area.specs.Area.{Area}
+use Rattle.area.specs.Area.{AreaHolds}
 use Rattle.open.proofs.ReadyLaws.{inner-area}
 use Rattle.open.specs.Ready.{Ready}
 use Rattle.open.specs.Lengths.{moreIn, hollowIn, pastIn}
@@ -38,5 +38,5 @@ pub past-same : (K : Kind) (s : State) (g : Shape) → g ≡ shapeOf K (s .head)
 past-same K s g e old new = rw (own-shape K (s .head) g e, e, one-less (K .views)) refl
 
 -- the root's totals can be summed up
-pub root-in : {K : Kind} (s : State) (g : Shape) → Ready K s g → Area (shapeFor (K .views) (g .fan) (g .nodes)) (length (s .inners)) × (s .head .root .0 < g .nodes)
+pub root-in : {K : Kind} (s : State) (g : Shape) → Ready K s g → AreaHolds (shapeFor (K .views) (g .fan) (g .nodes)) (length (s .inners)) × (s .head .root .0 < g .nodes)
 root-in {K} s g h = (rw (own-shape K (s .head) g (h .same)) (inner-area s g h), h .root)

@@ -25,7 +25,7 @@ pub record Ready (K : Kind) (s : State) (g : Shape) : Type 0 where
   pub entries : s .head .entries ≤ s .head .limit
 
 -- the cursor's leaf is in use, and so is its slot, which the leaf has
-pub record Stands (K : Kind) (s : State) (c : Cursor) (g : Shape) : Type 0 where
+pub record CursorReady (K : Kind) (s : State) (c : Cursor) (g : Shape) : Type 0 where
   pub ready : Ready K s g
   pub leaf : c .leaf .0 < s .head .leaves
   pub slot : c .slot < nodeAt g (c .leaf .0) (s .leaves) .len

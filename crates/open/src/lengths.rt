@@ -17,12 +17,12 @@ ghost use Rattle.model.specs.Node.{nodeOf, lengths, total, used};
 ghost use Rattle.model.specs.State.{shapeFor, nodeAt};
 ghost use Rattle.model.specs.Refuse.{crossedParts};
 ghost use Rattle.node.specs.Shaped.{Shaped};
-ghost use Rattle.area.specs.Area.{Area};
+ghost use Rattle.area.specs.Area.{AreaHolds};
 ghost use Rattle.open.specs.Lengths.{moreIn, hollowIn, pastIn, below, Low, TotalsIn};
 
 // The lengths in slot i of leaf k; those that a slot doesn't have stay as they are.
 pub fn lengths_at(leaves: &[u32], g: Shape, k: LeafNo, i: u32, x: &mut [u32; 4])
-    requires { ⌜ Area g (length (now leaves)) × (k .0 < g .nodes) × (i < g .fan) × (length (now x) ≡ 4) ⌝ }
+    requires { ⌜ AreaHolds g (length (now leaves)) × (k .0 < g .nodes) × (i < g .fan) × (length (now x) ≡ 4) ⌝ }
     ensures { λ _. ⌜ (lengthsIn (g .stride - 1) (now (x .exit)) ≡ lengths (getD (nodeAt g (k .0) (now (leaves .entry)) .slots) i [])) × (length (now (x .exit)) ≡ 4) ⌝ }
 {
     let stride = g.stride;
@@ -149,7 +149,7 @@ fn low(node: &[u32], g: Shape, len: usize) -> bool
 
 // The same of the slots in use of inner node k: then no total of theirs passes 2^31.
 fn low_in(inners: &[u32], g: Shape, k: NodeNo) -> bool
-    requires { ⌜ Area g (length (now inners)) × (k .0 < g .nodes) ⌝ }
+    requires { ⌜ AreaHolds g (length (now inners)) × (k .0 < g .nodes) ⌝ }
     ensures { λ r. ⌜ (r ≡ true → (v : ℕ) → v + 1 < g .stride → total v (used (nodeAt g (k .0) (now (inners .entry)))) ≤ 2147483648) ⌝ }
 {
     let size = g.size;
@@ -214,7 +214,7 @@ fn used_totals(node: &[u32], g: Shape) -> Totals
 
 // The totals of inner node k.
 pub fn totals_in(inners: &[u32], g: Shape, k: NodeNo) -> Totals
-    requires { ⌜ Area g (length (now inners)) × (k .0 < g .nodes) ⌝ }
+    requires { ⌜ AreaHolds g (length (now inners)) × (k .0 < g .nodes) ⌝ }
     ensures { λ r. ⌜ TotalsIn g (nodeAt g (k .0) (now (inners .entry))) (r .first) (r .second) (r .third) ⌝ }
 {
     let size = g.size;
@@ -233,7 +233,7 @@ fn past_in(sum: u64, old: u32, new: u32) -> bool
 
 // The same in some view.
 fn past_some(root: NodeNo, inners: &[u32], g: Shape, old: &[u32; 4], new: &[u32; 4]) -> bool
-    requires { ⌜ Area g (length (now inners)) × (root .0 < g .nodes) × (length (now old) ≡ 4) × (length (now new) ≡ 4) ⌝ }
+    requires { ⌜ AreaHolds g (length (now inners)) × (root .0 < g .nodes) × (length (now old) ≡ 4) × (length (now new) ≡ 4) ⌝ }
     ensures { λ r. ⌜ r ≡ pastIn g (root .0) (now (inners .entry)) (lengthsIn (g .stride - 1) (now (old .entry))) (lengthsIn (g .stride - 1) (now (new .entry))) ⌝ }
 {
     let stride = g.stride;
@@ -262,7 +262,7 @@ pub fn past(
     old: &[u32; 4],
     new: &[u32; 4],
 ) -> bool
-    requires { ⌜ Area (shapeFor views fan nodes) (length (now inners)) × (root .0 < nodes) × (length (now old) ≡ 4) × (length (now new) ≡ 4) ⌝ }
+    requires { ⌜ AreaHolds (shapeFor views fan nodes) (length (now inners)) × (root .0 < nodes) × (length (now old) ≡ 4) × (length (now new) ≡ 4) ⌝ }
     ensures { λ r. ⌜ r ≡ pastIn (shapeFor views fan nodes) (root .0) (now (inners .entry)) (lengthsIn views (now (old .entry))) (lengthsIn views (now (new .entry))) ⌝ }
 {
     let g = shape_for(views, fan, nodes);

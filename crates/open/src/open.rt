@@ -15,7 +15,7 @@ ghost use Rattle.model.specs.Refuse.{badSize, tooShort, astray, shapeOf, openin
 ghost use Rattle.model.specs.Calls.{areaCauses};
 ghost use Rattle.model.specs.declared.shape.Kind.{Kind};
 ghost use Rattle.node.specs.Shaped.{Shaped};
-ghost use Rattle.area.specs.Area.{Area};
+ghost use Rattle.area.specs.Area.{AreaHolds};
 ghost use Rattle.open.specs.Open.{openedBy};
 
 // The sizes of a tree, or the number of a refusal.
@@ -166,7 +166,7 @@ pub fn open(views: usize, head: Head, leaves: &[u32], inners: &[u32], homes: &[u
 // The number by which a cursor fails: its stamp isn't the tree's (3), its leaf isn't in use (13), its slot is at or past
 // the leaf's len (14). 0: it is current.
 pub fn fault(head: Head, leaves: &[u32], g: Shape, c: Cursor) -> u32
-    requires { ⌜ Area g (length (now leaves)) × (head .leaves ≤ g .nodes) ⌝ }
+    requires { ⌜ AreaHolds g (length (now leaves)) × (head .leaves ≤ g .nodes) ⌝ }
     ensures { λ r. ⌜ ((K : Kind) → g ≡ shapeOf K head → r ≡ refusal (stale K (state head (now (leaves .entry)) [] []) c)) ⌝ }
 {
     let k = c.leaf.0;

@@ -17,12 +17,12 @@ use Rattle.model.specs.declared.head.Head.{Head}
 use Rattle.laws.specs.Lens.{by-test, both}
 use Rattle.place.specs.Room.{roomyIn, settledIn}
 
-pub record Roomy (g : Shape) (k i w : ℕ) (ls : List ℕ) : Type 0 where
+pub record RoomyLeaf (g : Shape) (k i w : ℕ) (ls : List ℕ) : Type 0 where
   pub leaf : k < g .nodes
   pub slot : i + w ≤ nodeAt g k ls .len
   pub room : nodeAt g k ls .len < g .fan
 
-pub roomy : (g : Shape) (k i w : ℕ) (ls : List ℕ) → roomyIn g k i w ls ≡ true → Roomy g k i w ls
+pub roomy : (g : Shape) (k i w : ℕ) (ls : List ℕ) → roomyIn g k i w ls ≡ true → RoomyLeaf g k i w ls
 roomy g k i w ls e =
     let o = both _ _ e in
     let p = both _ _ (o .0) in

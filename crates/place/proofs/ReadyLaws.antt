@@ -13,14 +13,14 @@ use Rattle.model.specs.declared.shape.Shape.{Shape}
 use Rattle.model.specs.declared.head.Head.{Head}
 use Rattle.links.specs.Tops.{topIn}
 use Rattle.place.specs.declared.change.Room.{Room}
-use Rattle.place.specs.declared.change.Change as code
+use Rattle.place.specs.declared.change.HeadChange as code
 use Rattle.place.specs.Room.{counted, settledIn, roomAt, halved, splitTo, lost, entered, roomyIn, Entering}
 use Rattle.place.proofs.RoomLaws.{room-there, room-made}
 use Rattle.place.proofs.NumberLaws.{leaf-ends}
 use Rattle.place.proofs.EntryLaws.{is-roomy, room-lost, room-is, entered-none, entered-done}
 
 -- the room r and the three words t beside the areas ls, xs and hs, which were ls₀, xs₀ and hs₀: with w slots in use from the slot on, and one that isn't
-pub record Ready (g : Shape) (w : ℕ) (h : Head) (ls₀ xs₀ hs₀ : List ℕ) (k i : ℕ) (ls xs hs t : List ℕ) (r : Room) : Type 0 where
+pub record RoomReady (g : Shape) (w : ℕ) (h : Head) (ls₀ xs₀ hs₀ : List ℕ) (k i : ℕ) (ls xs hs t : List ℕ) (r : Room) : Type 0 where
   pub made : makeRoom g (state h ls₀ xs₀ hs₀) k i ≡ change 0 (state (counted (r .leaves) (topIn t) (h .entries) h) ls xs hs) (r .leaf .0) (r .slot)
   pub roomy : roomyIn g (r .leaf .0) (r .slot) w ls ≡ true
   pub leaves : length ls ≡ length ls₀
@@ -30,7 +30,7 @@ pub record Ready (g : Shape) (w : ℕ) (h : Head) (ls₀ xs₀ hs₀ : List ℕ)
 
 -- the same where two ways met
 pub ready-at : {g : Shape} {w : ℕ} {h : Head} {ls₀ xs₀ hs₀ : List ℕ} {k i : ℕ} (ls xs hs t ls′ xs′ hs′ t′ : List ℕ) (r r′ : Room)
-    → ls′ ≡ ls → xs′ ≡ xs → hs′ ≡ hs → t′ ≡ t → r′ ≡ r → Ready g w h ls₀ xs₀ hs₀ k i ls xs hs t r → Ready g w h ls₀ xs₀ hs₀ k i ls′ xs′ hs′ t′ r′
+    → ls′ ≡ ls → xs′ ≡ xs → hs′ ≡ hs → t′ ≡ t → r′ ≡ r → RoomReady g w h ls₀ xs₀ hs₀ k i ls xs hs t r → RoomReady g w h ls₀ xs₀ hs₀ k i ls′ xs′ hs′ t′ r′
 ready-at ls xs hs t ls′ xs′ hs′ t′ r r′ a b d e f z = rw (a, b, d, e, f) z
 
 -- both halves leave one leaf more
@@ -39,7 +39,7 @@ more true u k i l j = refl
 more false u k i l j = refl
 
 module _ (views : ℕ) (g : Shape) (w : ℕ) (h : Head) (ls xs hs : List ℕ) (k i : ℕ) (x : List ℕ) (e : Entering views g h ls xs hs k x) (slot : i + w ≤ nodeAt g k ls .len) where
-  pub ready-there : (nodeAt g k ls .len ≡ g .fan → ⊥) → Ready g w h ls xs hs k i ls xs hs (h .inners ∷ h .root .0 ∷ h .levels ∷ []) (roomAt (h .leaves) k i)
+  pub ready-there : (nodeAt g k ls .len ≡ g .fan → ⊥) → RoomReady g w h ls xs hs k i ls xs hs (h .inners ∷ h .root .0 ∷ h .levels ∷ []) (roomAt (h .leaves) k i)
   ready-there d =
       let few : nodeAt g k ls .len < g .fan = omega (arith, e .slots, d) in
       record {
@@ -81,17 +81,17 @@ module _ (views : ℕ) (g : Shape) (w : ℕ) (h : Head) (ls xs hs : List ℕ) (k
           entered-none g f w h (counted (r .leaves) (topIn t) (h .entries) h) ls1 xs1 hs1 (r .leaf .0) (r .slot) (makeRoom g (state h ls xs hs) k i) made b
 
       pub ready-split : roomyIn g (r .leaf .0) (r .slot) w ls1 ≡ true → length ls1 ≡ length ls → length xs1 ≡ length xs → length hs1 ≡ length hs → length t ≡ 3
-          → Ready g w h ls xs hs k i ls1 xs1 hs1 t r
+          → RoomReady g w h ls xs hs k i ls1 xs1 hs1 t r
       ready-split b el ex eh et = record { made = made; roomy = b; leaves = el; inners = ex; homes = eh; words = et }
 
 -- no entry comes
-pub gone : {h : Head} {ls xs hs : List ℕ} {m : Change} (s : code.Change) → s ≡ lost h → change 9 (state h ls xs hs) 0 0 ≡ m → change (s .number) (state (s .head) ls xs hs) (s .leaf .0) (s .slot) ≡ m
-gone {h} {ls} {xs} {hs} {m} s es e = ap (λ (y : code.Change). change (y .number) (state (y .head) ls xs hs) (y .leaf .0) (y .slot)) es ∙ e
+pub gone : {h : Head} {ls xs hs : List ℕ} {m : Change} (s : code.HeadChange) → s ≡ lost h → change 9 (state h ls xs hs) 0 0 ≡ m → change (s .number) (state (s .head) ls xs hs) (s .leaf .0) (s .slot) ≡ m
+gone {h} {ls} {xs} {hs} {m} s es e = ap (λ (y : code.HeadChange). change (y .number) (state (y .head) ls xs hs) (y .leaf .0) (y .slot)) es ∙ e
 
 -- the entry comes
-pub ready-done : {g : Shape} {w : ℕ} {h : Head} {ls₀ xs₀ hs₀ : List ℕ} {k i : ℕ} {ls xs hs t : List ℕ} {r : Room} (f : ℕ → Node → Node) (ls′ : List ℕ) (s : code.Change)
-    → Ready g w h ls₀ xs₀ hs₀ k i ls xs hs t r → ls′ ≡ putNode g (r .leaf .0) (f (r .slot) (nodeAt g (r .leaf .0) ls)) ls → s ≡ entered h t r
+pub ready-done : {g : Shape} {w : ℕ} {h : Head} {ls₀ xs₀ hs₀ : List ℕ} {k i : ℕ} {ls xs hs t : List ℕ} {r : Room} (f : ℕ → Node → Node) (ls′ : List ℕ) (s : code.HeadChange)
+    → RoomReady g w h ls₀ xs₀ hs₀ k i ls xs hs t r → ls′ ≡ putNode g (r .leaf .0) (f (r .slot) (nodeAt g (r .leaf .0) ls)) ls → s ≡ entered h t r
     → change (s .number) (state (s .head) ls′ xs (set hs (h .entries) (r .leaf .0))) (s .leaf .0) (s .slot) ≡ settledIn h (entering g f w (makeRoom g (state h ls₀ xs₀ hs₀) k i))
 ready-done {g} {w} {h} {ls₀} {xs₀} {hs₀} {k} {i} {ls} {xs} {hs} {t} {r} f ls′ s z el es =
-    ap (λ (y : code.Change). change (y .number) (state (y .head) ls′ xs (set hs (h .entries) (r .leaf .0))) (y .leaf .0) (y .slot)) es
+    ap (λ (y : code.HeadChange). change (y .number) (state (y .head) ls′ xs (set hs (h .entries) (r .leaf .0))) (y .leaf .0) (y .slot)) es
     ∙ entered-done g f w h (counted (r .leaves) (topIn t) (h .entries) h) ls xs hs (r .leaf .0) (r .slot) (makeRoom g (state h ls₀ xs₀ hs₀) k i) (z .made) (z .roomy) ls′ el

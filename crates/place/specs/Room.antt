@@ -12,9 +12,9 @@ use Rattle.model.specs.Place as model
 use Rattle.model.specs.Place.{change}
 use Rattle.model.specs.declared.shape.Shape.{Shape}
 use Rattle.model.specs.declared.head.Head.{Head}
-use Rattle.links.specs.Fits.{Fits}
+use Rattle.links.specs.Fits.{AreasHold}
 use Rattle.place.specs.declared.change.Room.{Room}
-use Rattle.place.specs.declared.change.Change.{Change}
+use Rattle.place.specs.declared.change.HeadChange.{HeadChange}
 
 -- a head with other counts
 abbrev pub counted : ℕ → Top → ℕ → Head → Head
@@ -37,11 +37,11 @@ abbrev pub splitTo : ℕ → ℕ → ℕ → Top → ℕ → Head → ℕ → �
 splitTo n fan used t entries h k i ls xs hs =
     change n (state (counted (used + 1) t entries h) ls xs hs) (halved fan used k i .leaf .0) (halved fan used k i .slot)
 
-abbrev pub lost : Head → Change
+abbrev pub lost : Head → HeadChange
 lost h = record { number = 9; head = h; leaf = record { 0 = 0 }; slot = 0 }
 
 -- one entry more at a room, with the inner nodes, root and levels of three words
-abbrev pub entered : Head → List ℕ → Room → Change
+abbrev pub entered : Head → List ℕ → Room → HeadChange
 entered h t r =
     record { number = 0; head = headOf (h .fan) (h .limit) (getD t 1 0) (getD t 2 0) (r .leaves) (getD t 0 0) (h .entries + 1) (nextStamp (h .stamp)) (changing (r .leaf .0) (r .slot) (h .finger)); leaf = r .leaf; slot = r .slot }
 
@@ -52,7 +52,7 @@ roomyIn g k i w ls = ltb k (g .nodes) && leb (i + w) (nodeAt g k ls .len) && ltb
 -- what an entry that comes asks of the tree: its counts within the areas, leaf k one in use with no more slots than it has, and x the next entry
 pub record Entering (views : ℕ) (g : Shape) (h : Head) (ls xs hs : List ℕ) (k : ℕ) (x : List ℕ) : Type 0 where
   pub same : g ≡ shapeFor views (g .fan) (g .nodes)
-  pub fits : Fits g (length ls) (length xs)
+  pub fits : AreasHold g (length ls) (length xs)
   pub leaves : h .leaves ≤ g .nodes
   pub inners : h .inners ≤ g .nodes
   pub levels-least : 1 ≤ h .levels

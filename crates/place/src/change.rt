@@ -11,7 +11,7 @@ ghost use Rattle.model.specs.Place.{withFinger};
 ghost use Rattle.place.specs.Room.{halved, lost, entered};
 
 // 0 or 9, the head then, and the slot at which the change happens.
-pub struct Change {
+pub struct HeadChange {
     pub number: u32,
     pub head: Head,
     pub leaf: LeafNo,
@@ -64,10 +64,10 @@ pub fn halved(fan: usize, used: u32, k: LeafNo, i: u32) -> Room
 }
 
 // A change that met 9: the head stays as it was.
-pub fn lost(h: Head) -> Change
+pub fn lost(h: Head) -> HeadChange
     ensures { λ r. ⌜ r ≡ lost h ⌝ }
 {
-    Change {
+    HeadChange {
         number: 9,
         head: h,
         leaf: LeafNo(0),
@@ -76,7 +76,7 @@ pub fn lost(h: Head) -> Change
 }
 
 // One entry more at that slot. top: the inner nodes in use, the root, the levels.
-pub fn entered(h: Head, top: &[u32; 3], r: Room) -> Change
+pub fn entered(h: Head, top: &[u32; 3], r: Room) -> HeadChange
     requires { ⌜ (h .entries < 4294967295) × (length (now top) ≡ 3) ⌝ }
     ensures { λ s. ⌜ s ≡ entered h (now (top .entry)) r ⌝ }
 {
@@ -93,7 +93,7 @@ pub fn entered(h: Head, top: &[u32; 3], r: Room) -> Change
         stamp: std::num::wrapping_add_u64(h.stamp, 1),
         finger: changing(finger, leaf, r.slot),
     };
-    Change {
+    HeadChange {
         number: 0,
         head: after,
         leaf: leaf,

@@ -1,6 +1,6 @@
 // One entry more in a leaf, which is split first if it is full. Both functions call `split_leaf` themselves: with one caller it
 // would be compiled into it, and that function would then be too large to be compiled into the calls.
-use crate::change::Change;
+use crate::change::HeadChange;
 use crate::change::Room;
 use crate::change::entered;
 use crate::change::halved;
@@ -32,7 +32,7 @@ pub fn place(
     k: LeafNo,
     i: u32,
     x: &[u32; 4],
-) -> Change
+) -> HeadChange
     requires { ⌜ Entering views g head (now leaves) (now inners) (now homes) (k .0) (now x) × (i ≤ nodeAt g (k .0) (now leaves) .len) × (length (now x) ≡ 4) ⌝ }
     ensures { λ r. ⌜ change (r .number) (state (r .head) (now (leaves .exit)) (now (inners .exit)) (now (homes .exit))) (r .leaf .0) (r .slot) ≡ settledIn head (place g (state head (now (leaves .entry)) (now (inners .entry)) (now (homes .entry))) (k .0) i (lengthsIn views (now (x .entry)))) ⌝ }
 {
@@ -85,7 +85,7 @@ pub fn divide(
     k: LeafNo,
     i: u32,
     x: &[u32; 4],
-) -> Change
+) -> HeadChange
     requires { ⌜ Entering views g head (now leaves) (now inners) (now homes) (k .0) (now x) × (i < nodeAt g (k .0) (now leaves) .len) × (length (now x) ≡ 4) ⌝ }
     ensures { λ r. ⌜ change (r .number) (state (r .head) (now (leaves .exit)) (now (inners .exit)) (now (homes .exit))) (r .leaf .0) (r .slot) ≡ settledIn head (divide g before (state head (now (leaves .entry)) (now (inners .entry)) (now (homes .entry))) (k .0) i (lengthsIn views (now (x .entry)))) ⌝ }
 {

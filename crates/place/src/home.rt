@@ -9,11 +9,11 @@ ghost use lib.ListN.{length};
 ghost use Rattle.model.specs.Node.{used};
 ghost use Rattle.model.specs.State.{nodeAt};
 ghost use Rattle.model.specs.Place.{rehome};
-ghost use Rattle.area.specs.Area.{Area};
+ghost use Rattle.area.specs.Area.{AreaHolds};
 
 // The entries of leaf k learn that they live there; 9 for an id past the entry count.
 pub fn rehome(leaves: &[u32], homes: &mut [u32], g: Shape, entries: u32, k: LeafNo) -> u32
-    requires { ⌜ Area g (length (now leaves)) × (k .0 < g .nodes) × (nodeAt g (k .0) (now leaves) .len ≤ g .fan) × (entries ≤ length (now homes)) ⌝ }
+    requires { ⌜ AreaHolds g (length (now leaves)) × (k .0 < g .nodes) × (nodeAt g (k .0) (now leaves) .len ≤ g .fan) × (entries ≤ length (now homes)) ⌝ }
     ensures { λ r. ⌜ (r, now (homes .exit)) ≡ rehome entries (k .0) (used (nodeAt g (k .0) (now (leaves .entry)))) (now (homes .entry)) ⌝ }
 {
     let len = len_of(leaves, g, k.0) as usize;

@@ -14,8 +14,8 @@ ghost use lib.ListN.{length, getD};
 ghost use Rattle.model.specs.State.{shapeFor, state};
 ghost use Rattle.model.specs.Place.{splitLeaf};
 ghost use Rattle.model.specs.declared.head.Head.{Head};
-ghost use Rattle.area.specs.Area.{Area};
-ghost use Rattle.links.specs.Fits.{Fits};
+ghost use Rattle.area.specs.Area.{AreaHolds};
+ghost use Rattle.links.specs.Fits.{AreasHold};
 ghost use Rattle.links.specs.Tops.{topIn};
 ghost use Rattle.place.specs.Room.{counted, settledIn, splitTo, roomyIn};
 
@@ -33,7 +33,7 @@ pub fn split_leaf(
     entries: u32,
     k: LeafNo,
 ) -> u32
-    requires { ⌜ Fits (shapeFor views fan nodes) (length (now leaves)) (length (now inners)) × (k .0 < used) × (getD (now top) 0 0 ≤ nodes) × (1 ≤ getD (now top) 2 0) × (getD (now top) 2 0 ≤ 15) × (entries ≤ length (now homes)) × (length (now top) ≡ 3) ⌝ }
+    requires { ⌜ AreasHold (shapeFor views fan nodes) (length (now leaves)) (length (now inners)) × (k .0 < used) × (getD (now top) 0 0 ≤ nodes) × (1 ≤ getD (now top) 2 0) × (getD (now top) 2 0 ≤ 15) × (entries ≤ length (now homes)) × (length (now top) ≡ 3) ⌝ }
     ensures { λ r. ⌜ ((h : Head) (i : ℕ) → settledIn h (splitTo r fan used (topIn (now (top .exit))) entries h (k .0) i (now (leaves .exit)) (now (inners .exit)) (now (homes .exit))) ≡ settledIn h (splitLeaf (shapeFor views fan nodes) (state (counted used (topIn (now (top .entry))) entries h) (now (leaves .entry)) (now (inners .entry)) (now (homes .entry))) (k .0) i)) × (length (now (top .exit)) ≡ 3) ⌝ }
 {
     let g = shape_for(views, fan, nodes);
@@ -63,7 +63,7 @@ pub fn split_leaf(
 
 // Whether leaf k is in the area and has room, with at least w slots in use from slot i on.
 pub fn roomy(leaves: &[u32], g: Shape, k: LeafNo, i: u32, w: u32) -> bool
-    requires { ⌜ Area g (length (now leaves)) × (w ≤ 1) ⌝ }
+    requires { ⌜ AreaHolds g (length (now leaves)) × (w ≤ 1) ⌝ }
     ensures { λ r. ⌜ r ≡ roomyIn g (k .0) i w (now (leaves .entry)) ⌝ }
 {
     let nodes = g.nodes;

@@ -20,14 +20,14 @@ ghost use lib.ListN.{length, take};
 ghost use Rattle.model.specs.Length.{lengthsIn};
 ghost use Rattle.model.specs.State.{shapeFor, state, nodeAt};
 ghost use Rattle.model.specs.Place.{change, replace};
-ghost use Rattle.area.specs.Area.{Area};
+ghost use Rattle.area.specs.Area.{AreaHolds};
 ghost use Rattle.walk.specs.Low.{lowWay};
 ghost use Rattle.walk.specs.Raise.{raiseUp};
 ghost use Rattle.place.specs.Asked.{askedWay, wayUp};
 
 // Other lengths in slot i of leaf k, those of the slot x; the head as it is then.
 pub fn replace(head: Head, leaves: &mut [u32], g: Shape, k: LeafNo, i: u32, x: &[u32; 4]) -> Head
-    requires { ⌜ Area g (length (now leaves)) × (k .0 < g .nodes) × (i < g .fan) × (length (now x) ≡ 4) ⌝ }
+    requires { ⌜ AreaHolds g (length (now leaves)) × (k .0 < g .nodes) × (i < g .fan) × (length (now x) ≡ 4) ⌝ }
     ensures { λ r. ⌜ ((xs hs : List ℕ) → change 0 (state r (now (leaves .exit)) xs hs) (k .0) i ≡ replace g (state head (now (leaves .entry)) xs hs) (k .0) i (lengthsIn (g .stride - 1) (now (x .entry)))) ⌝ }
 {
     set_lengths(leaves, g, k.0, i as usize, x);
@@ -52,7 +52,7 @@ pub fn way_sum(
     k: LeafNo,
     i: u32,
 ) -> Sum
-    requires { ⌜ Area (shapeFor views fan nodes) (length (now leaves)) × Area (shapeFor views fan nodes) (length (now inners)) × (effect < views) × (levels ≤ 16) × (k .0 < nodes) × (i < fan) ⌝ }
+    requires { ⌜ AreaHolds (shapeFor views fan nodes) (length (now leaves)) × AreaHolds (shapeFor views fan nodes) (length (now inners)) × (effect < views) × (levels ≤ 16) × (k .0 < nodes) × (i < fan) ⌝ }
     ensures { λ r. ⌜ (r, now (inners .exit)) ≡ lowWay (wayUp (shapeFor views fan nodes) effect (take views (d0 ∷ d1 ∷ d2 ∷ [])) levels (k .0) i (now (leaves .entry)) (now (inners .entry))) ⌝ }
 {
     let delta: [u32; 3] = [d0, d1, d2];
@@ -76,7 +76,7 @@ pub fn way_raise(
     levels: u32,
     k: LeafNo,
 ) -> bool
-    requires { ⌜ Area (shapeFor views fan nodes) (length (now leaves)) × Area (shapeFor views fan nodes) (length (now inners)) × (k .0 < nodes) ⌝ }
+    requires { ⌜ AreaHolds (shapeFor views fan nodes) (length (now leaves)) × AreaHolds (shapeFor views fan nodes) (length (now inners)) × (k .0 < nodes) ⌝ }
     ensures { λ r. ⌜ (r, now (inners .exit)) ≡ raiseUp (shapeFor views fan nodes) (take views (d0 ∷ d1 ∷ d2 ∷ [])) levels (nodeAt (shapeFor views fan nodes) (k .0) (now (leaves .entry)) .parent) (nodeAt (shapeFor views fan nodes) (k .0) (now (leaves .entry)) .at) (now (inners .entry)) ⌝ }
 {
     let delta: [u32; 3] = [d0, d1, d2];
@@ -100,7 +100,7 @@ pub fn asked_way(
     i: u32,
     summed: bool,
 ) -> Sum
-    requires { ⌜ Area (shapeFor views fan nodes) (length (now leaves)) × Area (shapeFor views fan nodes) (length (now inners)) × (effect < views) × (levels ≤ 16) × (k .0 < nodes) × (i < fan) × (length (now delta) ≡ 3) ⌝ }
+    requires { ⌜ AreaHolds (shapeFor views fan nodes) (length (now leaves)) × AreaHolds (shapeFor views fan nodes) (length (now inners)) × (effect < views) × (levels ≤ 16) × (k .0 < nodes) × (i < fan) × (length (now delta) ≡ 3) ⌝ }
     ensures { λ r. ⌜ (r, now (inners .exit)) ≡ askedWay summed (lowWay (wayUp (shapeFor views fan nodes) effect (take views (now (delta .entry))) levels (k .0) i (now (leaves .entry)) (now (inners .entry)))) ⌝ }
 {
     let d0 = delta[0];

@@ -13,7 +13,7 @@ use Rattle.model.specs.Row.{Answer, Moved, moved, done, refused}
 use Rattle.model.specs.State.{State}
 use Rattle.model.specs.Answer.{outcomeAnswer, namedAnswer}
 use Rattle.model.specs.Refuse.{opening}
-use Rattle.model.specs.Calls.{Reply, reply, reset, cursor, id, lengthsOf, nextAfter, entryToCharIndex, locate}
+use Rattle.model.specs.Calls.{Reply, reply, reset, cursor, id, entryLengths, nextAfter, entryToCharIndex, locate}
 use Rattle.model.specs.ById.{withCursor, nextAnswer, locatedAnswer, told, treeMove, treeStep}
 use Rattle.model.specs.Plan as plan
 use Rattle.model.specs.Plan.{idOnly, treePlan}
@@ -90,15 +90,15 @@ unfolding treePlan
 first-plan s p = refl
 
 -- the lengths at a cursor, from the four words into which they were read
-lengths-plain : (s : State) (c : Cursor) → lengthsOf (kind 2 1) s c ≡ lengthsOf planning s c
-unfolding lengthsOf opening
+lengths-plain : (s : State) (c : Cursor) → entryLengths (kind 2 1) s c ≡ entryLengths planning s c
+unfolding entryLengths opening
 lengths-plain s c = refl
 
-module _ (s : State) (c : Cursor) (n : ℕ) (x : List ℕ) (e : lengthsBy n (lengthsIn 2 x) ≡ lengthsOf (kind 2 1) s c) where
-  pub ranged-refused : (n ≡ 0 → ⊥) → refused n ≡ lengthsOf planning s c
+module _ (s : State) (c : Cursor) (n : ℕ) (x : List ℕ) (e : lengthsBy n (lengthsIn 2 x) ≡ entryLengths (kind 2 1) s c) where
+  pub ranged-refused : (n ≡ 0 → ⊥) → refused n ≡ entryLengths planning s c
   ranged-refused h = (rw (ne-eqb n 0 h) at e) ∙ lengths-plain s c
 
-  pub ranged-good : n ≡ 0 → length x ≡ 4 → done (getD x 1 0 ∷ getD x 2 0 ∷ []) ≡ lengthsOf planning s c
+  pub ranged-good : n ≡ 0 → length x ≡ 4 → done (getD x 1 0 ∷ getD x 2 0 ∷ []) ≡ entryLengths planning s c
   ranged-good h four = ap done (two x four) ∙ (rw h at e) ∙ lengths-plain s c
     where
       two : (y : List ℕ) → length y ≡ 4 → getD y 1 0 ∷ getD y 2 0 ∷ [] ≡ lengthsIn 2 y
@@ -110,7 +110,7 @@ module _ (s : State) (c : Cursor) (n : ℕ) (x : List ℕ) (e : lengthsBy n (len
 -- and by the cursor of an entry
 module _ (s : State) (i : ℕ) (t : Standing) (e : t ≡ cursor (kind 2 1) s i) where
   abbrev lengthsBehind : Standing → Moved State
-  lengthsBehind x = withCursor s x (λ c. moved s (lengthsOf planning s c))
+  lengthsBehind x = withCursor s x (λ c. moved s (entryLengths planning s c))
 
   lengths-by : (x : Standing) → t ≡ x → lengthsBehind x ≡ treePlan s (plan.lengths i)
   unfolding treePlan treeStep treeMove cursor opening
@@ -119,7 +119,7 @@ module _ (s : State) (i : ℕ) (t : Standing) (e : t ≡ cursor (kind 2 1) s i) 
   pub lengths-stops : (n : ℕ) → t ≡ standing.Refused n → moved s (refused n) ≡ treePlan s (plan.lengths i)
   lengths-stops n d = lengths-by (standing.Refused n) d
 
-  pub lengths-goes : (c : Cursor) → t ≡ standing.At c → (a : Answer) → a ≡ lengthsOf planning s c → moved s a ≡ treePlan s (plan.lengths i)
+  pub lengths-goes : (c : Cursor) → t ≡ standing.At c → (a : Answer) → a ≡ entryLengths planning s c → moved s a ≡ treePlan s (plan.lengths i)
   lengths-goes c d a q = ap (moved s) q ∙ lengths-by (standing.At c) d
 
 -- a lookup's answer without offset and positions

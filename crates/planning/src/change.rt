@@ -9,7 +9,7 @@ ghost use mathlib.Core.Path.{_≡_};
 ghost use Rattle.model.specs.Row.{moved};
 ghost use Rattle.model.specs.State.{state};
 ghost use Rattle.model.specs.Answer.{outcomeAnswer, insertedAnswer};
-ghost use Rattle.model.specs.ById.{dividedAnswer};
+ghost use Rattle.model.specs.ById.{dividedIdAnswer};
 ghost use Rattle.model.specs.Plan as plan;
 ghost use Rattle.model.specs.Plan.{treePlan};
 ghost use Rattle.planning.specs.Bounds.{boundsOf};
@@ -40,7 +40,7 @@ pub fn split(
     bounds: Bounds,
     before: bool,
 ) -> DividedReply
-    ensures { λ r. ⌜ moved (state (r .head) (now (leaves .exit)) (now (inners .exit)) (now (homes .exit))) (dividedAnswer (r .answer)) ≡ treePlan (state head (now (leaves .entry)) (now (inners .entry)) (now (homes .entry))) (plan.split before (id .0) (boundsOf bounds)) ⌝ }
+    ensures { λ r. ⌜ moved (state (r .head) (now (leaves .exit)) (now (inners .exit)) (now (homes .exit))) (dividedIdAnswer (r .answer)) ≡ treePlan (state head (now (leaves .entry)) (now (inners .entry)) (now (homes .entry))) (plan.split before (id .0) (boundsOf bounds)) ⌝ }
 {
     let next = head.entries;
     let x: [u32; 4] = [next, bounds.lowest, bounds.highest, 0];

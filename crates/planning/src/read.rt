@@ -16,7 +16,7 @@ ghost use Rattle.model.specs.Row.{moved};
 ghost use Rattle.model.specs.State.{state};
 ghost use Rattle.model.specs.Answer.{numberAnswer};
 ghost use Rattle.model.specs.Audit.{audit};
-ghost use Rattle.model.specs.Calls.{lengthsOf};
+ghost use Rattle.model.specs.Calls.{entryLengths};
 ghost use Rattle.model.specs.Plan as plan;
 ghost use Rattle.model.specs.Plan.{treePlan};
 ghost use Rattle.by_id_read.specs.Answer.{followingAnswer};
@@ -24,7 +24,7 @@ ghost use Rattle.planning.specs.Bounds.{rangedAnswer};
 
 // The lengths of the entry at a cursor.
 fn lengths_of(head: Head, leaves: &[u32], inners: &[u32], homes: &[u32], at: Cursor) -> Ranged
-    ensures { λ r. ⌜ rangedAnswer r ≡ lengthsOf planning (state head (now (leaves .entry)) (now (inners .entry)) (now (homes .entry))) at ⌝ }
+    ensures { λ r. ⌜ rangedAnswer r ≡ entryLengths planning (state head (now (leaves .entry)) (now (inners .entry)) (now (homes .entry))) at ⌝ }
 {
     let mut x: [u32; 4] = [0; 4];
     let n = calls_read::any::lengths(2, head, leaves, inners, homes, at, &mut x);

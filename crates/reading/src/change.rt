@@ -11,7 +11,7 @@ ghost use Rattle.model.specs.Row as row;
 ghost use Rattle.model.specs.Row.{moved};
 ghost use Rattle.model.specs.State.{state};
 ghost use Rattle.model.specs.Answer.{outcomeAnswer, insertedAnswer};
-ghost use Rattle.model.specs.ById.{dividedAnswer, treeStep};
+ghost use Rattle.model.specs.ById.{dividedIdAnswer, treeStep};
 
 // An entry before the entry id or at the end: its id and its position.
 pub fn insert(
@@ -39,7 +39,7 @@ pub fn split(
     length: u32,
     before: bool,
 ) -> DividedReply
-    ensures { λ r. ⌜ moved (state (r .head) (now (leaves .exit)) (now (inners .exit)) (now (homes .exit))) (dividedAnswer (r .answer)) ≡ treeStep reading (state head (now (leaves .entry)) (now (inners .entry)) (now (homes .entry))) (row.split before (id .0) (length ∷ [])) ⌝ }
+    ensures { λ r. ⌜ moved (state (r .head) (now (leaves .exit)) (now (inners .exit)) (now (homes .exit))) (dividedIdAnswer (r .answer)) ≡ treeStep reading (state head (now (leaves .entry)) (now (inners .entry)) (now (homes .entry))) (row.split before (id .0) (length ∷ [])) ⌝ }
 {
     let next = head.entries;
     let x: [u32; 4] = [next, length, 0, 0];

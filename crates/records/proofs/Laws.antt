@@ -11,7 +11,7 @@ use lib.Dec.{T, eqb, leb, ltb, lit≤, lit<}
 use lib.Seq.{sets, sets-eq, lt-length-sets}
 use Rattle.model.specs.Length.{listOf, viewNumber}
 use Rattle.model.specs.Row as row
-use Rattle.model.specs.Record.{Fields, kinds, only, plain, viewed, viewOf, lengthsOf}
+use Rattle.model.specs.Record.{Fields, kinds, only, plain, viewed, viewOf, fieldLengths}
 use Rattle.model.specs.declared.length.View.{View}
 
 -- the call of one kind
@@ -39,7 +39,7 @@ no-kind f (suc (suc (suc (suc (suc (suc (suc (suc (suc (suc (suc (suc (suc zero)
 no-kind f (suc (suc (suc (suc (suc (suc (suc (suc (suc (suc (suc (suc (suc (suc k)))))))))))))) a b c d e g h i j l m n o = refl
 
 -- the kinds with more than one condition, by what was tested
-pub reset-kind : (f : Fields) (x : row.Call) (b : Bool) → f .kind ≡ 1 → x ≡ only b (row.reset (listOf (lengthsOf f))) → b ≡ (plain f && eqb (f .a) 0)
+pub reset-kind : (f : Fields) (x : row.Call) (b : Bool) → f .kind ≡ 1 → x ≡ only b (row.reset (listOf (fieldLengths f))) → b ≡ (plain f && eqb (f .a) 0)
     → x ≡ getD (kinds f) (f .kind) row.malformed
 unfolding kinds
 reset-kind f x b e q eb = at-kind f 1 e x (q ∙ rw eb)

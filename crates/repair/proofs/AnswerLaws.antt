@@ -28,9 +28,9 @@ use Rattle.calls_make.proofs.BeginLaws.{room}
 use Rattle.theory.specs.CallMake.{Sizes, sizes-of}
 use Rattle.theory.specs.RepairTest.{areas-of, test-fit}
 use Rattle.repair_test.specs.Queue.{kidsOf}
-use Rattle.repair_test.specs.Reach.{Reached}
-use Rattle.repair_test.specs.Fit.{Fresh}
-use Rattle.repair.specs.Job.{Job, Open, Mended}
+use Rattle.repair_test.specs.Reach.{QueueReached}
+use Rattle.repair_test.specs.Fit.{FreshQueue}
+use Rattle.repair.specs.Job.{Job, Open, JobDone}
 
 -- the three ways to an answer
 module _ (K : Kind) (t : State) (fair : Bool) {ok : Bool} (e : ok ≡ isFit K t) where
@@ -40,7 +40,7 @@ module _ (K : Kind) (t : State) (fair : Bool) {ok : Bool} (e : ok ≡ isFit K t)
   pub not-fair : ok ≡ true → fair ≡ false → reply t (number.Refused 21) ≡ mendIf K (isFit K t && fair) t
   not-fair q f = rw (sym e ∙ q, f)
 
-  pub is-mended : ok ≡ true → fair ≡ true → {x : Head} {lb xb hb : List ℕ} {n : ℕ} → x ≡ noFinger (t .head) → Mended (stride K) (t .head) (t .leaves) (t .inners) (t .homes) n lb xb hb
+  pub is-mended : ok ≡ true → fair ≡ true → {x : Head} {lb xb hb : List ℕ} {n : ℕ} → x ≡ noFinger (t .head) → JobDone (stride K) (t .head) (t .leaves) (t .inners) (t .homes) n lb xb hb
       → reply (state x lb xb hb) (number.Is n) ≡ mendIf K (isFit K t && fair) t
   is-mended q f {x} {lb} {xb} {hb} ex w =
       rw (sym e ∙ q, f) (ap₂ (λ (z : State) (k : ℕ). reply z (number.Is k)) (ap (λ (y : Head). state y lb xb hb) ex ∙ w .tree) (w .count))
@@ -65,7 +65,7 @@ module _ {h : Head} {g : Shape} {ls xs hs : List ℕ} (w : Open h g ls xs hs) wh
       go true l = omega arith
       go false l = l
 
-  pub fresh-of : Fresh h g (length (replicate {A = ℕ} 131072 0)) (replicate 32768 0) (replicate 32768 0) (replicate 65536 0)
+  pub fresh-of : FreshQueue h g (length (replicate {A = ℕ} 131072 0)) (replicate 32768 0) (replicate 32768 0) (replicate 65536 0)
   fresh-of = record {
     views = w .views;
     same = w .same;
@@ -84,7 +84,7 @@ module _ {h : Head} {g : Shape} {ls xs hs : List ℕ} (w : Open h g ls xs hs) wh
   inner-room = subst (λ (z : Shape). z .nodes * z .size ≤ length xs) (sym (w .same)) (sizes .inner-area)
 
   pub job-of : (ordered : Bool) {ok : Bool} {last : ℕ} {order : List ℕ} → ok ≡ isFit (kindOf (w .views) 0 ordered) (state h ls xs hs) → ok ≡ true
-      → Reached (kidsOf g xs) (h .root .0) (h .levels) (h .inners) (h .leaves) last order → Job h g last order ls xs hs
+      → QueueReached (kidsOf g xs) (h .root .0) (h .levels) (h .inners) (h .leaves) last order → Job h g last order ls xs hs
   job-of ordered {ok} {last} {order} e q r =
       let z : Sizes (kindOf (w .views) 0 ordered) (h .fan) (h .limit) ls xs hs = sizes-of (kindOf (w .views) 0 ordered) (h .fan) (h .limit) ls xs hs (w .sizes) in
       record {
@@ -98,8 +98,8 @@ module _ {h : Head} {g : Shape} {ls xs hs : List ℕ} (w : Open h g ls xs hs) wh
 
   -- what the writer leaves, by the shape that was opened
   pub job-done : (ordered : Bool) {ok : Bool} {last : ℕ} {order : List ℕ} → ok ≡ isFit (kindOf (w .views) 0 ordered) (state h ls xs hs) → ok ≡ true
-      → Reached (kidsOf g xs) (h .root .0) (h .levels) (h .inners) (h .leaves) last order → {n : ℕ} {lb xb hb : List ℕ}
-      → ((j : Job h g last order ls xs hs) → Mended (suc (j .views)) h ls xs hs n lb xb hb) → Mended (suc (w .views)) h ls xs hs n lb xb hb
+      → QueueReached (kidsOf g xs) (h .root .0) (h .levels) (h .inners) (h .leaves) last order → {n : ℕ} {lb xb hb : List ℕ}
+      → ((j : Job h g last order ls xs hs) → JobDone (suc (j .views)) h ls xs hs n lb xb hb) → JobDone (suc (w .views)) h ls xs hs n lb xb hb
   unfolding job-of
   job-done ordered e q r f = f (job-of ordered e q r)
 

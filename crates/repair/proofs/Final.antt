@@ -23,20 +23,20 @@ use Rattle.laws.specs.Slots.{slots-at}
 use Rattle.laws.specs.Words.{getD-part, part-part}
 use Rattle.node.specs.Shaped.{Shaped}
 use Rattle.repair_test.specs.Queue.{kidsOf, levelIn}
-use Rattle.repair_test.specs.Reach.{Reached, innersFrom}
-use Rattle.repair_write.specs.Toward.{Same, Goal, slotAt, Ready, Linked}
+use Rattle.repair_test.specs.Reach.{QueueReached, innersFrom}
+use Rattle.repair_write.specs.Toward.{WordsRight, Goal, slotAt, SlotsRight, LinkRight}
 use Rattle.repair_write.specs.Leaves.{idIn, lenOf, LeavesGoal, LeavesDone}
 use Rattle.repair_write.specs.Nodes.{childIn, nodeOn, lenOn, NodesGoal, NodesDone}
-use Rattle.repair_write.proofs.NearLaws.{Put, kept-same, same-rows}
+use Rattle.repair_write.proofs.NearLaws.{PutRight, kept-same, same-rows}
 use Rattle.repair_write.proofs.SlotLaws.{child-word, all-slots}
-use Rattle.theory.specs.RepairLists.{In, Of, in-flat, in-range, in-range-below, Placed, only}
+use Rattle.theory.specs.RepairLists.{In, Of, in-flat, in-range, in-range-below, ChildPlace, only}
 use Rattle.theory.specs.RepairUnique.{inner-level, leaf-level, Slotted, slotted, Stored, stored}
 use Rattle.theory.specs.RepairSlots.{found}
 use Rattle.repair.proofs.LeafGoal.{leaves-goal}
 use Rattle.repair.proofs.NodeGoal.{nodes-goal, same-level, whole, all-long, front-long, on}
 
 -- words of equal parts
-same-of : (a m : List ℕ) (p n : ℕ) → part p n a ≡ part p n m → Same a m p n
+same-of : (a m : List ℕ) (p n : ℕ) → part p n a ≡ part p n m → WordsRight a m p n
 same-of a m p n e q lo hi =
     let z : p + (q - p) ≡ q = omega arith in
     subst (λ (k : ℕ). getD a k 0 ≡ getD m k 0) z (sym (getD-part p n (q - p) a (omega arith)) ∙ ap (λ (l : List ℕ). getD l (q - p) 0) e ∙ getD-part p n (q - p) m (omega arith))
@@ -54,7 +54,7 @@ unfolding level
 root-is s t k i = only k (t .head .root .0) i
 
 -- a node whose len, link and slots are right is right
-node-words : (g : Shape) (a m : List ℕ) (k : ℕ) → Shaped g → getD a (k * g .size) 0 ≡ getD m (k * g .size) 0 → Linked g a m k → Ready g a m k → Same a m (k * g .size) (g .size)
+node-words : (g : Shape) (a m : List ℕ) (k : ℕ) → Shaped g → getD a (k * g .size) 0 ≡ getD m (k * g .size) 0 → LinkRight g a m k → SlotsRight g a m k → WordsRight a m (k * g .size) (g .size)
 node-words g a m k s e l r q lo hi = go (ltb q (k * g .size + 1)) refl (ltb q (k * g .size + 3)) refl
   where
     go : (x : Bool) → ltb q (k * g .size + 1) ≡ x → (y : Bool) → ltb q (k * g .size + 3) ≡ y → getD a q 0 ≡ getD m q 0
@@ -63,10 +63,10 @@ node-words g a m k s e l r q lo hi = go (ltb q (k * g .size + 1)) refl (ltb q (k
     go false u false v = r q (ltb-false q (k * g .size + 3) v) (omega (arith, s .words))
 
 -- an area whose first n nodes are right, and whatever lies behind them
-area-is : (g : Shape) (a m : List ℕ) (n : ℕ) → length a ≡ length m → ((k : ℕ) → k < n → Same a m (k * g .size) (g .size)) → ((q : ℕ) → n * g .size ≤ q → getD a q 0 ≡ getD m q 0) → a ≡ m
+area-is : (g : Shape) (a m : List ℕ) (n : ℕ) → length a ≡ length m → ((k : ℕ) → k < n → WordsRight a m (k * g .size) (g .size)) → ((q : ℕ) → n * g .size ≤ q → getD a q 0 ≡ getD m q 0) → a ≡ m
 area-is g a m n l f e = ext-getD 0 a m l (λ i h. go i (ltb i (n * g .size)) refl)
   where
-    rows : Same a m 0 (n * g .size)
+    rows : WordsRight a m 0 (n * g .size)
     rows = same-rows a m (g .size) n 0 (λ k h q lo hi. f k h q (omega arith) (omega arith))
 
     go : (i : ℕ) (b : Bool) → ltb i (n * g .size) ≡ b → getD a i 0 ≡ getD m i 0
@@ -93,7 +93,7 @@ module _ (views : ℕ) (h : Head) (ls xs hs lm xm hm order : List ℕ) (last : �
   root = h .root .0
 
   -- R is the tree aimed at: sound, in agreement with t, and like t wherever nothing is in use
-  pub record Aim : Type 0 where
+  pub record TreeAim : Type 0 where
     pub sound : CoherentAt s R 0
     pub agrees : Agrees s t R
     pub shaped : Shaped g
@@ -103,9 +103,9 @@ module _ (views : ℕ) (h : Head) (ls xs hs lm xm hm order : List ℕ) (last : �
     pub leaf-else : (p : ℕ) → h .leaves * g .size ≤ p → getD lm p 0 ≡ getD ls p 0
     pub inner-else : (p : ℕ) → h .inners * g .size ≤ p → getD xm p 0 ≡ getD xs p 0
     pub home-else : (p : ℕ) → h .entries ≤ p → getD hm p 0 ≡ getD hs p 0
-    pub reached : Reached kids root (h .levels) (h .inners) (h .leaves) last order
+    pub reached : QueueReached kids root (h .levels) (h .inners) (h .leaves) last order
 
-  module _ (w : Aim) where
+  module _ (w : TreeAim) where
     abbrev leafAim : Goal
     leafAim = record { leaves = lm; beside = hm }
 
@@ -116,7 +116,7 @@ module _ (views : ℕ) (h : Head) (ls xs hs lm xm hm order : List ℕ) (last : �
     aim-leaves = leaves-goal views h ls xs hs lm xm hm (w .sound) (w .agrees) (w .shaped) (w .leaf-long) (w .home-long)
 
     -- slots in use of a leaf are trusted
-    slot-trusted : (k i : ℕ) → k < h .leaves → i < lenOf g leafAim k → Same ls lm (slotAt g k i) (g .stride)
+    slot-trusted : (k i : ℕ) → k < h .leaves → i < lenOf g leafAim k → WordsRight ls lm (slotAt g k i) (g .stride)
     slot-trusted k i l q =
         let f : lenOf g leafAim k ≤ h .fan = aim-leaves .most k l in
         let e : leafIn s R k .len ≡ lenOf g leafAim k = len-at g k lm refl in
@@ -127,7 +127,7 @@ module _ (views : ℕ) (h : Head) (ls xs hs lm xm hm order : List ℕ) (last : �
         same-of ls lm (slotAt g k i) (g .stride) (row-words g k i ls (w .shaped) (omega arith) ∙ r ∙ sym (row-words g k i lm (w .shaped) (omega arith)))
 
     module _ (a : ℕ) (l₁ h₁ : List ℕ) (dl : LeavesDone g (h .leaves) leafAim ls hs a l₁ h₁) where
-      pub leaf-ready : (k : ℕ) → k < h .leaves → Ready g l₁ lm k
+      pub leaf-ready : (k : ℕ) → k < h .leaves → SlotsRight g l₁ lm k
       leaf-ready k l =
           all-slots g k (lenOf g leafAim k) l₁ lm (aim-leaves .most k l) (λ i q. kept-same (dl .near .leaves) (slotAt g k i) (g .stride) (slot-trusted k i l q)) (dl .empty k l)
 
@@ -147,8 +147,8 @@ module _ (views : ℕ) (h : Head) (ls xs hs lm xm hm order : List ℕ) (last : �
           go i true q = one i (stored s R 0 (w .sound) i (ltb-true i (h .entries) q))
           go i false q = dl .near .beside .kept i (sym (w .home-else i (ltb-false i (h .entries) q)))
 
-      module _ (b c : ℕ) (l₂ x₁ x₂ : List ℕ) (f : NodesDone g order last (h .inners) nodeAim 0 l₁ xs b l₂ x₁) (p : Put xm x₁ c x₂ (root * g .size + 1) 2) where
-        abbrev r : Reached kids root (h .levels) (h .inners) (h .leaves) last order
+      module _ (b c : ℕ) (l₂ x₁ x₂ : List ℕ) (f : NodesDone g order last (h .inners) nodeAim 0 l₁ xs b l₂ x₁) (p : PutRight xm x₁ c x₂ (root * g .size + 1) 2) where
+        abbrev r : QueueReached kids root (h .levels) (h .inners) (h .leaves) last order
         r = w .reached
 
         hl : 1 ≤ h .levels
@@ -162,19 +162,19 @@ module _ (views : ℕ) (h : Head) (ls xs hs lm xm hm order : List ℕ) (last : �
         level-same d l = same-level views h ls xs hs lm xm hm l₁ order last (w .sound) (w .agrees) (w .shaped) (w .leaf-long ∙ sym (dl .near .leaves .long)) (w .inner-long) (w .reached) leaf-ready d l
 
         -- where a node stands in the queue
-        record Place (k : ℕ) (low high : ℕ) : Type 0 where
+        record QueuePlace (k : ℕ) (low high : ℕ) : Type 0 where
           pub j : ℕ
           pub above : low ≤ j
           pub below : j < high
           pub is : node j ≡ k
 
-        placed : (k : ℕ) → In k (innersFrom kids root (h .levels)) → Place k 0 (h .inners)
+        placed : (k : ℕ) → In k (innersFrom kids root (h .levels)) → QueuePlace k 0 (h .inners)
         placed k i =
             let q = found (innersFrom kids root (h .levels)) i in
             let z : q .at < h .inners = omega (arith, q .within, all-long kids root (h .levels) (h .inners) (h .leaves) last order r hl) in
             record { j = q .at; above = omega arith; below = z; is = on kids root (h .levels) (h .inners) (h .leaves) last order r hl (q .at) z ∙ q .is }
 
-        placed-low : (k : ℕ) → In k (levelIn kids root (h .levels - 1)) → Place k last (h .inners)
+        placed-low : (k : ℕ) → In k (levelIn kids root (h .levels - 1)) → QueuePlace k last (h .inners)
         placed-low k i =
             let q = found (levelIn kids root (h .levels - 1)) i in
             let fl = front-long kids root (h .levels) (h .inners) (h .leaves) last order r hl in
@@ -190,7 +190,7 @@ module _ (views : ℕ) (h : Head) (ls xs hs lm xm hm order : List ℕ) (last : �
                   ∙ ap (λ (y : ℕ). getD (fr ++ levelIn kids root (h .levels - 1)) (y + q .at) 0) (sym fl) ∙ getD-append-add fr (levelIn kids root (h .levels - 1)) (q .at) 0 ∙ q .is;
             }
 
-        placed-high : (k d : ℕ) → suc d < h .levels → In k (levelIn kids root d) → Place k 0 last
+        placed-high : (k d : ℕ) → suc d < h .levels → In k (levelIn kids root d) → QueuePlace k 0 last
         placed-high k d hd i =
             let fr : List ℕ = flatMap (levelIn kids root) (range 0 (h .levels - 1)) in
             let q = found fr (in-flat (levelIn kids root) (in-range 0 (h .levels - 1) d (omega arith) (omega arith)) i) in
@@ -212,41 +212,41 @@ module _ (views : ℕ) (h : Head) (ls xs hs lm xm hm order : List ℕ) (last : �
             let y : i < lenOn g order last (h .inners) nodeAim j = omega (arith, len-at g (node j) xm refl) in
             (y, sym (child-word g (node j) i xm (w .shaped) (omega (arith, aim-nodes .most j v))) ∙ e)
 
-        linked-leaf : (k : ℕ) → k < h .leaves → Linked g l₂ lm k
+        linked-leaf : (k : ℕ) → k < h .leaves → LinkRight g l₂ lm k
         linked-leaf k l =
             let y : suc (h .levels - 1) ≡ h .levels = omega (arith, hl) in
             let sl : Slotted s R 0 (w .sound) (h .levels - 1) k = slotted s R 0 (w .sound) (h .levels - 1) k (subst (λ (z : ℕ). In k (level s R z)) (sym y) (leaf-level s R 0 (w .sound) k l)) in
             let pl = placed-low (sl .p) (subst (In (sl .p)) (sym (level-same (h .levels - 1) (omega arith))) (sl .row)) in
             go (pl .j) (pl .above) (pl .below) (sl .p) (pl .is) (sl .at)
           where
-            go : (j : ℕ) → last ≤ j → j < h .inners → (p : ℕ) → node j ≡ p → Placed k (innerIn s R p .len) (innerIn s R p .slots) → Linked g l₂ lm k
+            go : (j : ℕ) → last ≤ j → j < h .inners → (p : ℕ) → node j ≡ p → ChildPlace k (innerIn s R p .len) (innerIn s R p .slots) → LinkRight g l₂ lm k
             go j a b p e at =
-                let q = subst (λ (x : ℕ). Placed k (innerIn s R x .len) (innerIn s R x .slots)) (sym e) at in
+                let q = subst (λ (x : ℕ). ChildPlace k (innerIn s R x .len) (innerIn s R x .slots)) (sym e) at in
                 let z = child-there j (q .i) k b (q .below) (q .is) in
-                subst (Linked g l₂ lm) (z .1) (subst (λ (x : Bool). Linked g (cond x l₂ x₁) (cond x lm xm) (childIn g nodeAim (node j) (q .i))) (le-leb last j a)
+                subst (LinkRight g l₂ lm) (z .1) (subst (λ (x : Bool). LinkRight g (cond x l₂ x₁) (cond x lm xm) (childIn g nodeAim (node j) (q .i))) (le-leb last j a)
                 (f .links j (q .i) (omega arith) b (z .0)))
 
-        linked-inner : (k : ℕ) → k < h .inners → Linked g x₂ xm k
+        linked-inner : (k : ℕ) → k < h .inners → LinkRight g x₂ xm k
         linked-inner k l = go (inner-level s R 0 (w .sound) k l)
           where
-            child-case : (d : ℕ) → suc d < h .levels → In k (level s R (suc d)) → Linked g x₂ xm k
+            child-case : (d : ℕ) → suc d < h .levels → In k (level s R (suc d)) → LinkRight g x₂ xm k
             child-case d hd i =
                 let sl : Slotted s R 0 (w .sound) d k = slotted s R 0 (w .sound) d k i in
                 let pl = placed-high (sl .p) d hd (subst (In (sl .p)) (sym (level-same d (omega arith))) (sl .row)) in
-                let q = subst (λ (x : ℕ). Placed k (innerIn s R x .len) (innerIn s R x .slots)) (sym (pl .is)) (sl .at) in
+                let q = subst (λ (x : ℕ). ChildPlace k (innerIn s R x .len) (innerIn s R x .slots)) (sym (pl .is)) (sl .at) in
                 let b : pl .j < h .inners = omega (arith, pl .below, r .sorted) in
                 let z = child-there (pl .j) (q .i) k b (q .below) (q .is) in
                 kept-same (p .nearer .kept) (k * g .size + 1) 2
-                (subst (Linked g x₁ xm) (z .1) (subst (λ (x : Bool). Linked g (cond x l₂ x₁) (cond x lm xm) (childIn g nodeAim (node (pl .j)) (q .i)))
+                (subst (LinkRight g x₁ xm) (z .1) (subst (λ (x : Bool). LinkRight g (cond x l₂ x₁) (cond x lm xm) (childIn g nodeAim (node (pl .j)) (q .i)))
                 (lt-leb last (pl .j) (pl .below)) (f .links (pl .j) (q .i) (omega arith) b (z .0))))
 
-            root-case : In k (level s R 0) → Linked g x₂ xm k
-            root-case i = subst (Linked g x₂ xm) (sym (root-is s R k i)) (p .same)
+            root-case : In k (level s R 0) → LinkRight g x₂ xm k
+            root-case i = subst (LinkRight g x₂ xm) (sym (root-is s R k i)) (p .same)
 
-            go : Of (level s R) (range 0 (h .levels)) k → Linked g x₂ xm k
+            go : Of (level s R) (range 0 (h .levels)) k → LinkRight g x₂ xm k
             go o = by (o .part) (in-range-below 0 (h .levels) (o .outer) .1) (o .inner)
               where
-                by : (d : ℕ) → d < 0 + h .levels → In k (level s R d) → Linked g x₂ xm k
+                by : (d : ℕ) → d < 0 + h .levels → In k (level s R d) → LinkRight g x₂ xm k
                 by zero hd i = root-case i
                 by (suc d) hd i = child-case d (omega arith) i
 
@@ -256,10 +256,10 @@ module _ (views : ℕ) (h : Head) (ls xs hs lm xm hm order : List ℕ) (last : �
             let b = in-range-below 0 (h .levels) (o .outer) in
             in-flat (levelIn kids root) (o .outer) (subst (In k) (sym (level-same (o .part) (omega (arith, b .1)))) (o .inner))
 
-        slots-inner : (k : ℕ) → k < h .inners → Ready g x₂ xm k
+        slots-inner : (k : ℕ) → k < h .inners → SlotsRight g x₂ xm k
         slots-inner k l =
             let pl = placed k (in-queue k l) in
-            kept-same (p .nearer .kept) (k * g .size + 3) (g .fan * g .stride) (subst (Ready g x₁ xm) (pl .is) (f .slots (pl .j) (omega arith) (pl .below)))
+            kept-same (p .nearer .kept) (k * g .size + 3) (g .fan * g .stride) (subst (SlotsRight g x₁ xm) (pl .is) (f .slots (pl .j) (omega arith) (pl .below)))
 
         leaves-are : l₂ ≡ lm
         leaves-are =

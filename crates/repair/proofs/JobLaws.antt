@@ -19,22 +19,22 @@ use Rattle.laws.specs.Slots.{flat, flat-append, length-flat}
 use Rattle.laws.specs.Formed.{empty-wide}
 use Rattle.laws.specs.Words.{length-put}
 use Rattle.node.specs.Shaped.{Shaped}
-use Rattle.area.specs.Area.{Area}
+use Rattle.area.specs.Area.{AreaHolds}
 use Rattle.tally.specs.Tally.{tallied}
-use Rattle.theory.specs.RepairTrusted.{Fits, Areas}
+use Rattle.theory.specs.RepairTrusted.{TrustedCoherent, LongAreas}
 use Rattle.theory.specs.RepairWords.{mend-right, mend-agrees}
 use Rattle.theory.specs.RepairElse.{leaves-else, inners-else, homes-else, leaves-long, inners-long, homes-long}
 use Rattle.theory.specs.RepairNodes.{root-first}
 use Rattle.theory.specs.RepairUnique.{level-below}
 use Rattle.repair_test.specs.Queue.{kidsOf}
-use Rattle.repair_test.specs.Reach.{Reached}
+use Rattle.repair_test.specs.Reach.{QueueReached}
 use Rattle.repair_write.specs.Blank.{Blank}
 use Rattle.repair_write.specs.Toward.{Goal}
 use Rattle.repair_write.specs.Leaves.{LeavesGoal, LeavesAimed, LeavesDone}
 use Rattle.repair_write.specs.Nodes.{NodesGoal, NodesAimed, NodesDone}
-use Rattle.repair_write.proofs.NearLaws.{Put, put-by, part-two}
-use Rattle.repair.specs.Job.{Job, Mended}
-use Rattle.repair.proofs.Final.{Aim, aim-leaves, aim-nodes, all-done}
+use Rattle.repair_write.proofs.NearLaws.{PutRight, put-by, part-two}
+use Rattle.repair.specs.Job.{Job, JobDone}
+use Rattle.repair.proofs.Final.{TreeAim, aim-leaves, aim-nodes, all-done}
 
 -- words to copy empty slots from
 replicate-add : (n m : ℕ) (x : List ℕ) → replicate (n + m) x ≡ replicate n x ++ replicate m x
@@ -79,10 +79,10 @@ module _ (views : ℕ) (h : Head) (ls xs hs order : List ℕ) (last : ℕ) where
   hm = mend s t .homes
 
   abbrev TheAim : Type 0
-  TheAim = Aim views h ls xs hs lm xm hm order last
+  TheAim = TreeAim views h ls xs hs lm xm hm order last
 
-  module _ (f : Fits s t) (a : Areas s t) where
-    the-aim : Shaped g₀ → Reached (kidsOf g₀ xs) (h .root .0) (h .levels) (h .inners) (h .leaves) last order → TheAim
+  module _ (f : TrustedCoherent s t) (a : LongAreas s t) where
+    the-aim : Shaped g₀ → QueueReached (kidsOf g₀ xs) (h .root .0) (h .levels) (h .inners) (h .leaves) last order → TheAim
     unfolding mend
     the-aim sh r = record {
       sound = mend-right s 0 (omega arith) t f a .sound;
@@ -110,7 +110,7 @@ module _ (views : ℕ) (h : Head) (ls xs hs order : List ℕ) (last : ℕ) where
       w .sound .inner-count,
     )
 
-    root-put : (c : ℕ) (x₁ x₂ : List ℕ) → length x₁ ≡ length xm → _≡_ {A = ℕ × List ℕ} (c, x₂) (tallied (h .root .0 * g₀ .size + 1) (none ∷ 0 ∷ []) x₁) → Put xm x₁ c x₂ (h .root .0 * g₀ .size + 1) 2
+    root-put : (c : ℕ) (x₁ x₂ : List ℕ) → length x₁ ≡ length xm → _≡_ {A = ℕ × List ℕ} (c, x₂) (tallied (h .root .0 * g₀ .size + 1) (none ∷ 0 ∷ []) x₁) → PutRight xm x₁ c x₂ (h .root .0 * g₀ .size + 1) 2
     root-put c x₁ x₂ l e =
         let k : ℕ = h .root .0 in
         let n : k * g₀ .size + g₀ .size ≤ length xm = node-end g₀ k (length xm) root-below (w .sound .inner-area) in
@@ -120,7 +120,7 @@ module _ (views : ℕ) (h : Head) (ls xs hs order : List ℕ) (last : ℕ) where
 
     all-mended : (a b c : ℕ) (l₁ h₁ l₂ x₁ x₂ : List ℕ) → ((m : Goal) → LeavesGoal g₀ (h .leaves) m ls hs → LeavesDone g₀ (h .leaves) m ls hs a l₁ h₁)
         → ((m : Goal) → NodesGoal g₀ order last (h .inners) m l₁ xs → NodesDone g₀ order last (h .inners) m 0 l₁ xs b l₂ x₁)
-        → _≡_ {A = ℕ × List ℕ} (c, x₂) (tallied (h .root .0 * g₀ .size + 1) (none ∷ 0 ∷ []) x₁) → Mended s h ls xs hs (a + b + c) l₂ x₂ h₁
+        → _≡_ {A = ℕ × List ℕ} (c, x₂) (tallied (h .root .0 * g₀ .size + 1) (none ∷ 0 ∷ []) x₁) → JobDone s h ls xs hs (a + b + c) l₂ x₂ h₁
     all-mended a b c l₁ h₁ l₂ x₁ x₂ p q e =
         let d = p (record { leaves = lm; beside = hm }) (aim-leaves views h ls xs hs lm xm hm order last w) in
         let f = q (record { leaves = lm; beside = xm }) (aim-nodes views h ls xs hs lm xm hm order last w a l₁ h₁ d) in
@@ -134,7 +134,7 @@ module _ {h : Head} {g : Shape} {last : ℕ} {order ls xs hs : List ℕ} (w : Jo
 
   aim-own : TheAim (w .views) h ls xs hs order last
   aim-own = the-aim (w .views) h ls xs hs order last (w .fits) (w .areas) (subst Shaped (w .same) (w .shaped))
-      (subst (λ (z : Shape). Reached (kidsOf z xs) (h .root .0) (h .levels) (h .inners) (h .leaves) last order) (w .same) (w .reached))
+      (subst (λ (z : Shape). QueueReached (kidsOf z xs) (h .root .0) (h .levels) (h .inners) (h .leaves) last order) (w .same) (w .reached))
 
   abbrev LeafStep : Shape → ℕ → List ℕ → List ℕ → Type 0
   LeafStep z a l₁ h₁ = (m : Goal) → LeavesGoal z (h .leaves) m ls hs → LeavesDone z (h .leaves) m ls hs a l₁ h₁
@@ -165,10 +165,10 @@ module _ {h : Head} {g : Shape} {last : ℕ} {order ls xs hs : List ℕ} (w : Jo
   pub root-in : h .root .0 < g .nodes
   root-in = subst (λ (z : Shape). h .root .0 < z .nodes) (sym (w .same)) (root-below (w .views) h ls xs hs order last aim-own)
 
-  pub leaf-area : Area g (length ls)
+  pub leaf-area : AreaHolds g (length ls)
   leaf-area = record { shaped = w .shaped; room = subst (λ (z : Shape). z .nodes * z .size ≤ length ls) (sym (w .same)) (w .areas .leaf-area) }
 
-  pub inner-area : Area g (length xs)
+  pub inner-area : AreaHolds g (length xs)
   inner-area = record { shaped = w .shaped; room = subst (λ (z : Shape). z .nodes * z .size ≤ length xs) (sym (w .same)) (w .areas .inner-area) }
 
   pub leaf-count : h .leaves ≤ g .nodes
@@ -178,8 +178,8 @@ module _ {h : Head} {g : Shape} {last : ℕ} {order ls xs hs : List ℕ} (w : Jo
   inner-count = subst (λ (z : Shape). h .inners ≤ z .nodes) (sym (w .same)) (w .fits .inner-count)
 
   pub mended-by : {a b c : ℕ} {l₁ h₁ l₂ x₁ x₂ : List ℕ} → LeafStep g a l₁ h₁ → NodeStep g b l₁ l₂ x₁ → _≡_ {A = ℕ × List ℕ} (c, x₂) (tallied (h .root .0 * g .size + 1) (none ∷ 0 ∷ []) x₁)
-      → Mended (suc (w .views)) h ls xs hs (a + b + c) l₂ x₂ h₁
+      → JobDone (suc (w .views)) h ls xs hs (a + b + c) l₂ x₂ h₁
   mended-by {a} {b} {c} {l₁} {h₁} {l₂} {x₁} {x₂} =
-      subst (λ (z : Shape). LeafStep z a l₁ h₁ → NodeStep z b l₁ l₂ x₁ → _≡_ {A = ℕ × List ℕ} (c, x₂) (tallied (h .root .0 * z .size + 1) (none ∷ 0 ∷ []) x₁) → Mended
+      subst (λ (z : Shape). LeafStep z a l₁ h₁ → NodeStep z b l₁ l₂ x₁ → _≡_ {A = ℕ × List ℕ} (c, x₂) (tallied (h .root .0 * z .size + 1) (none ∷ 0 ∷ []) x₁) → JobDone
       (suc (w .views)) h ls xs hs (a + b + c) l₂ x₂ h₁) (sym (w .same))
       (all-mended (w .views) h ls xs hs order last aim-own a b c l₁ h₁ l₂ x₁ x₂)

@@ -23,14 +23,14 @@ use Rattle.laws.specs.Slots.{slots-at}
 use Rattle.laws.specs.Words.{getD-part, length-part, part-part}
 use Rattle.node.specs.Shaped.{Shaped}
 use Rattle.repair_test.specs.Queue.{kidsOf, levelIn}
-use Rattle.repair_test.specs.Reach.{Reached, innersFrom}
-use Rattle.repair_write.specs.Toward.{Goal, slotAt, SlotAim, Ready, Empty}
-use Rattle.repair_write.specs.Nodes.{childIn, nodeOn, lenOn, Later, NodesGoal}
+use Rattle.repair_test.specs.Reach.{QueueReached, innersFrom}
+use Rattle.repair_write.specs.Toward.{Goal, slotAt, SlotAim, SlotsRight, Empty}
+use Rattle.repair_write.specs.Nodes.{childIn, nodeOn, lenOn, BehindInQueue, NodesGoal}
 use Rattle.repair_write.proofs.SlotLaws.{child-word}
 use Rattle.theory.specs.WordNeat.{neat-of}
 use Rattle.theory.specs.RepairLists.{In, all-in, in-flat, in-range, in-children, getD-in}
 use Rattle.theory.specs.RepairUnique.{level-below, level-as, child-of, child-level}
-use Rattle.theory.specs.RepairSlots.{unused-words, slot-is, Behind, behind, Stands, stands}
+use Rattle.theory.specs.RepairSlots.{unused-words, slot-is, Behind, behind, InLevel, stands}
 
 -- levels -----------------------------------------------------------------------------------------------------------------------------------------------
 
@@ -52,7 +52,7 @@ last-of f i (suc n) =
 
 -- the nodes of the queue ----------------------------------------------------------------------------------------------------------------------------
 
-module _ (kids : ℕ → List ℕ) (root levels n m last : ℕ) (order : List ℕ) (r : Reached kids root levels n m last order) (hl : 1 ≤ levels) where
+module _ (kids : ℕ → List ℕ) (root levels n m last : ℕ) (order : List ℕ) (r : QueueReached kids root levels n m last order) (hl : 1 ≤ levels) where
   abbrev lev : ℕ → List ℕ
   lev d = levelIn kids root d
 
@@ -83,17 +83,17 @@ module _ (kids : ℕ → List ℕ) (root levels n m last : ℕ) (order : List �
       ap (λ (k : ℕ). getD order k 0) (sym z) ∙ sym (getD-part 0 n j order h) ∙ ap (λ (l : List ℕ). getD l j 0) (r .above)
 
   -- node j stands in level d, which is the last exactly from place last on
-  pub record Level (j : ℕ) : Type 0 where
+  pub record NodeLevel (j : ℕ) : Type 0 where
     pub d : ℕ
     pub inside : d < levels
     pub row : In (getD order j 0) (lev d)
     pub lowest : last ≤ j → suc d ≡ levels
     pub higher : j < last → suc d < levels
 
-  pub level-of : (j : ℕ) → j < n → Level j
+  pub level-of : (j : ℕ) → j < n → NodeLevel j
   level-of j h = go (leb last j) refl
     where
-      go : (b : Bool) → leb last j ≡ b → Level j
+      go : (b : Bool) → leb last j ≡ b → NodeLevel j
       go true q =
           let l : last ≤ j = leb-true last j q in
           let z : last + (j - last) ≡ j = omega arith in
@@ -109,7 +109,7 @@ module _ (kids : ℕ → List ℕ) (root levels n m last : ℕ) (order : List �
           }
       go false q =
           let l : j < last = leb-false last j q in
-          let w : Stands lev kids (next-in kids root) j 0 (levels - 1) (front ++ lev (levels - 1)) = stands lev kids (next-in kids root) (levels - 1) 0 j
+          let w : InLevel lev kids (next-in kids root) j 0 (levels - 1) (front ++ lev (levels - 1)) = stands lev kids (next-in kids root) (levels - 1) 0 j
           (omega (arith, front-long)) (lev (levels - 1)) in
           record {
             d = w .d;
@@ -145,7 +145,7 @@ module _ (views : ℕ) (h : Head) (ls xs hs lm xm hm l₁ order : List ℕ) (las
   kids = kidsOf g xs
 
   module _ (w : CoherentAt s R 0) (ag : Agrees s t R) (sh : Shaped g) (ll : length lm ≡ length l₁) (lx : length xm ≡ length xs)
-      (r : Reached kids (h .root .0) (h .levels) (h .inners) (h .leaves) last order) (rd : (k : ℕ) → k < h .leaves → Ready g l₁ lm k)
+      (r : QueueReached kids (h .root .0) (h .levels) (h .inners) (h .leaves) last order) (rd : (k : ℕ) → k < h .leaves → SlotsRight g l₁ lm k)
     where
       abbrev goal : Goal
       goal = record { leaves = lm; beside = xm }
@@ -168,7 +168,7 @@ module _ (views : ℕ) (h : Head) (ls xs hs lm xm hm l₁ order : List ℕ) (las
               ag .inner-children p (all-in (λ k. k < n) (in-flat (levelIn kids (h .root .0)) (in-range 0 (h .levels) d (omega arith) (omega arith))
               (subst (In p) (sym (level-is s t d)) i)) (r .inners-used))
 
-      at : (j : ℕ) → j < n → Level kids (h .root .0) (h .levels) n (h .leaves) last order r (w .levels-least) j
+      at : (j : ℕ) → j < n → NodeLevel kids (h .root .0) (h .levels) n (h .leaves) last order r (w .levels-least) j
       at j l = level-of kids (h .root .0) (h .levels) n (h .leaves) last order r (w .levels-least) j l
 
       row : (j : ℕ) (l : j < n) → In (node j) (level s R (at j l .d))
@@ -249,7 +249,7 @@ module _ (views : ℕ) (h : Head) (ls xs hs lm xm hm l₁ order : List ℕ) (las
           aimed-is : (b : Bool) (c : ℕ) → nodeAt g c (aimed b) ≡ nodeAt g c (cond b lm xm)
           aimed-is b c = refl
 
-      later-on : (j i : ℕ) → j < last → i < len j → Later g order last n j (childIn g goal (node j) i)
+      later-on : (j i : ℕ) → j < last → i < len j → BehindInQueue g order last n j (childIn g goal (node j) i)
       later-on j i y q =
           let l : j < n = omega (arith, r .sorted) in
           let e : innerIn s t (node j) .len ≡ len j = sym (ag .inner-len (node j) (used-node j l)) ∙ len-is j in

@@ -9,17 +9,17 @@ use Rattle.model.specs.Repair.{changes, sizesIn}
 use Rattle.model.specs.declared.head.Head.{Head}
 use Rattle.model.specs.declared.shape.Shape.{Shape}
 use Rattle.node.specs.Shaped.{Shaped}
-use Rattle.theory.specs.RepairTrusted.{Fits, Areas}
+use Rattle.theory.specs.RepairTrusted.{TrustedCoherent, LongAreas}
 use Rattle.repair_test.specs.Queue.{kidsOf}
-use Rattle.repair_test.specs.Reach.{Reached}
+use Rattle.repair_test.specs.Reach.{QueueReached}
 
 pub record Job (h : Head) (g : Shape) (last : ℕ) (order ls xs hs : List ℕ) : Type 0 where
   pub views : ℕ
   pub same : g ≡ shape (suc views) (h .fan) (h .limit)
   pub shaped : Shaped g
-  pub fits : Fits (suc views) (state h ls xs hs)
-  pub areas : Areas (suc views) (state h ls xs hs)
-  pub reached : Reached (kidsOf g xs) (h .root .0) (h .levels) (h .inners) (h .leaves) last order
+  pub fits : TrustedCoherent (suc views) (state h ls xs hs)
+  pub areas : LongAreas (suc views) (state h ls xs hs)
+  pub reached : QueueReached (kidsOf g xs) (h .root .0) (h .levels) (h .inners) (h .leaves) last order
 
 -- good fan, limit and areas, by the shape that they give
 pub record Open (h : Head) (g : Shape) (ls xs hs : List ℕ) : Type 0 where
@@ -29,6 +29,6 @@ pub record Open (h : Head) (g : Shape) (ls xs hs : List ℕ) : Type 0 where
   pub sizes : sizesIn (kind views 0) (state h ls xs hs) ≡ 0
 
 -- every word as the one tree has it, and how many differ from before
-pub record Mended (s : ℕ) (h : Head) (ls xs hs : List ℕ) (n : ℕ) (lb xb hb : List ℕ) : Type 0 where
+pub record JobDone (s : ℕ) (h : Head) (ls xs hs : List ℕ) (n : ℕ) (lb xb hb : List ℕ) : Type 0 where
   pub tree : state (noFinger h) lb xb hb ≡ mend s (state h ls xs hs)
   pub count : n ≡ changes (state h ls xs hs) (mend s (state h ls xs hs))

@@ -17,7 +17,7 @@ ghost use Rattle.model.specs.State.{state};
 ghost use Rattle.model.specs.Calls.{reply};
 ghost use Rattle.model.specs.Mend.{noFinger, isFit};
 ghost use Rattle.model.specs.Repair.{mendIf, repairIf};
-ghost use Rattle.repair_test.specs.Fit.{Fresh};
+ghost use Rattle.repair_test.specs.Fit.{FreshQueue};
 ghost use Rattle.repair.specs.Job.{Open};
 
 // The head without its finger.
@@ -52,7 +52,7 @@ fn by_queue(
     lower: &mut [u8],
     named: &mut [u8],
 ) -> NumberReply
-    requires { ⌜ Open head g (now leaves) (now inners) (now homes) × Fresh head g (length (now order)) (now upper) (now lower) (now named) ⌝ }
+    requires { ⌜ Open head g (now leaves) (now inners) (now homes) × FreshQueue head g (length (now order)) (now upper) (now lower) (now named) ⌝ }
     ensures { λ r. ⌜ ((effect : ℕ) (w : Open head g (now (leaves .entry)) (now (inners .entry)) (now (homes .entry))) → reply (state (r .head) (now (leaves .exit)) (now (inners .exit)) (now (homes .exit))) (r .answer) ≡ mendIf (kindOf (w .views) effect ordered) (isFit (kindOf (w .views) effect ordered) (state head (now (leaves .entry)) (now (inners .entry)) (now (homes .entry))) && fair) (state head (now (leaves .entry)) (now (inners .entry)) (now (homes .entry)))) ⌝ }
 {
     let fit = is_fit(head, leaves, inners, g, ordered, order, upper, lower, named);

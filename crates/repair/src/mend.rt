@@ -8,7 +8,7 @@ use repair_write::word::link;
 use words::run::clear;
 ghost use Prim.Native.Nat.{suc, _≤_};
 ghost use Rattle.repair_write.specs.Blank.{Blank};
-ghost use Rattle.repair.specs.Job.{Job, Mended};
+ghost use Rattle.repair.specs.Job.{Job, JobDone};
 
 // Leaves and homes, the inner nodes from the lowest level up, and the root's missing parent; with the words of empty slots at hand.
 fn write(
@@ -22,7 +22,7 @@ fn write(
     last: usize,
 ) -> usize
     requires { ⌜ Job head g last (now order) (now leaves) (now inners) (now homes) × Blank (g .stride) (now blank) ⌝ }
-    ensures { λ r. ⌜ (r ≤ 31457282) × ((w : Job head g last (now (order .entry)) (now (leaves .entry)) (now (inners .entry)) (now (homes .entry))) → Mended (suc (w .views)) head (now (leaves .entry)) (now (inners .entry)) (now (homes .entry)) r (now (leaves .exit)) (now (inners .exit)) (now (homes .exit))) ⌝ }
+    ensures { λ r. ⌜ (r ≤ 31457282) × ((w : Job head g last (now (order .entry)) (now (leaves .entry)) (now (inners .entry)) (now (homes .entry))) → JobDone (suc (w .views)) head (now (leaves .entry)) (now (inners .entry)) (now (homes .entry)) r (now (leaves .exit)) (now (inners .exit)) (now (homes .exit))) ⌝ }
 {
     let empty = Slot::EMPTY;
     let none = empty.child;
@@ -44,7 +44,7 @@ pub fn mend(
     last: usize,
 ) -> usize
     requires { ⌜ Job head g last (now order) (now leaves) (now inners) (now homes) ⌝ }
-    ensures { λ r. ⌜ (r ≤ 31457282) × ((w : Job head g last (now (order .entry)) (now (leaves .entry)) (now (inners .entry)) (now (homes .entry))) → Mended (suc (w .views)) head (now (leaves .entry)) (now (inners .entry)) (now (homes .entry)) r (now (leaves .exit)) (now (inners .exit)) (now (homes .exit))) ⌝ }
+    ensures { λ r. ⌜ (r ≤ 31457282) × ((w : Job head g last (now (order .entry)) (now (leaves .entry)) (now (inners .entry)) (now (homes .entry))) → JobDone (suc (w .views)) head (now (leaves .entry)) (now (inners .entry)) (now (homes .entry)) r (now (leaves .exit)) (now (inners .exit)) (now (homes .exit))) ⌝ }
 {
     let stride = g.stride;
     let mut blank: [u32; 128] = [0; 128];

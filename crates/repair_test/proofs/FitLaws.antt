@@ -20,12 +20,12 @@ use Rattle.model.specs.declared.shape.Shape.{Shape}
 use Rattle.model.specs.declared.head.Head.{Head}
 use Rattle.laws.specs.Lists.{All-at, and-true}
 use Rattle.laws.specs.Words.{getD-part, length-part}
-use Rattle.area.specs.Area.{Area}
+use Rattle.area.specs.Area.{AreaHolds}
 use Rattle.audit_node.proofs.Every.{every-same}
 use Rattle.repair_test.specs.Queue.{kidsOf, levelIn, Lens}
 use Rattle.repair_test.specs.Reach as reach
-use Rattle.repair_test.specs.Reach.{Marks, Reached}
-use Rattle.repair_test.specs.Total.{within, Listed}
+use Rattle.repair_test.specs.Reach.{Marks, QueueReached}
+use Rattle.repair_test.specs.Total.{within, QueueListed}
 use Rattle.repair_test.specs.Fit.{countedBy}
 
 flat-as : {A B : Type 0} (f g : A → List B) → ((x : A) → f x ≡ g x) → (l : List A) → flatMap f l ≡ flatMap g l
@@ -44,13 +44,13 @@ level-is s t zero = refl
 level-is s t (suc d) = ap (flatMap (λ p. map child (used (nodeAt (shapeIn s t) p (t .inners))))) (level-is s t d)
 
 -- what good counts tell
-pub record Counted (h : Head) (g : Shape) : Type 0 where
+pub record GoodCounts (h : Head) (g : Shape) : Type 0 where
   pub entries : h .entries ≤ h .limit
   pub leaves : h .leaves ≤ g .nodes
   pub inners : h .inners ≤ g .nodes
   pub levels : 1 ≤ h .levels
 
-pub counted : (h : Head) (g : Shape) (b : Bool) → b ≡ countedBy h g → b ≡ true → Counted h g
+pub counted : (h : Head) (g : Shape) (b : Bool) → b ≡ countedBy h g → b ≡ true → GoodCounts h g
 counted h g b e q =
     let one = leb (h .entries) (h .limit) in
     let two = leb (h .leaves) (g .nodes) in
@@ -79,7 +79,7 @@ every-at q i (suc n) e zero h = let z : i + 0 ≡ i = omega arith in ap q z ∙ 
 every-at q i (suc n) e (suc j) h = let z : i + suc j ≡ suc i + j = omega arith in ap q z ∙ every-at q (suc i) n (and-true (q i) (every q (suc i) n) e .1) j (omega arith)
 
 -- lens that passed their tests are at most the fan
-module _ (views effect : ℕ) (ordered : Bool) (h : Head) (g : Shape) (e : g ≡ shapeOf (kindOf views effect ordered) h) (area : List ℕ) (n : ℕ) (a : Area g (length area))
+module _ (views effect : ℕ) (ordered : Bool) (h : Head) (g : Shape) (e : g ≡ shapeOf (kindOf views effect ordered) h) (area : List ℕ) (n : ℕ) (a : AreaHolds g (length area))
     (c : n ≤ g .nodes) (b : Bool) (y : b ≡ true) where
   abbrev K : Kind
   K = kindOf views effect ordered
@@ -186,7 +186,7 @@ module _ (views effect : ℕ) (ordered : Bool) (h : Head) (ls xs hs : List ℕ) 
           fit-5 q b₅ e₅ = e₅ ∙ sym (whole ∙ rw (sym e₁ ∙ q₁, sym e₂ ∙ q₂, sym e₃ ∙ q₃) (all O₁ O₂ O₃ (every (isWithin s t) 0 views) (sym e₄ ∙ q)))
 
   -- the totals of the leaves in the queue
-  pub totals-are : (order : List ℕ) (n m start : ℕ) → Reached (kidsOf g xs) root (h .levels) n m start order
+  pub totals-are : (order : List ℕ) (n m start : ℕ) → QueueReached (kidsOf g xs) root (h .levels) n m start order
       → every (within g ls (part n (n + m - n) order)) 0 (g .stride - 1) ≡ every (isWithin s t) 0 views
   totals-are order n m start r =
       let q : n + m - n ≡ m = omega arith in
@@ -195,8 +195,8 @@ module _ (views effect : ℕ) (ordered : Bool) (h : Head) (ls xs hs : List ℕ) 
       ∙ ap (every (within g ls (leavesReached s t)) 0) v ∙ ap (λ (z : Shape). every (within z ls (leavesReached s t)) 0 views) e
 
 -- the leaves in the queue are in use
-pub listed : (kids : ℕ → List ℕ) (root levels n m start nodes : ℕ) (order : List ℕ) → Reached kids root levels n m start order → m ≤ nodes
-    → Listed nodes n (n + m) order
+pub listed : (kids : ℕ → List ℕ) (root levels n m start nodes : ℕ) (order : List ℕ) → QueueReached kids root levels n m start order → m ≤ nodes
+    → QueueListed nodes n (n + m) order
 listed kids root levels n m start nodes order r h j lo hi =
     let q : n + (j - n) ≡ j = omega arith in
     let l : length (part n m order) ≡ m = length-part n m order (r .long) in

@@ -13,7 +13,7 @@ use borrow.Author.Tests.{ltb-true, ltb-false, le-leb, lt-leb, eq-eqb, ne-eqb, eq
 use Rattle.model.specs.Mend.{fresh, isOnce}
 use Rattle.repair_test.specs.Queue.{Queue, queue, notedAll}
 use Rattle.repair_test.proofs.QueueLaws.{stays}
-use Rattle.repair_test.proofs.LevelLaws.{Full, full, noted-is}
+use Rattle.repair_test.proofs.LevelLaws.{LevelFull, full, noted-is}
 
 and-false : (b : Bool) → (b && false) ≡ false
 and-false true = refl
@@ -91,7 +91,7 @@ queue-full n k most N cnt b cs os ms os′ ms′ r z h l e = go b refl
 
     go : (x : Bool) → b ≡ x → (b && eqb cnt most) ≡ isOnce n cs
     go true q =
-        let f : Full n most k cnt cs os os′ = full n most k cnt cs os ms os′ ms′ (omega arith) l (ap (λ (x : Bool). queue x cnt os′ ms′) (sym q) ∙ e) in
+        let f : LevelFull n most k cnt cs os os′ = full n most k cnt cs os ms os′ ms′ (omega arith) l (ap (λ (x : Bool). queue x cnt os′ ms′) (sym q) ∙ e) in
         let w : fresh n cs (replicate n 0) ≡ true = left (fresh n cs (replicate n 0)) (leb (k + length cs) most) (sym ok ∙ q) in
         let c : eqb cnt most ≡ eqb (length cs) n = ap₂ eqb (f .count) r ∙ eqb-shift k (length cs) n in
         ap₂ (λ (x : Bool) (y : Bool). x && y) (q ∙ sym w) c

@@ -22,7 +22,7 @@ never b e q = absurd (let z : _≡_ {A = ℕ} 0 1 = cc in omega arith)
 -- a list that could be noted whole --------------------------------------------------------------------------------------------------------------
 
 -- it stands in the queue from place k on, and each of its numbers is below n
-pub record Full (n most k cnt : ℕ) (cs os os′ : List ℕ) : Type 0 where
+pub record LevelFull (n most k cnt : ℕ) (cs os os′ : List ℕ) : Type 0 where
   pub count : cnt ≡ k + length cs
   pub within : cnt ≤ most
   pub order : os′ ≡ putAt k cs os
@@ -35,7 +35,7 @@ pub noted-is : (n most c k : ℕ) (os ms : List ℕ) → noted n most c (queue t
 unfolding noted
 noted-is n most c k os ms = refl
 
-pub full : (n most k cnt : ℕ) (cs os ms os′ ms′ : List ℕ) → k ≤ most → most ≤ length os → queue true cnt os′ ms′ ≡ notedAll n most cs (queue true k os ms) → Full n most k cnt cs os os′
+pub full : (n most k cnt : ℕ) (cs os ms os′ ms′ : List ℕ) → k ≤ most → most ≤ length os → queue true cnt os′ ms′ ≡ notedAll n most cs (queue true k os ms) → LevelFull n most k cnt cs os os′
 unfolding notedAll All
 full n most k cnt [] os ms os′ ms′ h l e =
     let a : cnt ≡ k = ap (λ (q : Queue). q .count) e in
@@ -45,13 +45,13 @@ full n most k cnt (c ∷ cs) os ms os′ ms′ h l e =
     (e ∙ ap (notedAll n most cs) (noted-is n most c k os ms))
   where
     go : (b : Bool) → test n most c k ms ≡ b
-        → (k + 1 ≤ most → queue true cnt os′ ms′ ≡ notedAll n most cs (queue true (k + 1) (set os k c) (set ms c 1)) → Full n most (k + 1) cnt cs (set os k c) os′)
-        → queue true cnt os′ ms′ ≡ notedAll n most cs (cond b (queue true (k + 1) (set os k c) (set ms c 1)) (queue false k os ms)) → Full n most k cnt (c ∷ cs) os os′
+        → (k + 1 ≤ most → queue true cnt os′ ms′ ≡ notedAll n most cs (queue true (k + 1) (set os k c) (set ms c 1)) → LevelFull n most (k + 1) cnt cs (set os k c) os′)
+        → queue true cnt os′ ms′ ≡ notedAll n most cs (cond b (queue true (k + 1) (set os k c) (set ms c 1)) (queue false k os ms)) → LevelFull n most k cnt (c ∷ cs) os os′
     go true q f w =
         let a = and-true (ltb c n && eqb (getD ms c 0) 0) (ltb k most) q in
         let b = and-true (ltb c n) (eqb (getD ms c 0) 0) (a .0) in
         let m : k < most = ltb-true k most (a .1) in
-        let r : Full n most (k + 1) cnt cs (set os k c) os′ = f (omega arith) w in
+        let r : LevelFull n most (k + 1) cnt cs (set os k c) os′ = f (omega arith) w in
         record {
           count = omega (arith, r .count);
           within = r .within;
@@ -148,7 +148,7 @@ module _ (kids : ℕ → List ℕ) (root n levels : ℕ) (os₀ ms₀ : List ℕ
 
       pub deep-on : b ≡ true → Deep (d + 1) end cnt os′ ms′
       deep-on q =
-          let f : Full n n end cnt (lev d) os os′ = full n n end cnt (lev d) os ms os′ ms′ (w .within) (omega (arith, w .orders)) (ap (λ (x : Bool). queue x cnt os′ ms′) (sym q) ∙ noted-level) in
+          let f : LevelFull n n end cnt (lev d) os os′ = full n n end cnt (lev d) os ms os′ ms′ (w .within) (omega (arith, w .orders)) (ap (λ (x : Bool). queue x cnt os′ ms′) (sym q) ∙ noted-level) in
           let sizes = all-sizes n n end cnt b (lev d) os ms os′ ms′ noted-level in
           let m : cnt - end ≡ length (lev d) = omega (arith, f .count) in
           let back : d + 1 - 1 ≡ d = omega arith in
@@ -188,15 +188,15 @@ only-one : (n c : ℕ) → All (λ k. k < n) (c ∷ []) → c < n
 unfolding All
 only-one n c h = h .0
 
-pub record First (n root cnt : ℕ) (os′ : List ℕ) : Type 0 where
+pub record FirstLevel (n root cnt : ℕ) (os′ : List ℕ) : Type 0 where
   pub count : cnt ≡ 1
   pub some : 1 ≤ n
   pub front : getD os′ 0 0 ≡ root
   pub below : root < n
 
-pub first-noted : (n root cnt : ℕ) (b : Bool) (os ms os′ ms′ : List ℕ) → n ≤ length os → b ≡ true → queue b cnt os′ ms′ ≡ noted n n root (queue true 0 os ms) → First n root cnt os′
+pub first-noted : (n root cnt : ℕ) (b : Bool) (os ms os′ ms′ : List ℕ) → n ≤ length os → b ≡ true → queue b cnt os′ ms′ ≡ noted n n root (queue true 0 os ms) → FirstLevel n root cnt os′
 first-noted n root cnt b os ms os′ ms′ l q e =
-    let f : Full n n 0 cnt (root ∷ []) os os′ = full n n 0 cnt (root ∷ []) os ms os′ ms′ (omega arith) l
+    let f : LevelFull n n 0 cnt (root ∷ []) os os′ = full n n 0 cnt (root ∷ []) os ms os′ ms′ (omega arith) l
     (ap (λ (x : Bool). queue x cnt os′ ms′) (sym q) ∙ e ∙ one-noted n n root (queue true 0 os ms)) in
     record { count = f .count; some = omega (arith, f .count, f .within); front = ap (λ (z : List ℕ). getD z 0 0) (f .order) ∙ front-is root os; below = only-one n root (f .below) }
 

@@ -13,7 +13,7 @@ use Rattle.model.specs.Lists.{part}
 use Rattle.model.specs.Node.{Node, child, used}
 use Rattle.model.specs.State.{nodeAt}
 use Rattle.model.specs.declared.shape.Shape.{Shape}
-use Rattle.repair_test.specs.Queue.{Queue, queue, noted, notedAll, Room, Parents}
+use Rattle.repair_test.specs.Queue.{Queue, queue, noted, notedAll, QueueRoom, Parents}
 
 module _ (n most c count : ℕ) (os ms : List ℕ) where
   pub not-below : n ≤ c → queue false count os ms ≡ noted n most c (queue true count os ms)
@@ -82,28 +82,28 @@ module _ (n most i : ℕ) (m : Node) (q : Queue) where
       subst (λ (z : List ℕ). notedAll n most z q ≡ all) d inv
 
 -- what noting leaves as it was: the front of the queue and the sizes; the count doesn't fall
-pub record Kept (end : ℕ) (q r : Queue) : Type 0 where
+pub record QueueKept (end : ℕ) (q r : Queue) : Type 0 where
   pub front : take end (r .order) ≡ take end (q .order)
   pub more : q .count ≤ r .count
   pub orders : length (r .order) ≡ length (q .order)
   pub marked : length (r .marks) ≡ length (q .marks)
 
-kept-on : {end : ℕ} {q r t : Queue} → Kept end q r → Kept end r t → Kept end q t
+kept-on : {end : ℕ} {q r t : Queue} → QueueKept end q r → QueueKept end r t → QueueKept end q t
 kept-on a b = record { front = b .front ∙ a .front; more = omega (arith, a .more, b .more); orders = b .orders ∙ a .orders; marked = b .marked ∙ a .marked }
 
-pub noted-kept : (end n most c : ℕ) (q : Queue) → end ≤ q .count → Kept end q (noted n most c q)
+pub noted-kept : (end n most c : ℕ) (q : Queue) → end ≤ q .count → QueueKept end q (noted n most c q)
 unfolding noted
 noted-kept end n most c q h = go (q .ok && ltb c n && eqb (getD (q .marks) c 0) 0 && ltb (q .count) most)
   where
-    go : (b : Bool) → Kept end q (cond b (queue true (q .count + 1) (set (q .order) (q .count) c) (set (q .marks) c 1)) (queue false (q .count) (q .order) (q .marks)))
+    go : (b : Bool) → QueueKept end q (cond b (queue true (q .count + 1) (set (q .order) (q .count) c) (set (q .marks) c 1)) (queue false (q .count) (q .order) (q .marks)))
     go true = record { front = take-set-le end (q .order) (q .count) c h; more = omega arith; orders = length-set (q .order) (q .count) c; marked = length-set (q .marks) c 1 }
     go false = record { front = refl; more = omega arith; orders = refl; marked = refl }
 
-pub all-kept : (end n most : ℕ) (cs : List ℕ) (q : Queue) → end ≤ q .count → Kept end q (notedAll n most cs q)
+pub all-kept : (end n most : ℕ) (cs : List ℕ) (q : Queue) → end ≤ q .count → QueueKept end q (notedAll n most cs q)
 unfolding notedAll
 all-kept end n most [] q h = record { front = refl; more = omega arith; orders = refl; marked = refl }
 all-kept end n most (c ∷ cs) q h =
-    let a : Kept end q (noted n most c q) = noted-kept end n most c q h in
+    let a : QueueKept end q (noted n most c q) = noted-kept end n most c q h in
     kept-on a (all-kept end n most cs (noted n most c q) (omega (arith, a .more)))
 
 -- lengths as one call leaves them, by its contract
@@ -120,7 +120,7 @@ all-sizes n most count cnt b cs os ms os′ ms′ e =
 -- the children of the nodes of a level -------------------------------------------------------------------------------------------------------
 
 -- the state of the loop: nodes from j on are left
-pub record Left (kids : ℕ → List ℕ) (n most start end j count₀ count : ℕ) (os₀ ms₀ os ms : List ℕ) : Type 0 where
+pub record QueueLeft (kids : ℕ → List ℕ) (n most start end j count₀ count : ℕ) (os₀ ms₀ os ms : List ℕ) : Type 0 where
   pub low : start ≤ j
   pub high : j ≤ end
   pub front : take end os ≡ take end os₀
@@ -129,14 +129,14 @@ pub record Left (kids : ℕ → List ℕ) (n most start end j count₀ count : �
   pub marked : length ms ≡ length ms₀
   pub rest : notedAll n most (flatMap kids (part j (end - j) os₀)) (queue true count os ms) ≡ notedAll n most (flatMap kids (part start (end - start) os₀)) (queue true count₀ os₀ ms₀)
 
-pub begin : (kids : ℕ → List ℕ) (n most start end count : ℕ) (os ms : List ℕ) → start ≤ end → end ≤ count → Left kids n most start end start count count os ms os ms
+pub begin : (kids : ℕ → List ℕ) (n most start end count : ℕ) (os ms : List ℕ) → start ≤ end → end ≤ count → QueueLeft kids n most start end start count count os ms os ms
 begin kids n most start end count os ms h g = record { low = omega arith; high = h; front = refl; counted = g; orders = refl; marked = refl; rest = refl }
 
 more : {A B : Type 0} (f : A → List B) (x : A) (l : List A) → flatMap f (x ∷ l) ≡ f x ++ flatMap f l
 unfolding flatMap
 more f x l = refl
 
-module _ (kids : ℕ → List ℕ) (n most start end j count₀ count : ℕ) (os₀ ms₀ os ms : List ℕ) (w : Left kids n most start end j count₀ count os₀ ms₀ os ms) (l : j < end) (room : end ≤ length os₀) where
+module _ (kids : ℕ → List ℕ) (n most start end j count₀ count : ℕ) (os₀ ms₀ os ms : List ℕ) (w : QueueLeft kids n most start end j count₀ count os₀ ms₀ os ms) (l : j < end) (room : end ≤ length os₀) where
   pub same-node : getD os j 0 ≡ getD os₀ j 0
   same-node = sym (getD-take end os j 0 l) ∙ ap (λ (z : List ℕ). getD z j 0) (w .front) ∙ getD-take end os₀ j 0 l
 
@@ -161,10 +161,10 @@ module _ (kids : ℕ → List ℕ) (n most start end j count₀ count : ℕ) (os
   left-stop k cnt b os′ ms′ ek er eb = stop n most cnt b others os′ ms′ _ eb (one-node k (queue b cnt os′ ms′) ek er)
 
   pub left-on : (k cnt : ℕ) (b : Bool) (os′ ms′ : List ℕ) → k ≡ getD os j 0 → queue b cnt os′ ms′ ≡ notedAll n most (kids k) (queue true count os ms) → b ≡ true
-      → Left kids n most start end (j + 1) count₀ cnt os₀ ms₀ os′ ms′
+      → QueueLeft kids n most start end (j + 1) count₀ cnt os₀ ms₀ os′ ms′
   left-on k cnt b os′ ms′ ek er eb =
-      let a : Kept end (queue true count os ms) (notedAll n most (kids k) (queue true count os ms)) = all-kept end n most (kids k) (queue true count os ms) (w .counted) in
-      let c : Kept end (queue true count os ms) (queue b cnt os′ ms′) = subst (Kept end (queue true count os ms)) (sym er) a in
+      let a : QueueKept end (queue true count os ms) (notedAll n most (kids k) (queue true count os ms)) = all-kept end n most (kids k) (queue true count os ms) (w .counted) in
+      let c : QueueKept end (queue true count os ms) (queue b cnt os′ ms′) = subst (QueueKept end (queue true count os ms)) (sym er) a in
       let r = go-on n most cnt b others os′ ms′ _ eb (one-node k (queue b cnt os′ ms′) ek er) in
       record {
         low = omega (arith, w .low);
@@ -176,7 +176,7 @@ module _ (kids : ℕ → List ℕ) (n most start end j count₀ count : ℕ) (os
         rest = ap (λ (x : ℕ). notedAll n most (flatMap kids (part x (end - x) os₀)) (queue true cnt os′ ms′)) (add-one j) ∙ r;
       }
 
-pub left-none : (kids : ℕ → List ℕ) (n most start end j count₀ count : ℕ) (os₀ ms₀ os ms : List ℕ) → Left kids n most start end j count₀ count os₀ ms₀ os ms → end ≤ j
+pub left-none : (kids : ℕ → List ℕ) (n most start end j count₀ count : ℕ) (os₀ ms₀ os ms : List ℕ) → QueueLeft kids n most start end j count₀ count os₀ ms₀ os ms → end ≤ j
     → queue true count os ms ≡ notedAll n most (flatMap kids (part start (end - start) os₀)) (queue true count₀ os₀ ms₀)
 unfolding part notedAll flatMap
 left-none kids n most start end j count₀ count os₀ ms₀ os ms w h =
@@ -186,11 +186,11 @@ left-none kids n most start end j count₀ count os₀ ms₀ os ms w h =
 
 -- node j of the queue is a parent of the level
 pub parent-at : (kids : ℕ → List ℕ) (g : Shape) (inners : List ℕ) (n most start end j count₀ count : ℕ) (os₀ ms₀ os ms : List ℕ)
-    → Left kids n most start end j count₀ count os₀ ms₀ os ms → j < end → end ≤ length os₀
+    → QueueLeft kids n most start end j count₀ count os₀ ms₀ os ms → j < end → end ≤ length os₀
     → Parents g inners start end os₀ → (getD os j 0 < g .nodes) × (nodeAt g (getD os j 0) inners .len ≤ g .fan)
 parent-at kids g inners n most start end j count₀ count os₀ ms₀ os ms w l room h =
     subst (λ (k : ℕ). (k < g .nodes) × (nodeAt g k inners .len ≤ g .fan)) (sym (same-node kids n most start end j count₀ count os₀ ms₀ os ms w l room)) (h j (w .low) l)
 
 -- areas of the same lengths have the same room
-pub still : {n most o m o′ m′ : ℕ} → Room n most o m → o′ ≡ o → m′ ≡ m → Room n most o′ m′
+pub still : {n most o m o′ m′ : ℕ} → QueueRoom n most o m → o′ ≡ o → m′ ≡ m → QueueRoom n most o′ m′
 still r a b = record { order = omega (arith, r .order, a); marks = omega (arith, r .marks, b); word = r .word }

@@ -12,9 +12,9 @@ use Rattle.model.specs.Mend.{isOnce}
 use Rattle.model.specs.declared.shape.Shape.{Shape}
 use Rattle.laws.specs.Lists.{and-true}
 use Rattle.laws.specs.Words.{length-put, part-same, part-before}
-use Rattle.repair_test.specs.Queue.{Queue, queue, notedAll, levelIn, Room, Parents, Lens, Last}
-use Rattle.repair_test.specs.Reach.{Marks, innersFrom, leavesFrom, idsFrom, Reached}
-use Rattle.repair_test.proofs.LevelLaws.{Full, full, parents-of}
+use Rattle.repair_test.specs.Queue.{Queue, queue, notedAll, levelIn, QueueRoom, Parents, Lens, Last}
+use Rattle.repair_test.specs.Reach.{Marks, innersFrom, leavesFrom, idsFrom, QueueReached}
+use Rattle.repair_test.proofs.LevelLaws.{LevelFull, full, parents-of}
 use Rattle.repair_test.proofs.FreshLaws.{queue-full}
 
 -- the three tests one after the other
@@ -30,7 +30,7 @@ third-is o l f e r s p = rw (r, s, sym p)
 -- n numbers noted behind k others
 record Noted (n k : ℕ) (cs os os′ : List ℕ) : Type 0 where
   pub ok : isOnce n cs ≡ true
-  pub full : Full n (k + n) k (k + n) cs os os′
+  pub full : LevelFull n (k + n) k (k + n) cs os os′
   pub long : length cs ≡ n
   pub area : length os′ ≡ length os
 
@@ -48,7 +48,7 @@ module _ (n k most N cnt : ℕ) (b : Bool) (cs os ms os′ ms′ : List ℕ) (r 
 
     noted-as : f ≡ true → Noted n k cs os os′
     noted-as q =
-        let w : Full n most k cnt cs os os′ = full n most k cnt cs os ms os′ ms′ (omega arith) l (ap (λ (x : Bool). queue x cnt os′ ms′) (sym (is-ok q)) ∙ e) in
+        let w : LevelFull n most k cnt cs os os′ = full n most k cnt cs os ms os′ ms′ (omega arith) l (ap (λ (x : Bool). queue x cnt os′ ms′) (sym (is-ok q)) ∙ e) in
         let c : cnt ≡ k + n = counted q ∙ r in
         let m : length cs ≡ n = omega (arith, w .count) in
         record {
@@ -59,7 +59,7 @@ module _ (n k most N cnt : ℕ) (b : Bool) (cs os ms os′ ms′ : List ℕ) (r 
         }
 
 -- room for one list more
-room-of : (n most o : ℕ) (ms : List ℕ) → Marks n ms → most ≤ o → Room n most o (length ms)
+room-of : (n most o : ℕ) (ms : List ℕ) → Marks n ms → most ≤ o → QueueRoom n most o (length ms)
 room-of n most o ms w h = record { order = h; marks = omega (arith, w .room, ap length (w .zeros) ∙ length-replicate {A = ℕ} (w .size) 0); word = w .word }
 
 relist : (n most k : ℕ) (ks ls os ms : List ℕ) (q : Queue) → ks ≡ ls → q ≡ notedAll n most ks (queue true k os ms) → q ≡ notedAll n most ls (queue true k os ms)
@@ -83,7 +83,7 @@ module _ (kids entries : ℕ → List ℕ) (root levels n m e : ℕ) (hl : 1 ≤
   abbrev whole : Bool
   whole = isOnce n I && isOnce m L && isOnce e E
 
-  pub room-1 : Room n n (length os) (length u)
+  pub room-1 : QueueRoom n n (length os) (length u)
   room-1 = room-of n n (length os) u mu (omega arith)
 
   module _ (b₁ : Bool) (c₁ start : ℕ) (os₁ u₁ : List ℕ) (e₁ : queue b₁ c₁ os₁ u₁ ≡ notedAll n n I (queue true 0 os u)) (la : b₁ ≡ true → Last n (levelIn kids root (levels - 1)) start c₁ os₁)
@@ -107,7 +107,7 @@ module _ (kids entries : ℕ → List ℕ) (root levels n m e : ℕ) (hl : 1 ≤
         area-2 : n + m ≤ length os₁
         area-2 = omega (arith, one .area)
 
-        pub room-2 : Room m (n + m) (length os₁) (length l)
+        pub room-2 : QueueRoom m (n + m) (length os₁) (length l)
         room-2 = room-of m (n + m) (length os₁) l ml area-2
 
         pub sorted-2 : start ≤ n
@@ -137,7 +137,7 @@ module _ (kids entries : ℕ → List ℕ) (root levels n m e : ℕ) (hl : 1 ≤
             area-3 : n + m + e ≤ length os₂
             area-3 = omega (arith, one .area, two .area)
 
-            pub room-3 : Room e (n + m + e) (length os₂) (length d)
+            pub room-3 : QueueRoom e (n + m + e) (length os₂) (length d)
             room-3 = room-of e (n + m + e) (length os₂) d md area-3
 
             pub long-3 : n + m ≤ length os₂
@@ -162,7 +162,7 @@ module _ (kids entries : ℕ → List ℕ) (root levels n m e : ℕ) (hl : 1 ≤
                     third-is (isOnce n I) (isOnce m L) f₃ (isOnce e E) (one .ok) (two .ok)
                     (once e (n + m) (n + m + e) (md .size) c₃ b₃ E os₂ d os₃ d₃ refl (md .zeros) (md .room) area-3 noted-3 f₃ t₃)
 
-                pub reached-3 : f₃ ≡ true → Reached kids root levels n m start os₃
+                pub reached-3 : f₃ ≡ true → QueueReached kids root levels n m start os₃
                 reached-3 q = record {
                   long = omega (arith, three .area, area-3);
                   above =

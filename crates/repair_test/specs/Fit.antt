@@ -13,7 +13,7 @@ abbrev pub countedBy : Head → Shape → Bool
 countedBy h g = leb (h .entries) (h .limit) && leb (h .leaves) (g .nodes) && leb (h .inners) (g .nodes) && leb 1 (h .levels) && leb (h .levels) 15
 
 -- a good fan and limit, a queue for all nodes and ids, and no mark set
-pub record Fresh (h : Head) (g : Shape) (room : ℕ) (inners leaves ids : List ℕ) : Type 0 where
+pub record FreshQueue (h : Head) (g : Shape) (room : ℕ) (inners leaves ids : List ℕ) : Type 0 where
   pub views : ℕ
   pub same : g ≡ shape (suc views) (h .fan) (h .limit)
   pub nodes : g .nodes ≤ 32768

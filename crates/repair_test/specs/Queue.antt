@@ -10,8 +10,8 @@ use Rattle.model.specs.Lists.{All, part}
 use Rattle.model.specs.Node.{child, used}
 use Rattle.model.specs.State.{nodeAt}
 use Rattle.model.specs.declared.shape.Shape.{Shape}
-use Rattle.area.specs.Area.{Area}
-use Rattle.repair_test.specs.declared.queue.Seen.{Seen}
+use Rattle.area.specs.Area.{AreaHolds}
+use Rattle.repair_test.specs.declared.queue.QueueCount.{QueueCount}
 
 -- whether all could be noted, how many were, the queue, and the marks of those in it
 pub record Queue : Type 0 where
@@ -23,7 +23,7 @@ pub record Queue : Type 0 where
 abbrev pub queue : Bool → ℕ → List ℕ → List ℕ → Queue
 queue b k os ms = record { ok = b; count = k; order = os; marks = ms }
 
-abbrev pub queueOf : Seen → List ℕ → List ℕ → Queue
+abbrev pub queueOf : QueueCount → List ℕ → List ℕ → Queue
 queueOf r os ms = queue (r .ok) (r .count) os ms
 
 unfoldable pub noted : ℕ → ℕ → ℕ → Queue → Queue
@@ -44,7 +44,7 @@ levelIn kids root zero = root ∷ []
 levelIn kids root (suc d) = flatMap kids (levelIn kids root d)
 
 -- room for most numbers in the queue, and for the marks of n, which the queue's words hold
-pub record Room (n most o m : ℕ) : Type 0 where
+pub record QueueRoom (n most o m : ℕ) : Type 0 where
   pub order : most ≤ o
   pub marks : n ≤ m
   pub word : n ≤ 65536
@@ -55,7 +55,7 @@ Parents g inners start end order = (j : ℕ) → start ≤ j → j < end → (ge
 
 -- an area of inner nodes of which n are in use, none with more slots in use than it has
 pub record Lens (g : Shape) (n : ℕ) (inners : List ℕ) : Type 0 where
-  pub area : Area g (length inners)
+  pub area : AreaHolds g (length inners)
   pub count : n ≤ g .nodes
   pub most : (k : ℕ) → k < n → nodeAt g k inners .len ≤ g .fan
 

@@ -25,7 +25,7 @@ abbrev pub idsFrom : (ℕ → List ℕ) → (ℕ → List ℕ) → ℕ → ℕ �
 idsFrom kids entries root levels = flatMap entries (leavesFrom kids root levels)
 
 -- the queue begins with the inner nodes, of which those from last on are the last level, and then the leaves
-pub record Reached (kids : ℕ → List ℕ) (root levels n m last : ℕ) (order : List ℕ) : Type 0 where
+pub record QueueReached (kids : ℕ → List ℕ) (root levels n m last : ℕ) (order : List ℕ) : Type 0 where
   pub long : n + m ≤ length order
   pub above : part 0 n order ≡ innersFrom kids root levels
   pub sorted : last ≤ n

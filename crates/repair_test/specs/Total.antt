@@ -15,5 +15,5 @@ abbrev pub within : Shape → List ℕ → List ℕ → ℕ → Bool
 within g leaves ks v = leb (totalIn g leaves v ks) 4294967295
 
 -- the numbers in the queue from start up to end are below n
-abbrev pub Listed : ℕ → ℕ → ℕ → List ℕ → Type 0
-Listed n start end order = (j : ℕ) → start ≤ j → j < end → getD order j 0 < n
+abbrev pub QueueListed : ℕ → ℕ → ℕ → List ℕ → Type 0
+QueueListed n start end order = (j : ℕ) → start ≤ j → j < end → getD order j 0 < n

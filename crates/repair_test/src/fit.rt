@@ -15,10 +15,10 @@ ghost use Rattle.model.specs.Kind.{kindOf};
 ghost use Rattle.model.specs.State.{state};
 ghost use Rattle.model.specs.Refuse.{shapeOf};
 ghost use Rattle.model.specs.Mend.{isFit};
-ghost use Rattle.area.specs.Area.{Area};
+ghost use Rattle.area.specs.Area.{AreaHolds};
 ghost use Rattle.repair_test.specs.Queue.{kidsOf};
-ghost use Rattle.repair_test.specs.Reach.{Marks, Reached};
-ghost use Rattle.repair_test.specs.Fit.{countedBy, Fresh};
+ghost use Rattle.repair_test.specs.Reach.{Marks, QueueReached};
+ghost use Rattle.repair_test.specs.Fit.{countedBy, FreshQueue};
 
 // Counts within the limit, and levels.
 fn counts(head: Head, g: Shape) -> bool
@@ -53,8 +53,8 @@ pub fn is_fit(
     lower: &mut [u8],
     named: &mut [u8],
 ) -> Levels
-    requires { ⌜ Area g (length (now leaves)) × Area g (length (now inners)) × Fresh head g (length (now order)) (now upper) (now lower) (now named) ⌝ }
-    ensures { λ r. ⌜ ((views effect : ℕ) (hs : List ℕ) → g ≡ shapeOf (kindOf views effect ordered) head → r .ok ≡ isFit (kindOf views effect ordered) (state head (now (leaves .entry)) (now (inners .entry)) hs)) × (r .ok ≡ true → Reached (kidsOf g (now (inners .entry))) (head .root .0) (head .levels) (head .inners) (head .leaves) (r .start) (now (order .exit))) ⌝ }
+    requires { ⌜ AreaHolds g (length (now leaves)) × AreaHolds g (length (now inners)) × FreshQueue head g (length (now order)) (now upper) (now lower) (now named) ⌝ }
+    ensures { λ r. ⌜ ((views effect : ℕ) (hs : List ℕ) → g ≡ shapeOf (kindOf views effect ordered) head → r .ok ≡ isFit (kindOf views effect ordered) (state head (now (leaves .entry)) (now (inners .entry)) hs)) × (r .ok ≡ true → QueueReached (kidsOf g (now (inners .entry))) (head .root .0) (head .levels) (head .inners) (head .leaves) (r .start) (now (order .exit))) ⌝ }
 {
     let n = head.inners;
     let m = head.leaves;

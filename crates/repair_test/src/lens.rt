@@ -19,7 +19,7 @@ ghost use Rattle.model.specs.Sound.{leastLeaf, leastInner};
 ghost use Rattle.model.specs.Audit.{every};
 ghost use Rattle.model.specs.Mend.{isFitSlot, isFitInner, isFitLeaf};
 ghost use Rattle.model.specs.declared.shape.Kind.{Kind};
-ghost use Rattle.area.specs.Area.{Area};
+ghost use Rattle.area.specs.Area.{AreaHolds};
 
 // Whether a len is within its bounds.
 fn is_long(len: u32, least: u32, fan: u32) -> bool
@@ -56,7 +56,7 @@ fn least_inner(head: Head, k: u32) -> u32
 
 // Whether every inner node of the first count has as many slots in use as it may.
 pub fn every_inner(head: Head, inners: &[u32], g: Shape, count: u32) -> bool
-    requires { ⌜ Area g (length (now inners)) × (count ≤ g .nodes) ⌝ }
+    requires { ⌜ AreaHolds g (length (now inners)) × (count ≤ g .nodes) ⌝ }
     ensures { λ r. ⌜ ((K : Kind) → g ≡ shapeOf K head → r ≡ every (isFitInner K (state head [] (now (inners .entry)) [])) 0 count) ⌝ }
 {
     let mut k: u32 = 0;
@@ -71,7 +71,7 @@ pub fn every_inner(head: Head, inners: &[u32], g: Shape, count: u32) -> bool
 
 // Whether the lengths in slot i of leaf k are such as an entry may have.
 fn is_fit_slot(leaves: &[u32], g: Shape, ordered: bool, k: LeafNo, i: u32) -> bool
-    requires { ⌜ Area g (length (now leaves)) × (k .0 < g .nodes) × (i < g .fan) ⌝ }
+    requires { ⌜ AreaHolds g (length (now leaves)) × (k .0 < g .nodes) × (i < g .fan) ⌝ }
     ensures { λ r. ⌜ r ≡ isFitSlot (kindOf (g .stride - 1) 0 ordered) (getD (nodeAt g (k .0) (now (leaves .entry)) .slots) i []) ⌝ }
 {
     let stride = g.stride;
@@ -86,7 +86,7 @@ fn is_fit_slot(leaves: &[u32], g: Shape, ordered: bool, k: LeafNo, i: u32) -> bo
 
 // The same of each slot in use.
 fn are_fit_slots(leaves: &[u32], g: Shape, ordered: bool, k: LeafNo, len: u32) -> bool
-    requires { ⌜ Area g (length (now leaves)) × (k .0 < g .nodes) × (len ≤ g .fan) ⌝ }
+    requires { ⌜ AreaHolds g (length (now leaves)) × (k .0 < g .nodes) × (len ≤ g .fan) ⌝ }
     ensures { λ r. ⌜ r ≡ every (λ i. isFitSlot (kindOf (g .stride - 1) 0 ordered) (getD (nodeAt g (k .0) (now (leaves .entry)) .slots) i [])) 0 len ⌝ }
 {
     let mut i: u32 = 0;
@@ -100,7 +100,7 @@ fn are_fit_slots(leaves: &[u32], g: Shape, ordered: bool, k: LeafNo, len: u32) -
 }
 
 fn is_fit_leaf(head: Head, leaves: &[u32], g: Shape, ordered: bool, k: LeafNo) -> bool
-    requires { ⌜ Area g (length (now leaves)) × (k .0 < g .nodes) × (g .fan ≡ head .fan) ⌝ }
+    requires { ⌜ AreaHolds g (length (now leaves)) × (k .0 < g .nodes) × (g .fan ≡ head .fan) ⌝ }
     ensures { λ r. ⌜ ((views effect : ℕ) → g ≡ shapeOf (kindOf views effect ordered) head → r ≡ isFitLeaf (kindOf views effect ordered) (state head (now (leaves .entry)) [] []) (k .0)) ⌝ }
 {
     let len = len_of(leaves, g, k.0);
@@ -112,7 +112,7 @@ fn is_fit_leaf(head: Head, leaves: &[u32], g: Shape, ordered: bool, k: LeafNo) -
 
 // Whether every leaf of the first count has as many slots in use as it may, and lengths in them that entries may have.
 pub fn every_leaf(head: Head, leaves: &[u32], g: Shape, ordered: bool, count: u32) -> bool
-    requires { ⌜ Area g (length (now leaves)) × (count ≤ g .nodes) × (g .fan ≡ head .fan) ⌝ }
+    requires { ⌜ AreaHolds g (length (now leaves)) × (count ≤ g .nodes) × (g .fan ≡ head .fan) ⌝ }
     ensures { λ r. ⌜ ((views effect : ℕ) → g ≡ shapeOf (kindOf views effect ordered) head → r ≡ every (isFitLeaf (kindOf views effect ordered) (state head (now (leaves .entry)) [] [])) 0 count) ⌝ }
 {
     let mut k: u32 = 0;

@@ -9,21 +9,21 @@ ghost use Prim.Native.Nat.{_+_, _-_, _<_, _≤_};
 ghost use lib.ListN.{length, getD};
 ghost use Rattle.model.specs.Lists.{part, range};
 ghost use Rattle.model.specs.State.{nodeAt};
-ghost use Rattle.area.specs.Area.{Area};
-ghost use Rattle.repair_test.specs.Queue.{queue, queueOf, noted, notedAll, kidsOf, levelIn, Room, Parents, Lens, Last};
+ghost use Rattle.area.specs.Area.{AreaHolds};
+ghost use Rattle.repair_test.specs.Queue.{queue, queueOf, noted, notedAll, kidsOf, levelIn, QueueRoom, Parents, Lens, Last};
 
 // Whether every node so far could be noted, and how many were.
-pub struct Seen {
+pub struct QueueCount {
     pub ok: bool,
     pub count: usize,
 }
 
 // Node c noted as the next of the queue, if it is below n, not marked yet, and the queue holds fewer than most.
-fn see(order: &mut [u16], marks: &mut [u8], n: u32, most: usize, count: usize, c: u32) -> Seen
-    requires { ⌜ Room n most (length (now order)) (length (now marks)) ⌝ }
+fn see(order: &mut [u16], marks: &mut [u8], n: u32, most: usize, count: usize, c: u32) -> QueueCount
+    requires { ⌜ QueueRoom n most (length (now order)) (length (now marks)) ⌝ }
     ensures { λ r. ⌜ queueOf r (now (order .exit)) (now (marks .exit)) ≡ noted n most c (queue true count (now (order .entry)) (now (marks .entry))) ⌝ }
 {
-    let no = Seen {
+    let no = QueueCount {
         ok: false,
         count: count,
     };
@@ -38,7 +38,7 @@ fn see(order: &mut [u16], marks: &mut [u8], n: u32, most: usize, count: usize, c
     }
     order[count] = c as u16;
     marks[c as usize] = 1;
-    Seen {
+    QueueCount {
         ok: true,
         count: count + 1,
     }
@@ -55,8 +55,8 @@ fn children(
     count: usize,
     k: u32,
     len: u32,
-) -> Seen
-    requires { ⌜ Area g (length (now inners)) × (k < g .nodes) × (len ≤ g .fan) × (len ≡ nodeAt g k (now inners) .len) × Room n most (length (now order)) (length (now marks)) ⌝ }
+) -> QueueCount
+    requires { ⌜ AreaHolds g (length (now inners)) × (k < g .nodes) × (len ≤ g .fan) × (len ≡ nodeAt g k (now inners) .len) × QueueRoom n most (length (now order)) (length (now marks)) ⌝ }
     ensures { λ r. ⌜ queueOf r (now (order .exit)) (now (marks .exit)) ≡ notedAll n most (kidsOf g (now (inners .entry)) k) (queue true count (now (order .entry)) (now (marks .entry))) ⌝ }
 {
     let mut noted = count;
@@ -70,7 +70,7 @@ fn children(
         noted = seen.count;
         i += 1;
     }
-    Seen {
+    QueueCount {
         ok: true,
         count: noted,
     }
@@ -87,8 +87,8 @@ pub fn level(
     count: usize,
     start: usize,
     end: usize,
-) -> Seen
-    requires { ⌜ Area g (length (now inners)) × Room n most (length (now order)) (length (now marks)) × (start ≤ end) × (end ≤ count) × (end ≤ length (now order)) × Parents g (now inners) start end (now order) ⌝ }
+) -> QueueCount
+    requires { ⌜ AreaHolds g (length (now inners)) × QueueRoom n most (length (now order)) (length (now marks)) × (start ≤ end) × (end ≤ count) × (end ≤ length (now order)) × Parents g (now inners) start end (now order) ⌝ }
     ensures { λ r. ⌜ queueOf r (now (order .exit)) (now (marks .exit)) ≡ notedAll n most (flatMap (kidsOf g (now (inners .entry))) (part start (end - start) (now (order .entry)))) (queue true count (now (order .entry)) (now (marks .entry))) ⌝ }
 {
     let mut noted = count;
@@ -103,7 +103,7 @@ pub fn level(
         noted = seen.count;
         j += 1;
     }
-    Seen {
+    QueueCount {
         ok: true,
         count: noted,
     }
@@ -125,7 +125,7 @@ fn below(
     n: u32,
     levels: usize,
 ) -> Levels
-    requires { ⌜ Lens g n (now inners) × Room n n (length (now order)) (length (now marks)) × (1 ≤ levels) × (1 ≤ n) × (getD (now order) 0 0 < n) ⌝ }
+    requires { ⌜ Lens g n (now inners) × QueueRoom n n (length (now order)) (length (now marks)) × (1 ≤ levels) × (1 ≤ n) × (getD (now order) 0 0 < n) ⌝ }
     ensures { λ r. ⌜ (queue (r .ok) (r .count) (now (order .exit)) (now (marks .exit)) ≡ notedAll n n (flatMap (levelIn (kidsOf g (now (inners .entry))) (getD (now (order .entry)) 0 0)) (range 1 (levels - 1))) (queue true 1 (now (order .entry)) (now (marks .entry)))) × (r .ok ≡ true → Last n (levelIn (kidsOf g (now (inners .entry))) (getD (now (order .entry)) 0 0) (levels - 1)) (r .start) (r .count) (now (order .exit))) ⌝ }
 {
     let most = n as usize;
@@ -162,7 +162,7 @@ pub fn inner_levels(
     root: u32,
     levels: usize,
 ) -> Levels
-    requires { ⌜ Lens g n (now inners) × Room n n (length (now order)) (length (now marks)) × (1 ≤ levels) ⌝ }
+    requires { ⌜ Lens g n (now inners) × QueueRoom n n (length (now order)) (length (now marks)) × (1 ≤ levels) ⌝ }
     ensures { λ r. ⌜ (queue (r .ok) (r .count) (now (order .exit)) (now (marks .exit)) ≡ notedAll n n (flatMap (levelIn (kidsOf g (now (inners .entry))) root) (range 0 levels)) (queue true 0 (now (order .entry)) (now (marks .entry)))) × (r .ok ≡ true → Last n (levelIn (kidsOf g (now (inners .entry))) root (levels - 1)) (r .start) (r .count) (now (order .exit))) ⌝ }
 {
     let first = see(order, marks, n, n as usize, 0, root);

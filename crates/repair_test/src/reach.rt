@@ -10,7 +10,7 @@ ghost use lib.Dec.{eqb};
 ghost use lib.ListN.{length};
 ghost use Rattle.model.specs.Mend.{isOnce};
 ghost use Rattle.repair_test.specs.Queue.{Lens, kidsOf};
-ghost use Rattle.repair_test.specs.Reach.{Marks, innersFrom, leavesFrom, idsFrom, Reached};
+ghost use Rattle.repair_test.specs.Reach.{Marks, innersFrom, leavesFrom, idsFrom, QueueReached};
 
 // Whether all could be noted, and as many as there are.
 fn is_full(ok: bool, count: usize, n: usize) -> bool
@@ -38,7 +38,7 @@ pub fn reach(
     entries: u32,
 ) -> Levels
     requires { ⌜ Lens g n (now inners) × Lens g m (now leaves) × (1 ≤ levels) × (n + m + entries ≤ length (now order)) × Marks n (now upper) × Marks m (now lower) × Marks entries (now named) ⌝ }
-    ensures { λ r. ⌜ (r .ok ≡ (isOnce n (innersFrom (kidsOf g (now (inners .entry))) root levels) && isOnce m (leavesFrom (kidsOf g (now (inners .entry))) root levels) && isOnce entries (idsFrom (kidsOf g (now (inners .entry))) (kidsOf g (now (leaves .entry))) root levels))) × (r .ok ≡ true → Reached (kidsOf g (now (inners .entry))) root levels n m (r .start) (now (order .exit))) ⌝ }
+    ensures { λ r. ⌜ (r .ok ≡ (isOnce n (innersFrom (kidsOf g (now (inners .entry))) root levels) && isOnce m (leavesFrom (kidsOf g (now (inners .entry))) root levels) && isOnce entries (idsFrom (kidsOf g (now (inners .entry))) (kidsOf g (now (leaves .entry))) root levels))) × (r .ok ≡ true → QueueReached (kidsOf g (now (inners .entry))) root levels n m (r .start) (now (order .exit))) ⌝ }
 {
     let a = n as usize;
     let b = a + m as usize;

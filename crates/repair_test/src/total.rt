@@ -8,12 +8,12 @@ ghost use Rattle.model.specs.Lists.{part};
 ghost use Rattle.model.specs.Node.{total, used};
 ghost use Rattle.model.specs.State.{nodeAt};
 ghost use Rattle.model.specs.Audit.{every};
-ghost use Rattle.area.specs.Area.{Area};
-ghost use Rattle.repair_test.specs.Total.{within, totalIn, Listed};
+ghost use Rattle.area.specs.Area.{AreaHolds};
+ghost use Rattle.repair_test.specs.Total.{within, totalIn, QueueListed};
 
 // The lengths of the slots in use of leaf k: at most 32 words.
 fn leaf_total(leaves: &[u32], g: Shape, view: usize, k: u32) -> u64
-    requires { ⌜ Area g (length (now leaves)) × (k < g .nodes) × (view + 1 < g .stride) ⌝ }
+    requires { ⌜ AreaHolds g (length (now leaves)) × (k < g .nodes) × (view + 1 < g .stride) ⌝ }
     ensures { λ r. ⌜ (r ≡ total view (used (nodeAt g k (now (leaves .entry))))) × (r ≤ 137438953440) ⌝ }
 {
     let size = g.size;
@@ -24,7 +24,7 @@ fn leaf_total(leaves: &[u32], g: Shape, view: usize, k: u32) -> u64
 
 // The same of the leaves in the queue from start up to end.
 fn total(leaves: &[u32], g: Shape, order: &[u16], view: usize, start: usize, end: usize) -> u64
-    requires { ⌜ Area g (length (now leaves)) × (view + 1 < g .stride) × (start ≤ end) × (end ≤ length (now order)) × (end ≤ 131072) × Listed (g .nodes) start end (now order) ⌝ }
+    requires { ⌜ AreaHolds g (length (now leaves)) × (view + 1 < g .stride) × (start ≤ end) × (end ≤ length (now order)) × (end ≤ 131072) × QueueListed (g .nodes) start end (now order) ⌝ }
     ensures { λ r. ⌜ r ≡ totalIn g (now (leaves .entry)) view (part start (end - start) (now (order .entry))) ⌝ }
 {
     let mut sum: u64 = 0;
@@ -38,7 +38,7 @@ fn total(leaves: &[u32], g: Shape, order: &[u16], view: usize, start: usize, end
 
 // Whether the totals are within u32, in every view.
 pub fn totals(leaves: &[u32], g: Shape, order: &[u16], start: usize, end: usize) -> bool
-    requires { ⌜ Area g (length (now leaves)) × (start ≤ end) × (end ≤ length (now order)) × (end ≤ 131072) × Listed (g .nodes) start end (now order) ⌝ }
+    requires { ⌜ AreaHolds g (length (now leaves)) × (start ≤ end) × (end ≤ length (now order)) × (end ≤ 131072) × QueueListed (g .nodes) start end (now order) ⌝ }
     ensures { λ r. ⌜ r ≡ every (within g (now (leaves .entry)) (part start (end - start) (now (order .entry)))) 0 (g .stride - 1) ⌝ }
 {
     let stride = g.stride;

@@ -13,9 +13,9 @@ use Rattle.model.specs.Node.{emptySlots}
 use Rattle.laws.specs.Slots.{flat}
 use Rattle.node.specs.Shaped.{Shaped}
 use Rattle.tally.specs.Tally.{tallied}
-use Rattle.repair_write.specs.Toward.{Same, Nearer, Goal, Near, slotAt, Empty}
+use Rattle.repair_write.specs.Toward.{WordsRight, Nearer, Goal, NearGoal, slotAt, Empty}
 use Rattle.repair_write.specs.Leaves.{idIn, HomesGoal, HomesDone, LeafGoal, LeafDone, lenOf, LeavesGoal, LeavesDone}
-use Rattle.repair_write.proofs.NearLaws.{Put, put-by, put-long, kept-same, near-none, near-on, near-leaves, near-beside, nearer-none, nearer-on, part-one}
+use Rattle.repair_write.proofs.NearLaws.{PutRight, put-by, put-long, kept-same, near-none, near-on, near-leaves, near-beside, nearer-none, nearer-on, part-one}
 use Rattle.repair_write.proofs.SlotLaws.{long-on, empty-put}
 
 last : {X : Type 0} (i j : ℕ) (b : Bool) → ltb j i ≡ b → j < i + 1 → (j < i → X) → (i ≡ j → X) → X
@@ -31,7 +31,7 @@ module _ (g : Shape) (k len : ℕ) (m ls ha : List ℕ) where
   homes-on w i n d id hb hc x h e l q =
       let y : getD m id 0 ≡ k = ap (λ (z : ℕ). getD m z 0) e ∙ w .home i h in
       let o : length m ≡ length hb = w .long ∙ sym (x .nearer .kept .long) in
-      let r : Put m hb d hc id 1 = put-by m hb (k ∷ []) hc id d q o (omega (arith, x .nearer .kept .long)) (part-one m id k (omega (arith, w .long)) y) in
+      let r : PutRight m hb d hc id 1 = put-by m hb (k ∷ []) hc id d q o (omega (arith, x .nearer .kept .long)) (part-one m id k (omega (arith, w .long)) y) in
       record {
         nearer = nearer-on m ha hb hc n d (x .nearer) (r .nearer);
         homes = λ j v. last i j (ltb j i) refl v (λ (z : j < i). r .nearer .kept .kept (idIn g ls k j) (x .homes j z))
@@ -39,7 +39,7 @@ module _ (g : Shape) (k len : ℕ) (m ls ha : List ℕ) where
       }
 
 leaf-done : (g : Shape) (k len : ℕ) (m : Goal) (la ha lb hb : List ℕ) (n d : ℕ) → LeafGoal g k len m la ha → (HomesGoal g k len (m .beside) la ha → HomesDone g k len (m .beside) la ha n hb)
-    → Put (m .leaves) la d lb (slotAt g k len) ((g .fan - len) * g .stride) → LeafDone g k len m la ha (n + d) lb hb
+    → PutRight (m .leaves) la d lb (slotAt g k len) ((g .fan - len) * g .stride) → LeafDone g k len m la ha (n + d) lb hb
 leaf-done g k len m la ha lb hb n d w f e =
     let r : HomesDone g k len (m .beside) la ha n hb = f (record { long = w .long .beside; home = w .home }) in
     record { near = near-on m la ha la hb lb hb n d (near-beside m la ha hb n (r .nearer)) (near-leaves m la lb hb d (e .nearer)); homes = r .homes; empty = e .same }
@@ -77,8 +77,8 @@ module _ (g : Shape) (n : ℕ) (m : Goal) (la ha : List ℕ) where
               (λ (z : k ≡ j). subst (λ (t : ℕ). i < lenOf g m t → getD hc (idIn g (m .leaves) t i) 0 ≡ getD (m .beside) (idIn g (m .leaves) t i) 0) z
               (λ (y : i < lenOf g m k). subst (λ (t : ℕ). getD hc t 0 ≡ getD (m .beside) t 0) (id-now i y) (r .homes i (omega (arith, e)))) l);
           empty = λ j v. last k j (ltb j k) refl v (λ (z : j < k). kept-same (r .near .leaves) (slotAt g j (lenOf g m j)) ((g .fan - lenOf g m j) * g .stride) (x .empty j z))
-              (λ (z : k ≡ j). subst (λ (t : ℕ). Same lc (m .leaves) (slotAt g t (lenOf g m t)) ((g .fan - lenOf g m t) * g .stride)) z
-              (subst (λ (t : ℕ). Same lc (m .leaves) (slotAt g k t) ((g .fan - t) * g .stride)) e (r .empty)));
+              (λ (z : k ≡ j). subst (λ (t : ℕ). WordsRight lc (m .leaves) (slotAt g t (lenOf g m t)) ((g .fan - lenOf g m t) * g .stride)) z
+              (subst (λ (t : ℕ). WordsRight lc (m .leaves) (slotAt g k t) ((g .fan - t) * g .stride)) e (r .empty)));
         }
 
   pub leaves-all : (k count : ℕ) (lb hb : List ℕ) → k ≤ n → n ≤ k → LeavesDone g k m la ha count lb hb → LeavesDone g n m la ha count lb hb

@@ -18,12 +18,12 @@ use Rattle.model.specs.declared.shape.Shape.{Shape}
 use Rattle.laws.specs.Differ.{differ-add}
 use Rattle.laws.specs.Words.{length-part, length-put, getD-part, part-none, part-front, part-part, part-same, getD-before, getD-after}
 use Rattle.tally.specs.Tally.{tallied}
-use Rattle.repair_write.specs.Toward.{Same, Kept, Nearer, Goal, Near, Ready}
+use Rattle.repair_write.specs.Toward.{WordsRight, WordsToward, Nearer, Goal, NearGoal, SlotsRight}
 
 -- n of the k words from word p on were wrong, and are right now
-pub record Put (m a : List ℕ) (n : ℕ) (b : List ℕ) (p k : ℕ) : Type 0 where
+pub record PutRight (m a : List ℕ) (n : ℕ) (b : List ℕ) (p k : ℕ) : Type 0 where
   pub nearer : Nearer m a n b
-  pub same : Same b m p k
+  pub same : WordsRight b m p k
 
 module _ (m ws src : List ℕ) (p : ℕ) (l : length m ≡ length ws) (h : p + length src ≤ length ws) (e : part p (length src) m ≡ src) where
   abbrev b : List ℕ
@@ -47,7 +47,7 @@ module _ (m ws src : List ℕ) (p : ℕ) (l : length m ≡ length ws) (h : p + l
   stay x y z (inl u) w = sym u ∙ w
   stay x y z (inr v) w = v
 
-  put-near : Put m ws (differ ws b) b p (length src)
+  put-near : PutRight m ws (differ ws b) b p (length src)
   put-near = record {
     nearer = record {
       kept = record { long = length-put p src ws h; kept = λ q w. stay (getD ws q 0) (getD b q 0) (getD m q 0) (which q) w };
@@ -57,35 +57,35 @@ module _ (m ws src : List ℕ) (p : ℕ) (l : length m ≡ length ws) (h : p + l
   }
 
 pub put-by : (m ws src now : List ℕ) (p n : ℕ) → _≡_ {A = ℕ × List ℕ} (n, now) (tallied p src ws) → length m ≡ length ws → p + length src ≤ length ws → part p (length src) m ≡ src
-    → Put m ws n now p (length src)
+    → PutRight m ws n now p (length src)
 unfolding tallied
-put-by m ws src now p n w l h e = subst (λ (z : ℕ × List ℕ). Put m ws (z .0) (z .1) p (length src)) (sym w) (put-near m ws src p l h e)
+put-by m ws src now p n w l h e = subst (λ (z : ℕ × List ℕ). PutRight m ws (z .0) (z .1) p (length src)) (sym w) (put-near m ws src p l h e)
 
 pub put-long : (ws src now : List ℕ) (p n : ℕ) → p + length src ≤ length ws → _≡_ {A = ℕ × List ℕ} (n, now) (tallied p src ws) → length now ≡ length ws
 unfolding tallied
 put-long ws src now p n h w = ap (λ (z : ℕ × List ℕ). length (z .1)) w ∙ length-put p src ws h
 
 -- one way after another
-pub kept-on : {m a b c : List ℕ} → Kept m a b → Kept m b c → Kept m a c
+pub kept-on : {m a b c : List ℕ} → WordsToward m a b → WordsToward m b c → WordsToward m a c
 kept-on x y = record { long = y .long ∙ x .long; kept = λ q w. y .kept q (x .kept q w) }
 
-pub kept-none : {m a : List ℕ} → Kept m a a
+pub kept-none : {m a : List ℕ} → WordsToward m a a
 kept-none = record { long = refl; kept = λ q w. w }
 
-pub kept-same : {m a b : List ℕ} → Kept m a b → (p n : ℕ) → Same a m p n → Same b m p n
+pub kept-same : {m a b : List ℕ} → WordsToward m a b → (p n : ℕ) → WordsRight a m p n → WordsRight b m p n
 kept-same x p n s q lo hi = x .kept q (s q lo hi)
 
 module _ (m : Goal) where
-  pub near-none : (la xa : List ℕ) → Near m la xa 0 la xa
+  pub near-none : (la xa : List ℕ) → NearGoal m la xa 0 la xa
   near-none la xa = record { leaves = kept-none; beside = kept-none; count = omega arith }
 
-  pub near-on : (la xa lb xb lc xc : List ℕ) (n k : ℕ) → Near m la xa n lb xb → Near m lb xb k lc xc → Near m la xa (n + k) lc xc
+  pub near-on : (la xa lb xb lc xc : List ℕ) (n k : ℕ) → NearGoal m la xa n lb xb → NearGoal m lb xb k lc xc → NearGoal m la xa (n + k) lc xc
   near-on la xa lb xb lc xc n k x y = record { leaves = kept-on (x .leaves) (y .leaves); beside = kept-on (x .beside) (y .beside); count = omega (arith, x .count, y .count) }
 
-  pub near-leaves : (la lb xa : List ℕ) (n : ℕ) → Nearer (m .leaves) la n lb → Near m la xa n lb xa
+  pub near-leaves : (la lb xa : List ℕ) (n : ℕ) → Nearer (m .leaves) la n lb → NearGoal m la xa n lb xa
   near-leaves la lb xa n x = record { leaves = x .kept; beside = kept-none; count = omega (arith, x .count) }
 
-  pub near-beside : (la xa xb : List ℕ) (n : ℕ) → Nearer (m .beside) xa n xb → Near m la xa n la xb
+  pub near-beside : (la xa xb : List ℕ) (n : ℕ) → Nearer (m .beside) xa n xb → NearGoal m la xa n la xb
   near-beside la xa xb n x = record { leaves = kept-none; beside = x .kept; count = omega (arith, x .count) }
 
 pub nearer-none : (m a : List ℕ) → Nearer m a 0 a
@@ -103,13 +103,13 @@ part-two ws q x y h ex ey =
 pub part-one : (ws : List ℕ) (q x : ℕ) → q < length ws → getD ws q 0 ≡ x → part q 1 ws ≡ x ∷ []
 part-one ws q x h ex = part-front q 0 ws h ∙ ap₂ (λ (a : ℕ) (l : List ℕ). a ∷ l) ex (part-none (q + 1) ws)
 
-same-part : (a m : List ℕ) (p n : ℕ) → length a ≡ length m → p + n ≤ length m → Same a m p n → part p n a ≡ part p n m
+same-part : (a m : List ℕ) (p n : ℕ) → length a ≡ length m → p + n ≤ length m → WordsRight a m p n → part p n a ≡ part p n m
 same-part a m p n l h s =
     let la : length (part p n a) ≡ n = length-part p n a (omega arith) in
     let lm : length (part p n m) ≡ n = length-part p n m h in
     ext-getD 0 (part p n a) (part p n m) (la ∙ sym lm) (λ i w. getD-part p n i a (omega arith) ∙ s (p + i) (omega arith) (omega arith) ∙ sym (getD-part p n i m (omega arith)))
 
-same-slots : (s n p : ℕ) (a m : List ℕ) → length a ≡ length m → p + n * s ≤ length m → Same a m p (n * s) → slotsFrom s n p a ≡ slotsFrom s n p m
+same-slots : (s n p : ℕ) (a m : List ℕ) → length a ≡ length m → p + n * s ≤ length m → WordsRight a m p (n * s) → slotsFrom s n p a ≡ slotsFrom s n p m
 unfolding slotsFrom
 same-slots s zero p a m l h w = refl
 same-slots s (suc n) p a m l h w =
@@ -126,7 +126,7 @@ slots-part s (suc n) q at size area h =
     ap₂ (λ (x : List ℕ) (xs : List (List ℕ)). x ∷ xs) (part-part at size q s area (omega arith)) (slots-part s n (q + s) at size area (omega arith) ∙ ap (λ (x : ℕ). slotsFrom s n x area) z)
 
 -- the slot for a node whose slots are the same
-pub slot-same : (g : Shape) (c : ℕ) (a m : List ℕ) → g .size ≡ 3 + g .fan * g .stride → length a ≡ length m → c * g .size + g .size ≤ length m → Ready g a m c → slotFor
+pub slot-same : (g : Shape) (c : ℕ) (a m : List ℕ) → g .size ≡ 3 + g .fan * g .stride → length a ≡ length m → c * g .size + g .size ≤ length m → SlotsRight g a m c → slotFor
     (g .stride) c (nodeAt g c a) ≡ slotFor (g .stride) c (nodeAt g c m)
 unfolding slotFor nodeOf
 slot-same g c a m e l h s =
@@ -135,7 +135,7 @@ slot-same g c a m e l h s =
     ∙ sym (slots-part (g .stride) (g .fan) 3 (c * g .size) (g .size) m (omega arith)))
 
 -- rows of words one after the other
-pub same-rows : (a m : List ℕ) (s n p : ℕ) → ((i : ℕ) → i < n → Same a m (p + i * s) s) → Same a m p (n * s)
+pub same-rows : (a m : List ℕ) (s n p : ℕ) → ((i : ℕ) → i < n → WordsRight a m (p + i * s) s) → WordsRight a m p (n * s)
 same-rows a m s zero p f q lo hi = absurd (omega (arith, zero-rows s))
   where
     zero-rows : (s : ℕ) → 0 * s ≡ 0

@@ -11,8 +11,8 @@ use Rattle.model.specs.State.{nodeAt}
 use Rattle.model.specs.declared.shape.Shape.{Shape}
 use Rattle.laws.specs.Areas.{len-at}
 use Rattle.node.specs.Shaped.{Shaped}
-use Rattle.repair_write.specs.Toward.{Same, Goal, Near, side, aim, slotAt, Ready, Empty, Linked}
-use Rattle.repair_write.specs.Nodes.{childIn, SlotsGoal, SlotsAimed, NodeDone, nodeOn, lenOn, Later, NodesGoal, NodesDone}
+use Rattle.repair_write.specs.Toward.{WordsRight, Goal, NearGoal, side, aim, slotAt, SlotsRight, Empty, LinkRight}
+use Rattle.repair_write.specs.Nodes.{childIn, SlotsGoal, SlotsAimed, NodeDone, nodeOn, lenOn, BehindInQueue, NodesGoal, NodesDone}
 use Rattle.repair_write.proofs.NearLaws.{kept-same, near-none, near-on}
 use Rattle.repair_write.proofs.SlotLaws.{long-on, side-kept}
 
@@ -27,11 +27,11 @@ module _ (g : Shape) (order : List ℕ) (last n : ℕ) (m : Goal) (la xa : List 
     pub len-now : getD xb (p * g .size) 0 ≡ lenOn g order last n m j
     len-now = d .near .beside .kept (p * g .size) (w .lens j h)
 
-    ready-now : (i : ℕ) → i < lenOn g order last n m j → (b : Bool) → leb last j ≡ b → Ready g (side b lb xb) (aim b m) (childIn g m p i)
+    ready-now : (i : ℕ) → i < lenOn g order last n m j → (b : Bool) → leb last j ≡ b → SlotsRight g (side b lb xb) (aim b m) (childIn g m p i)
     ready-now i l true q = kept-same (d .near .leaves) (childIn g m p i * g .size + 3) (g .fan * g .stride) (w .ready j i h (leb-true last j q) l)
     ready-now i l false q =
-        let r : Later g order last n j (childIn g m p i) = w .later j i (leb-false last j q) l in
-        subst (Ready g xb (m .beside)) (r .is) (d .slots (r .at) (omega (arith, r .behind)) (r .within))
+        let r : BehindInQueue g order last n j (childIn g m p i) = w .later j i (leb-false last j q) l in
+        subst (SlotsRight g xb (m .beside)) (r .is) (d .slots (r .at) (omega (arith, r .behind)) (r .within))
 
     pub slots-goal : (len : ℕ) → len ≡ lenOn g order last n m j → SlotsGoal g (leb last j) p len m lb xb
     slots-goal len q =
@@ -54,10 +54,10 @@ module _ (g : Shape) (order : List ℕ) (last n : ℕ) (m : Goal) (la xa : List 
         record {
           near = near-on m la xa lb xb lc xc count k (d .near) (r .near);
           slots = λ x lo hi. which x (ltb j x) refl lo (λ (y : j < x). kept-same (r .near .beside) (nodeOn g order last n x * g .size + 3) (g .fan * g .stride)
-              (d .slots x (omega arith) hi)) (λ (y : j ≡ x). subst (λ (z : ℕ). Ready g xc (m .beside) (nodeOn g order last n z)) y (r .slots));
+              (d .slots x (omega arith) hi)) (λ (y : j ≡ x). subst (λ (z : ℕ). SlotsRight g xc (m .beside) (nodeOn g order last n z)) y (r .slots));
           links = λ x i lo hi l. which x (ltb j x) refl lo
               (λ (y : j < x). kept-same (side-kept (leb last x) m lb xb lc xc k (r .near)) (childIn g m (nodeOn g order last n x) i * g .size + 1) 2 (d .links x i (omega arith) hi l))
-              (λ (y : j ≡ x). subst (λ (z : ℕ). i < lenOn g order last n m z → Linked g (side (leb last z) lc xc) (aim (leb last z) m) (childIn g m (nodeOn g order last n z) i)) y
+              (λ (y : j ≡ x). subst (λ (z : ℕ). i < lenOn g order last n m z → LinkRight g (side (leb last z) lc xc) (aim (leb last z) m) (childIn g m (nodeOn g order last n z) i)) y
               (λ (v : i < lenOn g order last n m j). r .links i (omega (arith, q))) l);
         }
       where

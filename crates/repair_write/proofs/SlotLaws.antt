@@ -18,11 +18,11 @@ use Rattle.laws.specs.Formed.{empty-wide}
 use Rattle.laws.specs.Areas.{column-at}
 use Rattle.laws.specs.AreaRead.{node-end}
 use Rattle.node.specs.Shaped.{Shaped}
-use Rattle.area.specs.Area.{Area}
+use Rattle.area.specs.Area.{AreaHolds}
 use Rattle.tally.specs.Tally.{tallied}
-use Rattle.repair_write.specs.Toward.{Same, Kept, Nearer, Goal, Near, Long, side, aim, slotAt, SlotAim, Ready, Empty, Linked, SlotGoal, SlotDone}
+use Rattle.repair_write.specs.Toward.{WordsRight, WordsToward, Nearer, Goal, NearGoal, LongGoal, side, aim, slotAt, SlotAim, SlotsRight, Empty, LinkRight, SlotGoal, SlotDone}
 use Rattle.repair_write.specs.Nodes.{childIn, SlotsGoal, SlotsDone, NodeDone}
-use Rattle.repair_write.proofs.NearLaws.{Put, put-by, put-long, kept-same, near-none, near-on, near-leaves, near-beside, part-two, slot-same, same-rows}
+use Rattle.repair_write.proofs.NearLaws.{PutRight, put-by, put-long, kept-same, near-none, near-on, near-leaves, near-beside, part-two, slot-same, same-rows}
 
 -- a slot ends within its node
 pub slot-end : (g : Shape) → Shaped g → (p i l : ℕ) → i < g .fan → p * g .size + g .size ≤ l → slotAt g p i + g .stride ≤ l
@@ -36,39 +36,39 @@ module _ (g : Shape) (c p i : ℕ) (s : Shaped g) (hc : c < g .nodes) (hp : p < 
 
   -- the slot put behind a link that was written
   slot-put : (xa : List ℕ) (src xb : List ℕ) (n : ℕ) → g .nodes * g .size ≤ length xa → length (m .beside) ≡ length xa → _≡_ {A = ℕ × List ℕ} (n, xb) (tallied (slotAt g p i) src xa)
-      → src ≡ part (slotAt g p i) (g .stride) (m .beside) → Put (m .beside) xa n xb (slotAt g p i) (g .stride)
+      → src ≡ part (slotAt g p i) (g .stride) (m .beside) → PutRight (m .beside) xa n xb (slotAt g p i) (g .stride)
   slot-put xa src xb n a l e q =
       let h : slotAt g p i + g .stride ≤ length xa = slot-end g s p i (length xa) hi (node-end g p (length xa) hp a) in
       let k : length src ≡ g .stride = ap length q ∙ length-part (slotAt g p i) (g .stride) (m .beside) (omega arith) in
-      subst (λ (z : ℕ). Put (m .beside) xa n xb (slotAt g p i) z) k
+      subst (λ (z : ℕ). PutRight (m .beside) xa n xb (slotAt g p i) z) k
       (put-by (m .beside) xa src xb (slotAt g p i) n e l (omega arith) (ap (λ (z : ℕ). part (slotAt g p i) z (m .beside)) k ∙ sym q))
 
   pub leaf-done : (ls xs src l₁ x₁ : List ℕ) (n₁ n₂ : ℕ) → g .nodes * g .size ≤ length ls → g .nodes * g .size ≤ length xs → _≡_ {A = ℕ × List ℕ} (n₁, l₁) (tallied (c * g .size + 1) (p ∷ i ∷ []) ls)
       → src ≡ slotFor (g .stride) c (nodeAt g c l₁) → _≡_ {A = ℕ × List ℕ} (n₂, x₁) (tallied (slotAt g p i) src xs) → SlotGoal g true c p i m ls xs → SlotDone g true c p i m ls xs (n₁ + n₂) l₁ x₁
   leaf-done ls xs src l₁ x₁ n₁ n₂ al ax e₁ es e₂ w =
       let le : c * g .size + g .size ≤ length ls = node-end g c (length ls) hc al in
-      let one : Put (m .leaves) ls n₁ l₁ (c * g .size + 1) 2 =
+      let one : PutRight (m .leaves) ls n₁ l₁ (c * g .size + 1) 2 =
       put-by (m .leaves) ls (p ∷ i ∷ []) l₁ (c * g .size + 1) n₁ e₁ (w .long .leaves) (omega (arith, s .words)) (link-words true (w .slot) (omega (arith, w .long .leaves)))
       in
       let q : src ≡ part (slotAt g p i) (g .stride) (m .beside) =
       es ∙ slot-same g c l₁ (m .leaves) (s .words) (one .nearer .kept .long ∙ sym (w .long .leaves)) (omega (arith, w .long .leaves))
       (kept-same (one .nearer .kept) (c * g .size + 3) (g .fan * g .stride) (w .ready)) ∙ sym (w .slot .slot)
       in
-      let two : Put (m .beside) xs n₂ x₁ (slotAt g p i) (g .stride) = slot-put xs src x₁ n₂ ax (w .long .beside) e₂ q in
+      let two : PutRight (m .beside) xs n₂ x₁ (slotAt g p i) (g .stride) = slot-put xs src x₁ n₂ ax (w .long .beside) e₂ q in
       record { near = near-on m ls xs l₁ xs l₁ x₁ n₁ n₂ (near-leaves m ls l₁ xs n₁ (one .nearer)) (near-beside m l₁ xs x₁ n₂ (two .nearer)); link = one .same; slot = two .same }
 
   pub inner-done : (ls xs src x₁ x₂ : List ℕ) (n₁ n₂ : ℕ) → g .nodes * g .size ≤ length xs → _≡_ {A = ℕ × List ℕ} (n₁, x₁) (tallied (c * g .size + 1) (p ∷ i ∷ []) xs)
       → src ≡ slotFor (g .stride) c (nodeAt g c x₁) → _≡_ {A = ℕ × List ℕ} (n₂, x₂) (tallied (slotAt g p i) src x₁) → SlotGoal g false c p i m ls xs → SlotDone g false c p i m ls xs (n₁ + n₂) ls x₂
   inner-done ls xs src x₁ x₂ n₁ n₂ ax e₁ es e₂ w =
       let le : c * g .size + g .size ≤ length xs = node-end g c (length xs) hc ax in
-      let one : Put (m .beside) xs n₁ x₁ (c * g .size + 1) 2 =
+      let one : PutRight (m .beside) xs n₁ x₁ (c * g .size + 1) 2 =
       put-by (m .beside) xs (p ∷ i ∷ []) x₁ (c * g .size + 1) n₁ e₁ (w .long .beside) (omega (arith, s .words)) (link-words false (w .slot) (omega (arith, w .long .beside)))
       in
       let k : length (m .beside) ≡ length x₁ = w .long .beside ∙ sym (one .nearer .kept .long) in
       let q : src ≡ part (slotAt g p i) (g .stride) (m .beside) =
       es ∙ slot-same g c x₁ (m .beside) (s .words) (sym k) (omega (arith, w .long .beside)) (kept-same (one .nearer .kept) (c * g .size + 3) (g .fan * g .stride) (w .ready)) ∙ sym (w .slot .slot)
       in
-      let two : Put (m .beside) x₁ n₂ x₂ (slotAt g p i) (g .stride) = slot-put x₁ src x₂ n₂ (omega (arith, one .nearer .kept .long)) k e₂ q in
+      let two : PutRight (m .beside) x₁ n₂ x₂ (slotAt g p i) (g .stride) = slot-put x₁ src x₂ n₂ (omega (arith, one .nearer .kept .long)) k e₂ q in
       record {
         near = near-on m ls xs ls x₁ ls x₂ n₁ n₂ (near-beside m ls xs x₁ n₁ (one .nearer)) (near-beside m ls x₁ x₂ n₂ (two .nearer));
         link = kept-same (two .nearer .kept) (c * g .size + 1) 2 (one .same);
@@ -81,11 +81,12 @@ by-level g lowest b c p i n m la xa lb xb e f = subst (λ (x : Bool). SlotGoal g
 
 -- the slots of a node one after the other ------------------------------------------------------------------------------------------------------------
 
-pub side-kept : (lowest : Bool) (m : Goal) (la xa lb xb : List ℕ) (n : ℕ) → Near m la xa n lb xb → Kept (aim lowest m) (side lowest la xa) (side lowest lb xb)
+pub side-kept : (lowest : Bool) (m : Goal) (la xa lb xb : List ℕ) (n : ℕ) → NearGoal m la xa n lb xb
+    → WordsToward (aim lowest m) (side lowest la xa) (side lowest lb xb)
 side-kept true m la xa lb xb n w = w .leaves
 side-kept false m la xa lb xb n w = w .beside
 
-pub long-on : (m : Goal) (la xa lb xb : List ℕ) (n : ℕ) → Near m la xa n lb xb → Long m la xa → Long m lb xb
+pub long-on : (m : Goal) (la xa lb xb : List ℕ) (n : ℕ) → NearGoal m la xa n lb xb → LongGoal m la xa → LongGoal m lb xb
 long-on m la xa lb xb n w l = record { leaves = l .leaves ∙ sym (w .leaves .long); beside = l .beside ∙ sym (w .beside .long) }
 
 module _ (g : Shape) (lowest : Bool) (p len : ℕ) (m : Goal) (la xa : List ℕ) where
@@ -114,9 +115,9 @@ module _ (g : Shape) (lowest : Bool) (p len : ℕ) (m : Goal) (la xa : List ℕ)
         record {
           near = near-on m la xa lb xb lc xc n k (d .near) (r .near);
           links = λ j l. last j (ltb j i) refl l (λ (y : j < i). kept-same kept (childIn g m p j * g .size + 1) 2 (d .links j y))
-              (λ (y : i ≡ j). subst (λ (x : ℕ). Linked g (side lowest lc xc) (aim lowest m) (childIn g m p x)) y (subst (Linked g (side lowest lc xc) (aim lowest m)) e (r .link)));
+              (λ (y : i ≡ j). subst (λ (x : ℕ). LinkRight g (side lowest lc xc) (aim lowest m) (childIn g m p x)) y (subst (LinkRight g (side lowest lc xc) (aim lowest m)) e (r .link)));
           slots = λ j l. last j (ltb j i) refl l (λ (y : j < i). kept-same (r .near .beside) (slotAt g p j) (g .stride) (d .slots j y))
-              (λ (y : i ≡ j). subst (λ (x : ℕ). Same xc (m .beside) (slotAt g p x) (g .stride)) y (r .slot));
+              (λ (y : i ≡ j). subst (λ (x : ℕ). WordsRight xc (m .beside) (slotAt g p x) (g .stride)) y (r .slot));
         }
       where
         last : {X : Type 0} (j : ℕ) (b : Bool) → ltb j i ≡ b → j < i + 1 → (j < i → X) → (i ≡ j → X) → X
@@ -137,30 +138,31 @@ module _ (g : Shape) (s : Shaped g) (p len : ℕ) (hp : p < g .nodes) (hl : len 
     blank-long : length (flat (emptySlots (g .stride) (g .fan - len))) ≡ (g .fan - len) * g .stride
     blank-long = sym (ap length w) ∙ length-part (slotAt g p len) ((g .fan - len) * g .stride) m (omega (arith, s .words, rows-between len (g .fan) (g .stride) hl, node-end g p (length ws) hp a))
 
-    pub empty-put : Put m ws n now (slotAt g p len) ((g .fan - len) * g .stride)
+    pub empty-put : PutRight m ws n now (slotAt g p len) ((g .fan - len) * g .stride)
     empty-put =
-        subst (λ (z : ℕ). Put m ws n now (slotAt g p len) z) blank-long
+        subst (λ (z : ℕ). PutRight m ws n now (slotAt g p len) z) blank-long
         (put-by m ws (flat (emptySlots (g .stride) (g .fan - len))) now (slotAt g p len) n e l
         (omega (arith, blank-long, s .words, rows-between len (g .fan) (g .stride) hl, node-end g p (length ws) hp a))
         (ap (λ (z : ℕ). part (slotAt g p len) z m) blank-long ∙ w))
 
 -- slots in use and unused ones are all
-pub all-slots : (g : Shape) (p len : ℕ) (a m : List ℕ) → len ≤ g .fan → ((i : ℕ) → i < len → Same a m (slotAt g p i) (g .stride)) → Same a m (slotAt g p len)
-    ((g .fan - len) * g .stride) → Ready g a m p
+pub all-slots : (g : Shape) (p len : ℕ) (a m : List ℕ) → len ≤ g .fan → ((i : ℕ) → i < len → WordsRight a m (slotAt g p i) (g .stride))
+    → WordsRight a m (slotAt g p len)
+    ((g .fan - len) * g .stride) → SlotsRight g a m p
 all-slots g p len a m h f e q lo hi = go (ltb q (slotAt g p len)) refl
   where
-    rows : Same a m (p * g .size + 3) (len * g .stride)
+    rows : WordsRight a m (p * g .size + 3) (len * g .stride)
     rows = same-rows a m (g .stride) len (p * g .size + 3) (λ i l q lo hi. f i l q (omega arith) (omega arith))
 
     go : (b : Bool) → ltb q (slotAt g p len) ≡ b → getD a q 0 ≡ getD m q 0
     go true y = let z : q < slotAt g p len = ltb-true q (slotAt g p len) y in rows q lo (omega arith)
     go false y = e q (ltb-false q (slotAt g p len) y) (omega (arith, rows-between len (g .fan) (g .stride) h))
 
-pub node-done : (g : Shape) (lowest : Bool) (p len : ℕ) (m : Goal) (la xa lb xb xc : List ℕ) (n k : ℕ) → len ≤ g .fan → SlotsDone g lowest p len m la xa n lb xb → Put
+pub node-done : (g : Shape) (lowest : Bool) (p len : ℕ) (m : Goal) (la xa lb xb xc : List ℕ) (n k : ℕ) → len ≤ g .fan → SlotsDone g lowest p len m la xa n lb xb → PutRight
     (m .beside) xb k xc (slotAt g p len) ((g .fan - len) * g .stride)
     → NodeDone g lowest p len m la xa (n + k) lb xc
 node-done g lowest p len m la xa lb xb xc n k h d e =
-    let r : Near m lb xb k lb xc = near-beside m lb xb xc k (e .nearer) in
+    let r : NearGoal m lb xb k lb xc = near-beside m lb xb xc k (e .nearer) in
     record {
       near = near-on m la xa lb xb lb xc n k (d .near) r;
       links = λ i l. kept-same (side-kept lowest m lb xb lb xc k r) (childIn g m p i * g .size + 1) 2 (d .links i l);
@@ -168,7 +170,7 @@ node-done g lowest p len m la xa lb xb xc n k h d e =
     }
 
 -- an area of the same length holds as many nodes
-pub area-now : (g : Shape) (a b : ℕ) → b ≡ a → Area g a → Area g b
+pub area-now : (g : Shape) (a b : ℕ) → b ≡ a → AreaHolds g a → AreaHolds g b
 area-now g a b e w = record { shaped = w .shaped; room = omega (arith, w .room) }
 
 pub child-below : (g : Shape) (lowest : Bool) (p len : ℕ) (m : Goal) (la xa : List ℕ) → SlotsGoal g lowest p len m la xa → (i n : ℕ) (lb xb : List ℕ) → SlotsDone g lowest p i m la xa n lb xb → i < len
@@ -187,6 +189,6 @@ node-by g lowest p len m la xa lb xb xc n k s hp hl w d a e v =
     node-done g lowest p len m la xa lb xb xc n k hl d (empty-put g s p len hp hl (m .beside) xb xc k (long-on m la xa lb xb n (d .near) (w .long) .beside) a e v)
 
 -- a link leaves the area as long as it was
-pub link-long : (g : Shape) (c x y : ℕ) (ws now : List ℕ) (n : ℕ) → Area g (length ws) → c < g .nodes → _≡_ {A = ℕ × List ℕ} (n, now) (tallied (c * g .size + 1) (x ∷ y ∷ []) ws)
+pub link-long : (g : Shape) (c x y : ℕ) (ws now : List ℕ) (n : ℕ) → AreaHolds g (length ws) → c < g .nodes → _≡_ {A = ℕ × List ℕ} (n, now) (tallied (c * g .size + 1) (x ∷ y ∷ []) ws)
     → length now ≡ length ws
 link-long g c x y ws now n a h e = put-long ws (x ∷ y ∷ []) now (c * g .size + 1) n (omega (arith, a .shaped .words, node-end g c (length ws) h (a .room))) e

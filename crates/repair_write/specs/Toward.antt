@@ -13,17 +13,17 @@ use Rattle.model.specs.declared.shape.Shape.{Shape}
 use Rattle.laws.specs.Slots.{flat}
 
 -- n words from word p on are those aimed at
-abbrev pub Same : List ℕ → List ℕ → ℕ → ℕ → Type 0
-Same a m p n = (q : ℕ) → p ≤ q → q < p + n → getD a q 0 ≡ getD m q 0
+abbrev pub WordsRight : List ℕ → List ℕ → ℕ → ℕ → Type 0
+WordsRight a m p n = (q : ℕ) → p ≤ q → q < p + n → getD a q 0 ≡ getD m q 0
 
 -- an area on its way from a to m
-pub record Kept (m a b : List ℕ) : Type 0 where
+pub record WordsToward (m a b : List ℕ) : Type 0 where
   pub long : length b ≡ length a
   pub kept : (q : ℕ) → getD a q 0 ≡ getD m q 0 → getD b q 0 ≡ getD m q 0
 
 -- n words were written that differ from before
 pub record Nearer (m a : List ℕ) (n : ℕ) (b : List ℕ) : Type 0 where
-  pub kept : Kept m a b
+  pub kept : WordsToward m a b
   pub count : n + differ b m ≡ differ a m
 
 -- the leaves aimed at, and what is written beside them: inner nodes, or homes
@@ -31,12 +31,12 @@ pub record Goal : Type 0 where
   pub leaves : List ℕ
   pub beside : List ℕ
 
-pub record Near (m : Goal) (la xa : List ℕ) (n : ℕ) (lb xb : List ℕ) : Type 0 where
-  pub leaves : Kept (m .leaves) la lb
-  pub beside : Kept (m .beside) xa xb
+pub record NearGoal (m : Goal) (la xa : List ℕ) (n : ℕ) (lb xb : List ℕ) : Type 0 where
+  pub leaves : WordsToward (m .leaves) la lb
+  pub beside : WordsToward (m .beside) xa xb
   pub count : n + (differ lb (m .leaves) + differ xb (m .beside)) ≡ differ la (m .leaves) + differ xa (m .beside)
 
-pub record Long (m : Goal) (ls xs : List ℕ) : Type 0 where
+pub record LongGoal (m : Goal) (ls xs : List ℕ) : Type 0 where
   pub leaves : length (m .leaves) ≡ length ls
   pub beside : length (m .beside) ≡ length xs
 
@@ -59,23 +59,23 @@ module _ (g : Shape) where
     pub slot : part (slotAt p i) (g .stride) (m .beside) ≡ slotFor (g .stride) c (nodeAt g c (aim lowest m))
 
   -- the slots of node c are right
-  abbrev pub Ready : List ℕ → List ℕ → ℕ → Type 0
-  Ready a m c = Same a m (c * g .size + 3) (g .fan * g .stride)
+  abbrev pub SlotsRight : List ℕ → List ℕ → ℕ → Type 0
+  SlotsRight a m c = WordsRight a m (c * g .size + 3) (g .fan * g .stride)
 
   -- its slots from slot len on are empty
   abbrev pub Empty : List ℕ → ℕ → ℕ → Type 0
   Empty m p len = part (slotAt p len) ((g .fan - len) * g .stride) m ≡ flat (emptySlots (g .stride) (g .fan - len))
 
   -- its parent and place are
-  abbrev pub Linked : List ℕ → List ℕ → ℕ → Type 0
-  Linked a m c = Same a m (c * g .size + 1) 2
+  abbrev pub LinkRight : List ℕ → List ℕ → ℕ → Type 0
+  LinkRight a m c = WordsRight a m (c * g .size + 1) 2
 
   pub record SlotGoal (lowest : Bool) (c p i : ℕ) (m : Goal) (ls xs : List ℕ) : Type 0 where
-    pub long : Long m ls xs
+    pub long : LongGoal m ls xs
     pub slot : SlotAim lowest c p i m
-    pub ready : Ready (side lowest ls xs) (aim lowest m) c
+    pub ready : SlotsRight (side lowest ls xs) (aim lowest m) c
 
   pub record SlotDone (lowest : Bool) (c p i : ℕ) (m : Goal) (la xa : List ℕ) (n : ℕ) (lb xb : List ℕ) : Type 0 where
-    pub near : Near m la xa n lb xb
-    pub link : Linked (side lowest lb xb) (aim lowest m) c
-    pub slot : Same xb (m .beside) (slotAt p i) (g .stride)
+    pub near : NearGoal m la xa n lb xb
+    pub link : LinkRight (side lowest lb xb) (aim lowest m) c
+    pub slot : WordsRight xb (m .beside) (slotAt p i) (g .stride)

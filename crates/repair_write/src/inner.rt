@@ -12,14 +12,14 @@ ghost use mathlib.Core.List.{List};
 ghost use Prim.Native.Nat.{ℕ, _+_, _*_, _<_, _≤_};
 ghost use lib.ListN.{length};
 ghost use Rattle.model.specs.State.{nodeAt};
-ghost use Rattle.area.specs.Area.{Area};
+ghost use Rattle.area.specs.Area.{AreaHolds};
 ghost use Rattle.repair_write.specs.Blank.{Blank};
 ghost use Rattle.repair_write.specs.Toward.{Goal, Empty, SlotGoal, SlotDone};
 ghost use Rattle.repair_write.specs.Nodes.{SlotsGoal, SlotsDone, SlotsAimed, NodeDone, NodesGoal, NodesAimed, NodesDone};
 
 // Slot i of inner node p, which holds leaf c.
 fn over_leaf(leaves: &mut [u32], inners: &mut [u32], g: Shape, c: u32, p: u32, i: u32) -> usize
-    requires { ⌜ Area g (length (now leaves)) × Area g (length (now inners)) × (c < g .nodes) × (p < g .nodes) × (i < g .fan) ⌝ }
+    requires { ⌜ AreaHolds g (length (now leaves)) × AreaHolds g (length (now inners)) × (c < g .nodes) × (p < g .nodes) × (i < g .fan) ⌝ }
     ensures { λ r. ⌜ (r ≤ 6) × ((m : Goal) → SlotGoal g true c p i m (now (leaves .entry)) (now (inners .entry)) → SlotDone g true c p i m (now (leaves .entry)) (now (inners .entry)) r (now (leaves .exit)) (now (inners .exit))) ⌝ }
 {
     let mut x: [u32; 4] = [0; 4];
@@ -30,7 +30,7 @@ fn over_leaf(leaves: &mut [u32], inners: &mut [u32], g: Shape, c: u32, p: u32, i
 
 // Slot i of inner node p, which holds inner node c.
 fn over_inner(inners: &mut [u32], g: Shape, c: u32, p: u32, i: u32) -> usize
-    requires { ⌜ Area g (length (now inners)) × (c < g .nodes) × (p < g .nodes) × (i < g .fan) ⌝ }
+    requires { ⌜ AreaHolds g (length (now inners)) × (c < g .nodes) × (p < g .nodes) × (i < g .fan) ⌝ }
     ensures { λ r. ⌜ (r ≤ 6) × ((m : Goal) (ls : List ℕ) → SlotGoal g false c p i m ls (now (inners .entry)) → SlotDone g false c p i m ls (now (inners .entry)) r ls (now (inners .exit))) ⌝ }
 {
     let mut x: [u32; 4] = [0; 4];
@@ -49,7 +49,7 @@ fn over(
     p: u32,
     i: u32,
 ) -> usize
-    requires { ⌜ Area g (length (now leaves)) × Area g (length (now inners)) × (c < g .nodes) × (p < g .nodes) × (i < g .fan) ⌝ }
+    requires { ⌜ AreaHolds g (length (now leaves)) × AreaHolds g (length (now inners)) × (c < g .nodes) × (p < g .nodes) × (i < g .fan) ⌝ }
     ensures { λ r. ⌜ (r ≤ 6) × ((m : Goal) → SlotGoal g lowest c p i m (now (leaves .entry)) (now (inners .entry)) → SlotDone g lowest c p i m (now (leaves .entry)) (now (inners .entry)) r (now (leaves .exit)) (now (inners .exit))) ⌝ }
 {
     if lowest {
@@ -60,7 +60,7 @@ fn over(
 
 // The slots in use of inner node p.
 fn slots(leaves: &mut [u32], inners: &mut [u32], g: Shape, lowest: bool, p: u32, len: u32) -> usize
-    requires { ⌜ Area g (length (now leaves)) × Area g (length (now inners)) × (p < g .nodes) × (len ≤ g .fan) × SlotsAimed g lowest p len (now leaves) (now inners) ⌝ }
+    requires { ⌜ AreaHolds g (length (now leaves)) × AreaHolds g (length (now inners)) × (p < g .nodes) × (len ≤ g .fan) × SlotsAimed g lowest p len (now leaves) (now inners) ⌝ }
     ensures { λ r. ⌜ (r ≤ 6 * len) × ((m : Goal) → SlotsGoal g lowest p len m (now (leaves .entry)) (now (inners .entry)) → SlotsDone g lowest p len m (now (leaves .entry)) (now (inners .entry)) r (now (leaves .exit)) (now (inners .exit))) ⌝ }
 {
     let mut count: usize = 0;
@@ -83,7 +83,7 @@ fn node(
     p: u32,
     len: u32,
 ) -> usize
-    requires { ⌜ Area g (length (now leaves)) × Area g (length (now inners)) × Blank (g .stride) (now blank) × (p < g .nodes) × (len ≤ g .fan) × SlotsAimed g lowest p len (now leaves) (now inners) ⌝ }
+    requires { ⌜ AreaHolds g (length (now leaves)) × AreaHolds g (length (now inners)) × Blank (g .stride) (now blank) × (p < g .nodes) × (len ≤ g .fan) × SlotsAimed g lowest p len (now leaves) (now inners) ⌝ }
     ensures { λ r. ⌜ (r ≤ 320) × ((m : Goal) → SlotsGoal g lowest p len m (now (leaves .entry)) (now (inners .entry)) → Empty g (m .beside) p len → NodeDone g lowest p len m (now (leaves .entry)) (now (inners .entry)) r (now (leaves .exit)) (now (inners .exit))) ⌝ }
 {
     let n = slots(leaves, inners, g, lowest, p, len);
@@ -100,7 +100,7 @@ pub fn nodes(
     last: usize,
     n: usize,
 ) -> usize
-    requires { ⌜ Area g (length (now leaves)) × Area g (length (now inners)) × Blank (g .stride) (now blank) × (n ≤ length (now order)) × (n ≤ 65536) × NodesAimed g (now order) last n (now leaves) (now inners) ⌝ }
+    requires { ⌜ AreaHolds g (length (now leaves)) × AreaHolds g (length (now inners)) × Blank (g .stride) (now blank) × (n ≤ length (now order)) × (n ≤ 65536) × NodesAimed g (now order) last n (now leaves) (now inners) ⌝ }
     ensures { λ r. ⌜ (r ≤ 320 * n) × ((m : Goal) → NodesGoal g (now (order .entry)) last n m (now (leaves .entry)) (now (inners .entry)) → NodesDone g (now (order .entry)) last n m 0 (now (leaves .entry)) (now (inners .entry)) r (now (leaves .exit)) (now (inners .exit))) ⌝ }
 {
     let mut count: usize = 0;

@@ -8,14 +8,14 @@ ghost use mathlib.Core.Path.{_≡_};
 ghost use mathlib.Core.List.{List};
 ghost use Prim.Native.Nat.{ℕ, _+_, _*_, _<_, _≤_};
 ghost use lib.ListN.{length, getD};
-ghost use Rattle.area.specs.Area.{Area};
+ghost use Rattle.area.specs.Area.{AreaHolds};
 ghost use Rattle.repair_write.specs.Blank.{Blank};
 ghost use Rattle.repair_write.specs.Toward.{Goal, slotAt};
 ghost use Rattle.repair_write.specs.Leaves.{HomesGoal, HomesDone, LeafGoal, LeafDone, LeavesGoal, LeavesAimed, LeavesDone};
 
 // The homes of the entries in leaf k.
 fn homes_of(leaves: &[u32], homes: &mut [u32], g: Shape, k: u32, len: u32) -> usize
-    requires { ⌜ Area g (length (now leaves)) × (k < g .nodes) × (len ≤ g .fan) × ((i : ℕ) → i < len → getD (now leaves) (slotAt g k i) 0 < length (now homes)) ⌝ }
+    requires { ⌜ AreaHolds g (length (now leaves)) × (k < g .nodes) × (len ≤ g .fan) × ((i : ℕ) → i < len → getD (now leaves) (slotAt g k i) 0 < length (now homes)) ⌝ }
     ensures { λ r. ⌜ (r ≤ len) × ((m : List ℕ) → HomesGoal g k len m (now (leaves .entry)) (now (homes .entry)) → HomesDone g k len m (now (leaves .entry)) (now (homes .entry)) r (now (homes .exit))) ⌝ }
 {
     let mut count: usize = 0;
@@ -30,7 +30,7 @@ fn homes_of(leaves: &[u32], homes: &mut [u32], g: Shape, k: u32, len: u32) -> us
 
 // Leaf k, of which len slots are in use.
 fn leaf(leaves: &mut [u32], homes: &mut [u32], g: Shape, blank: &[u32], k: u32, len: u32) -> usize
-    requires { ⌜ Area g (length (now leaves)) × Blank (g .stride) (now blank) × (k < g .nodes) × (len ≤ g .fan) × ((i : ℕ) → i < len → getD (now leaves) (slotAt g k i) 0 < length (now homes)) ⌝ }
+    requires { ⌜ AreaHolds g (length (now leaves)) × Blank (g .stride) (now blank) × (k < g .nodes) × (len ≤ g .fan) × ((i : ℕ) → i < len → getD (now leaves) (slotAt g k i) 0 < length (now homes)) ⌝ }
     ensures { λ r. ⌜ (r ≤ 160) × ((m : Goal) → LeafGoal g k len m (now (leaves .entry)) (now (homes .entry)) → LeafDone g k len m (now (leaves .entry)) (now (homes .entry)) r (now (leaves .exit)) (now (homes .exit))) ⌝ }
 {
     let n = homes_of(leaves, homes, g, k, len);
@@ -39,7 +39,7 @@ fn leaf(leaves: &mut [u32], homes: &mut [u32], g: Shape, blank: &[u32], k: u32, 
 
 // The first n leaves.
 pub fn each_leaf(leaves: &mut [u32], homes: &mut [u32], g: Shape, blank: &[u32], n: u32) -> usize
-    requires { ⌜ Area g (length (now leaves)) × Blank (g .stride) (now blank) × (n ≤ g .nodes) × LeavesAimed g n (now leaves) (now homes) ⌝ }
+    requires { ⌜ AreaHolds g (length (now leaves)) × Blank (g .stride) (now blank) × (n ≤ g .nodes) × LeavesAimed g n (now leaves) (now homes) ⌝ }
     ensures { λ r. ⌜ (r ≤ 160 * n) × ((m : Goal) → LeavesGoal g n m (now (leaves .entry)) (now (homes .entry)) → LeavesDone g n m (now (leaves .entry)) (now (homes .entry)) r (now (leaves .exit)) (now (homes .exit))) ⌝ }
 {
     let mut count: usize = 0;

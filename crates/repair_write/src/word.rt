@@ -7,13 +7,13 @@ ghost use Prim.Native.Nat.{_+_, _-_, _*_, _<_, _≤_};
 ghost use lib.ListN.{length, take};
 ghost use Rattle.model.specs.Node.{emptySlots};
 ghost use Rattle.laws.specs.Slots.{flat};
-ghost use Rattle.area.specs.Area.{Area};
+ghost use Rattle.area.specs.Area.{AreaHolds};
 ghost use Rattle.tally.specs.Tally.{tallied};
 ghost use Rattle.repair_write.specs.Blank.{Blank};
 
 // The parent of node c and its place there.
 pub fn link(area: &mut [u32], g: Shape, c: u32, parent: u32, at: u32) -> usize
-    requires { ⌜ Area g (length (now area)) × (c < g .nodes) ⌝ }
+    requires { ⌜ AreaHolds g (length (now area)) × (c < g .nodes) ⌝ }
     ensures { λ r. ⌜ ((r, now (area .exit)) ≡ tallied (c * g .size + 1) (parent ∷ at ∷ []) (now (area .entry))) × (r ≤ 2) ⌝ }
 {
     let size = g.size;
@@ -32,7 +32,7 @@ pub fn word(area: &mut [u32], p: usize, x: u32) -> usize
 
 // Slot i of node k.
 pub fn slot(area: &mut [u32], g: Shape, k: u32, i: usize, x: &[u32]) -> usize
-    requires { ⌜ Area g (length (now area)) × (k < g .nodes) × (i < g .fan) × (length (now x) ≡ 4) ⌝ }
+    requires { ⌜ AreaHolds g (length (now area)) × (k < g .nodes) × (i < g .fan) × (length (now x) ≡ 4) ⌝ }
     ensures { λ r. ⌜ ((r, now (area .exit)) ≡ tallied (k * g .size + (3 + i * g .stride)) (take (g .stride) (now (x .entry))) (now (area .entry))) × (r ≤ 4) ⌝ }
 {
     let size = g.size;
@@ -42,7 +42,7 @@ pub fn slot(area: &mut [u32], g: Shape, k: u32, i: usize, x: &[u32]) -> usize
 
 // The slots of node k from slot len on, with words from those of 32 empty slots.
 pub fn empty(area: &mut [u32], g: Shape, k: u32, len: usize, blank: &[u32]) -> usize
-    requires { ⌜ Area g (length (now area)) × (k < g .nodes) × (len ≤ g .fan) × Blank (g .stride) (now blank) ⌝ }
+    requires { ⌜ AreaHolds g (length (now area)) × (k < g .nodes) × (len ≤ g .fan) × Blank (g .stride) (now blank) ⌝ }
     ensures { λ r. ⌜ ((r, now (area .exit)) ≡ tallied (k * g .size + (3 + len * g .stride)) (flat (emptySlots (g .stride) (g .fan - len))) (now (area .entry))) × (r ≤ 128) ⌝ }
 {
     let size = g.size;

@@ -9,17 +9,17 @@ use Rattle.model.specs.Kind.{base}
 use Rattle.model.specs.Row.{Row, Answer, rowStep}
 use Rattle.model.specs.State.{State}
 use Rattle.model.specs.ById.{treeStep}
-use Rattle.model.specs.Promise.{Stands}
-use Rattle.theory.specs.TopById.{runs-alike, fan-kept, kept-of}
+use Rattle.model.specs.Promise.{Represents}
+use Rattle.theory.specs.TopById.{runs-alike, fan-kept, invariant-of}
 use Rattle.row.specs.Run.{recordsOf, callsOf, written, left, fit, Ran, runOn, AsRow}
 use Rattle.row.proofs.Words.{Bytes, calls-words}
 
-pub as-row : (s : State) (bs out : List ℕ) (r : Row) → Bytes bs → fit bs out ≡ true → Stands base s r → AsRow bs (runOn s bs out) (s .head .fan) r
+pub as-row : (s : State) (bs out : List ℕ) (r : Row) → Bytes bs → fit bs out ≡ true → Represents base s r → AsRow bs (runOn s bs out) (s .head .fan) r
 unfolding runOn
 as-row s bs out r h f w =
     let a = runs-alike base (omega arith) s r (callsOf (recordsOf bs)) w (calls-words (length bs / 16) bs h) in
     rw f
     (record {
       says = ap (written (recordsOf bs)) (a .0);
-      kept = kept-of base (omega arith) (s .head .fan) (left (treeStep base) s (recordsOf bs)) (left (rowStep base) r (recordsOf bs)) (a .1) (fan-kept base s (callsOf (recordsOf bs)));
+      kept = invariant-of base (omega arith) (s .head .fan) (left (treeStep base) s (recordsOf bs)) (left (rowStep base) r (recordsOf bs)) (a .1) (fan-kept base s (callsOf (recordsOf bs)));
     })

@@ -14,7 +14,7 @@ use Rattle.model.specs.Kind.{base}
 use Rattle.model.specs.Lists.{All}
 use Rattle.model.specs.Row as row
 use Rattle.model.specs.Row.{Call}
-use Rattle.model.specs.Record.{Fields, fieldsOf, wordAt, kinds, only, plain, binary, viewed, noLengths, viewOf, decode, lengthsOf}
+use Rattle.model.specs.Record.{Fields, fieldsOf, wordAt, kinds, only, plain, binary, viewed, noLengths, viewOf, decode, fieldLengths}
 use Rattle.model.specs.Promise.{Words, IsWord, InWords}
 use Rattle.row.specs.Run.{records, callsOf}
 
@@ -39,7 +39,7 @@ pick (c ∷ cs) zero h = h .0
 pick (c ∷ cs) (suc k) h = pick cs k (h .1)
 
 module _ (f : Fields) (a : f .a < 4294967296) (b : f .b < 4294967296) (c : f .c < 4294967296) (n : f .lines < 4294967296) where
-  lengths-words : Words base (listOf (lengthsOf f))
+  lengths-words : Words base (listOf (fieldLengths f))
   unfolding All
   lengths-words = record { long = refl; small = (b, (c, (n, tt))) }
 
@@ -51,21 +51,21 @@ module _ (f : Fields) (a : f .a < 4294967296) (b : f .b < 4294967296) (c : f .c 
   kinds-words : All (InWords base) (kinds f)
   unfolding All kinds
   kinds-words =
-      let changing : IsWord (f .a) × Words base (listOf (lengthsOf f)) = (a, lengths-words) in
+      let changing : IsWord (f .a) × Words base (listOf (fieldLengths f)) = (a, lengths-words) in
       let two : IsWord (f .a) × IsWord (f .b) = (a, b) in (
         tt,
         (
-          only-words (plain f && eqb (f .a) 0) (row.reset (listOf (lengthsOf f))) lengths-words,
+          only-words (plain f && eqb (f .a) 0) (row.reset (listOf (fieldLengths f))) lengths-words,
           (
-            only-words (plain f) (row.insert (f .a) (listOf (lengthsOf f))) changing,
+            only-words (plain f) (row.insert (f .a) (listOf (fieldLengths f))) changing,
             (
-              only-words (plain f) (row.insert (f .a) (listOf (lengthsOf f))) changing,
+              only-words (plain f) (row.insert (f .a) (listOf (fieldLengths f))) changing,
               (
-                only-words (binary f) (row.split (eqb (f .flag) 1) (f .a) (listOf (lengthsOf f))) changing,
+                only-words (binary f) (row.split (eqb (f .flag) 1) (f .a) (listOf (fieldLengths f))) changing,
                 (
-                  only-words (plain f) (row.setLengths (f .a) (listOf (lengthsOf f))) changing,
+                  only-words (plain f) (row.setLengths (f .a) (listOf (fieldLengths f))) changing,
                   (
-                    only-words (plain f) (row.update (f .a) (listOf (lengthsOf f))) changing,
+                    only-words (plain f) (row.update (f .a) (listOf (fieldLengths f))) changing,
                     (
                       only-words (viewed f && noLengths f) (row.lookup (viewNumber (viewOf (f .flag))) (f .a)) (view-in (viewOf (f .flag)), a),
                       (

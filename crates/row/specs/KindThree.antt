@@ -15,7 +15,7 @@ use Rattle.model.specs.Kind.{base, tooManyLines}
 use Rattle.model.specs.Lists.{sumBy, some, range, Cause, refusal}
 use Rattle.model.specs.Row.{Entry, Row, Call, insert, Answer, done, refused, Moved, moved, row, before, from, total, unless, rowMove, rowStep}
 use Rattle.model.specs.Record.{bytesOf, fieldsOf, kinds, decode, encode}
-use Rattle.model.specs.Spelling.{asTwo, bytes, low, top}
+use Rattle.model.specs.Spelling.{asTwo, bytes, low, topWord}
 use Rattle.model.specs.Spelled.{same-call}
 use Rattle.model.specs.State.{State}
 use Rattle.model.specs.Calls.{make}
@@ -129,7 +129,7 @@ placed r i l z =
     (not-ten (tooManyLines base l) r (rowMove base r (insert i l)) (done (length (r .entries) ∷ total (base .effect) (before i (r .entries)) ∷ [])) (unless-done r _ _ _) z)
 
 -- two such records on the door's row, at its end: ids 1 and 2, the second behind 5 in effect
-pub sample : played (rowStep base) doorRow (bytes 3 0 0 0 top (low 0) (low 5) ∷ bytes 3 0 0 0 top (low 1) (low 0) ∷ [])
+pub sample : played (rowStep base) doorRow (bytes 3 0 0 0 topWord (low 0) (low 5) ∷ bytes 3 0 0 0 topWord (low 1) (low 0) ∷ [])
     ≡ bytes 0 3 0 0 (low 1) (low 0) (low 0) ++ bytes 0 3 0 0 (low 2) (low 5) (low 0)
 unfolding answers written fieldsOf kinds decode encode sumBy some range refusal before from unless rowMove rowStep
 sample = refl

@@ -10,7 +10,7 @@ use Rattle.model.specs.Row.{Row, Call, Answer, Moved, rowStep}
 use Rattle.model.specs.Record.{fieldsOf, decode, encode}
 use Rattle.model.specs.State.{State}
 use Rattle.model.specs.ById.{treeStep}
-use Rattle.model.specs.Promise.{answers, finally, Kept}
+use Rattle.model.specs.Promise.{answers, finally, Invariant}
 use Rattle.model.specs.declared.answer.Outcome.{Outcome}
 use Rattle.model.specs.declared.answer.Outcome.the-variants as outcome
 
@@ -40,18 +40,18 @@ module _ {S : Type 0} (move : S → Call → Moved S) where
   left s rs = finally move s (callsOf rs)
 
 -- a tree and an output, after one record and after some
-pub record Turned : Type 0 where
+pub record TreeOutput : Type 0 where
   pub after : State
   pub out : List ℕ
 
-abbrev pub turned : State → List ℕ → Turned
-turned s out = record { after = s; out = out }
+abbrev pub treeOutput : State → List ℕ → TreeOutput
+treeOutput s out = record { after = s; out = out }
 
-abbrev pub turn : State → List ℕ → Turned
-turn s r = let m = treeStep base s (decode r) in turned (m .after) (encode (fieldsOf r .kind) (m .answer))
+abbrev pub turn : State → List ℕ → TreeOutput
+turn s r = let m = treeStep base s (decode r) in treeOutput (m .after) (encode (fieldsOf r .kind) (m .answer))
 
-abbrev pub turns : State → List (List ℕ) → Turned
-turns s rs = turned (left (treeStep base) s rs) (played (treeStep base) s rs)
+abbrev pub turns : State → List (List ℕ) → TreeOutput
+turns s rs = treeOutput (left (treeStep base) s rs) (played (treeStep base) s rs)
 
 -- the output is as long as the records, which are whole
 abbrev pub fit : List ℕ → List ℕ → Bool
@@ -73,4 +73,4 @@ runOn s bs out = cond (fit bs out) (let m = turns s (recordsOf bs) in ran (m .af
 -- where a tree of that fan stands for a row, the output is the row's, and the tree left stands for what the row becomes
 pub record AsRow (bs : List ℕ) (m : Ran) (fan : ℕ) (r : Row) : Type 0 where
   pub says : m .out ≡ played (rowStep base) r (recordsOf bs)
-  pub kept : Kept base fan (m .after) (left (rowStep base) r (recordsOf bs))
+  pub kept : Invariant base fan (m .after) (left (rowStep base) r (recordsOf bs))

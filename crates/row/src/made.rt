@@ -12,7 +12,7 @@ ghost use Rattle.model.specs.Kind.{base};
 ghost use Rattle.model.specs.Row.{madeRow};
 ghost use Rattle.model.specs.State.{state};
 ghost use Rattle.model.specs.Calls.{reply, make};
-ghost use Rattle.model.specs.Promise.{Stands};
+ghost use Rattle.model.specs.Promise.{Represents};
 ghost use Rattle.model.specs.declared.answer.Outcome.the-variants as outcome;
 ghost use Rattle.row.specs.Run.{fit, ran, AsRow};
 ghost use Rattle.row.specs.Made.{makeAndRun, doorTree, doorRow};
@@ -57,7 +57,7 @@ pub const FIRST: Lengths = Lengths {
 // The door's tree.
 pub fn door_tree(leaves: &mut [u32], inners: &mut [u32], homes: &mut [u32]) -> OutcomeReply
     ensures { λ r. ⌜ reply (state (r .head) (now (leaves .exit)) (now (inners .exit)) (now (homes .exit))) (r .answer) ≡ doorTree (now (leaves .entry)) (now (inners .entry)) (now (homes .entry)) ⌝ }
-    ensures { λ r. ⌜ (length (now (leaves .entry)) ≡ 4480 → length (now (inners .entry)) ≡ 4480 → length (now (homes .entry)) ≡ 512 → Stands base (state (r .head) (now (leaves .exit)) (now (inners .exit)) (now (homes .exit))) doorRow) ⌝ }
+    ensures { λ r. ⌜ (length (now (leaves .entry)) ≡ 4480 → length (now (inners .entry)) ≡ 4480 → length (now (homes .entry)) ≡ 512 → Represents base (state (r .head) (now (leaves .exit)) (now (inners .exit)) (now (homes .exit))) doorRow) ⌝ }
 {
     new(FAN, LIMIT, FIRST, leaves, inners, homes)
 }

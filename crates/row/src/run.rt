@@ -13,8 +13,8 @@ ghost use lib.ListN.{length};
 ghost use Rattle.model.specs.Kind.{base};
 ghost use Rattle.model.specs.Row.{Row};
 ghost use Rattle.model.specs.State.{state};
-ghost use Rattle.model.specs.Promise.{Stands};
-ghost use Rattle.row.specs.Run.{recordsOf, turned, turn, turns, fit, ran, runOn, AsRow};
+ghost use Rattle.model.specs.Promise.{Represents};
+ghost use Rattle.row.specs.Run.{recordsOf, treeOutput, turn, turns, fit, ran, runOn, AsRow};
 
 // One record and its answer record.
 fn one(
@@ -26,7 +26,7 @@ fn one(
     out: &mut [u8],
 ) -> Head
     requires { ⌜ (length (now bytes) ≡ 16) × (length (now out) ≡ 16) ⌝ }
-    ensures { λ r. ⌜ turned (state r (now (leaves .exit)) (now (inners .exit)) (now (homes .exit))) (now (out .exit)) ≡ turn (state head (now (leaves .entry)) (now (inners .entry)) (now (homes .entry))) (now (bytes .entry)) ⌝ }
+    ensures { λ r. ⌜ treeOutput (state r (now (leaves .exit)) (now (inners .exit)) (now (homes .exit))) (now (out .exit)) ≡ turn (state head (now (leaves .entry)) (now (inners .entry)) (now (homes .entry))) (now (bytes .entry)) ⌝ }
 {
     let fields = read(bytes);
     let kind = fields.kind;
@@ -48,7 +48,7 @@ fn all(
     out: &mut [u8],
 ) -> Head
     requires { ⌜ (length (now records) ≡ length (now out)) × (length (now records) % 16 ≡ 0) ⌝ }
-    ensures { λ r. ⌜ turned (state r (now (leaves .exit)) (now (inners .exit)) (now (homes .exit))) (now (out .exit)) ≡ turns (state head (now (leaves .entry)) (now (inners .entry)) (now (homes .entry))) (recordsOf (now (records .entry))) ⌝ }
+    ensures { λ r. ⌜ treeOutput (state r (now (leaves .exit)) (now (inners .exit)) (now (homes .exit))) (now (out .exit)) ≡ turns (state head (now (leaves .entry)) (now (inners .entry)) (now (homes .entry))) (recordsOf (now (records .entry))) ⌝ }
 {
     let mut h = head;
     let mut at = 0;
@@ -79,7 +79,7 @@ pub fn run(
     out: &mut [u8],
 ) -> OutcomeReply
     ensures { λ r. ⌜ ran (state (r .head) (now (leaves .exit)) (now (inners .exit)) (now (homes .exit))) (r .answer) (now (out .exit)) ≡ runOn (state head (now (leaves .entry)) (now (inners .entry)) (now (homes .entry))) (now (records .entry)) (now (out .entry)) ⌝ }
-    ensures { λ r. ⌜ ((q : Row) → fit (now (records .entry)) (now (out .entry)) ≡ true → Stands base (state head (now (leaves .entry)) (now (inners .entry)) (now (homes .entry))) q → AsRow (now (records .entry)) (ran (state (r .head) (now (leaves .exit)) (now (inners .exit)) (now (homes .exit))) (r .answer) (now (out .exit))) (head .fan) q) ⌝ }
+    ensures { λ r. ⌜ ((q : Row) → fit (now (records .entry)) (now (out .entry)) ≡ true → Represents base (state head (now (leaves .entry)) (now (inners .entry)) (now (homes .entry))) q → AsRow (now (records .entry)) (ran (state (r .head) (now (leaves .exit)) (now (inners .exit)) (now (homes .exit))) (r .answer) (now (out .exit))) (head .fan) q) ⌝ }
 {
     if records.len() != out.len() {
         return OutcomeReply {

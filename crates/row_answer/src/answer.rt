@@ -20,7 +20,7 @@ ghost use mathlib.Core.Path.{_≡_};
 ghost use mathlib.Core.List.{[], _∷_};
 ghost use Rattle.model.specs.Row.{done, refused};
 ghost use Rattle.model.specs.Answer.{outcomeAnswer, numberAnswer, namedAnswer, measuredAnswer, comparedAnswer, insertedAnswer};
-ghost use Rattle.model.specs.ById.{dividedAnswer};
+ghost use Rattle.model.specs.ById.{dividedIdAnswer};
 ghost use Rattle.by_id_read.specs.Answer.{lookedAnswer, followingAnswer};
 ghost use Rattle.row_answer.specs.Answer.{stepOf};
 
@@ -119,7 +119,7 @@ pub fn inserted(reply: InsertedReply) -> Step
 }
 
 pub fn divided(reply: DividedReply) -> Step
-    ensures { λ r. ⌜ r ≡ stepOf (reply .head) (dividedAnswer (reply .answer)) ⌝ }
+    ensures { λ r. ⌜ r ≡ stepOf (reply .head) (dividedIdAnswer (reply .answer)) ⌝ }
 {
     let head = reply.head;
     let answer = reply.answer;

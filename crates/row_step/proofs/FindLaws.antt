@@ -26,8 +26,8 @@ use Rattle.records.specs.declared.call.Call.{Call}
 use Rattle.records.specs.declared.call.Call.the-variants as call
 use Rattle.row_step.specs.Find.{noIds, oneId, targetIds, idsOf, onward, foundFrom, foundOf, callAt}
 use Rattle.row_step.specs.declared.find.Ids.{Ids}
-use Rattle.row_step.specs.declared.find.Found.{Found}
-use Rattle.row_step.specs.declared.find.Found.the-variants as found
+use Rattle.row_step.specs.declared.find.FoundCursors.{FoundCursors}
+use Rattle.row_step.specs.declared.find.FoundCursors.the-variants as found
 
 -- what is so of the call x is so of k, which is x
 pub call-by : {A : Type 0} (f : Call → A) (k x : Call) → k ≡ x → (r : A) → r ≡ f x → r ≡ f k
@@ -77,7 +77,7 @@ module _ (s : State) (i j : ℕ) (a b : Cursor) where
     find-goes (suc n) h c d = ap (λ (k : ℕ). foundFrom s k j j b c) (less-one n) ∙ ap (λ (x : Standing). onward x (λ c. foundFrom s n j j b c)) (sym d ∙ e)
 
 -- goes on with the cursors found, or passes a refusal on
-abbrev pub withFound : State → Found → (Cursor → Cursor → Moved State) → Moved State
+abbrev pub withFound : State → FoundCursors → (Cursor → Cursor → Moved State) → Moved State
 withFound s (found.At a b) f = f a b
 withFound s (found.Refused n) f = moved s (refused n)
 

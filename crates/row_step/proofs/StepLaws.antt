@@ -11,7 +11,7 @@ use Rattle.model.specs.Answer.{outcomeAnswer, numberAnswer, comparedAnswer, ins
 use Rattle.model.specs.State.{State, state}
 use Rattle.model.specs.Calls as calls
 use Rattle.model.specs.Calls.{Reply, reply}
-use Rattle.model.specs.ById.{told, nextAnswer, dividedAnswer, treeMove, treeStep}
+use Rattle.model.specs.ById.{told, nextAnswer, dividedIdAnswer, treeMove, treeStep}
 use Rattle.model.specs.declared.head.Head.{Head}
 use Rattle.model.specs.declared.head.Cursor.{Cursor}
 use Rattle.model.specs.declared.length.Lengths.{Lengths}
@@ -33,8 +33,8 @@ use Rattle.by_id_read.specs.Target.{targetOf}
 use Rattle.row_step.specs.Find.{idsOf, foundOf, callAt}
 use Rattle.row_step.specs.Step.{Stepped, stepped, stepBy}
 use Rattle.row_step.specs.declared.find.Ids.{Ids}
-use Rattle.row_step.specs.declared.find.Found.{Found}
-use Rattle.row_step.specs.declared.find.Found.the-variants as found
+use Rattle.row_step.specs.declared.find.FoundCursors.{FoundCursors}
+use Rattle.row_step.specs.declared.find.FoundCursors.the-variants as found
 use Rattle.row_step.proofs.FindLaws.{withFound, by-found}
 
 -- each call's reply is what the call does at the cursors
@@ -49,9 +49,9 @@ module _ (s : State) (a b : Cursor) where
   insert-at t i l x q r e = ap (λ (x : Reply Inserted). told x insertedAnswer) (e ∙ ap (λ (y : Target). calls.insert base s y l) q)
 
   pub split-at : (t : State) (flag : Bool) (i : ℕ) (l : List ℕ) (r : Divided) → reply t r ≡ calls.splitEntry base s b l flag
-      → moved t (dividedAnswer r) ≡ callAt s (row.split flag i l) a b
+      → moved t (dividedIdAnswer r) ≡ callAt s (row.split flag i l) a b
   unfolding callAt
-  split-at t flag i l r e = ap (λ (x : Reply Divided). told x dividedAnswer) e
+  split-at t flag i l r e = ap (λ (x : Reply Divided). told x dividedIdAnswer) e
 
   pub lookup-at : (v : ℕ) (index : ℕ) (m : Moved State) → m ≡ treeStep base s (row.lookup v index) → m ≡ callAt s (row.lookup v index) a b
   unfolding callAt treeStep
@@ -69,7 +69,7 @@ module _ (s : State) (a b : Cursor) where
   unfolding callAt
   compare-at i j r e = ap (λ (x : Compared). moved s (comparedAnswer x)) e
 
-  pub lengths-at : (i : ℕ) (r : row.Answer) → r ≡ calls.lengthsOf base s b → moved s r ≡ callAt s (row.lengths i) a b
+  pub lengths-at : (i : ℕ) (r : row.Answer) → r ≡ calls.entryLengths base s b → moved s r ≡ callAt s (row.lengths i) a b
   unfolding callAt
   lengths-at i r e = ap (moved s) e
 
@@ -114,10 +114,10 @@ module _ (s : State) (k : row.Call) where
   unfolding treeStep
   step-overlong h r q = rw h (ap (λ (z : Step). stepped (state (z .head) (s .leaves) (s .inners) (s .homes)) (z .answer)) q)
 
-  module _ (h : overlong base k ≡ false) (ids : Ids) (ei : ids ≡ idsOf k) (f : Found) (ef : f ≡ foundOf s ids) where
-    by-entries : (x : Found) → f ≡ x → withFound s x (callAt s k) ≡ treeStep base s k
+  module _ (h : overlong base k ≡ false) (ids : Ids) (ei : ids ≡ idsOf k) (f : FoundCursors) (ef : f ≡ foundOf s ids) where
+    by-entries : (x : FoundCursors) → f ≡ x → withFound s x (callAt s k) ≡ treeStep base s k
     unfolding treeStep
-    by-entries x d = rw h (ap (λ (y : Found). withFound s y (callAt s k)) (sym d ∙ ef ∙ ap (foundOf s) ei) ∙ sym (by-found s k))
+    by-entries x d = rw h (ap (λ (y : FoundCursors). withFound s y (callAt s k)) (sym d ∙ ef ∙ ap (foundOf s) ei) ∙ sym (by-found s k))
 
     pub step-refused : (n : ℕ) → f ≡ found.Refused n → (r : Step) → r ≡ stepOf (s .head) (refused n)
         → stepped (state (r .head) (s .leaves) (s .inners) (s .homes)) (r .answer) ≡ stepBy (treeStep base s k)

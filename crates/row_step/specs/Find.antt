@@ -9,14 +9,14 @@ use Rattle.model.specs.Answer.{outcomeAnswer, numberAnswer, comparedAnswer, ins
 use Rattle.model.specs.State.{State}
 use Rattle.model.specs.Calls as calls
 use Rattle.model.specs.Calls.{cursorAt}
-use Rattle.model.specs.ById.{told, nextAnswer, dividedAnswer, treeMove}
+use Rattle.model.specs.ById.{told, nextAnswer, dividedIdAnswer, treeMove}
 use Rattle.model.specs.declared.head.Cursor.{Cursor}
 use Rattle.model.specs.declared.answer.Standing.{Standing}
 use Rattle.model.specs.declared.answer.Standing.the-variants as standing
 use Rattle.by_id_read.specs.Target.{targetOf}
 use Rattle.row_step.specs.declared.find.Ids.{Ids}
-use Rattle.row_step.specs.declared.find.Found.{Found}
-use Rattle.row_step.specs.declared.find.Found.the-variants as found
+use Rattle.row_step.specs.declared.find.FoundCursors.{FoundCursors}
+use Rattle.row_step.specs.declared.find.FoundCursors.the-variants as found
 
 abbrev pub noIds : Ids
 noIds = record { count = 0; first = 0; second = 0 }
@@ -45,31 +45,31 @@ idsOf row.first = noIds
 idsOf row.malformed = noIds
 
 -- goes on with a cursor, or passes its refusal on
-abbrev pub onward : Standing → (Cursor → Found) → Found
+abbrev pub onward : Standing → (Cursor → FoundCursors) → FoundCursors
 onward (standing.At c) f = f c
 onward (standing.Refused n) f = found.Refused n
 
 -- the last two cursors where as many entries are left, i and then j
-unfoldable pub foundFrom : State → ℕ → ℕ → ℕ → Cursor → Cursor → Found
+unfoldable pub foundFrom : State → ℕ → ℕ → ℕ → Cursor → Cursor → FoundCursors
 foundFrom s zero i j a b = found.At a b
 foundFrom s (suc n) i j a b = onward (calls.cursor base s i) (λ c. foundFrom s n j j b c)
 
 -- the cursors of the entries with these ids; in the place of one that isn't looked for stands a cursor of no account
-abbrev pub foundOf : State → Ids → Found
+abbrev pub foundOf : State → Ids → FoundCursors
 foundOf s k = foundFrom s (k .count) (k .first) (k .second) (cursorAt 0 0 0) (cursorAt 0 0 0)
 
 -- what a call does at the cursors of the entries that it names: b, and a for the first of two
 unfoldable pub callAt : State → row.Call → Cursor → Cursor → Moved State
 callAt s (row.reset l) a b = treeMove base s (row.reset l)
 callAt s (row.insert i l) a b = told (calls.insert base s (targetOf i b) l) insertedAnswer
-callAt s (row.split flag i l) a b = told (calls.splitEntry base s b l flag) dividedAnswer
+callAt s (row.split flag i l) a b = told (calls.splitEntry base s b l flag) dividedIdAnswer
 callAt s (row.setLengths i l) a b = told (calls.setLengths base s b l) outcomeAnswer
 callAt s (row.update i l) a b = told (calls.update base s b l) numberAnswer
 callAt s (row.lookup v index) a b = treeMove base s (row.lookup v index)
 callAt s (row.rank v i) a b = moved s (numberAnswer (calls.entryToCharIndex base s v b))
 callAt s (row.next i) a b = moved s (nextAnswer base s (calls.nextAfter base s b))
 callAt s (row.compare i j) a b = moved s (comparedAnswer (calls.cmp base s a b))
-callAt s (row.lengths i) a b = moved s (calls.lengthsOf base s b)
+callAt s (row.lengths i) a b = moved s (calls.entryLengths base s b)
 callAt s row.count a b = treeMove base s row.count
 callAt s row.first a b = treeMove base s row.first
 callAt s row.malformed a b = treeMove base s row.malformed

@@ -20,7 +20,7 @@ pub struct Ids {
 }
 
 // The cursors of the last two entries looked for.
-pub enum Found {
+pub enum FoundCursors {
     At(Cursor, Cursor),
     Refused(u32),
 }
@@ -81,7 +81,7 @@ pub fn ids_of(call: Call) -> Ids
 }
 
 // The cursors of the entries with these ids. A loop for two of them at most: a function that is called at one place only is compiled into it.
-pub fn find(head: Head, leaves: &[u32], inners: &[u32], homes: &[u32], ids: Ids) -> Found
+pub fn find(head: Head, leaves: &[u32], inners: &[u32], homes: &[u32], ids: Ids) -> FoundCursors
     ensures { λ r. ⌜ r ≡ foundOf (state head (now (leaves .entry)) (now (inners .entry)) (now (homes .entry))) ids ⌝ }
 {
     let second = ids.second;
@@ -96,7 +96,7 @@ pub fn find(head: Head, leaves: &[u32], inners: &[u32], homes: &[u32], ids: Ids)
     while 0 < left {
         match cursor(head, leaves, inners, homes, EntryId(id)) {
             Standing::Refused(n) => {
-                return Found::Refused(n);
+                return FoundCursors::Refused(n);
             }
             Standing::At(c) => {
                 a = b;
@@ -106,5 +106,5 @@ pub fn find(head: Head, leaves: &[u32], inners: &[u32], homes: &[u32], ids: Ids)
             }
         }
     }
-    Found::At(a, b)
+    FoundCursors::At(a, b)
 }

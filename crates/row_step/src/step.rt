@@ -1,5 +1,5 @@
 // One record on a tree.
-use crate::find::Found;
+use crate::find::FoundCursors;
 use crate::find::find;
 use crate::find::ids_of;
 use by_id_read::look::locate;
@@ -108,7 +108,7 @@ pub fn step(
         return refuse(head, 10);
     }
     match find(head, leaves, inners, homes, ids_of(call)) {
-        Found::Refused(n) => refuse(head, n),
-        Found::At(a, b) => call_at(head, leaves, inners, homes, call, a, b),
+        FoundCursors::Refused(n) => refuse(head, n),
+        FoundCursors::At(a, b) => call_at(head, leaves, inners, homes, call, a, b),
     }
 }

@@ -13,7 +13,7 @@ ghost use Prim.Native.Nat.{_+_, _*_, _/_, _<_, _≤_};
 ghost use lib.ListN.{length};
 ghost use Rattle.model.specs.Kind.{base};
 ghost use Rattle.model.specs.State.{state};
-ghost use Rattle.model.specs.Promise.{Stands};
+ghost use Rattle.model.specs.Promise.{Represents};
 ghost use Rattle.row.specs.Made.{doorRow};
 ghost use Rattle.stream.specs.Shown.{fedOf};
 ghost use Rattle.rowrun.specs.Turn.{answered, Turned};
@@ -93,7 +93,7 @@ fn run(
     block: &mut [u8],
     out: &mut [u8],
 )
-    requires { ⌜ Stands base (state head (now leaves) (now inners) (now homes)) doorRow × (length (now block) ≡ 4096) × (length (now out) ≡ 11264) ⌝ }
+    requires { ⌜ Represents base (state head (now leaves) (now inners) (now homes)) doorRow × (length (now block) ≡ 4096) × (length (now out) ≡ 11264) ⌝ }
 {
     let mut after = head;
     let mut kept = 0;

@@ -84,13 +84,13 @@ module _ (limit n : ℕ) (o : Bool) (t : Bool) (e : o ≡ t) where
 
 -- the number for the seat that was named
 module _ (limit n : ℕ) (b : Seats) (t : Seat) (r : ℕ) where
-  abbrev Room : Type 0
-  Room = ((s : State) → s .head .limit ≡ limit → s .head .entries ≡ n → r ≡ refusal (space s b t)) × (r ≡ 0 → n < limit)
+  abbrev RoomNumber : Type 0
+  RoomNumber = ((s : State) → s .head .limit ≡ limit → s .head .entries ≡ n → r ≡ refusal (space s b t)) × (r ≡ 0 → n < limit)
 
-  pub room-nobody : t ≡ seat.Nobody → (r ≡ refusal (cause 8 (leb limit n) ∷ [])) × (r ≡ 0 → n < limit) → Room
+  pub room-nobody : t ≡ seat.Nobody → (r ≡ refusal (cause 8 (leb limit n) ∷ [])) × (r ≡ 0 → n < limit) → RoomNumber
   room-nobody e h = (λ s el en. rw (e, el, en) (h .0), h .1)
 
-  pub room-number : (i : ℕ) → t ≡ seat.Number i → (r ≡ refusal (over limit n b i ∷ cause 9 (leb limit n) ∷ [])) × (r ≡ 0 → n < limit) → Room
+  pub room-number : (i : ℕ) → t ≡ seat.Number i → (r ≡ refusal (over limit n b i ∷ cause 9 (leb limit n) ∷ [])) × (r ≡ 0 → n < limit) → RoomNumber
   room-number i e h = (λ s el en. rw (e, el, en) (h .0), h .1)
 
 -- 19

@@ -12,7 +12,7 @@ use Rattle.model.specs.Row as row
 use Rattle.model.specs.Row.{Row, Call, Entry, Answer, Moved, moved, unless, overlong, rowMove, rowStep}
 use Rattle.model.specs.State.{State}
 use Rattle.model.specs.Sheet.{pagesFor}
-use Rattle.model.specs.Promise.{finally, Stands}
+use Rattle.model.specs.Promise.{finally, Represents}
 use Rattle.theory.specs.CallSimulates.{count-is}
 use Rattle.row.specs.Made.{doorRow}
 use Rattle.sheetrun.specs.Turn.{leftRow}
@@ -62,7 +62,7 @@ limit-kept r [] = refl
 limit-kept r (c ∷ cs) = limit-kept (rowStep base r c .after) cs ∙ step-limit r c
 
 -- at most 512 entries
-pub fits : (s : State) (cs : List Call) → Stands base s (leftRow cs) → (n : ℕ) → n ≡ 30250 → 2750 * pagesFor (length (leftRow cs .entries)) ≤ n
+pub fits : (s : State) (cs : List Call) → Represents base s (leftRow cs) → (n : ℕ) → n ≡ 30250 → 2750 * pagesFor (length (leftRow cs .entries)) ≤ n
 fits s cs st n e =
     let count : length (leftRow cs .entries) ≡ s .head .entries = sym (ap length (st .entries)) ∙ count-is base s (st .sound .coherent) in
     let few : length (leftRow cs .entries) ≤ 512 = omega (arith, st .sound .coherent .entry-count, st .limit, limit-kept doorRow cs) in

@@ -12,7 +12,7 @@ use Rattle.model.specs.Lists.{part}
 use Rattle.model.specs.Row.{Row, Call, rowStep}
 use Rattle.model.specs.State.{State, state}
 use Rattle.model.specs.ById.{treeStep}
-use Rattle.model.specs.Promise.{finally, Stands}
+use Rattle.model.specs.Promise.{finally, Represents}
 use Rattle.model.specs.Sheet.{pagesFor, sheet}
 use Rattle.model.specs.Print.{print}
 use Rattle.model.specs.declared.head.Head.{Head}
@@ -25,7 +25,7 @@ use Rattle.text.specs.Text.{put}
 use Rattle.text.proofs.TextLaws.{behind}
 use Rattle.row.specs.Run.{recordsOf, callsOf, left, fit, Ran, ran, runOn, AsRow}
 use Rattle.row.specs.Made.{doorRow}
-use Rattle.sheetrun.specs.Turn.{wholeOf, Played, Turned, leftRow, ForRow}
+use Rattle.sheetrun.specs.Turn.{wholeOf, BlockPlayed, Turned, leftRow, ForRow}
 use Rattle.sheetrun.specs.declared.Input.{Input}
 use Rattle.sheetrun.specs.declared.Input.the-variants as input
 use Rattle.sheetrun.proofs.RowLaws.{finally-append, fits}
@@ -42,8 +42,8 @@ run-tree s t a bs out o f e = ap (λ (r : Ran). r .after) e ∙ rw f
 
 module _ (s t : State) (a : Outcome) (have : ℕ) (block out o b : List ℕ) (kept : ℕ) (h : have ≤ length block) (l : length out ≡ have - have % 16) where
   pub played : ran t a o ≡ runOn s (take (have - have % 16) block) out
-      → ((q : Row) → fit (take (have - have % 16) block) out ≡ true → Stands base s q → AsRow (take (have - have % 16) block) (ran t a o) (s .head .fan) q)
-      → (kept, b) ≡ put block 0 (part (have - have % 16) (have % 16) block) → Played s block have t kept b
+      → ((q : Row) → fit (take (have - have % 16) block) out ≡ true → Represents base s q → AsRow (take (have - have % 16) block) (ran t a o) (s .head .fan) q)
+      → (kept, b) ≡ put block 0 (part (have - have % 16) (have % 16) block) → BlockPlayed s block have t kept b
   played e r k = record {
     tree = run-tree s t a (take (have - have % 16) block) out o (fit-whole have block out h l) e;
     row = λ q st. (let w = r q (fit-whole have block out h l) st .kept in record { sound = w .sound; entries = w .entries; limit = w .limit });
@@ -59,7 +59,7 @@ kept-of r s block kept ls xs hs b turned h n e =
     omega (arith, behind (t .0) b 0 n (part (kept + t .1 - (kept + t .1) % 16) ((kept + t .1) % 16) (t .0)) (t .5 .rest), l)
 
 -- the tree stands for a row from the start, and still
-pub door-row : (s : State) → Stands base s doorRow → ForRow s
+pub door-row : (s : State) → Represents base s doorRow → ForRow s
 unfolding finally
 door-row s st = record { calls = []; stands = st }
 
@@ -67,7 +67,7 @@ pub more-row : (r : Input) (s : State) (block : List ℕ) (kept : ℕ) (ls xs hs
 more-row r s block kept ls xs hs b turned f h n e =
     let t = subst (λ (x : Input). Turned x s block kept ls xs hs b) e turned in
     let more = callsOf (wholeOf (kept + t .1) (t .0)) in
-    record { calls = f .calls ++ more; stands = subst (Stands base (state h ls xs hs)) (finally-append (rowStep base) doorRow (f .calls) more) (t .5 .row (leftRow (f .calls)) (f .stands)) }
+    record { calls = f .calls ++ more; stands = subst (Represents base (state h ls xs hs)) (finally-append (rowStep base) doorRow (f .calls) more) (t .5 .row (leftRow (f .calls)) (f .stands)) }
 
 pub end-row : (r : Input) (s : State) (block : List ℕ) (kept : ℕ) (ls xs hs b : List ℕ) → Turned r s block kept ls xs hs b → ForRow s → r ≡ input.End → ForRow (state (s .head) ls xs hs)
 end-row r s block kept ls xs hs b turned f e =
@@ -88,7 +88,7 @@ module _ (s : State) (page new : List ℕ) (a : Number) (e : (a, new) ≡ print 
   pub pages-in : (n : ℕ) → a ≡ number.Is n → 2750 * n ≤ length new
   pages-in n d = omega (arith, same, print-leaves base s page .within n (sym answer ∙ d))
 
-  module _ (cs : List Call) (st : Stands base s (leftRow cs)) (l : length page ≡ 30250) where
+  module _ (cs : List Call) (st : Represents base s (leftRow cs)) (l : length page ≡ 30250) where
     reply : a ≡ number.Is (pagesFor (length (leftRow cs .entries)))
     reply = answer ∙ prints-row base (omega arith) s (leftRow cs) st page .pages (fits s cs st (length page) l)
 

@@ -8,7 +8,7 @@ use Rattle.model.specs.Lists.{part}
 use Rattle.model.specs.Row.{Row, Call, rowStep}
 use Rattle.model.specs.State.{State, state}
 use Rattle.model.specs.ById.{treeStep}
-use Rattle.model.specs.Promise.{finally, Stands}
+use Rattle.model.specs.Promise.{finally, Represents}
 use Rattle.text.specs.Text.{put}
 use Rattle.row.specs.Run.{recordsOf, left}
 use Rattle.row.specs.Made.{doorRow}
@@ -20,15 +20,15 @@ abbrev pub wholeOf : ℕ → List ℕ → List (List ℕ)
 wholeOf have block = recordsOf (take (have - have % 16) block)
 
 -- they are played on the tree s, which leaves t, and the bytes behind them stand at the block's start
-pub record Played (s : State) (block : List ℕ) (have : ℕ) (t : State) (kept : ℕ) (b : List ℕ) : Type 0 where
+pub record BlockPlayed (s : State) (block : List ℕ) (have : ℕ) (t : State) (kept : ℕ) (b : List ℕ) : Type 0 where
   pub tree : t ≡ left (treeStep base) s (wholeOf have block)
-  pub row : (q : Row) → Stands base s q → Stands base t (left (rowStep base) q (wholeOf have block))
+  pub row : (q : Row) → Represents base s q → Represents base t (left (rowStep base) q (wholeOf have block))
   pub rest : (kept, b) ≡ put block 0 (part (have - have % 16) (have % 16) block)
 
 -- a turn after which the input goes on: n bytes were read behind the kept ones, and played; at its end nothing is changed
 abbrev pub Turned : Input → State → List ℕ → ℕ → List ℕ → List ℕ → List ℕ → List ℕ → Type 0
 Turned (input.More head rest) s block kept ls xs hs b =
-    (given : List ℕ) × (n : ℕ) × (0 < n) × (kept + n ≤ length given) × (take kept given ≡ take kept block) × Played s given (kept + n) (state head ls xs hs) rest b
+    (given : List ℕ) × (n : ℕ) × (0 < n) × (kept + n ≤ length given) × (take kept given ≡ take kept block) × BlockPlayed s given (kept + n) (state head ls xs hs) rest b
 Turned input.End s block kept ls xs hs b = state (s .head) ls xs hs ≡ s
 Turned input.Failed s block kept ls xs hs b = Unit {0}
 
@@ -38,4 +38,4 @@ leftRow cs = finally (rowStep base) doorRow cs
 
 pub record ForRow (s : State) : Type 0 where
   pub calls : List Call
-  pub stands : Stands base s (leftRow calls)
+  pub stands : Represents base s (leftRow calls)

@@ -16,10 +16,10 @@ ghost use lib.ListN.{length, take};
 ghost use Rattle.model.specs.Kind.{base};
 ghost use Rattle.model.specs.Row.{Call};
 ghost use Rattle.model.specs.State.{state};
-ghost use Rattle.model.specs.Promise.{Stands};
+ghost use Rattle.model.specs.Promise.{Represents};
 ghost use Rattle.model.specs.Sheet.{pagesFor, sheet};
 ghost use Rattle.row.specs.Made.{doorRow};
-ghost use Rattle.sheetrun.specs.Turn.{Played, Turned, ForRow, leftRow};
+ghost use Rattle.sheetrun.specs.Turn.{BlockPlayed, Turned, ForRow, leftRow};
 
 // The head after a block, and how many bytes are kept at the block's start.
 struct Left {
@@ -38,7 +38,7 @@ fn play(
     out: &mut [u8],
 ) -> Left
     requires { ⌜ (have ≤ length (now block)) × (length (now block) ≤ length (now out)) ⌝ }
-    ensures { λ r. ⌜ Played (state head (now (leaves .entry)) (now (inners .entry)) (now (homes .entry))) (now (block .entry)) have (state (r .head) (now (leaves .exit)) (now (inners .exit)) (now (homes .exit))) (r .kept) (now (block .exit)) ⌝ }
+    ensures { λ r. ⌜ BlockPlayed (state head (now (leaves .entry)) (now (inners .entry)) (now (homes .entry))) (now (block .entry)) have (state (r .head) (now (leaves .exit)) (now (inners .exit)) (now (homes .exit))) (r .kept) (now (block .exit)) ⌝ }
 {
     let kept = have % 16;
     let whole = have - kept;
@@ -96,7 +96,7 @@ fn turn(
 // The sheet of the tree, at the start of the page; how many bytes it has.
 fn pages(head: Head, leaves: &[u32], inners: &[u32], homes: &[u32], page: &mut [u8]) -> usize
     ensures { λ r. ⌜ r ≤ length (now (page .exit)) ⌝ }
-    ensures { λ r. ⌜ ((cs : List Call) → Stands base (state head (now (leaves .entry)) (now (inners .entry)) (now (homes .entry))) (leftRow cs) → length (now (page .entry)) ≡ 30250 → (r ≡ 2750 * pagesFor (length (leftRow cs .entries))) × (take r (now (page .exit)) ≡ sheet base (leftRow cs .entries))) ⌝ }
+    ensures { λ r. ⌜ ((cs : List Call) → Represents base (state head (now (leaves .entry)) (now (inners .entry)) (now (homes .entry))) (leftRow cs) → length (now (page .entry)) ≡ 30250 → (r ≡ 2750 * pagesFor (length (leftRow cs .entries))) × (take r (now (page .exit)) ≡ sheet base (leftRow cs .entries))) ⌝ }
 {
     match print(head, leaves, inners, homes, page) {
         Number::Is(n) => 2750 * (n as usize),
@@ -130,7 +130,7 @@ fn run_blocks(
     out: &mut [u8],
     page: &mut [u8],
 )
-    requires { ⌜ Stands base (state head (now leaves) (now inners) (now homes)) doorRow × (length (now block) ≡ 4096) × (length (now out) ≡ 4096) × (length (now page) ≡ 30250) ⌝ }
+    requires { ⌜ Represents base (state head (now leaves) (now inners) (now homes)) doorRow × (length (now block) ≡ 4096) × (length (now out) ≡ 4096) × (length (now page) ≡ 30250) ⌝ }
 {
     let mut after = head;
     let mut kept = 0;

@@ -34,7 +34,7 @@ unfoldable pub id : Given → Cursor → FlatNumber
 id g c = numberOf (unlessBad (badHead (g .head)) (namedAnswer (calls.id base (stateOf g) c)))
 
 unfoldable pub lengths : Given → Cursor → FlatMeasured
-lengths g c = measuredOf (unlessBad (badHead (g .head)) (calls.lengthsOf base (stateOf g) c))
+lengths g c = measuredOf (unlessBad (badHead (g .head)) (calls.entryLengths base (stateOf g) c))
 
 unfoldable pub cursor : Given → ℕ → FlatStanding
 cursor g i = standingOf (unlessBad (badHead (g .head)) (standingAnswer (calls.cursor base (stateOf g) i)))

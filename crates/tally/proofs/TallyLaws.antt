@@ -13,17 +13,17 @@ use Rattle.laws.specs.Differ.{differ-none, differ-set}
 use Rattle.tally.specs.Tally.{tallied}
 
 -- i words written: the area and the count
-pub record Done (p i count : ℕ) (src ws now : List ℕ) : Type 0 where
+pub record TallyDone (p i count : ℕ) (src ws now : List ℕ) : Type 0 where
   pub within : i ≤ length src
   pub as-long : length now ≡ length ws
   pub area : now ≡ putAt p (take i src) ws
   pub count-is : count ≡ differ ws now
 
-pub none-done : (p : ℕ) (src ws : List ℕ) → Done p 0 0 src ws ws
+pub none-done : (p : ℕ) (src ws : List ℕ) → TallyDone p 0 0 src ws ws
 none-done p src ws = record { within = omega arith; as-long = refl; area = sym (put-none p ws); count-is = sym (differ-none ws) }
 
-pub one-done : (p i count d : ℕ) (src ws now : List ℕ) → p + length src ≤ length ws → i < length src → Done p i count src ws now → d ≡ apart (getD now (p + i) 0) (getD src i 0)
-    → Done p (i + 1) (count + d) src ws (set now (p + i) (getD src i 0))
+pub one-done : (p i count d : ℕ) (src ws now : List ℕ) → p + length src ≤ length ws → i < length src → TallyDone p i count src ws now → d ≡ apart (getD now (p + i) 0) (getD src i 0)
+    → TallyDone p (i + 1) (count + d) src ws (set now (p + i) (getD src i 0))
 one-done p i count d src ws now h l r ed =
     let m : length (take i src) ≡ i = length-take-le i src (omega arith) in
     let o : getD now (p + i) 0 ≡ getD ws (p + i) 0 = ap (λ (z : List ℕ). getD z (p + i) 0) (r .area) ∙ getD-after p (p + i) (take i src) ws (omega arith) (omega arith) in
@@ -37,7 +37,7 @@ one-done p i count d src ws now h l r ed =
       count-is = omega (arith, c, r .count-is, ed);
     }
 
-pub all-done : (p i count : ℕ) (src ws now : List ℕ) → length src ≤ i → Done p i count src ws now → _≡_ {A = ℕ × List ℕ} (count, now) (tallied p src ws)
+pub all-done : (p i count : ℕ) (src ws now : List ℕ) → length src ≤ i → TallyDone p i count src ws now → _≡_ {A = ℕ × List ℕ} (count, now) (tallied p src ws)
 unfolding tallied
 all-done p i count src ws now h r =
     let a : now ≡ putAt p src ws = r .area ∙ ap (λ (z : List ℕ). putAt p z ws) (take-all i src h) in

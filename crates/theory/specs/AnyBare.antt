@@ -111,7 +111,7 @@ id-bare (named.Entry i) vs = done-bare _
 id-bare (named.Refused n) vs = refused-bare n
 
 module _ (K : Kind) (s : State) where
-  first-bare : (a : Standing) → Bare (byId.standingAnswer K s a)
+  first-bare : (a : Standing) → Bare (byId.standingIdAnswer K s a)
   first-bare (standing.At c) = id-bare (calls.id K s c) []
   first-bare (standing.Refused n) = refused-bare n
 
@@ -124,12 +124,12 @@ module _ (K : Kind) (s : State) where
   looked-bare t (located.At c offset effect prepare) = id-bare (calls.id K t c) (offset ∷ effect ∷ prepare ∷ [])
   looked-bare t (located.Refused n) = refused-bare n
 
-  parted-bare : (a : Divided) → Bare (byId.dividedAnswer a)
+  parted-bare : (a : Divided) → Bare (byId.dividedIdAnswer a)
   parted-bare (divided.At i a b) = done-bare _
   parted-bare (divided.Refused n) = refused-bare n
 
-  measure-bare : (c : Cursor) → Bare (calls.lengthsOf K s c)
-  unfolding calls.lengthsOf
+  measure-bare : (c : Cursor) → Bare (calls.entryLengths K s c)
+  unfolding calls.entryLengths
   measure-bare c = go (eqb (refusal (opening K s ++ atCursor K s c)) 0)
     where
       go : (b : Bool) → Bare (cond b (row.done (lengths (calls.slotAt K s c))) (row.refused (refusal (opening K s ++ atCursor K s c))))
@@ -151,7 +151,7 @@ module _ (K : Kind) (s : State) where
   unfolding treeMove
   move-bare (row.reset l) = outcome-bare (calls.reset K s l .answer)
   move-bare (row.insert i l) = target-bare i (λ t. told (calls.insert K s t l) insertedAnswer) (λ t. inserted-bare (calls.insert K s t l .answer))
-  move-bare (row.split flag i l) = at-bare (calls.cursor K s i) (λ c. told (calls.splitEntry K s c l flag) byId.dividedAnswer) (λ c. parted-bare (calls.splitEntry K s c l flag .answer))
+  move-bare (row.split flag i l) = at-bare (calls.cursor K s i) (λ c. told (calls.splitEntry K s c l flag) byId.dividedIdAnswer) (λ c. parted-bare (calls.splitEntry K s c l flag .answer))
   move-bare (row.setLengths i l) = at-bare (calls.cursor K s i) (λ c. told (calls.setLengths K s c l) outcomeAnswer) (λ c. outcome-bare (calls.setLengths K s c l .answer))
   move-bare (row.update i l) = at-bare (calls.cursor K s i) (λ c. told (calls.update K s c l) numberAnswer) (λ c. number-bare (calls.update K s c l .answer))
   move-bare (row.lookup v x) = looked-bare (calls.locate K s v x .after) (calls.locate K s v x .answer)
@@ -159,7 +159,7 @@ module _ (K : Kind) (s : State) where
   move-bare (row.next i) = at-bare (calls.cursor K s i) (λ c. row.moved s (byId.nextAnswer K s (calls.nextAfter K s c))) (λ c. following-bare (calls.nextAfter K s c))
   move-bare (row.compare i j) = at-bare (calls.cursor K s i) (λ a. withCursor s (calls.cursor K s j) (λ b. row.moved s (comparedAnswer (calls.cmp K s a b))))
       (λ a. at-bare (calls.cursor K s j) (λ b. row.moved s (comparedAnswer (calls.cmp K s a b))) (λ b. compared-bare (calls.cmp K s a b)))
-  move-bare (row.lengths i) = at-bare (calls.cursor K s i) (λ c. row.moved s (calls.lengthsOf K s c)) (λ c. measure-bare c)
+  move-bare (row.lengths i) = at-bare (calls.cursor K s i) (λ c. row.moved s (calls.entryLengths K s c)) (λ c. measure-bare c)
   move-bare row.count = let h = s .head in number-bare (calls.unless (calls.areaCauses K (h .fan) (h .limit) (s .leaves) (s .inners) (s .homes)) number.Refused (calls.len h))
   move-bare row.first = first-bare (calls.first K s)
   move-bare row.malformed = refused-bare 10

@@ -16,7 +16,7 @@ use Rattle.model.specs.Answer.{outcomeAnswer, numberAnswer, insertedAnswer}
 use Rattle.model.specs.Refuse.{shapeOf, opening, full}
 use Rattle.model.specs.Row as row
 use Rattle.model.specs.Row.{Call, Moved, noEntry, overlong}
-use Rattle.model.specs.ById.{withCursor, withTarget, dividedAnswer, told, treeMove, treeStep}
+use Rattle.model.specs.ById.{withCursor, withTarget, dividedIdAnswer, told, treeMove, treeStep}
 use Rattle.model.specs.Calls as calls
 use Rattle.model.specs.Calls.{Reply}
 use Rattle.model.specs.Promise.{Fixed, Fixes}
@@ -208,7 +208,7 @@ module _ (K : Kind) (s : State) where
   unfolding treeMove
   move-fixed (row.reset l) = reset-fixed l
   move-fixed (row.insert i l) = target-fixed i (λ t. told (calls.insert K s t l) insertedAnswer) (λ t. insert-fixed (full s ∷ []) t l)
-  move-fixed (row.split flag i l) = at-fixed (calls.cursor K s i) (λ c. told (calls.splitEntry K s c l flag) dividedAnswer) (λ c. split-entry-fixed (full s ∷ []) c l flag)
+  move-fixed (row.split flag i l) = at-fixed (calls.cursor K s i) (λ c. told (calls.splitEntry K s c l flag) dividedIdAnswer) (λ c. split-entry-fixed (full s ∷ []) c l flag)
   move-fixed (row.setLengths i l) = at-fixed (calls.cursor K s i) (λ c. told (calls.setLengths K s c l) outcomeAnswer) (λ c. set-fixed c l)
   move-fixed (row.update i l) = at-fixed (calls.cursor K s i) (λ c. told (calls.update K s c l) numberAnswer) (λ c. update-fixed c l)
   move-fixed (row.lookup v x) = locate-fixed v x

@@ -24,7 +24,7 @@ use Rattle.laws.specs.Nodes.{Formed}
 use Rattle.laws.specs.Formed.{formed-lengths, formed-inserted, formed-adopted, formed-lower, formed-upper, formed-split, formed-new}
 use Rattle.laws.specs.AreaRead.{node-end}
 use Rattle.laws.specs.Areas.{formed-at, length-putNode}
-use Rattle.laws.specs.Lens.{by-test, both, length-slot, Roomy, lenOf, Parted, split-room}
+use Rattle.laws.specs.Lens.{by-test, both, length-slot, Roomy, lenOf, PartedLens, split-room}
 
 -- the number of a change
 abbrev pub Ends : ℕ → Type 0
@@ -146,7 +146,8 @@ module _ (g : Shape) where
       (λ _. further a _ d _ _ o (ok (top (t .inners + 1) (t .root) (t .levels)) k (t .inners) d (roomy-on a _ d r o) (omega arith)))
       (λ _. record { ends = nine-ends; leaves = o .leaves; inners = o .inners })
 
-  half-spans : (level k m i new : ℕ) (a : Areas) (x : Grown) → k < m → m < g .nodes → i < g .fan → Spans a (x .number) (x .areas) → Parted g k m a (x .areas)
+  half-spans : (level k m i new : ℕ) (a : Areas) (x : Grown) → k < m → m < g .nodes → i < g .fan → Spans a (x .number) (x .areas)
+      → PartedLens g k m a (x .areas)
       → Spans a (linkHalf g level k m i new x .number) (linkHalf g level k m i new x .areas)
   unfolding linkHalf
   half-spans level k m i new a x h l hi s o =
@@ -192,19 +193,19 @@ module _ (g : Shape) where
   above-spans (suc n) t k m a r h = add-spans n (above-spans n) t 2 (nodeAt g k (a .inners) .parent) k m a r h
 
 -- a change of the tree s has the number n and leaves t
-pub record Left (s : State) (n : ℕ) (t : State) : Type 0 where
+pub record KeepsLengths (s : State) (n : ℕ) (t : State) : Type 0 where
   pub ends : Ends n
   pub leaves : length (t .leaves) ≡ length (s .leaves)
   pub inners : length (t .inners) ≡ length (s .inners)
   pub homes : length (t .homes) ≡ length (s .homes)
 
 -- both areas hold all nodes, among them those in use
-pub record Holds (g : Shape) (s : State) : Type 0 where
+pub record RoomyInUse (g : Shape) (s : State) : Type 0 where
   pub roomy : Roomy g (areas (s .leaves) (s .inners))
   pub leaf-count : s .head .leaves ≤ g .nodes
   pub inner-count : s .head .inners ≤ g .nodes
 
-unmoved : (s : State) (n : ℕ) → Ends n → Left s n s
+unmoved : (s : State) (n : ℕ) → Ends n → KeepsLengths s n s
 unmoved s n e = record { ends = e; leaves = refl; inners = refl; homes = refl }
 
 rehome-spans : (entries k : ℕ) (xs : List (List ℕ)) (hs : List ℕ) → Ends (place.rehome entries k xs hs .0) × (length (place.rehome entries k xs hs .1) ≡ length hs)
@@ -216,15 +217,16 @@ rehome-spans entries k (x ∷ xs) hs =
     (λ _. (nine-ends, refl))
 
 module _ (g : Shape) where
-  room-of : (s : State) (n : ℕ) (t : State) → Holds g s → Left s n t → Roomy g (areas (t .leaves) (t .inners))
+  room-of : (s : State) (n : ℕ) (t : State) → RoomyInUse g s → KeepsLengths s n t → Roomy g (areas (t .leaves) (t .inners))
   room-of s n t h o = roomy-on g (areas (s .leaves) (s .inners)) n (areas (t .leaves) (t .inners)) (h .roomy) (record { ends = o .ends; leaves = o .leaves; inners = o .inners })
 
-  link-left : (s : State) (k i parent : ℕ) (ls : List ℕ) (hs : ℕ × List ℕ) → Holds g s → length ls ≡ length (s .leaves) → length (hs .1) ≡ length (s .homes)
-      → Left s (place.linkLeaf g s k i parent ls hs .number) (place.linkLeaf g s k i parent ls hs .state)
+  link-left : (s : State) (k i parent : ℕ) (ls : List ℕ) (hs : ℕ × List ℕ) → RoomyInUse g s → length ls ≡ length (s .leaves)
+      → length (hs .1) ≡ length (s .homes)
+      → KeepsLengths s (place.linkLeaf g s k i parent ls hs .number) (place.linkLeaf g s k i parent ls hs .state)
   unfolding place.linkLeaf
   link-left s k i parent ls hs h el eh =
-      by-test (λ (x : Change). Left s (x .number) (x .state)) (eqb (hs .0) 0) _ _
-      (λ _. by-test (λ (x : Change). Left s (x .number) (x .state)) (ltb i (half (g .fan))) _ _
+      by-test (λ (x : Change). KeepsLengths s (x .number) (x .state)) (eqb (hs .0) 0) _ _
+      (λ _. by-test (λ (x : Change). KeepsLengths s (x .number) (x .state)) (ltb i (half (g .fan))) _ _
       (λ _. record { ends = o .ends; leaves = o .leaves ∙ el; inners = o .inners; homes = eh })
       (λ _. record { ends = o .ends; leaves = o .leaves ∙ el; inners = o .inners; homes = eh }))
       (λ _. record { ends = nine-ends; leaves = el; inners = refl; homes = eh })
@@ -244,10 +246,10 @@ module _ (g : Shape) where
       o : Spans a (addTo g (aboveOf g n) t 1 parent k (s .head .leaves) a .number) (addTo g (aboveOf g n) t 1 parent k (s .head .leaves) a .areas)
       o = add-spans g n (above-spans g n) t 1 parent k (s .head .leaves) a r (h .inner-count)
 
-  split-left : (s : State) (k i : ℕ) → Holds g s → k < s .head .leaves → Left s (place.splitLeaf g s k i .number) (place.splitLeaf g s k i .state)
+  split-left : (s : State) (k i : ℕ) → RoomyInUse g s → k < s .head .leaves → KeepsLengths s (place.splitLeaf g s k i .number) (place.splitLeaf g s k i .state)
   unfolding place.splitLeaf
   split-left s k i h hk =
-      by-test (λ (x : Change). Left s (x .number) (x .state)) (ltb (s .head .leaves) (g .nodes)) _ _
+      by-test (λ (x : Change). KeepsLengths s (x .number) (x .state)) (ltb (s .head .leaves) (g .nodes)) _ _
       (λ e. link-left s k i (n .parent) _ _ h (halved (ltb-true _ _ e)) (rehome-spans (s .head .entries) (s .head .leaves) (used up) (s .homes) .1))
       (λ _. unmoved s 9 nine-ends)
     where
@@ -271,11 +273,11 @@ module _ (g : Shape) where
           let q = put-leaf g b (s .head .leaves) up (roomy-on g a 0 b (h .roomy) p) l (formed-upper (g .stride) (g .fan) n fn (h .roomy .columns)) in
           q .leaves ∙ p .leaves
 
-  room-left : (s : State) (k i : ℕ) → Holds g s → Left s (place.makeRoom g s k i .number) (place.makeRoom g s k i .state)
+  room-left : (s : State) (k i : ℕ) → RoomyInUse g s → KeepsLengths s (place.makeRoom g s k i .number) (place.makeRoom g s k i .state)
   unfolding place.makeRoom
   room-left s k i h =
-      by-test (λ (x : Change). Left s (x .number) (x .state)) (ltb k (s .head .leaves) && leb i (nodeAt g k (s .leaves) .len) && leb (nodeAt g k (s .leaves) .len) (g .fan)) _ _
-      (λ e. by-test (λ (x : Change). Left s (x .number) (x .state)) (ltb (nodeAt g k (s .leaves) .len) (g .fan)) _ _
+      by-test (λ (x : Change). KeepsLengths s (x .number) (x .state)) (ltb k (s .head .leaves) && leb i (nodeAt g k (s .leaves) .len) && leb (nodeAt g k (s .leaves) .len) (g .fan)) _ _
+      (λ e. by-test (λ (x : Change). KeepsLengths s (x .number) (x .state)) (ltb (nodeAt g k (s .leaves) .len) (g .fan)) _ _
       (λ _. unmoved s 0 zero-ends)
       (λ _. split-left s k i h (ltb-true _ _ (both _ _ (both _ _ e .0) .0))))
       (λ _. unmoved s 9 nine-ends)
@@ -284,10 +286,10 @@ module _ (g : Shape) where
   abbrev Forming : (Node → Node) → ℕ → ℕ → Type 0
   Forming f w i = (m : Node) → Formed (g .stride) (g .fan) m → i + w ≤ m .len → m .len < g .fan → Formed (g .stride) (g .fan) (f m)
 
-  enter-left : (f : Node → Node) (w : ℕ) (s : State) (k i : ℕ) → Roomy g (areas (s .leaves) (s .inners)) → Forming f w i → Left s (place.enter g f w s k i .number) (place.enter g f w s k i .state)
+  enter-left : (f : Node → Node) (w : ℕ) (s : State) (k i : ℕ) → Roomy g (areas (s .leaves) (s .inners)) → Forming f w i → KeepsLengths s (place.enter g f w s k i .number) (place.enter g f w s k i .state)
   unfolding place.enter
   enter-left f w s k i r ok =
-      by-test (λ (x : Change). Left s (x .number) (x .state)) (ltb k (g .nodes) && leb (i + w) (nodeAt g k (s .leaves) .len) && ltb (nodeAt g k (s .leaves) .len) (g .fan)) _ _
+      by-test (λ (x : Change). KeepsLengths s (x .number) (x .state)) (ltb k (g .nodes) && leb (i + w) (nodeAt g k (s .leaves) .len) && ltb (nodeAt g k (s .leaves) .len) (g .fan)) _ _
       (λ e. let e₁ = both _ _ e in
       let e₂ = both _ _ (e₁ .0) in
       let hk = ltb-true _ _ (e₂ .0) in
@@ -296,27 +298,28 @@ module _ (g : Shape) where
       record { ends = zero-ends; leaves = p .leaves; inners = refl; homes = length-set (s .homes) (s .head .entries) k })
       (λ _. unmoved s 9 nine-ends)
 
-  entering-left : (s : State) (f : ℕ → Node → Node) (w : ℕ) (r : Change) → Holds g s → ((j : ℕ) → Forming (f j) w j) → Left s (r .number) (r .state)
-      → Left s (place.entering g f w r .number) (place.entering g f w r .state)
+  entering-left : (s : State) (f : ℕ → Node → Node) (w : ℕ) (r : Change) → RoomyInUse g s → ((j : ℕ) → Forming (f j) w j)
+      → KeepsLengths s (r .number) (r .state)
+      → KeepsLengths s (place.entering g f w r .number) (place.entering g f w r .state)
   entering-left s f w r h ok o =
-      by-test (λ (x : Change). Left s (x .number) (x .state)) (eqb (r .number) 0) _ _
+      by-test (λ (x : Change). KeepsLengths s (x .number) (x .state)) (eqb (r .number) 0) _ _
       (λ _. let q = enter-left (f (r .slot)) w (r .state) (r .leaf) (r .slot) (room-of s (r .number) (r .state) h o) (ok (r .slot)) in
       record { ends = q .ends; leaves = q .leaves ∙ o .leaves; inners = q .inners ∙ o .inners; homes = q .homes ∙ o .homes })
       (λ _. o)
 
-  pub place-left : (s : State) (k i : ℕ) (ls : List ℕ) → Holds g s → length ls + 1 ≡ g .stride → Left s (place.place g s k i ls .number) (place.place g s k i ls .state)
+  pub place-left : (s : State) (k i : ℕ) (ls : List ℕ) → RoomyInUse g s → length ls + 1 ≡ g .stride → KeepsLengths s (place.place g s k i ls .number) (place.place g s k i ls .state)
   unfolding place.place
   place-left s k i ls h e =
       entering-left s (λ j. inserted j (s .head .entries ∷ ls)) 0 (place.makeRoom g s k i) h
       (λ j m f a b. formed-inserted (g .stride) (g .fan) m f j (s .head .entries ∷ ls) (omega arith) (omega arith) b) (room-left s k i h)
 
-  pub divide-left : (flag : Bool) (s : State) (k i : ℕ) (ls : List ℕ) → Holds g s → length ls + 1 ≡ g .stride → Left s (place.divide g flag s k i ls .number) (place.divide g flag s k i ls .state)
+  pub divide-left : (flag : Bool) (s : State) (k i : ℕ) (ls : List ℕ) → RoomyInUse g s → length ls + 1 ≡ g .stride → KeepsLengths s (place.divide g flag s k i ls .number) (place.divide g flag s k i ls .state)
   unfolding place.divide
   divide-left flag s k i ls h e =
       entering-left s (λ j. childSplit flag j (s .head .entries ∷ ls)) 1 (place.makeRoom g s k i) h
       (λ j m f a b. formed-split (g .stride) (g .fan) m f flag j (s .head .entries ∷ ls) (omega arith) (h .roomy .columns) (omega arith) b) (room-left s k i h)
 
-  pub replace-left : (s : State) (k i : ℕ) (ls : List ℕ) → Holds g s → length ls + 1 ≡ g .stride → k < g .nodes → Left s (place.replace g s k i ls .number) (place.replace g s k i ls .state)
+  pub replace-left : (s : State) (k i : ℕ) (ls : List ℕ) → RoomyInUse g s → length ls + 1 ≡ g .stride → k < g .nodes → KeepsLengths s (place.replace g s k i ls .number) (place.replace g s k i ls .state)
   unfolding place.replace
   replace-left s k i ls h e hk =
       let a = areas (s .leaves) (s .inners) in
@@ -331,7 +334,7 @@ module _ (g : Shape) where
       let r : length (getD (n .slots) i []) ≡ g .stride = All-at (Long (g .stride)) i [] (n .slots) (omega arith) (f .wide) in
       rw (length-drop, r)
 
-  pub leaf-slot : (s : State) (k i : ℕ) → Holds g s → k < g .nodes → i < g .fan → length (lengthsAt i (nodeAt g k (s .leaves) .slots)) ≡ g .stride - 1
+  pub leaf-slot : (s : State) (k i : ℕ) → RoomyInUse g s → k < g .nodes → i < g .fan → length (lengthsAt i (nodeAt g k (s .leaves) .slots)) ≡ g .stride - 1
   leaf-slot s k i h hk hi = slot-long (nodeAt g k (s .leaves)) i (leaf-formed g (areas (s .leaves) (s .inners)) k (h .roomy) hk) hi
 
   raised-spans : (delta : List ℕ) (k i : ℕ) (ls xs : List ℕ) → Roomy g (areas ls xs) → length delta + 1 ≡ g .stride → k < g .nodes → i < g .fan → length (raised g delta k i xs) ≡ length xs
@@ -356,15 +359,15 @@ module _ (g : Shape) where
       (roomy-on g (areas ls xs) 0 (areas ls (raised g delta k i xs)) r (record { ends = zero-ends; leaves = refl; inners = l })) ∙ l)
       (λ _. refl)
 
-  summed-left : (s : State) (r : Change) (p : Sum × List ℕ) → Left s (r .number) (r .state) → length (p .1) ≡ length (r .state .inners) → Left s (place.summed g r p .0 .number) (place.summed g r p .0 .state)
+  summed-left : (s : State) (r : Change) (p : Sum × List ℕ) → KeepsLengths s (r .number) (r .state) → length (p .1) ≡ length (r .state .inners) → KeepsLengths s (place.summed g r p .0 .number) (place.summed g r p .0 .state)
   summed-left s r (sum.Is n, xs) o e = record { ends = zero-ends; leaves = o .leaves; inners = e ∙ o .inners; homes = o .homes }
   summed-left s r (sum.Broken, xs) o e = record { ends = nine-ends; leaves = o .leaves; inners = e ∙ o .inners; homes = o .homes }
 
-  pub climb-left : (s : State) (v : ℕ) (delta : List ℕ) (r : Change) → Holds g s → length delta + 1 ≡ g .stride → Left s (r .number) (r .state)
-      → Left s (place.climb g v delta r .0 .number) (place.climb g v delta r .0 .state)
+  pub climb-left : (s : State) (v : ℕ) (delta : List ℕ) (r : Change) → RoomyInUse g s → length delta + 1 ≡ g .stride → KeepsLengths s (r .number) (r .state)
+      → KeepsLengths s (place.climb g v delta r .0 .number) (place.climb g v delta r .0 .state)
   unfolding place.climb
   climb-left s v delta r h e o =
-      by-test (λ (p : Change × ℕ). Left s (p .0 .number) (p .0 .state)) (eqb (r .number) 0) _ _
+      by-test (λ (p : Change × ℕ). KeepsLengths s (p .0 .number) (p .0 .state)) (eqb (r .number) 0) _ _
       (λ _. let m = nodeAt g (r .leaf) (r .state .leaves) in
       summed-left s r (climbUp g v delta (r .state .head .levels) (m .parent) (m .at) (start v (r .slot) m) (r .state .inners)) o
       (up-spans v delta e (r .state .head .levels) (m .parent) (m .at) (start v (r .slot) m) (r .state .leaves) (r .state .inners) (room-of s (r .number) (r .state) h o)))

@@ -56,11 +56,11 @@ use Rattle.theory.specs.CallMake.{Sizes, sizes-of, level-made, nodes-lea
 use Rattle.theory.specs.AnyFixed.{fixes}
 use Rattle.theory.specs.AnyBare.{bares}
 use Rattle.theory.specs.CallPrint.{print-leaves}
-use Rattle.theory.specs.AnySearch.{Seen, Finds, held-finds, root-finds}
-use Rattle.theory.specs.AnyLengths.{Left, Holds, put-leaf, put-inner, place-left, divide-left, replace-left, climb-left, leaf-slot}
+use Rattle.theory.specs.AnySearch.{SlotInUse, Finds, held-finds, root-finds}
+use Rattle.theory.specs.AnyLengths.{KeepsLengths, RoomyInUse, put-leaf, put-inner, place-left, divide-left, replace-left, climb-left, leaf-slot}
 
 -- the id that a split answers by id, and its cursors: the same number
-pub id-number : (a : Divided) → byId.dividedAnswer a .number ≡ dividedAnswer a .number
+pub id-number : (a : Divided) → byId.dividedIdAnswer a .number ≡ dividedAnswer a .number
 id-number (divided.At i a b) = refl
 id-number (divided.Refused n) = refl
 
@@ -95,7 +95,7 @@ module _ (K : Kind) (s : State) where
   g = shapeOf K (s .head)
 
   -- a call past its opening
-  opened : (cs : List Cause) → refusal (opening K s ++ cs) ≡ 0 → Holds (shapeOf K (s .head)) s × (refusal cs ≡ 0)
+  opened : (cs : List Cause) → refusal (opening K s ++ cs) ≡ 0 → RoomyInUse (shapeOf K (s .head)) s × (refusal cs ≡ 0)
   unfolding opening
   opened cs e =
       let h = s .head in
@@ -138,7 +138,7 @@ module _ {A : Type 0} (f : A → Answer) (refuse : ℕ → A) (told : (n : ℕ) 
       go true e = rw e (h (eqb-true _ _ e))
       go false e = rw e (unmoved (f (refuse (refusal cs)) .number) s)
 
-  settled-leaves : (s : State) (r : Change) (a : A) → f a .number ≡ 0 → Left s (r .number) (r .state)
+  settled-leaves : (s : State) (r : Change) (a : A) → f a .number ≡ 0 → KeepsLengths s (r .number) (r .state)
       → Leaves (f (calls.settled s r refuse a .answer) .number) s (calls.settled s r refuse a .after)
   settled-leaves s r a z o = go (eqb (r .number) 0) refl
     where
@@ -175,25 +175,25 @@ module _ (K : Kind) (s : State) where
       (λ e. let b = begun-spans (h .fan) (h .limit) (nextStamp (h .stamp)) l (s .leaves) (s .inners) (s .homes) (sizes-of K (h .fan) (h .limit) (s .leaves) (s .inners) (s .homes) (level-made K (h .fan) (h .limit) l (s .leaves) (s .inners) (s .homes) (few K l _ e) .0)) w in
       finished 0 s (calls.begun K (h .fan) (h .limit) (nextStamp (h .stamp)) l (s .leaves) (s .inners) (s .homes)) refl (b .0) (b .1) (b .2))
 
-  end-left : (k : Leaf) → Left s (calls.endOf K s k .number) (calls.endOf K s k .state)
+  end-left : (k : Leaf) → KeepsLengths s (calls.endOf K s k .number) (calls.endOf K s k .state)
   end-left (leaf.At k) = record { ends = λ z. absurd (z refl); leaves = refl; inners = refl; homes = refl }
   end-left leaf.Nothing = record { ends = λ z. refl; leaves = refl; inners = refl; homes = refl }
   end-left leaf.Broken = record { ends = λ z. refl; leaves = refl; inners = refl; homes = refl }
 
-  aim-left : (t : Target) → Left s (calls.aim K s t .number) (calls.aim K s t .state)
+  aim-left : (t : Target) → KeepsLengths s (calls.aim K s t .number) (calls.aim K s t .state)
   aim-left (target.Before c) = record { ends = λ z. absurd (z refl); leaves = refl; inners = refl; homes = refl }
   aim-left target.End = end-left (lastDown (shapeOf K (s .head)) (s .head .levels) (s .head .root .0) (s .inners))
 
-  placed-left : (t : Target) (l : List ℕ) → Words K l → Holds (shapeOf K (s .head)) s → Left s (calls.placed K s t l .0 .number) (calls.placed K s t l .0 .state)
+  placed-left : (t : Target) (l : List ℕ) → Words K l → RoomyInUse (shapeOf K (s .head)) s → KeepsLengths s (calls.placed K s t l .0 .number) (calls.placed K s t l .0 .state)
   placed-left t l w h =
       climb-left (shapeOf K (s .head)) s (K .effect) l (cond (eqb (calls.aim K s t .number) 0) (place.place (shapeOf K (s .head)) s (calls.aim K s t .leaf) (calls.aim K s t .slot) l) (calls.aim K s t)) h (let e = w .long in omega arith)
       (aimed (calls.aim K s t) (aim-left t) (eqb (calls.aim K s t .number) 0))
     where
-      aimed : (r : Change) → Left s (r .number) (r .state) → (b : Bool) → Left s (cond b (place.place (shapeOf K (s .head)) s (r .leaf) (r .slot) l) r .number) (cond b (place.place (shapeOf K (s .head)) s (r .leaf) (r .slot) l) r .state)
+      aimed : (r : Change) → KeepsLengths s (r .number) (r .state) → (b : Bool) → KeepsLengths s (cond b (place.place (shapeOf K (s .head)) s (r .leaf) (r .slot) l) r .number) (cond b (place.place (shapeOf K (s .head)) s (r .leaf) (r .slot) l) r .state)
       aimed r o true = place-left (shapeOf K (s .head)) s (r .leaf) (r .slot) l h (let e = w .long in omega arith)
       aimed r o false = o
 
-  resized-left : (c : Cursor) (l : List ℕ) → Words K l → Holds (shapeOf K (s .head)) s → Current K s c → Left s (calls.resized K s c l .0 .number) (calls.resized K s c l .0 .state)
+  resized-left : (c : Cursor) (l : List ℕ) → Words K l → RoomyInUse (shapeOf K (s .head)) s → Current K s c → KeepsLengths s (calls.resized K s c l .0 .number) (calls.resized K s c l .0 .state)
   unfolding minus
   resized-left c l w h o =
       let e = w .long in
@@ -270,7 +270,7 @@ module _ (K : Kind) (s : State) where
 
   -- the new id alone
   -- a finger found stands at a slot in use, so its id is read
-  id-read : (f : Finger) (offset : ℕ) (vs : List ℕ) → refusal (opening K s) ≡ 0 → Seen K s f
+  id-read : (f : Finger) (offset : ℕ) (vs : List ℕ) → refusal (opening K s) ≡ 0 → SlotInUse K s f
       → byId.idAnswer (calls.id K (calls.hit s f offset .after) (calls.cursorAt (s .head .stamp) (f .leaf) (f .slot))) vs .number ≡ 0
   unfolding calls.id opening refusal
   id-read f offset vs e h =
@@ -301,7 +301,7 @@ module _ (K : Kind) (s : State) where
   unfolding treeMove
   move-leaves (row.reset l) k = reset-leaves l k
   move-leaves (row.insert i l) k = target-leaves i (λ t. told (calls.insert K s t l) insertedAnswer) (λ t. insert-leaves (full s ∷ []) t l (k .1))
-  move-leaves (row.split flag i l) k = at-leaves (calls.cursor K s i) (λ c. told (calls.splitEntry K s c l flag) byId.dividedAnswer) (λ c. rw (id-number (calls.splitEntry K s c l flag .answer)) (split-leaves (full s ∷ []) c l flag (k .1)))
+  move-leaves (row.split flag i l) k = at-leaves (calls.cursor K s i) (λ c. told (calls.splitEntry K s c l flag) byId.dividedIdAnswer) (λ c. rw (id-number (calls.splitEntry K s c l flag .answer)) (split-leaves (full s ∷ []) c l flag (k .1)))
   move-leaves (row.setLengths i l) k = at-leaves (calls.cursor K s i) (λ c. told (calls.setLengths K s c l) outcomeAnswer) (λ c. set-leaves c l (k .1))
   move-leaves (row.update i l) k = at-leaves (calls.cursor K s i) (λ c. told (calls.update K s c l) numberAnswer) (λ c. update-leaves c l (k .1))
   move-leaves (row.lookup v x) k = look-leaves v x

@@ -30,13 +30,13 @@ every false b e = absurd (let z : _≡_ {A = ℕ} 0 1 = cc in omega arith)
 
 module _ (K : Kind) (s : State) where
   -- the finger that a search finds stands at a slot in use of a leaf in use
-  pub record Seen (f : Finger) : Type 0 where
+  pub record SlotInUse (f : Finger) : Type 0 where
     pub leaf : f .leaf < s .head .leaves
     pub filled : nodeAt (shapeOf K (s .head)) (f .leaf) (s .leaves) .len ≤ s .head .fan
     pub slot : f .slot < nodeAt (shapeOf K (s .head)) (f .leaf) (s .leaves) .len
 
   abbrev pub Finds : Search → Type 0
-  Finds (search.At f offset) = Seen f
+  Finds (search.At f offset) = SlotInUse f
   Finds search.Nothing = Unit {0}
   Finds search.Broken = Unit {0}
 

@@ -33,7 +33,7 @@ use Rattle.abstract_tree.specs.Finger.{sumBy-cong}
 use Rattle.abstract_tree.specs.Cursor.{indexOf}
 use Rattle.abstract_tree.specs.Apart.{dep, dep-step}
 use Rattle.abstract_tree.specs.Check as check
-use Rattle.abstract_tree.specs.Check.{Checks}
+use Rattle.abstract_tree.specs.Check.{TreeChecks}
 use Rattle.abstract_tree.specs.CheckBack.{body-checks}
 use Rattle.theory.specs.WordTidy.{Tidy, len-used, slot-used}
 use Rattle.theory.specs.LiftTree.{slotOf, slotsOf, treeOf, sum-slots}
@@ -60,7 +60,7 @@ module _ (K : Kind) (t : State) (s : Sound K t) where
   b : Body T
   b = body-of (stride K) t (K .effect) w
 
-  ck : Checks T
+  ck : TreeChecks T
   ck = body-checks T b
 
   leaf-size : (k : ℕ) → k < t .head .leaves → length (slotsOf (leafIn (stride K) t k)) ≡ leafIn (stride K) t k .len

@@ -36,14 +36,14 @@ use Rattle.abstract_tree.specs.Tree.{Tree, order, above, Body}
 use Rattle.abstract_tree.specs.Finger.{sumBy-cong}
 use Rattle.abstract_tree.specs.Cursor.{indexOf}
 use Rattle.abstract_tree.specs.Check as check
-use Rattle.abstract_tree.specs.Check.{Checks, checks-body}
+use Rattle.abstract_tree.specs.Check.{TreeChecks, checks-body}
 use Rattle.theory.specs.WordTidy.{Tidy, tidy-filled, len-used, slot-used, slots-before}
 use Rattle.theory.specs.LiftTree.{slotOf, slotsOf, treeOf, sum-slots}
 use Rattle.theory.specs.LiftMarks.{areaFrom, Marked, total-past, every-view, marks-of, getD-slot}
 use Rattle.theory.specs.WordNeat.{Neat, Viewed, size-is, nodes-most}
 use Rattle.theory.specs.LiftSound.{all-slots, sum-take}
 use Rattle.theory.specs.LiftSoundBack.{sound-up}
-use Rattle.theory.specs.WalkUp.{Way, way, rank-up}
+use Rattle.theory.specs.WalkUp.{WayUp, way, rank-up}
 use Rattle.theory.specs.CallMake.{Sizes}
 use Rattle.theory.specs.AuditFacts.{HeldBy, ChildBy, areaBy, countBy, EntryBy, HandBy, SoundBy}
 use Rattle.theory.specs.AuditDepth.{depth-dep, index-first, range-below, all-kids}
@@ -61,7 +61,7 @@ climb-of s t nt b k lk v = go (is-in k (order (treeOf s t)) (b .leaf-all k lk))
     go i =
         let T : Tree = treeOf s t in
         rank-up s t nt v (t .head .levels) (T .body .leaf) k 0
-        (subst (λ (d : ℕ). Way (T .body .leaf) (T .body .inner) (t .head .inners) d k) (b .deep)
+        (subst (λ (d : ℕ). WayUp (T .body .leaf) (T .body .inner) (t .head .inners) d k) (b .deep)
         (way (total (T .body .leaf)) (T .body .leaf) (T .body .inner) (T .body .root) (t .head .inners) (i .before) k (i .after) (above T) (subst (λ (C : List ℕ). Links (total (T .body .leaf)) (T .body .leaf) (T .body .inner) (T .body .root) C (above T)) (i .row) (b .links)) (b .inner-in)))
 
 module _ (K : Kind) (t : State) (z : Sizes K (t .head .fan) (t .head .limit) (t .leaves) (t .inners) (t .homes)) (f : SoundBy K t) where
@@ -177,7 +177,7 @@ module _ (K : Kind) (t : State) (z : Sizes K (t .head .fan) (t .head .limit) (t 
   entry-slot : (k : ℕ) (lt : k < t .head .leaves) (j : ℕ) → j < length (used (leafIn (stride K) t k)) → child (getD (leafIn (stride K) t k .slots) j []) ≡ child (getD (used (leafIn (stride K) t k)) j [])
   entry-slot k lt j lj = ap child (slot-used (stride K) (t .head .fan) (leafIn (stride K) t k) (neat .leaf-tidy k lt) j [] lj)
 
-  checks : Checks T
+  checks : TreeChecks T
   checks = record {
     fan-low = z .fan-low;
     fan-high = z .fan-high;

@@ -21,10 +21,10 @@ use Rattle.model.specs.Refuse.{opening, stale, overfull, atCursor, current, bad
 use Rattle.model.specs.Calls as calls
 use Rattle.model.specs.Calls.{make, cursorAt}
 use Rattle.model.specs.Answer.{outcomeAnswer, numberAnswer, verdictAnswer, namedAnswer, comparedAnswer, insertedAnswer}
-use Rattle.model.specs.ById.{told, withCursor, idAnswer, standingAnswer, nextAnswer, dividedAnswer, treeMove, treeStep}
+use Rattle.model.specs.ById.{told, withCursor, idAnswer, standingIdAnswer, nextAnswer, dividedIdAnswer, treeMove, treeStep}
 use Rattle.model.specs.ByCursor as by
 use Rattle.model.specs.ByCursor.{CursorCall, EntryCall, cursorStep, entryStep, entryAt, meant}
-use Rattle.model.specs.Promise.{Words, IsWord, InWords, Stands, CursorInWords, StandsAt, SelectedAt, DividedAt}
+use Rattle.model.specs.Promise.{Words, IsWord, InWords, Represents, CursorInWords, StandsAt, SelectedAt, DividedAt}
 use Rattle.model.specs.declared.head.Cursor.{Cursor}
 use Rattle.model.specs.declared.answer.Target.the-variants as target
 use Rattle.model.specs.declared.answer.Outcome.{Outcome}
@@ -46,8 +46,8 @@ use Rattle.model.specs.declared.answer.Inserted.{Inserted}
 use Rattle.model.specs.declared.answer.Inserted.the-variants as inserted
 use Rattle.model.specs.declared.answer.Divided.{Divided}
 use Rattle.model.specs.declared.answer.Divided.the-variants as divided
-use Rattle.theory.specs.CallOpen.{passed, stopped, few-lines, many-lines, opens, fresh, good-size, no-seat}
-use Rattle.theory.specs.CallSimulates.{Agrees, row-passed, row-stopped, count-is}
+use Rattle.theory.specs.CallOpen.{passed, stopped, few-lines, many-lines, opens, fresh, good-size, entry-absent}
+use Rattle.theory.specs.CallSimulates.{Simulates, row-passed, row-stopped, count-is}
 use Rattle.theory.specs.CallById.{step}
 use Rattle.theory.specs.CursorCurrent.{first-applies, Fails, which, fails-not, current-is, is-current}
 use Rattle.theory.specs.CursorAnswered.{split-lines, current-at, cursor-at, select-at, split-at}
@@ -90,39 +90,39 @@ module _ (K : Kind) (ok : K .effect < K .views) (s : State) (w : Coherent K s) w
   unfolding calls.id
   unnamed c n q = stopped (opening K s ++ atCursor K s c) named.Refused _ n (stops c n q)
 
-  module _ (r : Row) (h : Stands K s r) where
+  module _ (r : Row) (h : Represents K s r) where
     -- a call on a cursor that the row has too
-    plainly : (c : Cursor) (F : Cursor → Moved State) (k : Call) → InWords K k → treeStep K s k ≡ withCursor s (calls.cursor K s (entryAt K s c)) F → current K s c ≡ true → Agrees (Stands K) (F c) (rowStep K r k)
-    plainly c F k m q e = subst (λ (z : Moved State). Agrees (Stands K) z (rowStep K r k)) (q ∙ found c F e) (step K ok s r h k m)
+    plainly : (c : Cursor) (F : Cursor → Moved State) (k : Call) → InWords K k → treeStep K s k ≡ withCursor s (calls.cursor K s (entryAt K s c)) F → current K s c ≡ true → Simulates (Represents K) (F c) (rowStep K r k)
+    plainly c F k m q e = subst (λ (z : Moved State). Simulates (Represents K) z (rowStep K r k)) (q ∙ found c F e) (step K ok s r h k m)
 
     own-row : row.row (s .head .limit) (entriesOf K s) ≡ r
     own-row = ap₂ row.row (h .limit) (h .entries)
 
-    stays : (n : ℕ) → Agrees (Stands K) (moved s (refused n)) (moved r (refused n))
+    stays : (n : ℕ) → Simulates (Represents K) (moved s (refused n)) (moved r (refused n))
     stays n = record { same = refl; kept = h }
 
     -- a cursor stands for its entry, or fails
     with-one : (c : Cursor) (a : Moved State) (f : ℕ → EntryCall)
-        → (current K s c ≡ true → Agrees (Stands K) a (entryStep K r (f (entryAt K s c))))
+        → (current K s c ≡ true → Simulates (Represents K) a (entryStep K r (f (entryAt K s c))))
         → ((n : ℕ) → refusal (stale K s c) ≡ suc n → a ≡ moved s (refused (suc n)))
-        → Agrees (Stands K) a (entryStep K r (by.standing K s c f))
+        → Simulates (Represents K) a (entryStep K r (by.standing K s c f))
     unfolding by.standing entryStep
     with-one c a f hit miss = go (refusal (stale K s c)) refl
       where
-        go : (n : ℕ) → refusal (stale K s c) ≡ n → Agrees (Stands K) a (entryStep K r (cond (eqb (refusal (stale K s c)) 0) (f (entryAt K s c)) (by.failed (refusal (stale K s c)))))
+        go : (n : ℕ) → refusal (stale K s c) ≡ n → Simulates (Represents K) a (entryStep K r (cond (eqb (refusal (stale K s c)) 0) (f (entryAt K s c)) (by.failed (refusal (stale K s c)))))
         go zero q = rw q (hit (is-clear c q))
-        go (suc n) q = rw (q, ne-eqb (suc n) 0 (λ z. omega arith)) (subst (λ (z : Moved State). Agrees (Stands K) z (moved r (refused (suc n)))) (sym (miss n q)) (stays (suc n)))
+        go (suc n) q = rw (q, ne-eqb (suc n) 0 (λ z. omega arith)) (subst (λ (z : Moved State). Simulates (Represents K) z (moved r (refused (suc n)))) (sym (miss n q)) (stays (suc n)))
 
     -- one of a call that gives lengths: where these have too many line ends, both answer 10
     with-lines : (l : List ℕ) (c : Cursor) (a : Moved State) (f : ℕ → EntryCall)
         → (tooManyLines K l ≡ true → (a ≡ moved s (refused 10)) × (entryStep K r (f (entryAt K s c)) ≡ moved r (refused 10)))
-        → (tooManyLines K l ≡ false → Agrees (Stands K) a (entryStep K r (by.standing K s c f)))
-        → Agrees (Stands K) a (entryStep K r (by.standingFor K s l c f))
+        → (tooManyLines K l ≡ false → Simulates (Represents K) a (entryStep K r (by.standing K s c f)))
+        → Simulates (Represents K) a (entryStep K r (by.standingFor K s l c f))
     unfolding by.standingFor
     with-lines l c a f many few = go (tooManyLines K l) refl
       where
-        go : (b : Bool) → tooManyLines K l ≡ b → Agrees (Stands K) a (entryStep K r (cond b (f (entryAt K s c)) (by.standing K s c f)))
-        go true e = subst (λ (z : Moved State). Agrees (Stands K) z (entryStep K r (f (entryAt K s c)))) (sym (many e .0)) (subst (λ (z : Moved Row). Agrees (Stands K) (moved s (refused 10)) z) (sym (many e .1)) (stays 10))
+        go : (b : Bool) → tooManyLines K l ≡ b → Simulates (Represents K) a (entryStep K r (cond b (f (entryAt K s c)) (by.standing K s c f)))
+        go true e = subst (λ (z : Moved State). Simulates (Represents K) z (entryStep K r (f (entryAt K s c)))) (sym (many e .0)) (subst (λ (z : Moved Row). Simulates (Represents K) (moved s (refused 10)) z) (sym (many e .1)) (stays 10))
         go false e = few e
 
     -- a call without a cursor that answers 10 by itself
@@ -131,7 +131,7 @@ module _ (K : Kind) (ok : K .effect < K .views) (s : State) (w : Coherent K s) w
     by-itself false a h = refl
 
     -- the calls, one by one
-    by-insert : (c : Cursor) (l : List ℕ) → Words K l → Agrees (Stands K) (cursorStep K s (by.insert (target.Before c) l)) (entryStep K r (meant K s (by.insert (target.Before c) l)))
+    by-insert : (c : Cursor) (l : List ℕ) → Words K l → Simulates (Represents K) (cursorStep K s (by.insert (target.Before c) l)) (entryStep K r (meant K s (by.insert (target.Before c) l)))
     unfolding cursorStep meant entryStep treeMove treeStep rowStep calls.insertBy
     by-insert c l k = with-lines l c (told (calls.insert K s (target.Before c) l) insertedAnswer) (λ i. by.plain (row.insert i l))
         (λ o. (ap (λ (z : calls.Reply Inserted). told z insertedAnswer) (stopped (calls.insertCauses K (full s ∷ []) s (target.Before c) l) (λ m. calls.reply s (inserted.Refused m)) _ 9 (many-lines K l _ o)), rw o))
@@ -139,27 +139,28 @@ module _ (K : Kind) (ok : K .effect < K .views) (s : State) (w : Coherent K s) w
         (λ e. plainly c (λ d. told (calls.insert K s (target.Before d) l) insertedAnswer) (row.insert (entryAt K s c) l) (word c e, k) (rw (o, ne-eqb (entryAt K s c) noEntry (λ z. let y = small c e in omega arith))) e)
         (λ n q. ap (λ (z : calls.Reply Inserted). told z insertedAnswer) (stopped (calls.insertCauses K (full s ∷ []) s (target.Before c) l) (λ m. calls.reply s (inserted.Refused m)) _ n (few-lines K l _ o ∙ first-applies (opening K s ++ atCursor K s c) _ n (stops c n q)))))
 
-    by-end : (l : List ℕ) → Words K l → Agrees (Stands K) (cursorStep K s (by.insert target.End l)) (entryStep K r (meant K s (by.insert target.End l)))
+    by-end : (l : List ℕ) → Words K l → Simulates (Represents K) (cursorStep K s (by.insert target.End l)) (entryStep K r (meant K s (by.insert target.End l)))
     unfolding cursorStep meant entryStep treeMove treeStep calls.insertBy
-    by-end l k = subst (λ (z : Moved State). Agrees (Stands K) z (rowStep K r (row.insert noEntry l)))
+    by-end l k = subst (λ (z : Moved State). Simulates (Represents K) z (rowStep K r (row.insert noEntry l)))
         (by-itself (tooManyLines K l) (told (calls.insert K s target.End l) insertedAnswer)
         (λ o. ap (λ (z : calls.Reply Inserted). told z insertedAnswer) (stopped (calls.insertCauses K (full s ∷ []) s target.End l) (λ m. calls.reply s (inserted.Refused m)) _ 9 (many-lines K l _ o))))
         (step K ok s r h (row.insert noEntry l) (omega arith, k))
 
-    by-reset : (l : List ℕ) → Words K l → Agrees (Stands K) (cursorStep K s (by.reset l)) (entryStep K r (meant K s (by.reset l)))
+    by-reset : (l : List ℕ) → Words K l → Simulates (Represents K) (cursorStep K s (by.reset l)) (entryStep K r (meant K s (by.reset l)))
     unfolding cursorStep meant entryStep treeMove treeStep calls.reset
-    by-reset l k = subst (λ (z : Moved State). Agrees (Stands K) z (rowStep K r (row.reset l)))
+    by-reset l k = subst (λ (z : Moved State). Simulates (Represents K) z (rowStep K r (row.reset l)))
         (by-itself (tooManyLines K l) (told (calls.reset K s l) outcomeAnswer)
         (λ o. ap (λ (z : calls.Reply Outcome). told z outcomeAnswer) (stopped (calls.makeCauses K (s .head .fan) (s .head .limit) l (s .leaves) (s .inners) (s .homes)) (λ m. calls.reply s (outcome.Refused m)) _ 9 (many-lines K l _ o))))
         (step K ok s r h (row.reset l) k)
 
-    by-rank : (v : ℕ) (c : Cursor) → v < K .views → Agrees (Stands K) (cursorStep K s (by.rank v c)) (entryStep K r (meant K s (by.rank v c)))
+    by-rank : (v : ℕ) (c : Cursor) → v < K .views → Simulates (Represents K) (cursorStep K s (by.rank v c)) (entryStep K r (meant K s (by.rank v c)))
     unfolding cursorStep meant entryStep treeMove treeStep calls.entryToCharIndex
     by-rank v c k = with-one c (moved s (numberAnswer (calls.entryToCharIndex K s v c))) (λ i. by.plain (row.rank v i))
         (λ e. plainly c (λ d. moved s (numberAnswer (calls.entryToCharIndex K s v d))) (row.rank v (entryAt K s c)) (k, word c e) refl e)
         (λ n q. ap (λ (z : Number). moved s (numberAnswer z)) (stopped (opening K s ++ atCursor K s c) number.Refused _ n (stops c n q)))
 
-    by-set : (c : Cursor) (l : List ℕ) → Words K l → Agrees (Stands K) (cursorStep K s (by.setLengths c l)) (entryStep K r (meant K s (by.setLengths c l)))
+    by-set : (c : Cursor) (l : List ℕ) → Words K l
+        → Simulates (Represents K) (cursorStep K s (by.setLengths c l)) (entryStep K r (meant K s (by.setLengths c l)))
     unfolding cursorStep meant entryStep treeMove treeStep rowStep calls.setLengths
     by-set c l k = with-lines l c (told (calls.setLengths K s c l) outcomeAnswer) (λ i. by.plain (row.setLengths i l))
         (λ o. (ap (λ (z : calls.Reply Outcome). told z outcomeAnswer) (stopped (calls.resizeCauses K s c l) (λ m. calls.reply s (outcome.Refused m)) _ 9 (many-lines K l _ o)), rw o))
@@ -167,7 +168,7 @@ module _ (K : Kind) (ok : K .effect < K .views) (s : State) (w : Coherent K s) w
         (λ e. plainly c (λ d. told (calls.setLengths K s d l) outcomeAnswer) (row.setLengths (entryAt K s c) l) (word c e, k) (rw o) e)
         (λ n q. ap (λ (z : calls.Reply Outcome). told z outcomeAnswer) (stopped (calls.resizeCauses K s c l) (λ m. calls.reply s (outcome.Refused m)) _ n (few-lines K l _ o ∙ first-applies (opening K s ++ atCursor K s c) _ n (stops c n q)))))
 
-    by-update : (c : Cursor) (l : List ℕ) → Words K l → Agrees (Stands K) (cursorStep K s (by.update c l)) (entryStep K r (meant K s (by.update c l)))
+    by-update : (c : Cursor) (l : List ℕ) → Words K l → Simulates (Represents K) (cursorStep K s (by.update c l)) (entryStep K r (meant K s (by.update c l)))
     unfolding cursorStep meant entryStep treeMove treeStep rowStep calls.update
     by-update c l k = with-lines l c (told (calls.update K s c l) numberAnswer) (λ i. by.plain (row.update i l))
         (λ o. (ap (λ (z : calls.Reply Number). told z numberAnswer) (stopped (calls.resizeCauses K s c l) (λ m. calls.reply s (number.Refused m)) _ 9 (many-lines K l _ o)), rw o))
@@ -175,20 +176,20 @@ module _ (K : Kind) (ok : K .effect < K .views) (s : State) (w : Coherent K s) w
         (λ e. plainly c (λ d. told (calls.update K s d l) numberAnswer) (row.update (entryAt K s c) l) (word c e, k) (rw o) e)
         (λ n q. ap (λ (z : calls.Reply Number). told z numberAnswer) (stopped (calls.resizeCauses K s c l) (λ m. calls.reply s (number.Refused m)) _ n (few-lines K l _ o ∙ first-applies (opening K s ++ atCursor K s c) _ n (stops c n q)))))
 
-    by-next : (c : Cursor) → Agrees (Stands K) (cursorStep K s (by.next c)) (entryStep K r (meant K s (by.next c)))
+    by-next : (c : Cursor) → Simulates (Represents K) (cursorStep K s (by.next c)) (entryStep K r (meant K s (by.next c)))
     unfolding cursorStep meant entryStep treeMove treeStep calls.nextAfter
     by-next c = with-one c (moved s (nextAnswer K s (calls.nextAfter K s c))) (λ i. by.plain (row.next i))
         (λ e. plainly c (λ d. moved s (nextAnswer K s (calls.nextAfter K s d))) (row.next (entryAt K s c)) (word c e) refl e)
         (λ n q. ap (λ (z : Next). moved s (nextAnswer K s z)) (stopped (opening K s ++ atCursor K s c) next.Refused _ n (stops c n q)))
 
-    by-lengths : (c : Cursor) → Agrees (Stands K) (cursorStep K s (by.lengths c)) (entryStep K r (meant K s (by.lengths c)))
-    unfolding cursorStep meant entryStep treeMove treeStep calls.lengthsOf
-    by-lengths c = with-one c (moved s (calls.lengthsOf K s c)) (λ i. by.plain (row.lengths i))
-        (λ e. plainly c (λ d. moved s (calls.lengthsOf K s d)) (row.lengths (entryAt K s c)) (word c e) refl e)
+    by-lengths : (c : Cursor) → Simulates (Represents K) (cursorStep K s (by.lengths c)) (entryStep K r (meant K s (by.lengths c)))
+    unfolding cursorStep meant entryStep treeMove treeStep calls.entryLengths
+    by-lengths c = with-one c (moved s (calls.entryLengths K s c)) (λ i. by.plain (row.lengths i))
+        (λ e. plainly c (λ d. moved s (calls.entryLengths K s d)) (row.lengths (entryAt K s c)) (word c e) refl e)
         (λ n q. ap (λ (z : Answer). moved s z) (stopped (opening K s ++ atCursor K s c) refused _ n (stops c n q)))
 
     -- the first cursor is tested, then the second
-    by-compare : (a b : Cursor) → Agrees (Stands K) (cursorStep K s (by.compare a b)) (entryStep K r (meant K s (by.compare a b)))
+    by-compare : (a b : Cursor) → Simulates (Represents K) (cursorStep K s (by.compare a b)) (entryStep K r (meant K s (by.compare a b)))
     unfolding cursorStep meant entryStep treeMove treeStep calls.cmp
     by-compare a b = with-one a (moved s (comparedAnswer (calls.cmp K s a b))) (λ i. by.standing K s b (λ j. by.plain (row.compare i j)))
         (λ e. with-one b (moved s (comparedAnswer (calls.cmp K s a b))) (λ j. by.plain (row.compare (entryAt K s a) j))
@@ -208,36 +209,37 @@ module _ (K : Kind) (ok : K .effect < K .views) (s : State) (w : Coherent K s) w
     unfolding entryStep refusal
     self-unknown i le = row-stopped r (row.noSuchId r i ∷ []) (r .entries) (done (i ∷ [])) 3 (rw (le-leb (length (r .entries)) i (omega (arith, count))))
 
-    told-self : (i : ℕ) (a : Answer) → i < s .head .entries → a ≡ done (i ∷ []) → Agrees (Stands K) (moved s a) (entryStep K r (by.self i))
+    told-self : (i : ℕ) (a : Answer) → i < s .head .entries → a ≡ done (i ∷ []) → Simulates (Represents K) (moved s a) (entryStep K r (by.self i))
     told-self i a lt q = rw (self-known i lt) (record { same = q; kept = h })
 
-    by-id : (c : Cursor) → Agrees (Stands K) (cursorStep K s (by.id c)) (entryStep K r (meant K s (by.id c)))
+    by-id : (c : Cursor) → Simulates (Represents K) (cursorStep K s (by.id c)) (entryStep K r (meant K s (by.id c)))
     unfolding cursorStep meant
     by-id c = with-one c (moved s (namedAnswer (calls.id K s c))) by.self
         (λ e. told-self (entryAt K s c) (namedAnswer (calls.id K s c)) (below c e) (ap namedAnswer (current-at K s w c e .id)))
         (λ n q. ap (λ (z : Named). moved s (namedAnswer z)) (unnamed c n q))
 
-    by-cursor : (i : ℕ) → Agrees (Stands K) (cursorStep K s (by.cursor i)) (entryStep K r (meant K s (by.cursor i)))
+    by-cursor : (i : ℕ) → Simulates (Represents K) (cursorStep K s (by.cursor i)) (entryStep K r (meant K s (by.cursor i)))
     unfolding cursorStep meant
     by-cursor i = go (decLt i (s .head .entries))
       where
-        at : (lt : i < s .head .entries) (a : Standing) → StandsAt K s a i → Agrees (Stands K) (moved s (standingAnswer K s a)) (entryStep K r (by.self i))
-        at lt (standing.At c) p = told-self i (standingAnswer K s (standing.At c)) lt (ap (λ (z : Named). idAnswer z []) (p .id))
+        at : (lt : i < s .head .entries) (a : Standing) → StandsAt K s a i
+            → Simulates (Represents K) (moved s (standingIdAnswer K s a)) (entryStep K r (by.self i))
+        at lt (standing.At c) p = told-self i (standingIdAnswer K s (standing.At c)) lt (ap (λ (z : Named). idAnswer z []) (p .id))
         at lt (standing.Refused n) p = absurd p
 
-        go : Dec (i < s .head .entries) → Agrees (Stands K) (moved s (standingAnswer K s (calls.cursor K s i))) (entryStep K r (by.self i))
+        go : Dec (i < s .head .entries) → Simulates (Represents K) (moved s (standingIdAnswer K s (calls.cursor K s i))) (entryStep K r (by.self i))
         go (yes lt) = at lt (calls.cursor K s i) (cursor-at K ok s w i lt)
-        go (no ge) = rw (no-seat K s w i (omega arith), self-unknown i (omega arith)) (stays 4)
+        go (no ge) = rw (entry-absent K s w i (omega arith), self-unknown i (omega arith)) (stays 4)
 
-    by-len : Agrees (Stands K) (cursorStep K s by.len) (entryStep K r (meant K s by.len))
+    by-len : Simulates (Represents K) (cursorStep K s by.len) (entryStep K r (meant K s by.len))
     unfolding cursorStep meant entryStep rowMove rowStep calls.len refusal
     by-len = record { same = ap numberAnswer (passed (badSize (s .head .fan) (s .head .limit) ∷ []) number.Refused (number.Is (s .head .entries)) (good-size K s w [])) ∙ ap (λ (n : ℕ). done (n ∷ [])) (sym count); kept = h }
 
-    by-empty : Agrees (Stands K) (cursorStep K s by.isEmpty) (entryStep K r (meant K s by.isEmpty))
+    by-empty : Simulates (Represents K) (cursorStep K s by.isEmpty) (entryStep K r (meant K s by.isEmpty))
     unfolding cursorStep meant entryStep calls.isEmpty refusal
     by-empty = record { same = ap verdictAnswer (passed (badSize (s .head .fan) (s .head .limit) ∷ []) verdict.Refused verdict.No (good-size K s w [])); kept = h }
 
-    by-select : (v x : ℕ) → (v < K .views) × IsWord x → Agrees (Stands K) (cursorStep K s (by.select v x)) (entryStep K r (meant K s (by.select v x)))
+    by-select : (v x : ℕ) → (v < K .views) × IsWord x → Simulates (Represents K) (cursorStep K s (by.select v x)) (entryStep K r (meant K s (by.select v x)))
     unfolding cursorStep meant entryStep calls.charIndexToEntry treeMove treeStep
     by-select v x k = record {
       same = go (calls.charIndexToEntry K s v x .answer) (subst (λ (q : Row). SelectedAt K (calls.locate K s v x .after) (calls.charIndexToEntry K s v x .answer) (rowStep K q (row.lookup v x) .answer)) own-row (select-at K ok s w v (k .0) x));
@@ -245,23 +247,23 @@ module _ (K : Kind) (ok : K .effect < K .views) (s : State) (w : Coherent K s) w
     }
       where
         go : (a : Selected) → SelectedAt K (calls.locate K s v x .after) a (rowStep K r (row.lookup v x) .answer)
-            → by.selectedAnswer K (calls.locate K s v x .after) a ≡ by.lessPositions (rowStep K r (row.lookup v x) .answer)
+            → by.selectedIdAnswer K (calls.locate K s v x .after) a ≡ by.lessPositions (rowStep K r (row.lookup v x) .answer)
         go (selected.At c offset) p = ap (λ (z : Named). idAnswer z (offset ∷ [])) (p .4 .id) ∙ sym (ap by.lessPositions (p .3))
         go (selected.Refused n) p = sym (ap by.lessPositions p)
 
-    by-split : (flag : Bool) (c : Cursor) (l : List ℕ) → Words K l → Agrees (Stands K) (cursorStep K s (by.split flag c l)) (entryStep K r (meant K s (by.split flag c l)))
+    by-split : (flag : Bool) (c : Cursor) (l : List ℕ) → Words K l → Simulates (Represents K) (cursorStep K s (by.split flag c l)) (entryStep K r (meant K s (by.split flag c l)))
     unfolding cursorStep meant treeMove treeStep entryStep rowStep calls.splitBy
     by-split flag c l k = with-lines l c (let z = calls.splitEntry K s c l flag in moved (z .after) (by.partsAnswer K (z .after) (z .answer))) (λ i. by.parts flag i l)
         (λ o. (ap (λ (z : calls.Reply Divided). moved (z .after) (by.partsAnswer K (z .after) (z .answer))) (split-lines K (full s ∷ []) s c l flag o), rw o))
         (λ o. with-one c (let z = calls.splitEntry K s c l flag in moved (z .after) (by.partsAnswer K (z .after) (z .answer))) (λ i. by.parts flag i l)
         (λ e. record {
           same = parts-read K flag (entryAt K s c) (s .head .entries) _ (calls.splitEntry K s c l flag .answer) _ (subst (λ (q : Row). DividedAt K flag (entryAt K s c) (s .head .entries) (calls.splitEntry K s c l flag .after) (calls.splitEntry K s c l flag .answer) (rowStep K q (row.split flag (entryAt K s c) l) .answer)) own-row (split-at K ok s w c (entryAt K s c) (current-at K s w c e) l (k .long) flag));
-          kept = plainly c (λ d. told (calls.splitEntry K s d l flag) dividedAnswer) (row.split flag (entryAt K s c) l) (word c e, k) (rw o) e .kept;
+          kept = plainly c (λ d. told (calls.splitEntry K s d l flag) dividedIdAnswer) (row.split flag (entryAt K s c) l) (word c e, k) (rw o) e .kept;
         })
         (λ n q. ap (λ (z : calls.Reply Divided). moved (z .after) (by.partsAnswer K (z .after) (z .answer))) (stopped _ (λ m. calls.reply s (divided.Refused m)) _ n (few-lines K l _ o ∙ first-applies (opening K s ++ atCursor K s c) _ n (stops c n q)))))
 
     -- every call
-    pub cursor-step : (c : CursorCall) → CursorInWords K c → Agrees (Stands K) (cursorStep K s c) (entryStep K r (meant K s c))
+    pub cursor-step : (c : CursorCall) → CursorInWords K c → Simulates (Represents K) (cursorStep K s c) (entryStep K r (meant K s c))
     unfolding cursorStep meant entryStep treeMove treeStep
     cursor-step (by.reset l) k = by-reset l k
     cursor-step (by.insert (target.Before c) l) k = by-insert c l k

@@ -9,10 +9,10 @@ use Rattle.model.specs.Row as row
 use Rattle.model.specs.Row.{Row, Call, moved, refused, overlong, rowMove, rowStep}
 use Rattle.model.specs.ById.{treeMove, treeStep}
 use Rattle.model.specs.Sound.{Coherent}
-use Rattle.model.specs.Promise.{InWords, Stands}
-use Rattle.theory.specs.CallSimulates.{Agrees, Mirrors, rowOf, own}
-use Rattle.theory.specs.RowLines.{move-few, stands-few}
-use Rattle.theory.specs.RowBounds.{move-level, stands-level, stands-of}
+use Rattle.model.specs.Promise.{InWords, Represents}
+use Rattle.theory.specs.CallSimulates.{Simulates, Mirrors, rowOf, own}
+use Rattle.theory.specs.RowLines.{move-few, represents-few}
+use Rattle.theory.specs.RowBounds.{move-level, represents-level, represents-of}
 use Rattle.theory.specs.CallMake.{step-reset}
 use Rattle.theory.specs.CallRead.{step-count, step-lengths, step-rank, step-first, step-next}
 use Rattle.theory.specs.CallCompare.{step-compare}
@@ -21,7 +21,7 @@ use Rattle.theory.specs.CallResize.{step-set, step-update}
 use Rattle.theory.specs.CallInsert.{step-insert}
 use Rattle.theory.specs.CallSplit.{step-split}
 
-own-step : (K : Kind) (ok : K .effect < K .views) (t : State) → Coherent K t → (c : Call) → overlong K c ≡ false → InWords K c → Agrees (Mirrors K) (treeMove K t c) (rowMove K (rowOf K t) c)
+own-step : (K : Kind) (ok : K .effect < K .views) (t : State) → Coherent K t → (c : Call) → overlong K c ≡ false → InWords K c → Simulates (Mirrors K) (treeMove K t c) (rowMove K (rowOf K t) c)
 unfolding treeMove rowMove
 own-step K ok t w (row.reset l) o h = step-reset K t w l o h
 own-step K ok t w (row.insert i l) o h = step-insert K ok t w i l (h .1 .long) o
@@ -37,12 +37,13 @@ own-step K ok t w row.count o h = step-count K t w
 own-step K ok t w row.first o h = step-first K t w
 own-step K ok t w row.malformed o h = record { same = refl; kept = own K t w }
 
-pub step : (K : Kind) (ok : K .effect < K .views) (t : State) (r : Row) → Stands K t r → (c : Call) → InWords K c → Agrees (Stands K) (treeStep K t c) (rowStep K r c)
+pub step : (K : Kind) (ok : K .effect < K .views) (t : State) (r : Row) → Represents K t r → (c : Call) → InWords K c → Simulates (Represents K) (treeStep K t c) (rowStep K r c)
 unfolding treeStep rowStep
 step K ok t r h c k = go (overlong K c) refl
   where
-    go : (b : Bool) → overlong K c ≡ b → Agrees (Stands K) (cond b (moved t (refused 10)) (treeMove K t c)) (cond b (moved r (refused 10)) (rowMove K r c))
+    go : (b : Bool) → overlong K c ≡ b
+        → Simulates (Represents K) (cond b (moved t (refused 10)) (treeMove K t c)) (cond b (moved r (refused 10)) (rowMove K r c))
     go true o = record { same = refl; kept = h }
     go false o =
-        let a : Agrees (Mirrors K) (treeMove K t c) (rowMove K r c) = subst (λ (q : Row). Agrees (Mirrors K) (treeMove K t c) (rowMove K q c)) (ap₂ row.row (h .limit) (h .entries)) (own-step K ok t (h .sound .coherent) c o k) in
-        record { same = a .same; kept = stands-of K (treeMove K t c .after) (rowMove K r c .after) (a .kept) (move-few K r c o (stands-few K t r h)) (move-level K r c (stands-level K t r h)) }
+        let a : Simulates (Mirrors K) (treeMove K t c) (rowMove K r c) = subst (λ (q : Row). Simulates (Mirrors K) (treeMove K t c) (rowMove K q c)) (ap₂ row.row (h .limit) (h .entries)) (own-step K ok t (h .sound .coherent) c o k) in
+        record { same = a .same; kept = represents-of K (treeMove K t c .after) (rowMove K r c .after) (a .kept) (move-few K r c o (represents-few K t r h)) (move-level K r c (represents-level K t r h)) }

@@ -33,9 +33,9 @@ use Rattle.theory.specs.LiftTree.{treeOf}
 use Rattle.theory.specs.WordNeat.{neat-of}
 use Rattle.theory.specs.LiftSound.{sound-of}
 use Rattle.theory.specs.LiftEntries.{entryFrom}
-use Rattle.theory.specs.CallOpen.{passed, opens, fresh, Seat}
-use Rattle.theory.specs.WalkUp.{Way, way, steps-up}
-use Rattle.theory.specs.CallSimulates.{Agrees, Mirrors, rowOf, row-passed, own, by-id, before-is}
+use Rattle.theory.specs.CallOpen.{passed, opens, fresh, EntryFound}
+use Rattle.theory.specs.WalkUp.{WayUp, way, steps-up}
+use Rattle.theory.specs.CallSimulates.{Simulates, Mirrors, rowOf, row-passed, own, by-id, before-is}
 
 -- paths that differ
 lex-before : (xs ys : List ℕ) → Lex xs ys → byPath xs ys ≡ compared.Before
@@ -64,17 +64,17 @@ lex-after (x ∷ xs) (y ∷ ys) h = more (x ∷ xs) (y ∷ ys) h
 
 module _ (K : Kind) (t : State) (w : Coherent K t) where
   -- the path to a seat
-  path-is : (i : ℕ) (c : Seat K t w i) → calls.path K t (cursorAt (t .head .stamp) (c .leaf) (c .slot)) ≡ pathTo (treeOf (stride K) t) (c .leaf)
+  path-is : (i : ℕ) (c : EntryFound K t w i) → calls.path K t (cursorAt (t .head .stamp) (c .leaf) (c .slot)) ≡ pathTo (treeOf (stride K) t) (c .leaf)
   unfolding calls.path
   path-is i c =
       let T : Tree = treeOf (stride K) t in
       let k : ℕ = c .leaf in
       let b = c .cur .body in
       steps-up (stride K) t (neat-of (stride K) t (K .effect) w) (t .head .levels) (T .body .leaf) k []
-      (subst (λ (d : ℕ). Way (T .body .leaf) (T .body .inner) (t .head .inners) d k) (b .deep) (way (total (T .body .leaf)) (T .body .leaf) (T .body .inner) (T .body .root) (t .head .inners) (c .cur .A) k (c .cur .B) (above T) (b .links) (b .inner-in)))
+      (subst (λ (d : ℕ). WayUp (T .body .leaf) (T .body .inner) (t .head .inners) d k) (b .deep) (way (total (T .body .leaf)) (T .body .leaf) (T .body .inner) (T .body .root) (t .head .inners) (c .cur .A) k (c .cur .B) (above T) (b .links) (b .inner-in)))
       ∙ append-nil (pathTo T k)
 
-  ordered-is : (i j : ℕ) (a : Seat K t w i) (c : Seat K t w j) (m n : ℕ) → length (front (a .cur)) ≡ m → length (front (c .cur)) ≡ n
+  ordered-is : (i j : ℕ) (a : EntryFound K t w i) (c : EntryFound K t w j) (m n : ℕ) → length (front (a .cur)) ≡ m → length (front (c .cur)) ≡ n
       → ordered i j (entriesOf K t) ≡ cond (ltb m n) 0 (cond (eqb m n) 1 2)
   unfolding ordered
   ordered-is i j a c m n p q =
@@ -82,7 +82,7 @@ module _ (K : Kind) (t : State) (w : Coherent K t) where
       let f : length (before j (entriesOf K t)) ≡ n = ap length (before-is K t w j c) ∙ length-map (front (c .cur)) (entryFrom (K .views)) ∙ q in
       rw (e, f)
 
-  compared-is : (i j : ℕ) (a : Seat K t w i) (c : Seat K t w j)
+  compared-is : (i j : ℕ) (a : EntryFound K t w i) (c : EntryFound K t w j)
       → comparedAnswer (cond (eqb (a .leaf) (c .leaf)) (inOrder (a .slot ∷ []) (c .slot ∷ [])) (byPath (pathTo (treeOf (stride K) t) (a .leaf)) (pathTo (treeOf (stride K) t) (c .leaf)))) ≡ done (ordered i j (entriesOf K t) ∷ [])
   unfolding inOrder
   compared-is i j a c = go (ℕ-discrete (a .leaf) (c .leaf))
@@ -110,14 +110,14 @@ module _ (K : Kind) (t : State) (w : Coherent K t) where
           (slots (a .slot) (c .slot) (length (front (a .cur))) (length (front (c .cur))) (by-slot (K .effect) (treeOf (stride K) t) (sound-of (stride K) t (K .effect) w) i j (a .leaf) (a .slot) (c .leaf) (c .slot) (a .cur) (c .cur) q))
       go (no ne) = rw (ne-eqb (a .leaf) (c .leaf) ne) (by-paths (by-path (K .effect) (treeOf (stride K) t) (sound-of (stride K) t (K .effect) w) i j (a .leaf) (a .slot) (c .leaf) (c .slot) (a .cur) (c .cur) ne))
 
-  pub step-compare : (i j : ℕ) → Agrees (Mirrors K) (treeMove K t (row.compare i j)) (rowMove K (rowOf K t) (row.compare i j))
+  pub step-compare : (i j : ℕ) → Simulates (Mirrors K) (treeMove K t (row.compare i j)) (rowMove K (rowOf K t) (row.compare i j))
   unfolding treeMove rowMove refusal calls.cmp
   step-compare i j =
       by-id K t w i (λ a. withCursor t (calls.cursor K t j) (λ b. moved t (comparedAnswer (calls.cmp K t a b)))) (noSuchId (rowOf K t) j ∷ []) (entriesOf K t) (done (ordered i j (entriesOf K t) ∷ []))
       (λ a. by-id K t w j (λ b. moved t (comparedAnswer (calls.cmp K t (cursorAt (t .head .stamp) (a .leaf) (a .slot)) b))) [] (entriesOf K t) (done (ordered i j (entriesOf K t) ∷ []))
       (λ c. rw (row-passed (rowOf K t) [] (entriesOf K t) (done (ordered i j (entriesOf K t) ∷ [])) refl) (record { same = at a c; kept = own K t w })))
     where
-      at : (a : Seat K t w i) (c : Seat K t w j) → comparedAnswer (calls.cmp K t (cursorAt (t .head .stamp) (a .leaf) (a .slot)) (cursorAt (t .head .stamp) (c .leaf) (c .slot))) ≡ done (ordered i j (entriesOf K t) ∷ [])
+      at : (a : EntryFound K t w i) (c : EntryFound K t w j) → comparedAnswer (calls.cmp K t (cursorAt (t .head .stamp) (a .leaf) (a .slot)) (cursorAt (t .head .stamp) (c .leaf) (c .slot))) ≡ done (ordered i j (entriesOf K t) ∷ [])
       at a c =
           let ca : Cursor = cursorAt (t .head .stamp) (a .leaf) (a .slot) in
           let cc : Cursor = cursorAt (t .head .stamp) (c .leaf) (c .slot) in

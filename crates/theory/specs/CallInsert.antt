@@ -46,11 +46,11 @@ use Rattle.theory.specs.LiftTree.{slotOf, slotsOf, treeOf, sum-slots}
 use Rattle.theory.specs.WordNeat.{size-is, neat-of}
 use Rattle.theory.specs.LiftSound.{body-of, sound-of}
 use Rattle.theory.specs.LiftEntries.{entryFrom, total-entries, without-entries}
-use Rattle.theory.specs.CallOpen.{passed, stopped, few-lines, opens, fresh-at, Seat}
+use Rattle.theory.specs.CallOpen.{passed, stopped, few-lines, opens, fresh-at, EntryFound}
 use Rattle.theory.specs.WalkNext.{last-top, last-down}
 use Rattle.theory.specs.CallResize.{ltb-same}
-use Rattle.theory.specs.ChangePlace.{Placed, placed-is}
-use Rattle.theory.specs.CallSimulates.{Agrees, Mirrors, rowOf, Space, by-limit, row-passed, row-stopped, own, entries-are, count-is, below, by-id, before-is, from-is, total-before}
+use Rattle.theory.specs.ChangePlace.{EntryPlaced, placed-is}
+use Rattle.theory.specs.CallSimulates.{Simulates, Mirrors, rowOf, Space, by-limit, row-passed, row-stopped, own, entries-are, count-is, below, by-id, before-is, from-is, total-before}
 
 -- the causes behind the target, the row's behind the place, with those for want of space; and the number of two tests and, behind them, of want of space
 abbrev behindTarget : Kind → List Cause → State → List ℕ → List Cause
@@ -68,7 +68,7 @@ module _ (K : Kind) (t : State) (w : Coherent K t) (room rowRoom : List Cause) (
     (ins : inserted i (newEntry (rowOf K t) l) (entriesOf K t) ≡ map (entryFrom (K .views)) R₁ ++ entry (t .head .entries) l ∷ map (entryFrom (K .views)) R₂)
     (aimed : placed K t tg l ≡ climb (shapeIn (stride K) t) (K .effect) l (place.place (shapeIn (stride K) t) t k j l))
     (causes : refusal (insertCauses K room t tg l) ≡ refusal (behindTarget K room t l))
-    (pl : t .head .entries < t .head .limit → ((v : ℕ) → sumBy (len v) (R₁ ++ insert.slotOf (t .head .entries) (λ u. getD l u 0) ∷ R₂) < 4294967296) → Placed K t k j R₁ R₂ l) where
+    (pl : t .head .entries < t .head .limit → ((v : ℕ) → sumBy (len v) (R₁ ++ insert.slotOf (t .head .entries) (λ u. getD l u 0) ∷ R₂) < 4294967296) → EntryPlaced K t k j R₁ R₂ l) where
   abbrev es′ : List Entry
   es′ = inserted i (newEntry (rowOf K t) l) (entriesOf K t)
 
@@ -117,18 +117,18 @@ module _ (K : Kind) (t : State) (w : Coherent K t) (room rowRoom : List Cause) (
     abbrev refusing : ℕ → calls.Reply X
     refusing n = calls.reply t (refuse n)
 
-    pub insert-step : Agrees (Mirrors K) (told (calls.unless (insertCauses K room t tg l) refusing answered) say) (unless (rowOf K t) (behindPlace K rowRoom t i l) es′ a)
+    pub insert-step : Simulates (Mirrors K) (told (calls.unless (insertCauses K room t tg l) refusing answered) say) (unless (rowOf K t) (behindPlace K rowRoom t i l) es′ a)
     unfolding refusal
     insert-step = go (crossed K l) refl over refl (refusal rowRoom) refl
       where
         number : {p q : Bool} {n : ℕ} → crossed K l ≡ p → over ≡ q → refusal rowRoom ≡ n → refusal (behindPlace K rowRoom t i l) ≡ numberOf p q n
         number d e f = rw (d, e, f)
 
-        stop : (n : ℕ) → refusal (behindPlace K rowRoom t i l) ≡ suc n → Agrees (Mirrors K) (told (calls.unless (insertCauses K room t tg l) refusing answered) say) (unless (rowOf K t) (behindPlace K rowRoom t i l) es′ a)
+        stop : (n : ℕ) → refusal (behindPlace K rowRoom t i l) ≡ suc n → Simulates (Mirrors K) (told (calls.unless (insertCauses K room t tg l) refusing answered) say) (unless (rowOf K t) (behindPlace K rowRoom t i l) es′ a)
         stop n z = rw (stopped (insertCauses K room t tg l) refusing answered n (both-causes ∙ z), row-stopped (rowOf K t) (behindPlace K rowRoom t i l) es′ a n z) (record { same = says (suc n); kept = own K t w })
 
         go : (p : Bool) → crossed K l ≡ p → (q : Bool) → over ≡ q → (n : ℕ) → refusal rowRoom ≡ n
-            → Agrees (Mirrors K) (told (calls.unless (insertCauses K room t tg l) refusing answered) say) (unless (rowOf K t) (behindPlace K rowRoom t i l) es′ a)
+            → Simulates (Mirrors K) (told (calls.unless (insertCauses K room t tg l) refusing answered) say) (unless (rowOf K t) (behindPlace K rowRoom t i l) es′ a)
         go true d q e n f = stop 19 (number d e f)
         go false d true e n f = stop 6 (number d e f)
         go false d false e (suc n) f = stop n (number d e f)
@@ -151,7 +151,7 @@ module _ (K : Kind) (ok : K .effect < K .views) (t : State) (w : Coherent K t) (
   abbrev call : Target → Moved State
   call tg = told (calls.unless (insertCauses K room t tg l) (λ n. calls.reply t (refuse n)) (calls.settled t (placed K t tg l .0) refuse (answer (placed K t tg l .1)))) say
 
-  before-step : (c : Seat K t w i) → say (answer (sumBy (len (K .effect)) (front (c .cur)))) ≡ a → Agrees (Mirrors K) (call (target.Before (cursorAt (t .head .stamp) (c .leaf) (c .slot)))) (unless (rowOf K t) (behindPlace K rowRoom t i l) (inserted i (newEntry (rowOf K t) l) (entriesOf K t)) a)
+  before-step : (c : EntryFound K t w i) → say (answer (sumBy (len (K .effect)) (front (c .cur)))) ≡ a → Simulates (Mirrors K) (call (target.Before (cursorAt (t .head .stamp) (c .leaf) (c .slot)))) (unless (rowOf K t) (behindPlace K rowRoom t i l) (inserted i (newEntry (rowOf K t) l) (entriesOf K t)) a)
   before-step c right =
       insert-step K t w room rowRoom space i l wl (target.Before (cursorAt (t .head .stamp) (c .leaf) (c .slot))) (c .leaf) (c .slot) (front (c .cur)) (c .cur .e ∷ behind (c .cur)) (c .cur .row)
       (ap₂ (λ (b : List Entry) (n : ℕ). b ++ entry n l ∷ from i (entriesOf K t)) (before-is K t w i c) (count-is K t w) ∙ ap (λ (b : List Entry). map (entryFrom (K .views)) (front (c .cur)) ++ entry (t .head .entries) l ∷ b) (from-is K t w i c))
@@ -180,11 +180,11 @@ module _ (K : Kind) (ok : K .effect < K .views) (t : State) (w : Coherent K t) (
       ∙ ap (λ (k : ℕ). leaf.At (leafNo k)) (last-top (treeOf (stride K) t .body .inner) (t .head .root .0) (t .head .levels)))
       ∙ ap (change 0 t last) (sym (size-is (stride K) (t .head .fan) (leafIn (stride K) t last) (neat-of (stride K) t (K .effect) w .leaf-tidy last last-in)))
 
-  without : i ≡ noEntry → plain.Without i (entriesOf K t)
-  without e = subst (plain.Without i) (sym (entries-are K t w)) (without-entries (K .views) i (tree.row (treeOf (stride K) t))
+  without : i ≡ noEntry → plain.RowWithout i (entriesOf K t)
+  without e = subst (plain.RowWithout i) (sym (entries-are K t w)) (without-entries (K .views) i (tree.row (treeOf (stride K) t))
       (All-map (λ (x : Slot). x .child < t .head .entries) (λ (x : Slot). x .child ≢ i) (λ x lt q. let z = w .entry-count in let y = w .limit-most in omega arith) (tree.row (treeOf (stride K) t)) (below K t w)))
 
-  end-step : i ≡ noEntry → say (answer (sumBy (len (K .effect)) (tree.row (treeOf (stride K) t)))) ≡ a → Agrees (Mirrors K) (call target.End) (unless (rowOf K t) (behindPlace K rowRoom t i l) (inserted i (newEntry (rowOf K t) l) (entriesOf K t)) a)
+  end-step : i ≡ noEntry → say (answer (sumBy (len (K .effect)) (tree.row (treeOf (stride K) t)))) ≡ a → Simulates (Mirrors K) (call target.End) (unless (rowOf K t) (behindPlace K rowRoom t i l) (inserted i (newEntry (rowOf K t) l) (entriesOf K t)) a)
   unfolding refusal
   end-step e right =
       insert-step K t w room rowRoom space i l wl target.End last (length (slotsOf (leafIn (stride K) t last))) (tree.row (treeOf (stride K) t)) [] (sym (append-nil (tree.row (treeOf (stride K) t))))
@@ -196,11 +196,11 @@ module _ (K : Kind) (ok : K .effect < K .views) (t : State) (w : Coherent K t) (
 
   -- either target
   pub target-step : ((n : ℕ) → row.total (K .effect) (before i (entriesOf K t)) ≡ n → say (answer n) ≡ a)
-      → Agrees (Mirrors K) (withTarget K t i call) (unless (rowOf K t) (noSuchPlace (rowOf K t) i ∷ behindPlace K rowRoom t i l) (inserted i (newEntry (rowOf K t) l) (entriesOf K t)) a)
+      → Simulates (Mirrors K) (withTarget K t i call) (unless (rowOf K t) (noSuchPlace (rowOf K t) i ∷ behindPlace K rowRoom t i l) (inserted i (newEntry (rowOf K t) l) (entriesOf K t)) a)
   unfolding refusal unless
   target-step right = go (eqb i noEntry) refl
     where
-      go : (b : Bool) → eqb i noEntry ≡ b → Agrees (Mirrors K) (withTarget K t i call) (unless (rowOf K t) (noSuchPlace (rowOf K t) i ∷ behindPlace K rowRoom t i l) (inserted i (newEntry (rowOf K t) l) (entriesOf K t)) a)
+      go : (b : Bool) → eqb i noEntry ≡ b → Simulates (Mirrors K) (withTarget K t i call) (unless (rowOf K t) (noSuchPlace (rowOf K t) i ∷ behindPlace K rowRoom t i l) (inserted i (newEntry (rowOf K t) l) (entriesOf K t)) a)
       go true e =
           let q : i ≡ noEntry = eqb-true i noEntry e in
           rw (e, and-false (leb (length (entriesOf K t)) i))
@@ -211,11 +211,11 @@ module _ (K : Kind) (ok : K .effect < K .views) (t : State) (w : Coherent K t) (
 
 module _ (K : Kind) (ok : K .effect < K .views) (t : State) (w : Coherent K t) where
   pub step-insert-by : (room rowRoom : List Cause) (space : Space t room rowRoom) (i : ℕ) (l : List ℕ) (wl : length l ≡ K .views) → tooManyLines K l ≡ false
-      → Agrees (Mirrors K) (withTarget K t i (λ tg. told (calls.insertBy K room t tg l) insertedAnswer)) (row.insertBy K rowRoom (rowOf K t) i l)
+      → Simulates (Mirrors K) (withTarget K t i (λ tg. told (calls.insertBy K room t tg l) insertedAnswer)) (row.insertBy K rowRoom (rowOf K t) i l)
   unfolding calls.insertBy
   step-insert-by room rowRoom space i l wl lines = target-step K ok t w room rowRoom space i l wl lines insertion.Refused (λ p. insertion.At (entryId (t .head .entries)) p) insertedAnswer (done (length (entriesOf K t) ∷ row.total (K .effect) (before i (entriesOf K t)) ∷ [])) (λ n. refl)
       (λ n e. ap₂ (λ (c p : ℕ). done (c ∷ p ∷ [])) (sym (count-is K t w)) (sym e))
 
-  pub step-insert : (i : ℕ) (l : List ℕ) (wl : length l ≡ K .views) → tooManyLines K l ≡ false → Agrees (Mirrors K) (treeMove K t (row.insert i l)) (rowMove K (rowOf K t) (row.insert i l))
+  pub step-insert : (i : ℕ) (l : List ℕ) (wl : length l ≡ K .views) → tooManyLines K l ≡ false → Simulates (Mirrors K) (treeMove K t (row.insert i l)) (rowMove K (rowOf K t) (row.insert i l))
   unfolding treeMove rowMove
   step-insert i l wl lines = step-insert-by (refuse′.full t ∷ []) (row.full (rowOf K t) ∷ []) (by-limit K t w) i l wl lines

@@ -33,7 +33,7 @@ use Rattle.abstract_tree.specs.Tree as tree
 use Rattle.abstract_tree.specs.Tree.{Tree, Body}
 use Rattle.abstract_tree.specs.Row.{found-at}
 use Rattle.abstract_tree.specs.Calls.{slotAt}
-use Rattle.abstract_tree.specs.Look.{Looked}
+use Rattle.abstract_tree.specs.Look.{LooksAt}
 use Rattle.theory.specs.LiftTree.{treeOf}
 use Rattle.theory.specs.WordNeat.{Neat, size-is, neat-of}
 use Rattle.theory.specs.LiftSound.{body-of, sound-of}
@@ -41,7 +41,7 @@ use Rattle.theory.specs.LiftSoundBack.{sound-up}
 use Rattle.theory.specs.LiftEntries.{getD-firsts, entryFrom, total-entries, split-entries}
 use Rattle.theory.specs.CallOpen.{passed, opens}
 use Rattle.theory.specs.CallRead.{id-at}
-use Rattle.theory.specs.CallSimulates.{Agrees, Mirrors, rowOf, own, entries-are, row-passed, row-stopped}
+use Rattle.theory.specs.CallSimulates.{Simulates, Mirrors, rowOf, own, entries-are, row-passed, row-stopped}
 use Rattle.theory.specs.WalkLookup.{Got, servedBy-is, searched, root-hit, root-miss}
 
 -- the state with another finger
@@ -100,7 +100,7 @@ module _ (K : Kind) (ok : K .effect < K .views) (t : State) (w : Coherent K t) w
   pub total-is : (v : ℕ) → v < K .views → row.total v (entriesOf K t) ≡ sumBy (len v) (tree.row (treeOf (stride K) t))
   total-is v lv = ap (row.total v) (entries-are K t w) ∙ total-entries (K .views) v (tree.row (treeOf (stride K) t)) lv
 
-  pub below-total : (v : ℕ) (lv : v < K .views) (x : ℕ) (f : Finger) (offset : ℕ) → Looked (K .effect) (treeOf (stride K) t) v x f offset → x < row.total v (entriesOf K t)
+  pub below-total : (v : ℕ) (lv : v < K .views) (x : ℕ) (f : Finger) (offset : ℕ) → LooksAt (K .effect) (treeOf (stride K) t) v x f offset → x < row.total v (entriesOf K t)
   unfolding sumBy
   below-total v lv x f offset k =
       let e : Slot = slotAt (treeOf (stride K) t) (f .leaf) (f .slot) in
@@ -108,8 +108,8 @@ module _ (K : Kind) (ok : K .effect < K .views) (t : State) (w : Coherent K t) w
       omega (arith, total-is v lv, k .sums, k .inside)
 
   -- a lookup that found an entry
-  found-step : (v : ℕ) (lv : v < K .views) (x : ℕ) (f : Finger) (offset : ℕ) → f .view ≡ v → Looked (K .effect) (treeOf (stride K) t) v x f offset
-      → Agrees (Mirrors K) (let r = calls.hit t f offset in moved (r .after) (locatedAnswer K (r .after) (r .answer))) (rowMove K (rowOf K t) (row.lookup v x))
+  found-step : (v : ℕ) (lv : v < K .views) (x : ℕ) (f : Finger) (offset : ℕ) → f .view ≡ v → LooksAt (K .effect) (treeOf (stride K) t) v x f offset
+      → Simulates (Mirrors K) (let r = calls.hit t f offset in moved (r .after) (locatedAnswer K (r .after) (r .answer))) (rowMove K (rowOf K t) (row.lookup v x))
   unfolding rowMove refusal
   found-step v lv x f offset vw k =
       let T : Tree = treeOf (stride K) t in
@@ -135,7 +135,7 @@ module _ (K : Kind) (ok : K .effect < K .views) (t : State) (w : Coherent K t) w
       })
 
   -- a lookup past the total
-  lost-step : (v : ℕ) (lv : v < K .views) (x : ℕ) → sumBy (len v) (tree.row (treeOf (stride K) t)) ≤ x → Agrees (Mirrors K) (moved t (refused 5)) (rowMove K (rowOf K t) (row.lookup v x))
+  lost-step : (v : ℕ) (lv : v < K .views) (x : ℕ) → sumBy (len v) (tree.row (treeOf (stride K) t)) ≤ x → Simulates (Mirrors K) (moved t (refused 5)) (rowMove K (rowOf K t) (row.lookup v x))
   unfolding rowMove refusal
   lost-step v lv x le =
       rw (row-stopped (rowOf K t) (row.noSuchPosition (rowOf K t) v x ∷ []) (entriesOf K t) (done (found K v x 0 0 0 (entriesOf K t))) 4 (rw (le-leb (row.total v (entriesOf K t)) x (omega (arith, total-is v lv, le)))))
@@ -143,19 +143,19 @@ module _ (K : Kind) (ok : K .effect < K .views) (t : State) (w : Coherent K t) w
 
   by-search : (v : ℕ) (lv : v < K .views) (x : ℕ) (a b : Search) → (Got (stride K) (K .effect) t v x a) ⊎ (a ≡ search.Nothing)
       → (x < sumBy (len v) (tree.row (treeOf (stride K) t)) → Got (stride K) (K .effect) t v x b) → (sumBy (len v) (tree.row (treeOf (stride K) t)) ≤ x → b ≡ search.Nothing)
-      → Agrees (Mirrors K) (let r = calls.byFinger t a b in moved (r .after) (locatedAnswer K (r .after) (r .answer))) (rowMove K (rowOf K t) (row.lookup v x))
+      → Simulates (Mirrors K) (let r = calls.byFinger t a b in moved (r .after) (locatedAnswer K (r .after) (r .answer))) (rowMove K (rowOf K t) (row.lookup v x))
   by-search v lv x a b (inl g) hit miss = rw (g .is) (found-step v lv x (g .finger) (g .offset) (g .view) (g .looked))
   by-search v lv x a b (inr q) hit miss = go (decLt x (sumBy (len v) (tree.row (treeOf (stride K) t))))
     where
-      go : Dec (x < sumBy (len v) (tree.row (treeOf (stride K) t))) → Agrees (Mirrors K) (let r = calls.byFinger t a b in moved (r .after) (locatedAnswer K (r .after) (r .answer))) (rowMove K (rowOf K t) (row.lookup v x))
+      go : Dec (x < sumBy (len v) (tree.row (treeOf (stride K) t))) → Simulates (Mirrors K) (let r = calls.byFinger t a b in moved (r .after) (locatedAnswer K (r .after) (r .answer))) (rowMove K (rowOf K t) (row.lookup v x))
       go (yes lt) = let g = hit lt in rw (q, g .is) (found-step v lv x (g .finger) (g .offset) (g .view) (g .looked))
       go (no ge) = rw (q, miss (omega arith)) (lost-step v lv x (omega arith))
 
-  pub step-lookup : (v : ℕ) (lv : v < K .views) (x : ℕ) → Agrees (Mirrors K) (treeMove K t (row.lookup v x)) (rowMove K (rowOf K t) (row.lookup v x))
+  pub step-lookup : (v : ℕ) (lv : v < K .views) (x : ℕ) → Simulates (Mirrors K) (treeMove K t (row.lookup v x)) (rowMove K (rowOf K t) (row.lookup v x))
   unfolding treeMove calls.locate opening searched refusal
   step-lookup v lv x =
       let a : Search = servedBy v (K .effect) (shapeIn (stride K) t) (t .head .finger) (t .head .leaves) x (t .leaves) in
       let b : Search = fromRoot v (K .effect) (shapeIn (stride K) t) (t .head .levels) (t .head .root .0) (t .head .leaves) x (t .leaves) (t .inners) in
-      subst (λ (r : calls.Reply Located). Agrees (Mirrors K) (moved (r .after) (locatedAnswer K (r .after) (r .answer))) (rowMove K (rowOf K t) (row.lookup v x)))
+      subst (λ (r : calls.Reply Located). Simulates (Mirrors K) (moved (r .after) (locatedAnswer K (r .after) (r .answer))) (rowMove K (rowOf K t) (row.lookup v x)))
       (sym (passed (opening K t) (λ n. calls.reply t (located.Refused n)) (calls.byFinger t a b) (opens K t w [])))
       (by-search v lv x a b (servedBy-is (stride K) (K .effect) t w v (t .head .finger) (sound-of (stride K) t (K .effect) w .finger) x) (root-hit (stride K) (K .effect) t w v x) (root-miss (stride K) (K .effect) t w v x))

@@ -38,7 +38,7 @@ use Rattle.theory.specs.WordPut.{Keeps, put-next}
 use Rattle.theory.specs.LiftEntries.{firsts, entryFrom, entry-is}
 use Rattle.theory.specs.RowViews.{each-small}
 use Rattle.theory.specs.CallOpen.{passed, stopped, few-lines, level-bounds, crossed-bounds, good-areas}
-use Rattle.theory.specs.CallSimulates.{Agrees, Mirrors, rowOf, row-passed, row-stopped, own, entries-are}
+use Rattle.theory.specs.CallSimulates.{Simulates, Mirrors, rowOf, row-passed, row-stopped, own, entries-are}
 
 -- what the causes of a make leave
 pub record Sizes (K : Kind) (fan limit : ℕ) (ls xs hs : List ℕ) : Type 0 where
@@ -163,9 +163,9 @@ module _ (K : Kind) (fan limit stamp : ℕ) (l : List ℕ) (ls xs hs : List ℕ)
   unfolding begun
   start-sound = sound-up (stride K) start (K .effect) neat (record { body = fresh-body (treeOf (stride K) start) (slotOf x) (slotOf x) fresh; finger = tt })
 
-  pub begun-stands : Mirrors K (begun K fan limit stamp l ls xs hs) (madeRow limit l)
+  pub begun-mirrors : Mirrors K (begun K fan limit stamp l ls xs hs) (madeRow limit l)
   unfolding begun firsts x
-  begun-stands = record { coherent = start-sound; entries = entries-are K start start-sound ∙ ap (map (entryFrom (K .views))) (fresh-row (treeOf (stride K) start) (slotOf x) (slotOf x) fresh) ∙ ap (λ (y : Entry). y ∷ []) (entry-is (K .views) x (ap suc (small .long))); limit = refl }
+  begun-mirrors = record { coherent = start-sound; entries = entries-are K start start-sound ∙ ap (map (entryFrom (K .views))) (fresh-row (treeOf (stride K) start) (slotOf x) (slotOf x) fresh) ∙ ap (λ (y : Entry). y ∷ []) (entry-is (K .views) x (ap suc (small .long))); limit = refl }
 
 -- reset on a tree with good areas: crossed bounds alone refuse it
 module _ (K : Kind) (t : State) (w : Coherent K t) (l : List ℕ) (few : tooManyLines K l ≡ false) where
@@ -190,7 +190,7 @@ module _ (K : Kind) (t : State) (w : Coherent K t) (l : List ℕ) (few : tooMany
   unfolding calls.reset refusal
   reset-stops e = stopped cs refuse answered 19 (causes ∙ crossed-bounds K l [] e)
 
-  pub step-reset : Words K l → Agrees (Mirrors K) (treeMove K t (row.reset l)) (rowMove K (rowOf K t) (row.reset l))
+  pub step-reset : Words K l → Simulates (Mirrors K) (treeMove K t (row.reset l)) (rowMove K (rowOf K t) (row.reset l))
   unfolding treeMove rowMove refusal
   step-reset small = go (crossed K l) refl
     where
@@ -205,8 +205,8 @@ module _ (K : Kind) (t : State) (w : Coherent K t) (l : List ℕ) (few : tooMany
         home-area = w .home-area;
       }
 
-      go : (b : Bool) → crossed K l ≡ b → Agrees (Mirrors K) (told (calls.reset K t l) outcomeAnswer) (unless (rowOf K t) (row.crossedBounds K l ∷ []) (madeRow (t .head .limit) l .entries) (done []))
+      go : (b : Bool) → crossed K l ≡ b → Simulates (Mirrors K) (told (calls.reset K t l) outcomeAnswer) (unless (rowOf K t) (row.crossedBounds K l ∷ []) (madeRow (t .head .limit) l .entries) (done []))
       go true e = rw (reset-stops e, row-stopped (rowOf K t) (row.crossedBounds K l ∷ []) (madeRow (t .head .limit) l .entries) (done []) 19 (crossed-bounds K l [] e)) (record { same = refl; kept = own K t w })
       go false e =
           rw (reset-is e, row-passed (rowOf K t) (row.crossedBounds K l ∷ []) (madeRow (t .head .limit) l .entries) (done []) (level-bounds K l [] e))
-          (record { same = refl; kept = begun-stands K (t .head .fan) (t .head .limit) (nextStamp (t .head .stamp)) l (t .leaves) (t .inners) (t .homes) sizes small })
+          (record { same = refl; kept = begun-mirrors K (t .head .fan) (t .head .limit) (nextStamp (t .head .stamp)) l (t .leaves) (t .inners) (t .homes) sizes small })

@@ -119,7 +119,7 @@ module _ (K : Kind) (t : State) (w : Coherent K t) where
   unknown i cs le = rw (le-leb (t .head .entries) i le)
 
   -- where the entry of an id stands
-  pub record Seat (i : ℕ) : Type 0 where
+  pub record EntryFound (i : ℕ) : Type 0 where
     pub leaf : ℕ
     pub slot : ℕ
     pub cur : Cur (K .effect) (treeOf (stride K) t) i leaf slot
@@ -128,8 +128,8 @@ module _ (K : Kind) (t : State) (w : Coherent K t) where
     pub slot-in : slot < leafIn (stride K) t leaf .len
 
   -- its leaf is its home, its slot the first that holds it
-  own-seat : (i : ℕ) → i < t .head .entries → (getD (t .homes) i 0 < t .head .leaves) × (indexOf i (slotsOf (leafIn (stride K) t (getD (t .homes) i 0))) < length (slotsOf (leafIn (stride K) t (getD (t .homes) i 0))))
-  own-seat i lt =
+  own-slot : (i : ℕ) → i < t .head .entries → (getD (t .homes) i 0 < t .head .leaves) × (indexOf i (slotsOf (leafIn (stride K) t (getD (t .homes) i 0))) < length (slotsOf (leafIn (stride K) t (getD (t .homes) i 0))))
+  own-slot i lt =
       let c : Cur (K .effect) (treeOf (stride K) t) i (getD (t .homes) i 0) (indexOf i (slotsOf (leafIn (stride K) t (getD (t .homes) i 0)))) = cur (K .effect) (treeOf (stride K) t) (sound-of (stride K) t (K .effect) w) i lt in
       (leaf-here (treeOf (stride K) t) (c .A) (getD (t .homes) i 0) (c .B) (above (treeOf (stride K) t)) (c .body), c .inside)
 
@@ -139,16 +139,16 @@ module _ (K : Kind) (t : State) (w : Coherent K t) where
       let k : ℕ = getD (t .homes) i 0 in
       let n : Node = leafIn (stride K) t k in
       let j : ℕ = indexOf i (slotsOf n) in
-      let o = own-seat i lt in
+      let o = own-slot i lt in
       let lm : length (slotsOf n) ≡ length (used n) = length-map (used n) slotOf in
       let z : 0 + j ≡ j = omega arith in
       passed (opening K t ++ noSuchId t i ∷ []) standing.Refused _ (opens (noSuchId t i ∷ []) ∙ known i [] lt)
       ∙ rw (lt-ltb k (t .head .leaves) (o .0), le-leb (n .len) (t .head .fan) (w .leaf-filled k (o .0) .high), index-lift i 0 (used n) (let y = o .1 in omega arith), z)
 
-  pub seat : (i : ℕ) → i < t .head .entries → Seat i
-  seat i lt =
+  pub entry-found : (i : ℕ) → i < t .head .entries → EntryFound i
+  entry-found i lt =
       let k : ℕ = getD (t .homes) i 0 in
-      let o = own-seat i lt in
+      let o = own-slot i lt in
       record {
         leaf = k;
         slot = indexOf i (slotsOf (leafIn (stride K) t k));
@@ -158,6 +158,6 @@ module _ (K : Kind) (t : State) (w : Coherent K t) where
         slot-in = (let sz : length (slotsOf (leafIn (stride K) t k)) ≡ leafIn (stride K) t k .len = size-is (stride K) (t .head .fan) (leafIn (stride K) t k) (neat-of (stride K) t (K .effect) w .leaf-tidy k (o .0)) in let y = o .1 in omega arith);
       }
 
-  pub no-seat : (i : ℕ) → t .head .entries ≤ i → calls.cursor K t i ≡ standing.Refused 4
+  pub entry-absent : (i : ℕ) → t .head .entries ≤ i → calls.cursor K t i ≡ standing.Refused 4
   unfolding calls.cursor refusal
-  no-seat i le = stopped (opening K t ++ noSuchId t i ∷ []) standing.Refused _ 3 (opens (noSuchId t i ∷ []) ∙ unknown i [] le)
+  entry-absent i le = stopped (opening K t ++ noSuchId t i ∷ []) standing.Refused _ 3 (opens (noSuchId t i ∷ []) ∙ unknown i [] le)

@@ -22,7 +22,7 @@ use Rattle.model.specs.Row.{Row, Entry, entry}
 use Rattle.model.specs.Sound.{shapeIn, leafIn, leavesReached, slotsIn, Coherent, entriesOf}
 use Rattle.model.specs.Refuse.{shapeOf, badSize, tooShort, astray, opening}
 use Rattle.model.specs.Answer.{numberAnswer}
-use Rattle.model.specs.Promise.{Stands}
+use Rattle.model.specs.Promise.{Represents}
 use Rattle.model.specs.Sheet.{line, lines, pagesFor, fill, sheet}
 use Rattle.model.specs.Print.{smallBuffer, printCauses, slotsMet, slotLines, print, PrintLeaves, PrintsRow}
 use Rattle.model.specs.declared.way.Leaf.{Leaf}
@@ -167,7 +167,7 @@ unfolding putAt
 behind-it n xs ws e = drop-at xs _ n e ∙ ap (λ (k : ℕ). drop k ws) (let z : 0 + length xs ≡ n = omega arith in z)
 
 -- **the sheet of the row**, on every tree that stands for one
-pub prints-row : (K : Kind) → K .effect < K .views → (t : State) (r : Row) → Stands K t r → (page : List ℕ) → PrintsRow K t r page
+pub prints-row : (K : Kind) → K .effect < K .views → (t : State) (r : Row) → Represents K t r → (page : List ℕ) → PrintsRow K t r page
 prints-row K v t r st page = record {
   short = λ h. print-short K t w v page (subst (λ (n : ℕ). length page < 2750 * pagesFor n) (sym count) h);
   pages = λ h. ap (λ (a : Number × List ℕ). a .0) (is h);

@@ -20,7 +20,7 @@ use Rattle.model.specs.Sound.{leafIn, shapeIn, Coherent, entriesOf}
 use Rattle.model.specs.Refuse.{opening, atCursor, badSize}
 use Rattle.model.specs.Calls as calls
 use Rattle.model.specs.Calls.{areaCauses, cursorAt, entryId}
-use Rattle.model.specs.ById.{idAnswer, standingAnswer, nextAnswer, treeMove}
+use Rattle.model.specs.ById.{idAnswer, standingIdAnswer, nextAnswer, treeMove}
 use Rattle.model.specs.Answer.{numberAnswer}
 use Rattle.model.specs.declared.way.Sum.the-variants as sum
 use Rattle.model.specs.declared.way.Leaf.the-variants as leaf
@@ -44,10 +44,10 @@ use Rattle.theory.specs.LiftMarks.{getD-slot}
 use Rattle.theory.specs.WordNeat.{size-is, neat-of}
 use Rattle.theory.specs.LiftSound.{body-of}
 use Rattle.theory.specs.LiftEntries.{firsts, entryFrom}
-use Rattle.theory.specs.CallOpen.{good-size, good-areas, passed, opens, fresh-at, Seat}
-use Rattle.theory.specs.WalkUp.{Way, way, start-leaf, rank-up}
+use Rattle.theory.specs.CallOpen.{good-size, good-areas, passed, opens, fresh-at, EntryFound}
+use Rattle.theory.specs.WalkUp.{WayUp, way, start-leaf, rank-up}
 use Rattle.theory.specs.WalkNext.{first-top, first-down, leafHead, next-leaf}
-use Rattle.theory.specs.CallSimulates.{Agrees, Mirrors, rowOf, row-passed, own, entries-are, count-is, by-id, from-is, slot-lengths, total-before}
+use Rattle.theory.specs.CallSimulates.{Simulates, Mirrors, rowOf, row-passed, own, entries-are, count-is, by-id, from-is, slot-lengths, total-before}
 
 pub first-entry : (n : ℕ) (R : List Slot) → firstId (map (entryFrom n) R) ≡ firstChild R
 first-entry n [] = refl
@@ -75,7 +75,7 @@ module _ (K : Kind) (t : State) (w : Coherent K t) where
       passed (opening K t ++ atCursor K t (cursorAt (t .head .stamp) k j)) named.Refused _ (opens K t w (atCursor K t (cursorAt (t .head .stamp) k j)) ∙ fresh-at K t w k j [] lk lj)
       ∙ ap (λ (x : ℕ). named.Entry (entryId x)) (ap child (slot-used (stride K) (t .head .fan) n td j [] lu) ∙ ap (λ (x : Slot). x .child) (sym (getD-slot (used n) j lu)))
 
-  pub step-count : Agrees (Mirrors K) (treeMove K t row.count) (rowMove K (rowOf K t) row.count)
+  pub step-count : Simulates (Mirrors K) (treeMove K t row.count) (rowMove K (rowOf K t) row.count)
   unfolding treeMove rowMove calls.len refusal
   step-count = record {
     same = ap numberAnswer (passed (areaCauses K (t .head .fan) (t .head .limit) (t .leaves) (t .inners) (t .homes)) number.Refused _ (good-areas K t w [])
@@ -84,42 +84,43 @@ module _ (K : Kind) (t : State) (w : Coherent K t) where
     kept = own K t w;
   }
 
-  lengths-at : (i : ℕ) (c : Seat K t w i) → calls.lengthsOf K t (cursorAt (t .head .stamp) (c .leaf) (c .slot)) ≡ done (row.lengthsOf i (entriesOf K t))
-  unfolding calls.lengthsOf refusal firsts
+  lengths-at : (i : ℕ) (c : EntryFound K t w i)
+      → calls.entryLengths K t (cursorAt (t .head .stamp) (c .leaf) (c .slot)) ≡ done (row.lengthsOf i (entriesOf K t))
+  unfolding calls.entryLengths refusal firsts
   lengths-at i c =
       let cs : List Cause = atCursor K t (cursorAt (t .head .stamp) (c .leaf) (c .slot)) in
       passed (opening K t ++ cs) refused _ (opens K t w cs ∙ fresh-at K t w (c .leaf) (c .slot) [] (c .leaf-in) (c .slot-in))
       ∙ ap done (slot-lengths K t w i c)
 
-  pub step-lengths : (i : ℕ) → Agrees (Mirrors K) (treeMove K t (row.lengths i)) (rowMove K (rowOf K t) (row.lengths i))
+  pub step-lengths : (i : ℕ) → Simulates (Mirrors K) (treeMove K t (row.lengths i)) (rowMove K (rowOf K t) (row.lengths i))
   unfolding treeMove rowMove refusal
-  step-lengths i = by-id K t w i (λ c. moved t (calls.lengthsOf K t c)) [] (entriesOf K t) (done (row.lengthsOf i (entriesOf K t)))
+  step-lengths i = by-id K t w i (λ c. moved t (calls.entryLengths K t c)) [] (entriesOf K t) (done (row.lengthsOf i (entriesOf K t)))
       (λ c. rw (row-passed (rowOf K t) [] (entriesOf K t) (done (row.lengthsOf i (entriesOf K t))) refl) (record { same = lengths-at i c; kept = own K t w }))
 
   -- the sum before a seat is within u32
-  pub front-small : (i : ℕ) (c : Seat K t w i) (v : ℕ) → sumBy (len v) (front (c .cur)) < 4294967296
+  pub front-small : (i : ℕ) (c : EntryFound K t w i) (v : ℕ) → sumBy (len v) (front (c .cur)) < 4294967296
   front-small i c v =
       let a : sumBy (len v) (tree.row (treeOf (stride K) t)) ≡ sumBy (len v) (front (c .cur)) + sumBy (len v) (c .cur .e ∷ behind (c .cur)) = ap (sumBy (len v)) (c .cur .row) ∙ sumBy-append (len v) (front (c .cur)) (c .cur .e ∷ behind (c .cur)) in
       omega (arith, body-of (stride K) t (K .effect) w .totals v)
 
   -- the way up from a seat
-  pub rank-is : (i : ℕ) (c : Seat K t w i) (v : ℕ)
+  pub rank-is : (i : ℕ) (c : EntryFound K t w i) (v : ℕ)
       → rankUp (shapeIn (stride K) t) v (t .head .levels) (leafIn (stride K) t (c .leaf) .parent) (leafIn (stride K) t (c .leaf) .at) (start v (c .slot) (leafIn (stride K) t (c .leaf))) (t .inners) ≡ sum.Is (sumBy (len v) (front (c .cur)))
   rank-is i c v =
       let T : Tree = treeOf (stride K) t in
       let k : ℕ = c .leaf in
       let b = c .cur .body in
       let st = start-leaf (stride K) t (neat-of (stride K) t (K .effect) w) v (c .slot) k (c .leaf-in) (let z = c .cur .inside in omega arith) in
-      let u = subst (λ (d : ℕ). Way (T .body .leaf) (T .body .inner) (t .head .inners) d k) (b .deep) (way (total (T .body .leaf)) (T .body .leaf) (T .body .inner) (T .body .root) (t .head .inners) (c .cur .A) k (c .cur .B) (above T) (b .links) (b .inner-in)) in
+      let u = subst (λ (d : ℕ). WayUp (T .body .leaf) (T .body .inner) (t .head .inners) d k) (b .deep) (way (total (T .body .leaf)) (T .body .leaf) (T .body .inner) (T .body .root) (t .head .inners) (c .cur .A) k (c .cur .B) (above T) (b .links) (b .inner-in)) in
       rank-up (stride K) t (neat-of (stride K) t (K .effect) w) v (t .head .levels) (T .body .leaf) k (start v (c .slot) (leafIn (stride K) t k)) u
       ∙ ap sum.Is (ap (λ (n : ℕ). n + climb v (T .body .leaf) (T .body .inner) (t .head .levels) k) st ∙ c .cur .rank v)
 
-  pub step-rank : (v : ℕ) (lv : v < K .views) (i : ℕ) → Agrees (Mirrors K) (treeMove K t (row.rank v i)) (rowMove K (rowOf K t) (row.rank v i))
+  pub step-rank : (v : ℕ) (lv : v < K .views) (i : ℕ) → Simulates (Mirrors K) (treeMove K t (row.rank v i)) (rowMove K (rowOf K t) (row.rank v i))
   unfolding treeMove rowMove refusal calls.entryToCharIndex
   step-rank v lv i = by-id K t w i (λ c. moved t (numberAnswer (calls.entryToCharIndex K t v c))) [] (entriesOf K t) (done (row.total v (before i (entriesOf K t)) ∷ []))
       (λ c. rw (row-passed (rowOf K t) [] (entriesOf K t) (done (row.total v (before i (entriesOf K t)) ∷ [])) refl) (record { same = at c; kept = own K t w }))
     where
-      at : (c : Seat K t w i) → numberAnswer (calls.entryToCharIndex K t v (cursorAt (t .head .stamp) (c .leaf) (c .slot))) ≡ done (row.total v (before i (entriesOf K t)) ∷ [])
+      at : (c : EntryFound K t w i) → numberAnswer (calls.entryToCharIndex K t v (cursorAt (t .head .stamp) (c .leaf) (c .slot))) ≡ done (row.total v (before i (entriesOf K t)) ∷ [])
       at c =
           let cs : List Cause = atCursor K t (cursorAt (t .head .stamp) (c .leaf) (c .slot)) in
           let n : ℕ = sumBy (len v) (front (c .cur)) in
@@ -127,7 +128,7 @@ module _ (K : Kind) (t : State) (w : Coherent K t) where
           ap numberAnswer (passed (opening K t ++ cs) number.Refused _ (opens K t w cs ∙ fresh-at K t w (c .leaf) (c .slot) [] (c .leaf-in) (c .slot-in)) ∙ ap calls.rankOf (rank-is i c v))
           ∙ ap (λ (m : ℕ). done (m ∷ [])) (small ∙ sym (total-before K t w i c v lv))
 
-  pub step-first : Agrees (Mirrors K) (treeMove K t row.first) (rowMove K (rowOf K t) row.first)
+  pub step-first : Simulates (Mirrors K) (treeMove K t row.first) (rowMove K (rowOf K t) row.first)
   unfolding treeMove rowMove refusal calls.first opening
   step-first = record { same = whole; kept = own K t w }
     where
@@ -143,12 +144,12 @@ module _ (K : Kind) (t : State) (w : Coherent K t) where
           ∙ ap (calls.firstOf (t .head .stamp)) (first-down (stride K) t (neat-of (stride K) t (K .effect) w) (body-of (stride K) t (K .effect) w) (t .head .levels) 0 (t .head .root .0) (let z : 0 + t .head .levels ≡ t .head .levels = omega arith in z) (record { before = []; after = []; row = refl })
           ∙ ap (λ (k : ℕ). leaf.At (leafNo k)) (first-top (treeOf (stride K) t .body .inner) (t .head .root .0) (t .head .levels)))
 
-      whole : standingAnswer K t (calls.first K t) ≡ done (firstId (entriesOf K t) ∷ [])
-      whole = ap (standingAnswer K t) at ∙ ap (λ (n : Named). idAnswer n []) (id-at (firstAt (treeOf (stride K) t .body .inner) (t .head .root .0) (t .head .levels)) 0 lq lj)
+      whole : standingIdAnswer K t (calls.first K t) ≡ done (firstId (entriesOf K t) ∷ [])
+      whole = ap (standingIdAnswer K t) at ∙ ap (λ (n : Named). idAnswer n []) (id-at (firstAt (treeOf (stride K) t .body .inner) (t .head .root .0) (t .head .levels)) 0 lq lj)
           ∙ ap (λ (n : ℕ). done (n ∷ [])) (first-in (treeOf (stride K) t) (body-of (stride K) t (K .effect) w) ∙ sym (first-entry (K .views) (tree.row (treeOf (stride K) t))) ∙ ap firstId (sym (entries-are K t w)))
 
   -- the entry after a seat
-  next-answer : (i : ℕ) (c : Seat K t w i) → nextAnswer K t (calls.nextAfter K t (cursorAt (t .head .stamp) (c .leaf) (c .slot))) ≡ done (nextIn (treeOf (stride K) t) (c .leaf) (c .slot) ∷ [])
+  next-answer : (i : ℕ) (c : EntryFound K t w i) → nextAnswer K t (calls.nextAfter K t (cursorAt (t .head .stamp) (c .leaf) (c .slot))) ≡ done (nextIn (treeOf (stride K) t) (c .leaf) (c .slot) ∷ [])
   unfolding calls.nextAfter refusal
   next-answer i c =
       ap (nextAnswer K t) (passed (opening K t ++ atCursor K t (cursorAt (t .head .stamp) (c .leaf) (c .slot))) next.Refused _ (opens K t w (atCursor K t (cursorAt (t .head .stamp) (c .leaf) (c .slot))) ∙ fresh-at K t w (c .leaf) (c .slot) [] (c .leaf-in) (c .slot-in)))
@@ -180,7 +181,7 @@ module _ (K : Kind) (t : State) (w : Coherent K t) where
           let ge : leafIn (stride K) t (c .leaf) .len ≤ c .slot + 1 = (let z = ltb-false (suc (c .slot)) (length (slotsOf (leafIn (stride K) t (c .leaf)))) q in omega (arith, sz)) in
           rw (q, nextIn, le-ltb (c .slot + 1) (leafIn (stride K) t (c .leaf) .len) ge, next-leaf (stride K) t (neat-of (stride K) t (K .effect) w) (body-of (stride K) t (K .effect) w) (c .cur .A) (c .leaf) (c .cur .B) (c .cur .leaves), nx) (heads (c .cur .B) leaves)
 
-  pub step-next : (i : ℕ) → Agrees (Mirrors K) (treeMove K t (row.next i)) (rowMove K (rowOf K t) (row.next i))
+  pub step-next : (i : ℕ) → Simulates (Mirrors K) (treeMove K t (row.next i)) (rowMove K (rowOf K t) (row.next i))
   unfolding treeMove rowMove refusal
   step-next i = by-id K t w i (λ c. moved t (nextAnswer K t (calls.nextAfter K t c))) [] (entriesOf K t) (done (firstId (after i (entriesOf K t)) ∷ []))
       (λ c. rw (row-passed (rowOf K t) [] (entriesOf K t) (done (firstId (after i (entriesOf K t)) ∷ [])) refl)

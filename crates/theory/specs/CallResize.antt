@@ -53,12 +53,12 @@ use Rattle.theory.specs.WordNeat.{Neat, Viewed, neat-of}
 use Rattle.theory.specs.LiftSound.{body-of}
 use Rattle.theory.specs.LiftSoundBack.{sound-up}
 use Rattle.theory.specs.LiftEntries.{firsts, entryFrom, total-entries, split-entries}
-use Rattle.theory.specs.CallOpen.{passed, stopped, few-lines, opens, fresh-at, Seat}
+use Rattle.theory.specs.CallOpen.{passed, stopped, few-lines, opens, fresh-at, EntryFound}
 use Rattle.theory.specs.WalkUp.{way}
 use Rattle.theory.specs.WordPut.{Keeps, leaf-keeps, inner-keeps, put-same, put-slots}
-use Rattle.theory.specs.ChangeSums.{minus-at, lengths-at, lengths-tidy, lengths-slots, Up, up-of, added, Carried, climb-up}
+use Rattle.theory.specs.ChangeSums.{minus-at, lengths-at, lengths-tidy, lengths-slots, Up, up-of, added, ClimbCarried, climb-up}
 use Rattle.theory.specs.CallRead.{front-small, rank-is}
-use Rattle.theory.specs.CallSimulates.{Agrees, Mirrors, rowOf, row-passed, row-stopped, own, entries-are, by-id, before-is, from-is, slot-is, total-before}
+use Rattle.theory.specs.CallSimulates.{Simulates, Mirrors, rowOf, row-passed, row-stopped, own, entries-are, by-id, before-is, from-is, slot-is, total-before}
 
 pub viewed-changing : (s k j : ℕ) (h : Held) → Viewed s h → Viewed s (changing k j h)
 viewed-changing s k j held.Absent v = tt
@@ -87,7 +87,7 @@ behindId K t i l = row.crossedBounds K l ∷ row.past K (changed i l (entriesOf 
 abbrev numberOf : Bool → Bool → ℕ
 numberOf a b = cond a 20 (cond b 7 0)
 
-module _ (K : Kind) (t : State) (w : Coherent K t) (i : ℕ) (c : Seat K t w i) (l : List ℕ) (wl : length l ≡ K .views) (lines : tooManyLines K l ≡ false) where
+module _ (K : Kind) (t : State) (w : Coherent K t) (i : ℕ) (c : EntryFound K t w i) (l : List ℕ) (wl : length l ≡ K .views) (lines : tooManyLines K l ≡ false) where
   -- the slot, its lengths, the difference
   x : List ℕ
   x = getD (leafIn (stride K) t (c .leaf) .slots) (c .slot) []
@@ -150,7 +150,7 @@ module _ (K : Kind) (t : State) (w : Coherent K t) (i : ℕ) (c : Seat K t w i) 
   unfolding delta minus
   delta-wide = (let z = length-zip (λ a b. (a + (2 ^ 32 - b)) % 2 ^ 32) l (lengths x) (wl ∙ sym x-long) in omega arith)
 
-  carried : Carried (shapeIn (stride K) t) delta (t .head .inners) (K .effect) (t .head .levels) (leafIn (stride K) t (c .leaf) .parent) (leafIn (stride K) t (c .leaf) .at) (start (K .effect) (c .slot) (leafIn (stride K) t (c .leaf))) (t .inners)
+  carried : ClimbCarried (shapeIn (stride K) t) delta (t .head .inners) (K .effect) (t .head .levels) (leafIn (stride K) t (c .leaf) .parent) (leafIn (stride K) t (c .leaf) .at) (start (K .effect) (c .slot) (leafIn (stride K) t (c .leaf))) (t .inners)
   carried =
       let T : Tree = treeOf (stride K) t in
       let b = c .cur .body in
@@ -283,17 +283,17 @@ module _ (K : Kind) (t : State) (w : Coherent K t) (i : ℕ) (c : Seat K t w i) 
     abbrev refusing : ℕ → calls.Reply A
     refusing n = calls.reply t (refuse n)
 
-    resize-step : Agrees (Mirrors K) (told (calls.unless (resizeCauses K t at l) refusing answered) say) (unless (rowOf K t) (behindId K t i l) (changed i l (entriesOf K t)) a)
+    resize-step : Simulates (Mirrors K) (told (calls.unless (resizeCauses K t at l) refusing answered) say) (unless (rowOf K t) (behindId K t i l) (changed i l (entriesOf K t)) a)
     unfolding refusal
     resize-step = go (crossed K l) refl over refl
       where
         number : {p q : Bool} → crossed K l ≡ p → over ≡ q → refusal (behindId K t i l) ≡ numberOf p q
         number d e = rw (d, e)
 
-        stop : (n : ℕ) → refusal (behindId K t i l) ≡ suc n → Agrees (Mirrors K) (told (calls.unless (resizeCauses K t at l) refusing answered) say) (unless (rowOf K t) (behindId K t i l) (changed i l (entriesOf K t)) a)
+        stop : (n : ℕ) → refusal (behindId K t i l) ≡ suc n → Simulates (Mirrors K) (told (calls.unless (resizeCauses K t at l) refusing answered) say) (unless (rowOf K t) (behindId K t i l) (changed i l (entriesOf K t)) a)
         stop n z = rw (stopped (resizeCauses K t at l) refusing answered n (resize-causes ∙ z), row-stopped (rowOf K t) (behindId K t i l) (changed i l (entriesOf K t)) a n z) (record { same = says (suc n); kept = own K t w })
 
-        go : (p : Bool) → crossed K l ≡ p → (q : Bool) → over ≡ q → Agrees (Mirrors K) (told (calls.unless (resizeCauses K t at l) refusing answered) say) (unless (rowOf K t) (behindId K t i l) (changed i l (entriesOf K t)) a)
+        go : (p : Bool) → crossed K l ≡ p → (q : Bool) → over ≡ q → Simulates (Mirrors K) (told (calls.unless (resizeCauses K t at l) refusing answered) say) (unless (rowOf K t) (behindId K t i l) (changed i l (entriesOf K t)) a)
         go true d q e = stop 19 (number d e)
         go false d true e = stop 6 (number d e)
         go false d false e =
@@ -302,12 +302,12 @@ module _ (K : Kind) (t : State) (w : Coherent K t) (i : ℕ) (c : Seat K t w i) 
             (record { same = right; kept = stands′ e })
 
 module _ (K : Kind) (ok : K .effect < K .views) (t : State) (w : Coherent K t) where
-  pub step-set : (i : ℕ) (l : List ℕ) (wl : length l ≡ K .views) → tooManyLines K l ≡ false → Agrees (Mirrors K) (treeMove K t (row.setLengths i l)) (rowMove K (rowOf K t) (row.setLengths i l))
+  pub step-set : (i : ℕ) (l : List ℕ) (wl : length l ≡ K .views) → tooManyLines K l ≡ false → Simulates (Mirrors K) (treeMove K t (row.setLengths i l)) (rowMove K (rowOf K t) (row.setLengths i l))
   unfolding treeMove rowMove calls.setLengths
   step-set i l wl lines = by-id K t w i (λ c. told (calls.setLengths K t c l) outcomeAnswer) (behindId K t i l) (changed i l (entriesOf K t)) (done [])
       (λ c. resize-step K t w i c l wl lines outcome.Refused (λ n. outcome.Done) outcomeAnswer (done []) (λ n. refl) refl)
 
-  pub step-update : (i : ℕ) (l : List ℕ) (wl : length l ≡ K .views) → tooManyLines K l ≡ false → Agrees (Mirrors K) (treeMove K t (row.update i l)) (rowMove K (rowOf K t) (row.update i l))
+  pub step-update : (i : ℕ) (l : List ℕ) (wl : length l ≡ K .views) → tooManyLines K l ≡ false → Simulates (Mirrors K) (treeMove K t (row.update i l)) (rowMove K (rowOf K t) (row.update i l))
   unfolding treeMove rowMove calls.update
   step-update i l wl lines = by-id K t w i (λ c. told (calls.update K t c l) numberAnswer) (behindId K t i l) (changed i l (entriesOf K t)) (done (row.total (K .effect) (before i (entriesOf K t)) ∷ []))
       (λ c. resize-step K t w i c l wl lines number.Refused number.Is numberAnswer (done (row.total (K .effect) (before i (entriesOf K t)) ∷ [])) (λ n. refl) (ap (λ (n : ℕ). done (n ∷ [])) (sym (total-before K t w i c (K .effect) (ok)))))

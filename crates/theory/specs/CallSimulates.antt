@@ -34,15 +34,15 @@ use Rattle.theory.specs.LiftMarks.{getD-slot}
 use Rattle.theory.specs.WordNeat.{neat-of}
 use Rattle.theory.specs.LiftSound.{body-of}
 use Rattle.theory.specs.LiftEntries.{entryFrom, entry-is, entries-row, total-entries, without-entries, split-entries}
-use Rattle.theory.specs.CallOpen.{Seat, seat, no-seat}
+use Rattle.theory.specs.CallOpen.{EntryFound, entry-found, entry-absent}
 
--- a coherent state and the row whose entries and limit it has: what Stands says without the bound on line ends
+-- a coherent state and the row whose entries and limit it has: what Represents says without the bound on line ends
 pub record Mirrors (K : Kind) (t : State) (r : Row) : Type 0 where
   pub coherent : Coherent K t
   pub entries : entriesOf K t ≡ r .entries
   pub limit : t .head .limit ≡ r .limit
 
-pub record Agrees {S R : Type 0} (Q : S → R → Type 0) (m : Moved S) (n : Moved R) : Type 0 where
+pub record Simulates {S R : Type 0} (Q : S → R → Type 0) (m : Moved S) (n : Moved R) : Type 0 where
   pub same : m .answer ≡ n .answer
   pub kept : Q (m .after) (n .after)
 
@@ -101,17 +101,17 @@ module _ (K : Kind) (t : State) (w : Coherent K t) where
   row-unknown i cs le = rw (le-leb (length (entriesOf K t)) i (omega (arith, count-is)))
 
   pub by-id : (i : ℕ) (f : Cursor → Moved State) (cs : List Cause) (es : List Entry) (a : Answer)
-      → ((c : Seat K t w i) → Agrees (Mirrors K) (f (calls.cursorAt (t .head .stamp) (c .leaf) (c .slot))) (unless (rowOf K t) cs es a))
-      → Agrees (Mirrors K) (withCursor t (calls.cursor K t i) f) (unless (rowOf K t) (noSuchId (rowOf K t) i ∷ cs) es a)
+      → ((c : EntryFound K t w i) → Simulates (Mirrors K) (f (calls.cursorAt (t .head .stamp) (c .leaf) (c .slot))) (unless (rowOf K t) cs es a))
+      → Simulates (Mirrors K) (withCursor t (calls.cursor K t i) f) (unless (rowOf K t) (noSuchId (rowOf K t) i ∷ cs) es a)
   unfolding unless
   by-id i f cs es a h = go (decLt i (t .head .entries))
     where
-      go : Dec (i < t .head .entries) → Agrees (Mirrors K) (withCursor t (calls.cursor K t i) f) (unless (rowOf K t) (noSuchId (rowOf K t) i ∷ cs) es a)
-      go (yes lt) = let c = seat K t w i lt in rw (c .is, row-known i cs lt) (h c)
-      go (no ge) = rw (no-seat K t w i (omega arith), row-stopped (rowOf K t) (noSuchId (rowOf K t) i ∷ cs) es a 3 (row-unknown i cs (omega arith))) (record { same = refl; kept = own })
+      go : Dec (i < t .head .entries) → Simulates (Mirrors K) (withCursor t (calls.cursor K t i) f) (unless (rowOf K t) (noSuchId (rowOf K t) i ∷ cs) es a)
+      go (yes lt) = let c = entry-found K t w i lt in rw (c .is, row-known i cs lt) (h c)
+      go (no ge) = rw (entry-absent K t w i (omega arith), row-stopped (rowOf K t) (noSuchId (rowOf K t) i ∷ cs) es a 3 (row-unknown i cs (omega arith))) (record { same = refl; kept = own })
 
   -- the row at a seat
-  module _ (i : ℕ) (c : Seat K t w i) where
+  module _ (i : ℕ) (c : EntryFound K t w i) where
     pub entries-at : entriesOf K t ≡ map (entryFrom (K .views)) (front (c .cur)) ++ entryFrom (K .views) (c .cur .e) ∷ map (entryFrom (K .views)) (behind (c .cur))
     entries-at = entries-are ∙ ap (map (entryFrom (K .views))) (c .cur .row) ∙ split-entries (K .views) (front (c .cur)) (c .cur .e) (c .cur .F₂ ++ cat (treeOf (stride K) t .body .leaf .slots) (c .cur .B))
 

@@ -25,7 +25,7 @@ use Rattle.model.specs.Refuse.{opening, atCursor}
 use Rattle.model.specs.Refuse as refuse′
 use Rattle.model.specs.Calls as calls
 use Rattle.model.specs.Calls.{cursorAt, dividedAt, splitCauses}
-use Rattle.model.specs.ById.{withCursor, told, treeMove, dividedAnswer}
+use Rattle.model.specs.ById.{withCursor, told, treeMove, dividedIdAnswer}
 use Rattle.model.specs.declared.answer.Divided.{Divided}
 use Rattle.model.specs.declared.answer.Divided.the-variants as division
 use Rattle.abstract_tree.specs.Lists.{cat, sumBy-append, map-append}
@@ -47,13 +47,13 @@ use Rattle.theory.specs.LiftSound.{body-of}
 use Rattle.theory.specs.LiftSoundBack.{sound-up}
 use Rattle.theory.specs.WordPut.{inner-keeps}
 use Rattle.theory.specs.LiftEntries.{firsts, getD-firsts, entryFrom}
-use Rattle.theory.specs.CallOpen.{passed, stopped, few-lines, opens, fresh-at, Seat}
+use Rattle.theory.specs.CallOpen.{passed, stopped, few-lines, opens, fresh-at, EntryFound}
 use Rattle.theory.specs.ChangeSums.{slot-of}
 use Rattle.theory.specs.ChangeMakeRoom.{Roomed}
 use Rattle.theory.specs.ChangeGap.{opened, leafWith, Gap, gap}
 use Rattle.theory.specs.ChangeEnter.{entered, entered-read, entered-neat, entered-tree}
 use Rattle.theory.specs.ChangeSplitSlot.{halved-tidy, halved-parent, halved-at, halved-slots}
-use Rattle.theory.specs.CallSimulates.{Agrees, Mirrors, rowOf, Space, by-limit, row-passed, row-stopped, own, entries-are, count-is, by-id, before-is, from-is, slot-lengths}
+use Rattle.theory.specs.CallSimulates.{Simulates, Mirrors, rowOf, Space, by-limit, row-passed, row-stopped, own, entries-are, count-is, by-id, before-is, from-is, slot-lengths}
 
 -- the row's causes behind the id
 abbrev pub behindId : Kind → List Cause → Row → ℕ → List ℕ → List Cause
@@ -81,7 +81,7 @@ pub record TwoParts (K : Kind) (flag : Bool) (i n m : ℕ) (s : State) (k j : �
   pub first : slotAt (treeOf (stride K) s) k j .child ≡ cond flag n i
   pub second : slotAt (treeOf (stride K) s) k (j + 1) .child ≡ cond flag i n
 
-module _ (K : Kind) (t : State) (w : Coherent K t) (i : ℕ) (c : Seat K t w i) (l : List ℕ) (wl : length l ≡ K .views) (lines : tooManyLines K l ≡ false) (flag : Bool) where
+module _ (K : Kind) (t : State) (w : Coherent K t) (i : ℕ) (c : EntryFound K t w i) (l : List ℕ) (wl : length l ≡ K .views) (lines : tooManyLines K l ≡ false) (flag : Bool) where
   abbrev new : ℕ → ℕ
   new u = getD l u 0
 
@@ -310,10 +310,10 @@ module _ (K : Kind) (t : State) (w : Coherent K t) (i : ℕ) (c : Seat K t w i) 
             (parting (t₃ (enough-of e′) few) (q (enough-of e′) few .leaf) (q (enough-of e′) few .slot) (parted₃ (enough-of e′) few) (stands₃ (enough-of e′) few))
 
 pub step-split-by : (K : Kind) (t : State) (w : Coherent K t) (room rowRoom : List Cause) (space : Space t room rowRoom) (flag : Bool) (i : ℕ) (l : List ℕ) (wl : length l ≡ K .views) → tooManyLines K l ≡ false
-    → Agrees (Mirrors K) (withCursor t (calls.cursor K t i) (λ c. told (calls.splitBy K room t c l flag) dividedAnswer)) (row.splitBy K rowRoom (rowOf K t) flag i l)
-step-split-by K t w room rowRoom space flag i l wl lines = by-id K t w i (λ c. told (calls.splitBy K room t c l flag) dividedAnswer) (behindId K rowRoom (rowOf K t) i l) (divided flag i (newEntry (rowOf K t) l) (entriesOf K t)) (done (length (entriesOf K t) ∷ []))
-    (λ c. split-by K t w i c l wl lines flag room rowRoom space (λ m n. Agrees (Mirrors K) (told m dividedAnswer) n) (λ n. record { same = refl; kept = own K t w }) (λ s k j p h. record { same = ap (λ (n : ℕ). done (n ∷ [])) (sym (count-is K t w)); kept = h }))
+    → Simulates (Mirrors K) (withCursor t (calls.cursor K t i) (λ c. told (calls.splitBy K room t c l flag) dividedIdAnswer)) (row.splitBy K rowRoom (rowOf K t) flag i l)
+step-split-by K t w room rowRoom space flag i l wl lines = by-id K t w i (λ c. told (calls.splitBy K room t c l flag) dividedIdAnswer) (behindId K rowRoom (rowOf K t) i l) (divided flag i (newEntry (rowOf K t) l) (entriesOf K t)) (done (length (entriesOf K t) ∷ []))
+    (λ c. split-by K t w i c l wl lines flag room rowRoom space (λ m n. Simulates (Mirrors K) (told m dividedIdAnswer) n) (λ n. record { same = refl; kept = own K t w }) (λ s k j p h. record { same = ap (λ (n : ℕ). done (n ∷ [])) (sym (count-is K t w)); kept = h }))
 
-pub step-split : (K : Kind) (t : State) (w : Coherent K t) (flag : Bool) (i : ℕ) (l : List ℕ) (wl : length l ≡ K .views) → tooManyLines K l ≡ false → Agrees (Mirrors K) (treeMove K t (row.split flag i l)) (rowMove K (rowOf K t) (row.split flag i l))
+pub step-split : (K : Kind) (t : State) (w : Coherent K t) (flag : Bool) (i : ℕ) (l : List ℕ) (wl : length l ≡ K .views) → tooManyLines K l ≡ false → Simulates (Mirrors K) (treeMove K t (row.split flag i l)) (rowMove K (rowOf K t) (row.split flag i l))
 unfolding treeMove rowMove
 step-split K t w flag i l wl lines = step-split-by K t w (refuse′.full t ∷ []) (row.full (rowOf K t) ∷ []) (by-limit K t w) flag i l wl lines

@@ -18,7 +18,7 @@ use Rattle.model.specs.State.{nodeAt}
 use Rattle.model.specs.Grow.{Areas, linked, Top, top, Grown, grown, Above, nodeIn, link, splitNode, linkHalf, addTo, aboveOf}
 use Rattle.model.specs.declared.shape.Shape.{Shape}
 use Rattle.laws.specs.Lists.{All-drop}
-use Rattle.theory.specs.WordFits.{Sized}
+use Rattle.theory.specs.WordFits.{NodeSized}
 use Rattle.abstract_tree.specs.Lists.{cat, sumBy-append, All-map, All-right}
 use Rattle.abstract_tree.specs.Levels.{noSlot, Slot, said, told, total, len, none, Parent, find-parent}
 use Rattle.abstract_tree.specs.Rank.{level-sum}
@@ -27,14 +27,14 @@ use Rattle.abstract_tree.specs.Insert.{Trunk, get, Into, insertChild, behind, a
 use Rattle.abstract_tree.specs.Halve as halve
 use Rattle.abstract_tree.specs.AddChild as adding
 use Rattle.abstract_tree.specs.AddChild.{addChild}
-use Rattle.abstract_tree.specs.Full.{Full, full-step}
+use Rattle.abstract_tree.specs.Full.{FullParent, full-step}
 use Rattle.theory.specs.LiftTree.{slotOf, slotsOf, areaOf, sum-slots}
 use Rattle.theory.specs.LiftMarks.{getD-slot}
 use Rattle.theory.specs.WordNeat.{size-is}
 use Rattle.theory.specs.ChangeSlot.{drop-map}
 use Rattle.theory.specs.ChangeAdopt.{trunkOf, levelOf, countOf, Both}
 use Rattle.theory.specs.ChangeLink.{Joined, link-is, node-at}
-use Rattle.theory.specs.ChangeDivide.{Divided, divide-is, Rooted, root-is}
+use Rattle.theory.specs.ChangeDivide.{NodeDivided, divide-is, Rooted, root-is}
 
 abbrev pub topOf : Trunk → Top
 topOf s = top (s .next) (s .root) (s .levels)
@@ -44,7 +44,7 @@ abbrev pub slotIn : ℕ → Trunk → ℕ → Slot
 slotIn h s k = insert.slotOf k (total (get h s) k)
 
 -- the level C = A ++ a ∷ B of height h, in which node new comes behind a: what the abstract tree asks, and that all is inside the areas
-pub record Ready (g : Shape) (L h : ℕ) (ar : Areas) (tp : Top) (t t′ : ℕ → ℕ → ℕ) (A : List ℕ) (a : ℕ) (B : List ℕ) (new : ℕ) (st : List (List ℕ)) : Type 0 where
+pub record ReadyToAdd (g : Shape) (L h : ℕ) (ar : Areas) (tp : Top) (t t′ : ℕ → ℕ → ℕ) (A : List ℕ) (a : ℕ) (B : List ℕ) (new : ℕ) (st : List (List ℕ)) : Type 0 where
   pub into : Into h (trunkOf g ar tp) t t′ A a B (slotIn h (trunkOf g ar tp) new) st
   pub both : Both g L (tp .inners) ar
   pub new-in : new < countOf h L (tp .inners)
@@ -64,9 +64,9 @@ unfolding All
 unmap Q [] h = tt
 unmap Q (x ∷ rows) h = (h .0, unmap Q rows (h .1))
 
-module _ (g : Shape) (sized : Sized g) (pos : 0 < g .stride) (L : ℕ) where
+module _ (g : Shape) (sized : NodeSized g) (pos : 0 < g .stride) (L : ℕ) where
   -- the bounds of the sums
-  module _ (h : ℕ) (ar : Areas) (tp : Top) (t t′ : ℕ → ℕ → ℕ) (A : List ℕ) (a : ℕ) (B : List ℕ) (new : ℕ) (st : List (List ℕ)) (r : Ready g L h ar tp t t′ A a B new st) where
+  module _ (h : ℕ) (ar : Areas) (tp : Top) (t t′ : ℕ → ℕ → ℕ) (A : List ℕ) (a : ℕ) (B : List ℕ) (new : ℕ) (st : List (List ℕ)) (r : ReadyToAdd g L h ar tp t t′ A a B new st) where
     own-small : (v : ℕ) → t a v < 4294967296
     unfolding sumBy
     own-small v = (let z : sumBy (λ c. t c v) (A ++ a ∷ B) ≡ sumBy (λ c. t c v) A + (t a v + sumBy (λ c. t c v) B) = sumBy-append (λ c. t c v) A (a ∷ B) in omega (arith, r .small v))
@@ -74,7 +74,7 @@ module _ (g : Shape) (sized : Sized g) (pos : 0 < g .stride) (L : ℕ) where
     new-total : (v : ℕ) → node.total v (used (nodeIn g (levelOf h) new ar)) ≡ t′ new v
     new-total v = sym (sum-slots v (used (nodeIn g (levelOf h) new ar))) ∙ ap (sumBy (len v)) (node-at g h new ar tp) ∙ ap (λ (f : ℕ → ℕ). f v) (r .into .snl)
 
-  module _ (h : ℕ) (ar : Areas) (tp : Top) (t t′ : ℕ → ℕ → ℕ) (A : List ℕ) (a : ℕ) (B : List ℕ) (new : ℕ) (P : List ℕ) (st : List (List ℕ)) (r : Ready g L h ar tp t t′ A a B new (P ∷ st)) where
+  module _ (h : ℕ) (ar : Areas) (tp : Top) (t t′ : ℕ → ℕ → ℕ) (A : List ℕ) (a : ℕ) (B : List ℕ) (new : ℕ) (P : List ℕ) (st : List (List ℕ)) (r : ReadyToAdd g L h ar tp t t′ A a B new (P ∷ st)) where
     par : Parent t (get h (trunkOf g ar tp)) (areaOf g (ar .inners)) A a B P
     par = find-parent t (get h (trunkOf g ar tp)) (areaOf g (ar .inners)) A a B P (r .into .links .0)
 
@@ -137,12 +137,12 @@ module _ (g : Shape) (sized : Sized g) (pos : 0 < g .stride) (L : ℕ) where
 
   -- the work one level up is lifted
   abbrev Lifted : ℕ → Above → Type 0
-  Lifted d above = (h : ℕ) (ar : Areas) (tp : Top) (t t′ : ℕ → ℕ → ℕ) (A : List ℕ) (a : ℕ) (B : List ℕ) (new : ℕ) (st : List (List ℕ)) → length st ≡ d → Ready g L (suc h) ar tp t t′ A a B new st
+  Lifted d above = (h : ℕ) (ar : Areas) (tp : Top) (t t′ : ℕ → ℕ → ℕ) (A : List ℕ) (a : ℕ) (B : List ℕ) (new : ℕ) (st : List (List ℕ)) → length st ≡ d → ReadyToAdd g L (suc h) ar tp t t′ A a B new st
       → t′ a ≡ total (areaOf g (ar .inners)) a → tp .inners + length st < none → full-of d (suc h) (trunkOf g ar tp) a (slotIn (suc h) (trunkOf g ar tp) new) .next ≤ g .nodes
       → Lifts g L (above tp a new ar) (full-of d (suc h) (trunkOf g ar tp) a (slotIn (suc h) (trunkOf g ar tp) new))
 
   module _ (fan-low : 4 ≤ g .fan) (d : ℕ) (above : Above) (up : Lifted d above) (h : ℕ) (ar : Areas) (tp : Top) (t t′ : ℕ → ℕ → ℕ) (A : List ℕ) (a : ℕ) (B : List ℕ) (new : ℕ) (P : List ℕ) (st : List (List ℕ))
-      (deep : length st ≡ d) (r : Ready g L h ar tp t t′ A a B new (P ∷ st)) (few : tp .inners + length (P ∷ st) < none) where
+      (deep : length st ≡ d) (r : ReadyToAdd g L h ar tp t t′ A a B new (P ∷ st)) (few : tp .inners + length (P ∷ st) < none) where
     p : ℕ
     p = get h (trunkOf g ar tp) .parent a
 
@@ -201,7 +201,7 @@ module _ (g : Shape) (sized : Sized g) (pos : 0 < g .stride) (L : ℕ) where
       s₂ = full-of (length st) (suc h) (adding.halve (half (g .fan)) h (trunkOf g ar tp) (get h (trunkOf g ar tp) .parent a)) (get h (trunkOf g ar tp) .parent a)
           (insert.slotOf (tp .inners) (total (adding.halve (half (g .fan)) h (trunkOf g ar tp) (get h (trunkOf g ar tp) .parent a) .inner) (tp .inners)))
 
-      F : Full (g .fan) (half (g .fan)) h (trunkOf g ar tp) s₁ s₂ t t′ A a B (slotIn h (trunkOf g ar tp) new) (get h (trunkOf g ar tp) .parent a) P st
+      F : FullParent (g .fan) (half (g .fan)) h (trunkOf g ar tp) s₁ s₂ t t′ A a B (slotIn h (trunkOf g ar tp) new) (get h (trunkOf g ar tp) .parent a) P st
       unfolding s₁ s₂
       F = full-step (g .fan) (half (g .fan)) h (trunkOf g ar tp) t t′ A a B (slotIn h (trunkOf g ar tp) new) P st (omega arith) (omega arith) (r .into) few ef
 
@@ -216,7 +216,7 @@ module _ (g : Shape) (sized : Sized g) (pos : 0 < g .stride) (L : ℕ) where
             All-drop (λ x. Q (child x)) (half (g .fan)) u
             (unmap Q u (halve.kids t (get h (trunkOf g ar tp)) (areaOf g (ar .inners)) (A ++ a ∷ B) (F .P₁) (get h (trunkOf g ar tp) .parent a) (F .P₂) Q (subst (λ (R : List ℕ). map (said t (get h (trunkOf g ar tp))) (A ++ a ∷ B) ≡ cat (told (areaOf g (ar .inners))) R) (F .row) (r .into .links .0)) (r .kids)))
 
-        D : Divided g L (tp .inners) h (get h (trunkOf g ar tp) .parent a) ar
+        D : NodeDivided g L (tp .inners) h (get h (trunkOf g ar tp) .parent a) ar
         D = divide-is g sized pos L (tp .inners) h (get h (trunkOf g ar tp) .parent a) ar (r .both) lp room ef kids-all
 
         u : Top
@@ -227,7 +227,7 @@ module _ (g : Shape) (sized : Sized g) (pos : 0 < g .stride) (L : ℕ) where
         halved = D .trunk (tp .root) (tp .levels)
 
         -- one level up
-        ready₁ : Ready g L (suc h) (D .after) u (total (areaOf g (ar .inners))) (total (s₁ .inner)) (F .P₁) (get h (trunkOf g ar tp) .parent a) (F .P₂) (tp .inners) st
+        ready₁ : ReadyToAdd g L (suc h) (D .after) u (total (areaOf g (ar .inners))) (total (s₁ .inner)) (F .P₁) (get h (trunkOf g ar tp) .parent a) (F .P₂) (tp .inners) st
         unfolding u All
         ready₁ = record {
           into = subst (λ (z : Trunk). Into (suc h) z (total (areaOf g (ar .inners))) (total (s₁ .inner)) (F .P₁) (get h (trunkOf g ar tp) .parent a) (F .P₂) (insert.slotOf (tp .inners) (total (z .inner) (tp .inners))) st) (sym halved) (F .into₁);
@@ -256,7 +256,7 @@ module _ (g : Shape) (sized : Sized g) (pos : 0 < g .stride) (L : ℕ) where
         more : tp .inners ≤ s₂ .next
         more = (let z = F .grew in omega arith)
 
-        ready₂ : Ready g L h (above₂ .after) (topOf s₂) t t′ A a B new ((F .P₁ ++ get h (trunkOf g ar tp) .parent a ∷ tp .inners ∷ F .P₂) ∷ F .st′)
+        ready₂ : ReadyToAdd g L h (above₂ .after) (topOf s₂) t t′ A a B new ((F .P₁ ++ get h (trunkOf g ar tp) .parent a ∷ tp .inners ∷ F .P₂) ∷ F .st′)
         ready₂ = record {
           into = subst (λ (z : Trunk). Into h z t t′ A a B (slotIn h z new) ((F .P₁ ++ get h (trunkOf g ar tp) .parent a ∷ tp .inners ∷ F .P₂) ∷ F .st′)) (sym (above₂ .trunk))
               (subst (λ (z : ℕ → ℕ). Into h s₂ t t′ A a B (insert.slotOf new z) ((F .P₁ ++ get h (trunkOf g ar tp) .parent a ∷ tp .inners ∷ F .P₂) ∷ F .st′)) (sym (F .new)) (F .into₂));

@@ -15,7 +15,7 @@ use Rattle.model.specs.Grow.{Areas, linked, Top, adopt, adoptAll}
 use Rattle.model.specs.declared.shape.Shape.{Shape}
 use Rattle.laws.specs.Nodes.{Formed}
 use Rattle.laws.specs.Areas.{node-same, node-other}
-use Rattle.theory.specs.WordFits.{Sized, Fits, fits}
+use Rattle.theory.specs.WordFits.{NodeSized, NodeFits, fits}
 use Rattle.abstract_tree.specs.Levels.{Slot, Area}
 use Rattle.abstract_tree.specs.Update as add
 use Rattle.abstract_tree.specs.Insert.{Trunk, adoptAt}
@@ -48,7 +48,7 @@ pub record Adopted (g : Shape) (L N h p i : ℕ) (a : Areas) (rows : List (List 
   pub trunk : (t : Top) → trunkOf g after t ≡ adoptAt h (trunkOf g a t) p i (map slotOf rows)
   pub both : Both g L N after
 
-module _ (g : Shape) (sized : Sized g) (pos : 0 < g .stride) (L N : ℕ) where
+module _ (g : Shape) (sized : NodeSized g) (pos : 0 < g .stride) (L N : ℕ) where
   -- one node of an area adopted
   own-tidy : (count k p i : ℕ) (xs : List ℕ) → k < count → Keeps g count xs → Tidy (g .stride) (g .fan) (adopted p i (nodeAt g k xs))
   own-tidy count k p i xs lk h = adopted-tidy (g .stride) (g .fan) p i (nodeAt g k xs) (h .tidy k lk)
@@ -64,7 +64,7 @@ module _ (g : Shape) (sized : Sized g) (pos : 0 < g .stride) (L N : ℕ) where
       f : Formed (g .stride) (g .fan) (adopted p i (nodeAt g k xs))
       f = tidy-formed (g .stride) (g .fan) (adopted p i (nodeAt g k xs)) (own-tidy count k p i xs lk h) pos
 
-      ft : Fits g k xs
+      ft : NodeFits g k xs
       ft = fits g k xs (omega (arith, h .few)) (h .long)
 
       go : Dec (q ≡ k) → nodeAt g q (putNode g k (adopted p i (nodeAt g k xs)) xs) .slots ≡ nodeAt g q xs .slots

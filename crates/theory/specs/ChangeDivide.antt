@@ -19,7 +19,7 @@ use Rattle.model.specs.declared.shape.Shape.{Shape}
 use Rattle.laws.specs.Lists.{All-take, All-drop}
 use Rattle.laws.specs.Slots.{Wide}
 use Rattle.laws.specs.Areas.{node-same}
-use Rattle.theory.specs.WordFits.{Sized, fits}
+use Rattle.theory.specs.WordFits.{NodeSized, fits}
 use Rattle.abstract_tree.specs.Lists.{take-map, All-map}
 use Rattle.abstract_tree.specs.Levels.{Slot, Area, total}
 use Rattle.abstract_tree.specs.Update as add
@@ -86,13 +86,13 @@ halve-ends : (h : ℕ) (g : Shape) (a : Areas) (N r l k : ℕ) (Ls Us : List Slo
 halve-ends zero g a N r l k Ls Us = refl
 halve-ends (suc h) g a N r l k Ls Us = refl
 
-pub record Divided (g : Shape) (L N h k : ℕ) (a : Areas) : Type 0 where
+pub record NodeDivided (g : Shape) (L N h k : ℕ) (a : Areas) : Type 0 where
   pub after : Areas
   pub is : divide g (levelOf h) k N a ≡ linked 0 after
   pub trunk : (r l : ℕ) → trunkOf g after (top (suc N) r l) ≡ halveAt h (trunkOf g a (top N r l)) k (take (half (g .fan)) (slotsOf (nodeAt g k (a .inners)))) (drop (half (g .fan)) (slotsOf (nodeAt g k (a .inners))))
   pub both : Both g L (suc N) after
 
-module _ (g : Shape) (sized : Sized g) (pos : 0 < g .stride) (L N h k : ℕ) (a : Areas) (b : Both g L N a) (lk : k < N) (room : N < g .nodes) (full : length (slotsOf (nodeAt g k (a .inners))) ≡ g .fan)
+module _ (g : Shape) (sized : NodeSized g) (pos : 0 < g .stride) (L N h k : ℕ) (a : Areas) (b : Both g L N a) (lk : k < N) (room : N < g .nodes) (full : length (slotsOf (nodeAt g k (a .inners))) ≡ g .fan)
     (kids : All (λ x. child x < countOf h L N) (drop (half (g .fan)) (used (nodeAt g k (a .inners))))) where
   n : Node
   n = nodeAt g k (a .inners)
@@ -171,7 +171,7 @@ module _ (g : Shape) (sized : Sized g) (pos : 0 < g .stride) (L N h k : ℕ) (a 
   unfolding mid U₀ n
   adopted = adopt-all g sized pos L (suc N) h N mid [] U₀ (emptySlots (g .stride) (g .fan - length (used (upperHalf (g .stride) (g .fan) n)))) (record { leaf = b .leaf; inner = keeps₂ }) read-mid (kids-more h L N (drop (half (g .fan)) (used n)) kids)
 
-  pub divide-is : Divided g L N h k a
+  pub divide-is : NodeDivided g L N h k a
   unfolding divide mid inner₂ inner₁ n U₀ L₀
   divide-is = record {
     after = adopted .after;
@@ -204,7 +204,7 @@ root-ends : (g : Shape) (a : Areas) (t : Top) (h : ℕ) (Us : List Slot)
     → written (adoptAt (suc h) (trunkOf g a (top (suc (t .inners)) (t .inners) (suc (t .levels)))) (t .inners) 0 Us) (t .inners) none Us ≡ halve.growAt (suc h) (trunkOf g a t) Us
 root-ends g a t h Us = refl
 
-module _ (g : Shape) (sized : Sized g) (pos : 0 < g .stride) (L h k m : ℕ) (t : Top) (a : Areas) (b : Both g L (t .inners) a) (lk : k < t .inners) (lm : m < t .inners) (room : t .inners < g .nodes) (big : 2 ≤ g .fan)
+module _ (g : Shape) (sized : NodeSized g) (pos : 0 < g .stride) (L h k m : ℕ) (t : Top) (a : Areas) (b : Both g L (t .inners) a) (lk : k < t .inners) (lm : m < t .inners) (room : t .inners < g .nodes) (big : 2 ≤ g .fan)
     (sk : (v : ℕ) → node.total v (used (nodeAt g k (a .inners))) < 4294967296) (sm : (v : ℕ) → node.total v (used (nodeAt g m (a .inners))) < 4294967296) where
   x : List ℕ
   x = slotFor (g .stride) k (nodeAt g k (a .inners))

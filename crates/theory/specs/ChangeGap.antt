@@ -12,7 +12,7 @@ use Rattle.model.specs.Sound.{leafIn, Coherent}
 use Rattle.abstract_tree.specs.Levels.{Slot}
 use Rattle.abstract_tree.specs.Tree.{above, BodyAt}
 use Rattle.abstract_tree.specs.Edit.{leaf-here}
-use Rattle.abstract_tree.specs.Calls.{spot, makeRoom, Room, Made}
+use Rattle.abstract_tree.specs.Calls.{spot, makeRoom, Between, RoomMade}
 use Rattle.theory.specs.WordTidy.{Tidy}
 use Rattle.theory.specs.LiftTree.{slotOf, slotsOf, treeOf}
 use Rattle.theory.specs.WordNeat.{size-is, neat-of}
@@ -28,7 +28,7 @@ module _ (K : Kind) (t : State) (k i : ℕ) where
 
   pub record Gap (R₁ R₂ : List Slot) : Type 0 where
     pub room : Roomed (stride K) t k i
-    pub made : Made (K .effect) (treeOf (stride K) t) k i (spot (treeOf (stride K) (opened room)) (room .leaf) (room .slot)) R₁ R₂
+    pub made : RoomMade (K .effect) (treeOf (stride K) t) k i (spot (treeOf (stride K) (opened room)) (room .leaf) (room .slot)) R₁ R₂
     pub leaf-in : room .leaf < room .leaves
     pub tidy : Tidy (stride K) (t .head .fan) (leafWith room)
     pub len : length (slotsOf (leafWith room)) ≡ leafWith room .len
@@ -36,14 +36,14 @@ module _ (K : Kind) (t : State) (k i : ℕ) where
     pub free : length (used (leafWith room)) < t .head .fan
 
   pub gap : Coherent K t → (A B : List ℕ) → BodyAt (treeOf (stride K) t) (A ++ k ∷ B) (above (treeOf (stride K) t)) → i ≤ length (slotsOf (leafIn (stride K) t k))
-      → (R₁ R₂ : List Slot) → Made (K .effect) (treeOf (stride K) t) k i (makeRoom (treeOf (stride K) t) k i) R₁ R₂ → Gap R₁ R₂
+      → (R₁ R₂ : List Slot) → RoomMade (K .effect) (treeOf (stride K) t) k i (makeRoom (treeOf (stride K) t) k i) R₁ R₂ → Gap R₁ R₂
   unfolding leafWith
   gap w A B b le R₁ R₂ md = within (roomed (stride K) (omega arith) t (neat-of (stride K) t (K .effect) w) A k B (above (treeOf (stride K) t)) b i le)
     where
       within : Roomed (stride K) t k i → Gap R₁ R₂
       within q =
-          let made : Made (K .effect) (treeOf (stride K) t) k i (spot (treeOf (stride K) (opened q)) (q .leaf) (q .slot)) R₁ R₂ = subst (λ p. Made (K .effect) (treeOf (stride K) t) k i p R₁ R₂) (sym (q .spot)) md in
-          let r : Room (K .effect) (treeOf (stride K) t) (spot (treeOf (stride K) (opened q)) (q .leaf) (q .slot)) R₁ R₂ = made .room in
+          let made : RoomMade (K .effect) (treeOf (stride K) t) k i (spot (treeOf (stride K) (opened q)) (q .leaf) (q .slot)) R₁ R₂ = subst (λ p. RoomMade (K .effect) (treeOf (stride K) t) k i p R₁ R₂) (sym (q .spot)) md in
+          let r : Between (K .effect) (treeOf (stride K) t) (spot (treeOf (stride K) (opened q)) (q .leaf) (q .slot)) R₁ R₂ = made .room in
           let lk : q .leaf < q .leaves = leaf-here (treeOf (stride K) (opened q)) (r .A) (q .leaf) (r .B) (r .st) (r .body) in
           let m : Node = leafIn (stride K) (opened q) (q .leaf) in
           let tidy : Tidy (stride K) (t .head .fan) m = q .neat .leaf-tidy (q .leaf) lk in

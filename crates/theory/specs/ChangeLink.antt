@@ -14,7 +14,7 @@ use Rattle.model.specs.State.{nodeAt, putNode}
 use Rattle.model.specs.Grow.{Areas, areas, linked, Top, nodeIn, adoptAll, link}
 use Rattle.model.specs.declared.shape.Shape.{Shape}
 use Rattle.laws.specs.Areas.{node-same}
-use Rattle.theory.specs.WordFits.{Sized, fits}
+use Rattle.theory.specs.WordFits.{NodeSized, fits}
 use Rattle.abstract_tree.specs.Lists.{map-append, take-map}
 use Rattle.abstract_tree.specs.Levels.{noSlot, Slot, Area, total, len}
 use Rattle.abstract_tree.specs.Update as add
@@ -59,7 +59,7 @@ pub tidy-in : (g : Shape) (L N h k : ℕ) (a : Areas) → Both g L N a → k < c
 tidy-in g L N zero k a b lk = b .leaf .tidy k lk
 tidy-in g L N (suc h) k a b lk = b .inner .tidy k lk
 
-module _ (g : Shape) (sized : Sized g) (pos : 0 < g .stride) (L N h p i new : ℕ) (a : Areas) (b : Both g L N a) (lp : p < N) (li : i < length (slotsOf (nodeAt g p (a .inners)))) (room : length (slotsOf (nodeAt g p (a .inners))) < g .fan)
+module _ (g : Shape) (sized : NodeSized g) (pos : 0 < g .stride) (L N h p i new : ℕ) (a : Areas) (b : Both g L N a) (lp : p < N) (li : i < length (slotsOf (nodeAt g p (a .inners)))) (room : length (slotsOf (nodeAt g p (a .inners))) < g .fan)
     (ln : new < countOf h L N) (kids : All (λ x. child x < countOf h L N) (drop (suc i) (used (nodeAt g p (a .inners)))))
     (small : (v : ℕ) → node.total v (used (nodeIn g (levelOf h) new a)) < 4294967296)
     (le : (v : ℕ) → node.total v (used (nodeIn g (levelOf h) new a)) ≤ lengthIn v (getD (used (nodeAt g p (a .inners))) i [])) (ls : (v : ℕ) → lengthIn v (getD (used (nodeAt g p (a .inners))) i []) < 4294967296) where

@@ -26,8 +26,8 @@ use Rattle.abstract_tree.specs.Calls.{spot, makeRoom, rank-here}
 use Rattle.theory.specs.LiftTree.{slotsOf, treeOf}
 use Rattle.theory.specs.WordNeat.{Neat, size-is}
 use Rattle.theory.specs.WordPut.{inner-keeps}
-use Rattle.theory.specs.WalkUp.{Way, way, start-leaf, rank-up}
-use Rattle.theory.specs.ChangeSums.{Up, up-of, Carried, climb-up}
+use Rattle.theory.specs.WalkUp.{WayUp, way, start-leaf, rank-up}
+use Rattle.theory.specs.ChangeSums.{Up, up-of, ClimbCarried, climb-up}
 use Rattle.theory.specs.ChangeSplitLeaf.{parted-is}
 
 -- a state that differs from t in the nodes and the counts of nodes only
@@ -114,11 +114,11 @@ module _ (s : ℕ) (pos : 0 < s) (t : State) (nt : Neat s t) (A : List ℕ) (k :
           }
 
   -- the way up from leaf k
-  leaf-way : Way (treeOf s t .body .leaf) (treeOf s t .body .inner) (t .head .inners) (t .head .levels) k
-  leaf-way = subst (λ (d : ℕ). Way (treeOf s t .body .leaf) (treeOf s t .body .inner) (t .head .inners) d k) (b .deep)
+  leaf-way : WayUp (treeOf s t .body .leaf) (treeOf s t .body .inner) (t .head .inners) (t .head .levels) k
+  leaf-way = subst (λ (d : ℕ). WayUp (treeOf s t .body .leaf) (treeOf s t .body .inner) (t .head .inners) d k) (b .deep)
       (way (total (treeOf s t .body .leaf)) (treeOf s t .body .leaf) (treeOf s t .body .inner) (t .head .root .0) (t .head .inners) A k B st (b .links) (b .inner-in))
 
-  pub climbed : (delta : List ℕ) → length delta + 1 ≡ s → (v a : ℕ) → Carried (shapeIn s t) delta (t .head .inners) v (t .head .levels) (leafIn s t k .parent) (leafIn s t k .at) a (t .inners)
+  pub climbed : (delta : List ℕ) → length delta + 1 ≡ s → (v a : ℕ) → ClimbCarried (shapeIn s t) delta (t .head .inners) v (t .head .levels) (leafIn s t k .parent) (leafIn s t k .at) a (t .inners)
   climbed delta wide v a =
       climb-up (shapeIn s t) refl pos delta (t .head .inners) wide v (t .head .levels) (leafIn s t k .parent) (leafIn s t k .at) a (t .inners) (inner-keeps s t nt)
       (subst (λ (d : ℕ). Up (treeOf s t .body .inner) (t .head .inners) d (leafIn s t k .parent) (leafIn s t k .at)) (b .deep)

@@ -26,20 +26,20 @@ use Rattle.abstract_tree.specs.Update.{upd}
 use Rattle.abstract_tree.specs.Tree as tree
 use Rattle.abstract_tree.specs.Tree.{Tree, above, BodyAt}
 use Rattle.abstract_tree.specs.Change.{withLeaf}
-use Rattle.abstract_tree.specs.Calls.{spot, makeRoom, Made, Done, putIn, put-done}
+use Rattle.abstract_tree.specs.Calls.{spot, makeRoom, RoomMade, Done, putIn, put-done}
 use Rattle.theory.specs.RowViews.{firsts-of}
 use Rattle.theory.specs.WordTidy.{Tidy}
 use Rattle.theory.specs.LiftTree.{slotOf, slotsOf, treeOf}
 use Rattle.theory.specs.LiftSoundBack.{sound-up}
 use Rattle.theory.specs.LiftEntries.{firsts, entryFrom, split-entries}
-use Rattle.theory.specs.ChangeSums.{slot-of, Carried}
+use Rattle.theory.specs.ChangeSums.{slot-of, ClimbCarried}
 use Rattle.theory.specs.ChangeMakeRoom.{Roomed, climbed, rank-sum}
 use Rattle.theory.specs.ChangeGap.{opened, leafWith, Gap, gap}
 use Rattle.theory.specs.ChangeEnter.{entered, entered-read, entered-neat, entered-tree, put-is, put-tidy, put-slots-are, put-start}
 use Rattle.theory.specs.CallSimulates.{entries-are}
 
 -- what a placed entry leaves
-pub record Placed (K : Kind) (t : State) (k i : ℕ) (R₁ R₂ : List Slot) (l : List ℕ) : Type 0 where
+pub record EntryPlaced (K : Kind) (t : State) (k i : ℕ) (R₁ R₂ : List Slot) (l : List ℕ) : Type 0 where
   pub after : State
   pub leaf : ℕ
   pub slot : ℕ
@@ -49,7 +49,7 @@ pub record Placed (K : Kind) (t : State) (k i : ℕ) (R₁ R₂ : List Slot) (l 
   pub limit : after .head .limit ≡ t .head .limit
 
 module _ (K : Kind) (t : State) (w : Coherent K t) (A : List ℕ) (k : ℕ) (B : List ℕ) (b : BodyAt (treeOf (stride K) t) (A ++ k ∷ B) (above (treeOf (stride K) t))) (i : ℕ) (le : i ≤ length (slotsOf (leafIn (stride K) t k))) (R₁ R₂ : List Slot)
-    (md : Made (K .effect) (treeOf (stride K) t) k i (makeRoom (treeOf (stride K) t) k i) R₁ R₂) (l : List ℕ) (wl : length l ≡ K .views) (few : t .head .entries < t .head .limit)
+    (md : RoomMade (K .effect) (treeOf (stride K) t) k i (makeRoom (treeOf (stride K) t) k i) R₁ R₂) (l : List ℕ) (wl : length l ≡ K .views) (few : t .head .entries < t .head .limit)
     (tot : (v : ℕ) → sumBy (len v) (R₁ ++ insert.slotOf (t .head .entries) (λ u. getD l u 0) ∷ R₂) < 4294967296) where
   abbrev new : ℕ → ℕ
   new u = getD l u 0
@@ -88,7 +88,7 @@ module _ (K : Kind) (t : State) (w : Coherent K t) (A : List ℕ) (k : ℕ) (B :
   unfolding m₂ leafWith x
   at = sym (ap (λ (n : Node). n .at) (put-is (stride K) (t .head .fan) (omega arith) m (gp .tidy) (q .slot) x lj (gp .free) (ap suc wl)))
 
-  cr : Carried (shapeIn (stride K) t₁) l (q .inners) (K .effect) (q .levels) (leafIn (stride K) t₁ (q .leaf) .parent) (leafIn (stride K) t₁ (q .leaf) .at) (start (K .effect) (q .slot) (leafIn (stride K) t₁ (q .leaf))) (q .xs)
+  cr : ClimbCarried (shapeIn (stride K) t₁) l (q .inners) (K .effect) (q .levels) (leafIn (stride K) t₁ (q .leaf) .parent) (leafIn (stride K) t₁ (q .leaf) .at) (start (K .effect) (q .slot) (leafIn (stride K) t₁ (q .leaf))) (q .xs)
   cr = climbed (stride K) (omega arith) t₁ (q .neat) (gp .made .room .A) (q .leaf) (gp .made .room .B) (gp .made .room .st) (gp .made .room .body) l (omega arith) (K .effect) (start (K .effect) (q .slot) (leafIn (stride K) t₁ (q .leaf)))
 
   t₃ : State
@@ -145,6 +145,6 @@ module _ (K : Kind) (t : State) (w : Coherent K t) (A : List ℕ) (k : ℕ) (B :
       ∙ ap (summed g c) (cr .is ∙ ap (λ (z : Sum). (z, cr .words)) (rank-sum (stride K) (omega arith) t₁ (q .neat) (gp .made .room .A) (q .leaf) (gp .made .room .B) (gp .made .room .st) (gp .made .room .body) (K .effect) (q .slot) (gp .made .room .fits) ∙ ap (λ (R : List Slot). sum.Is (sumBy (len (K .effect)) R)) (gp .made .room .front)))
       ∙ ap (λ (z : ℕ). (change 0 (state (c .state .head) (c .state .leaves) (cr .words) (c .state .homes)) (q .leaf) (q .slot), z)) small
 
-  pub placed-is : Placed K t k i R₁ R₂ l
+  pub placed-is : EntryPlaced K t k i R₁ R₂ l
   unfolding t₃
   placed-is = record { after = t₃; leaf = q .leaf; slot = q .slot; is = ap (climb (shapeIn (stride K) t) (K .effect) l) entered-is ∙ climb-is; sound = sound₃; entries = entries₃; limit = refl }

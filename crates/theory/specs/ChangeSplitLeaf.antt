@@ -40,7 +40,7 @@ use Rattle.theory.specs.WordNeat.{Neat}
 use Rattle.theory.specs.WordPut.{Keeps, leaf-keeps, inner-keeps, put-same, put-next, put-area, put-slots}
 use Rattle.theory.specs.ChangeSlot.{drop-map}
 use Rattle.theory.specs.ChangeAdopt.{trunkOf}
-use Rattle.theory.specs.ChangeAddChild.{topOf, Ready, Lifts, unmap, add-to, above-lifted}
+use Rattle.theory.specs.ChangeAddChild.{topOf, ReadyToAdd, Lifts, unmap, add-to, above-lifted}
 
 -- homes, one set anew
 pub homes-set : (hs : List ℕ) (c k : ℕ) → c < length hs → _≡_ {A = ℕ → ℕ} (λ i. getD (set hs c k) i 0) (upd (λ i. getD hs i 0) c k)
@@ -178,7 +178,7 @@ module _ (s : ℕ) (pos : 0 < s) (t : State) (nt : Neat s t) (A : List ℕ) (k :
   leaf-split : LeafSplit (T .body) (sound.splitLeaf (t .head .fan) hf (length st) (T .body) k (t .head .leaves) Ls Us) A k (t .head .leaves) B st Ls Us
   leaf-split = split-leaf (t .head .fan) hf (T .body) A k (t .head .leaves) B st Ls Us (b .links) (b .leaf-in) (b .inner-in) few (sym (take-append-drop hf (slotsOf n)))
 
-  ready : Ready g (suc (t .head .leaves)) 0 ar tp (total (T .body .leaf)) (total (cutLeaf (T .body .leaf) k (t .head .leaves) Ls Us)) A k B (t .head .leaves) st
+  ready : ReadyToAdd g (suc (t .head .leaves)) 0 ar tp (total (T .body .leaf)) (total (cutLeaf (T .body .leaf) k (t .head .leaves) Ls Us)) A k B (t .head .leaves) st
   ready = record {
     into = subst (λ (z : Trunk). Into 0 z (total (T .body .leaf)) (total (cutLeaf (T .body .leaf) k (t .head .leaves) Ls Us)) A k B (insert.slotOf (t .head .leaves) (total (z .leaf) (t .head .leaves))) st) (sym trunk-cut) (leaf-split .into);
     both = record { leaf = keeps₂; inner = inner-keeps s t nt };
@@ -207,7 +207,7 @@ module _ (s : ℕ) (pos : 0 < s) (t : State) (nt : Neat s t) (A : List ℕ) (k :
           (subst (Lifts g (suc (t .head .leaves)) (grow.addChild g d tp 1 (get 0 (trunkOf g ar tp) .parent k) k (t .head .leaves) ar)) same
           (add-to g refl pos (suc (t .head .leaves)) (b .fan-low) d (aboveOf g d) (above-lifted g refl pos (suc (t .head .leaves)) (b .fan-low) d) 0 ar tp
           (total (T .body .leaf)) (total (cutLeaf (T .body .leaf) k (t .head .leaves) Ls Us)) A k B (t .head .leaves) P S refl
-          (subst (Ready g (suc (t .head .leaves)) 0 ar tp (total (T .body .leaf)) (total (cutLeaf (T .body .leaf) k (t .head .leaves) Ls Us)) A k B (t .head .leaves)) q ready)
+          (subst (ReadyToAdd g (suc (t .head .leaves)) 0 ar tp (total (T .body .leaf)) (total (cutLeaf (T .body .leaf) k (t .head .leaves) Ls Us)) A k B (t .head .leaves)) q ready)
           (subst (λ (R : List (List ℕ)). t .head .inners + length R < none) q few) (rw same inner-room))))
 
   -- homes of the entries that moved

@@ -18,7 +18,7 @@ use Rattle.model.specs.declared.way.Sum.{Sum}
 use Rattle.model.specs.declared.way.Sum.the-variants as sum
 use Rattle.laws.specs.Lists.{All-at, All-set, length-zip}
 use Rattle.laws.specs.Areas.{node-other}
-use Rattle.theory.specs.WordFits.{Sized, fits}
+use Rattle.theory.specs.WordFits.{NodeSized, fits}
 use Rattle.abstract_tree.specs.Lists.{All-right}
 use Rattle.abstract_tree.specs.Levels.{noSlot, Slot, Area, Links, total, Parent, find-parent}
 use Rattle.abstract_tree.specs.Apart.{Real, apart}
@@ -28,7 +28,7 @@ use Rattle.theory.specs.WordTidy.{Tidy, made, tidy-made, used-made, tidy
 use Rattle.theory.specs.LiftTree.{slotOf, slotsOf, areaOf}
 use Rattle.theory.specs.LiftMarks.{getD-slot}
 use Rattle.theory.specs.WordPut.{Keeps, put-same, put-slots}
-use Rattle.theory.specs.WalkUp.{Way}
+use Rattle.theory.specs.WalkUp.{WayUp}
 
 -- sums and differences, view by view
 pub plus-at : (xs ys : List ℕ) (v : ℕ) → length xs ≡ length ys → getD (plus xs ys) v 0 ≡ (getD xs v 0 + getD ys v 0) % 2 ^ 32
@@ -92,7 +92,7 @@ off-of t up root p A c B (P ∷ st) l h =
     )
 
 pub up-of : (t : ℕ → ℕ → ℕ) (low up : Area) (root n : ℕ) (A : List ℕ) (c : ℕ) (B : List ℕ) (st : List (List ℕ))
-    → Links t low up root (A ++ c ∷ B) st → All Real st → Way low up n (length st) c → Up up n (length st) (low .parent c) (low .place c)
+    → Links t low up root (A ++ c ∷ B) st → All Real st → WayUp low up n (length st) c → Up up n (length st) (low .parent c) (low .place c)
 unfolding All
 up-of t low up root n A c B [] l re w = tt
 up-of t low up root n A c B (P ∷ st) l re w =
@@ -120,13 +120,13 @@ abbrev pub added : List ℕ → ℕ → ℕ → ℕ
 added delta v x = (x + getD delta v 0) % 2 ^ 32
 
 -- what the climb from place i of inner node k writes, and what it sums
-pub record Carried (g : Shape) (delta : List ℕ) (count v d k i a : ℕ) (xs : List ℕ) : Type 0 where
+pub record ClimbCarried (g : Shape) (delta : List ℕ) (count v d k i a : ℕ) (xs : List ℕ) : Type 0 where
   pub words : List ℕ
   pub is : climbUp g v delta d k i a xs ≡ (rankUp g v d k i a xs, words)
   pub keeps : Keeps g count words
   pub area : areaOf g words ≡ carry (added delta) d (areaOf g xs) k i
 
-module _ (g : Shape) (sized : Sized g) (pos : 0 < g .stride) (delta : List ℕ) (count : ℕ) (wide : length delta + 1 ≡ g .stride) where
+module _ (g : Shape) (sized : NodeSized g) (pos : 0 < g .stride) (delta : List ℕ) (count : ℕ) (wide : length delta + 1 ≡ g .stride) where
   abbrev pub raisedNode : ℕ → ℕ → List ℕ → Node
   raisedNode k i xs = withLengths i (plus (lengthsAt i (nodeAt g k xs .slots)) delta) (nodeAt g k xs)
 
@@ -172,7 +172,7 @@ module _ (g : Shape) (sized : Sized g) (pos : 0 < g .stride) (delta : List ℕ) 
       let e : nodeAt g q (putNode g p n xs) ≡ nodeAt g q xs = node-other g p xs sized (fits g p xs (omega (arith, h .few)) (h .long)) n (tidy-formed (g .stride) (g .fan) n td pos) q (o .0) in
       rw e (ap (λ (z : Sum). cond (inside g q (nodeAt g c xs .at)) z sum.Broken) (rank-off v n p xs lp td h d q (a + start v (nodeAt g c xs .at) (nodeAt g q xs)) (o .1)))
 
-  pub climb-up : (v d k i a : ℕ) (xs : List ℕ) → Keeps g count xs → Up (areaOf g xs) count d k i → Carried g delta count v d k i a xs
+  pub climb-up : (v d k i a : ℕ) (xs : List ℕ) → Keeps g count xs → Up (areaOf g xs) count d k i → ClimbCarried g delta count v d k i a xs
   unfolding climbUp rankUp
   climb-up v zero k i a xs h u = record { words = xs; is = refl; keeps = h; area = refl }
   climb-up v (suc d) k i a xs h u =
@@ -195,7 +195,7 @@ module _ (g : Shape) (sized : Sized g) (pos : 0 < g .stride) (delta : List ℕ) 
       inside-is = (let td = h .tidy k (u .0) in let y : length (slotsOf (nodeAt g k xs)) ≡ length (used (nodeAt g k xs)) = length-map (used (nodeAt g k xs)) slotOf in
           rw (lt-ltb k (g .nodes) (let z = u .0 in omega (arith, h .few)), lt-ltb i (g .fan) (let z = u .1 in omega (arith, td .most))))
 
-      next : Carried g delta count v d (nodeAt g k xs .parent) (nodeAt g k xs .at) (a + start v i (nodeAt g k xs)) (raised g delta k i xs) → Carried g delta count v (suc d) k i a xs
+      next : ClimbCarried g delta count v d (nodeAt g k xs .parent) (nodeAt g k xs .at) (a + start v i (nodeAt g k xs)) (raised g delta k i xs) → ClimbCarried g delta count v (suc d) k i a xs
       next r = record {
         words = r .words;
         is = rw inside-is (r .is ∙ ap (λ (z : Sum). (z, r .words)) (rank-off v (raisedNode k i xs) k xs (u .0) (raised-tidy k i xs (u .0) (u .1) h) h d k (a + start v i (nodeAt g k xs)) (u .2)));

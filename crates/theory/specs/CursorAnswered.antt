@@ -20,7 +20,7 @@ use Rattle.model.specs.Sound.{leafIn, Coherent, entriesOf}
 use Rattle.model.specs.Refuse.{opening, stale, overfull, atCursor, current, full}
 use Rattle.model.specs.Calls as calls
 use Rattle.model.specs.Calls.{cursorAt, slotAt}
-use Rattle.model.specs.ById.{withCursor, idAnswer, standingAnswer, nextAnswer, locatedAnswer, treeMove}
+use Rattle.model.specs.ById.{withCursor, idAnswer, standingIdAnswer, nextAnswer, locatedAnswer, treeMove}
 use Rattle.model.specs.Promise.{At, StandsAt, NextAt, LocatedAt, SelectedAt, DividedAt}
 use Rattle.model.specs.declared.head.Cursor.{Cursor}
 use Rattle.model.specs.declared.answer.Named.{Named}
@@ -36,7 +36,7 @@ use Rattle.model.specs.declared.answer.Divided.the-variants as divided
 use Rattle.abstract_tree.specs.Levels.{Slot}
 use Rattle.abstract_tree.specs.Calls as tree
 use Rattle.theory.specs.LiftTree.{treeOf}
-use Rattle.theory.specs.CallOpen.{passed, stopped, many-lines, opens, fresh-at, seat}
+use Rattle.theory.specs.CallOpen.{passed, stopped, many-lines, opens, fresh-at, entry-found}
 use Rattle.theory.specs.RowNumbers.{number-is}
 use Rattle.theory.specs.CallSimulates.{rowOf, Space, by-limit, row-known, row-passed, count-is}
 use Rattle.theory.specs.CallRead.{id-at, step-first, step-next}
@@ -105,14 +105,14 @@ module _ (K : Kind) (s : State) (w : Coherent K s) where
 module _ (K : Kind) (ok : K .effect < K .views) (s : State) (w : Coherent K s) where
   pub cursor-at : (i : ℕ) → i < s .head .entries → StandsAt K s (calls.cursor K s i) i
   cursor-at i lt =
-      let c = seat K s w i lt in
+      let c = entry-found K s w i lt in
       subst (λ (a : Standing). StandsAt K s a i) (sym (c .is)) (subst (At K s (cursorAt (s .head .stamp) (c .leaf) (c .slot))) (ap (λ (y : Slot). y .child) (c .cur .at) ∙ c .cur .own) (at-slot K s w (c .leaf) (c .slot) (c .leaf-in) (c .slot-in)))
 
   pub first-at : StandsAt K s (calls.first K s) (firstId (entriesOf K s))
   unfolding treeMove rowMove
   first-at = go (calls.first K s) (step-first K s w .same)
     where
-      go : (a : Standing) → standingAnswer K s a ≡ done (firstId (entriesOf K s) ∷ []) → StandsAt K s a (firstId (entriesOf K s))
+      go : (a : Standing) → standingIdAnswer K s a ≡ done (firstId (entriesOf K s) ∷ []) → StandsAt K s a (firstId (entriesOf K s))
       go (standing.At c) e = named-at K s w c (firstId (entriesOf K s)) e
       go (standing.Refused n) e = no-refusal n (firstId (entriesOf K s)) [] e
 
@@ -152,7 +152,7 @@ module _ (K : Kind) (ok : K .effect < K .views) (s : State) (w : Coherent K s) w
   unfolding unless
   split-at-by room rowRoom space c i h l wl lines flag =
       let o = own-cursor K s w c i h in
-      let e = seat K s w i (o .0) in
+      let e = entry-found K s w i (o .0) in
       let here : cursorAt (s .head .stamp) (e .leaf) (e .slot) ≡ c = ap (cursorOf c) (sym (e .is) ∙ o .1) in
       subst (λ (d : Cursor). let r = calls.splitBy K room s d l flag in DividedAt K flag i (s .head .entries) (r .after) (r .answer) (row.splitBy K rowRoom (rowOf K s) flag i l .answer)) here
       (rw (row-known K s w i (behindId K rowRoom (rowOf K s) i l) (o .0))

@@ -21,7 +21,7 @@ use Rattle.model.specs.Calls.{begun, make, cursor, locate}
 use Rattle.model.specs.Audit as check
 use Rattle.model.specs.Audit.{audit}
 use Rattle.model.specs.Print.{PrintsRow}
-use Rattle.model.specs.Promise.{Words, InWords, Stands, Filled, Parts, answers, finally, others, otherAnswers, StandsAt}
+use Rattle.model.specs.Promise.{Words, InWords, Represents, NotHollow, Parts, answers, finally, others, otherAnswers, StandsAt}
 use Rattle.model.specs.declared.head.Held.the-variants as held
 use Rattle.model.specs.declared.answer.Outcome.the-variants as outcome
 use Rattle.model.specs.declared.answer.Verdict.the-variants as verdict
@@ -114,19 +114,19 @@ audited-lines = (refl, refl)
 abbrev large : Call
 large = row.insert noEntry (4294967293 ∷ 0 ∷ 65535 ∷ [])
 
-pub stands-start : Stands base start (madeRow 5 (pair 3 3))
+pub represents-start : Represents base start (madeRow 5 (pair 3 3))
 unfolding finally All
-stands-start = let k = whole base (omega arith) 4 5 (pair 3 3) areaWords areaWords (replicate 5 7) first-words made [] tt .1 in record { sound = k .sound; entries = k .entries; limit = k .limit }
+represents-start = let k = whole base (omega arith) 4 5 (pair 3 3) areaWords areaWords (replicate 5 7) first-words made [] tt .1 in record { sound = k .sound; entries = k .entries; limit = k .limit }
 
 large-in : InWords base large
 large-in = (omega arith, three 4294967293 0 65535 (omega arith) (omega arith) (omega arith))
 
 large-refused : treeStep base start large .answer .number ≡ 7
 unfolding row.rowMove rowStep row.before row.from row.unless sumBy some range refusal
-large-refused = ap (λ (a : Answer). a .number) (step base (omega arith) start (madeRow 5 (pair 3 3)) stands-start large large-in .same)
+large-refused = ap (λ (a : Answer). a .number) (step base (omega arith) start (madeRow 5 (pair 3 3)) represents-start large large-in .same)
 
 pub large-passes : Passes (wanted (madeRow 5 (pair 3 3)) large)
-large-passes = seven start (madeRow 5 (pair 3 3)) stands-start large large-in large-refused
+large-passes = seven start (madeRow 5 (pair 3 3)) represents-start large large-in large-refused
 
 -- P9's split is answered on the row that make leaves, and neither part is hollow; the same with all that the entry has is refused by 17
 abbrev madeHere : Row
@@ -136,7 +136,7 @@ pub parts-start : (l : List ℕ) → Parts base madeHere true 0 l
 unfolding finally All
 parts-start = whole base (omega arith) 4 5 (pair 3 3) areaWords areaWords (replicate 5 7) first-words made [] tt .1 .parts true 0
 
-pub parts-filled : (let es = rowStep base madeHere (row.split true 0 (pair 1 1)) .after .entries in Filled base (row.lengthsOf 1 es) × Filled base (row.lengthsOf 0 es))
+pub parts-filled : (let es = rowStep base madeHere (row.split true 0 (pair 1 1)) .after .entries in NotHollow base (row.lengthsOf 1 es) × NotHollow base (row.lengthsOf 0 es))
 unfolding row.rowMove rowStep row.from row.unless some range refusal zipWith
 parts-filled = (parts-start (pair 1 1) .made refl, parts-start (pair 1 1) .left refl)
 

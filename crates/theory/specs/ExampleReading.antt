@@ -17,7 +17,7 @@ use Rattle.model.specs.ById.{treeStep}
 use Rattle.model.specs.Calls.{make}
 use Rattle.model.specs.Sound.{entriesOf}
 use Rattle.model.specs.declared.answer.Outcome.the-variants as outcome
-use Rattle.model.specs.Promise.{Words, InWords, Stands, answers, finally}
+use Rattle.model.specs.Promise.{Words, InWords, Represents, answers, finally}
 use Rattle.model.specs.Reading.{Reads, effectOf, here, effectPart, Other, ProvidedOf, Provided, Agreement}
 use Rattle.theory.specs.CallById.{step}
 use Rattle.theory.specs.TopById.{made}
@@ -157,11 +157,11 @@ provided-rows = (
   ),
 )
 
-stands-full : Stands base full (madeRow 4 first)
-stands-full = made base (omega arith) 4 4 first (replicate 38 7) (replicate 38 7) (replicate 4 7) first-words made-full
+represents-full : Represents base full (madeRow 4 first)
+represents-full = made base (omega arith) 4 4 first (replicate 38 7) (replicate 38 7) (replicate 4 7) first-words made-full
 
 provided : Provided base full copy calls
-provided = on-trees base (omega arith) refl full copy (madeRow 4 first) (madeRow 4 (effectOf base first)) stands-full
+provided = on-trees base (omega arith) refl full copy (madeRow 4 first) (madeRow 4 (effectOf base first)) represents-full
     (made reading (omega arith) 4 4 (effectOf base first) (replicate 22 8) (replicate 22 8) (replicate 4 8) (words-here base (omega arith) refl first first-words) made-copy)
     calls in-words reads provided-rows
 
@@ -193,8 +193,8 @@ large-in = (omega arith, three 4294967295 1 0 (omega arith) (omega arith) (omega
 large-other : Other base (entriesOf base full) large (treeStep base full large .answer .number)
 unfolding row.rowMove rowStep row.before row.from row.unless sumBy some range refusal
 large-other =
-    subst (λ (es : List Entry). Other base es large (treeStep base full large .answer .number)) (sym (stands-full .entries))
-    (subst (λ (a : Answer). Other base (madeRow 4 first .entries) large (a .number)) (sym (step base (omega arith) full (madeRow 4 first) stands-full large large-in .same))
+    subst (λ (es : List Entry). Other base es large (treeStep base full large .answer .number)) (sym (represents-full .entries))
+    (subst (λ (a : Answer). Other base (madeRow 4 first .entries) large (a .number)) (sym (step base (omega arith) full (madeRow 4 first) represents-full large large-in .same))
     (inr (inr refl, omega arith)))
 
 -- the first of these is shut out rightly: here the same call gets another number

@@ -21,13 +21,13 @@ use Rattle.model.specs.Calls.{cursorAt}
 use Rattle.model.specs.ById.{treeStep}
 use Rattle.model.specs.ByCursor as by
 use Rattle.model.specs.ByCursor.{CursorCall, cursorStep}
-use Rattle.model.specs.Promise.{CursorInWords, answers, finally, Stands}
+use Rattle.model.specs.Promise.{CursorInWords, answers, finally, Represents}
 use Rattle.model.specs.Stamp.{makes, makesAll, GoesRound, Stamped, restamped, SameById}
 use Rattle.model.specs.declared.answer.Target.the-variants as target
 use Rattle.theory.specs.StampById.{same-by-id, any-stamp, same-row}
 use Rattle.theory.specs.TopStamps.{never-again, goes-round, stamped}
 use Rattle.theory.specs.ExampleById as example
-use Rattle.theory.specs.ExampleById.{pair, areaWords, start, made, first-words, three, stands-start, sound-start, loose}
+use Rattle.theory.specs.ExampleById.{pair, areaWords, start, made, first-words, three, represents-start, sound-start, loose}
 
 -- a second entry, whose cursor bears the stamp 2; then a reset and another second entry: as many entries as before, and the stamp is 4
 abbrev sheet : List CursorCall
@@ -93,7 +93,7 @@ small-start : start .head .stamp < 2 ^ 64
 small-start = (let z = from-make .first in omega arith)
 
 pub round-start : GoesRound base start (pair 1 1)
-round-start = goes-round base (omega arith) (pair 1 1) (three 1 1 0 (omega arith) (omega arith) (omega arith)) refl refl start (madeRow 5 (pair 3 3)) stands-start small-start
+round-start = goes-round base (omega arith) (pair 1 1) (three 1 1 0 (omega arith) (omega arith) (omega arith)) refl refl start (madeRow 5 (pair 3 3)) represents-start small-start
 
 -- the last stamp is sound, and 0 comes after it
 abbrev last : State
@@ -110,5 +110,5 @@ round-at-once = refl
 pub same-last : SameById base 18446744073709551615 start example.calls
 same-last = same-by-id base 18446744073709551615 start example.calls
 
-pub row-last : Stands base (finally (treeStep base) last example.calls) (finally (rowStep base) (madeRow 5 (pair 3 3)) example.calls)
-row-last = same-row base (omega arith) 18446744073709551615 start (madeRow 5 (pair 3 3)) stands-start example.calls example.in-words .1
+pub row-last : Represents base (finally (treeStep base) last example.calls) (finally (rowStep base) (madeRow 5 (pair 3 3)) example.calls)
+row-last = same-row base (omega arith) 18446744073709551615 start (madeRow 5 (pair 3 3)) represents-start example.calls example.in-words .1

@@ -18,7 +18,7 @@ use Rattle.laws.specs.Slots.{Wide}
 use Rattle.abstract_tree.specs.Lists.{map-append, All-map, All-cat}
 use Rattle.abstract_tree.specs.Levels.{Slot, len}
 use Rattle.abstract_tree.specs.Tree as tree
-use Rattle.abstract_tree.specs.Row.{Without}
+use Rattle.abstract_tree.specs.Row.{RowWithout}
 use Rattle.abstract_tree.specs.Cursor as cursor
 use Rattle.theory.specs.LiftCount.{flat-cat}
 use Rattle.theory.specs.LiftTree.{slotOf, treeOf}
@@ -76,7 +76,7 @@ unfolding sumBy
 total-entries n v [] h = refl
 total-entries n v (x ∷ R) h = ap₂ _+_ (getD-firsts n (x .lens) v h) (total-entries n v R h)
 
-pub without-entries : (n i : ℕ) (R : List Slot) → cursor.Without i R → Without i (map (entryFrom n) R)
+pub without-entries : (n i : ℕ) (R : List Slot) → cursor.Without i R → RowWithout i (map (entryFrom n) R)
 unfolding All
 without-entries n i [] w = tt
 without-entries n i (x ∷ R) w = (w .0, without-entries n i R (w .1))

@@ -12,7 +12,7 @@ use Rattle.model.specs.State.{State, shape, nodeAt, putNode}
 use Rattle.model.specs.declared.shape.Shape.{Shape}
 use Rattle.laws.specs.Nodes.{Formed}
 use Rattle.laws.specs.Areas.{node-same, node-other}
-use Rattle.theory.specs.WordFits.{Sized, Fits}
+use Rattle.theory.specs.WordFits.{NodeSized, NodeFits}
 use Rattle.abstract_tree.specs.Levels.{Slot, Area, len}
 use Rattle.abstract_tree.specs.Update.{upd, upd-same, upd-other}
 use Rattle.abstract_tree.specs.Tree.{Tree}
@@ -55,7 +55,7 @@ upd-is f g k v e h j = go (ℕ-discrete j k)
     go (yes q) = ap g q ∙ e ∙ sym (upd-same f k v) ∙ ap (upd f k v) (sym q)
     go (no ne) = h j ne ∙ sym (upd-other f k v j ne)
 
-pub area-put : (g : Shape) → Sized g → (k : ℕ) (n : Node) (xs : List ℕ) → Formed (g .stride) (g .fan) n → Fits g k xs → areaOf g (putNode g k n xs) ≡ putArea (areaOf g xs) k n
+pub area-put : (g : Shape) → NodeSized g → (k : ℕ) (n : Node) (xs : List ℕ) → Formed (g .stride) (g .fan) n → NodeFits g k xs → areaOf g (putNode g k n xs) ≡ putArea (areaOf g xs) k n
 area-put g sz k n xs f h =
     let same : nodeAt g k (putNode g k n xs) ≡ n = node-same g k xs sz h n f in
     let other : (j : ℕ) → j ≢ k → nodeAt g j (putNode g k n xs) ≡ nodeAt g j xs = λ j ne. node-other g k xs sz h n f j ne in

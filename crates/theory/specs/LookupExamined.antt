@@ -43,7 +43,7 @@ use Rattle.theory.specs.WordTidy.{len-used}
 use Rattle.theory.specs.WordNeat.{neat-of}
 use Rattle.theory.specs.LiftSound.{body-of}
 use Rattle.theory.specs.CallOpen.{passed, opens}
-use Rattle.theory.specs.WalkFinger.{Reached, walk-hit, walk-miss}
+use Rattle.theory.specs.WalkFinger.{WalkReached, walk-hit, walk-miss}
 use Rattle.theory.specs.WalkLookup.{leaf-small, searched, root-hit}
 use Rattle.theory.specs.LookupDepth.{deepest-is, levels-below}
 
@@ -165,7 +165,7 @@ module _ (K : Kind) (t : State) (w : Coherent K t) (v x : ℕ) (lt : x < sumBy (
 
           walk : Dec (x - f .start < node.total v (used (leafIn (stride K) t (f .leaf)))) → Told (held.At f)
           walk (yes h) =
-              let q : Reached v (K .effect) (used (leafIn (stride K) t (f .leaf))) f (x - f .start) = walk-hit v (K .effect) (used (leafIn (stride K) t (f .leaf))) (small v) (small (K .effect)) (small 0) f (x - f .start) (let z = fits in omega arith) wi (r .effectWithin) (r .prepareWithin) h in
+              let q : WalkReached v (K .effect) (used (leafIn (stride K) t (f .leaf))) f (x - f .start) = walk-hit v (K .effect) (used (leafIn (stride K) t (f .leaf))) (small v) (small (K .effect)) (small 0) f (x - f .start) (let z = fits in omega arith) wi (r .effectWithin) (r .prepareWithin) h in
               let b : slotsBefore v (x - f .start) (used (leafIn (stride K) t (f .leaf))) ≡ q .slot = before-at v (x - f .start) (q .slot) (q .offset) (used (leafIn (stride K) t (f .leaf))) (q .slot-in) (q .sums) (q .inside) in
               let c : span (f .slot) (slotsBefore v (x - f .start) (used (leafIn (stride K) t (f .leaf)))) ≤ t .head .fan = (let y = fits in let z = size in let m = high in let n = q .slot-in in omega arith) in
               record {

@@ -14,7 +14,7 @@ use Rattle.model.specs.Row.{Row, Entry}
 use Rattle.model.specs.Sound.{shapeIn, Coherent, entriesOf}
 use Rattle.model.specs.Refuse.{opening}
 use Rattle.model.specs.Examined.{fromTop, heldSlots, lookedSlots, lookSlots, Examines}
-use Rattle.model.specs.Promise.{Stands}
+use Rattle.model.specs.Promise.{Represents}
 use Rattle.model.specs.declared.way.Search.the-variants as search
 use Rattle.theory.specs.LiftSound.{sound-of}
 use Rattle.theory.specs.CallOpen.{passed, opens}
@@ -33,7 +33,7 @@ module _ (K : Kind) (ok : K .effect < K .views) (t : State) (w : Coherent K t) (
       go (inl g) = absurd (omega (arith, below-total K ok t w v lv x (g .finger) (g .offset) (g .looked)))
       go (inr q) = rw (q, root-miss (stride K) (K .effect) t w v x (omega (arith, total-is K ok t w v lv)))
 
-pub examines-are : (K : Kind) → K .effect < K .views → (s : State) (r : Row) → Stands K s r → (v x : ℕ) → v < K .views → Examines K s v x r
+pub examines-are : (K : Kind) → K .effect < K .views → (s : State) (r : Row) → Represents K s r → (v x : ℕ) → v < K .views → Examines K s v x r
 examines-are K ok s r h v x lv =
     let e : row.total v (r .entries) ≡ row.total v (entriesOf K s) = ap (row.total v) (sym (h .entries)) in
     record {

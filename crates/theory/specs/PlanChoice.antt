@@ -112,13 +112,13 @@ of-could es o m p lm lo hi some = go (decLt p (upTo 1 m es))
         record { chosen = r .0; within = r .1; there = lm; before = omega arith; above = omega arith }
 
 -- the entry that holds a position of view v: it stands behind m others
-pub record Holds (v p : ℕ) (es : List Entry) (m : ℕ) : Type 0 where
+pub record HoldsPosition (v p : ℕ) (es : List Entry) (m : ℕ) : Type 0 where
   pub there : m < length es
   pub start : upTo v m es ≤ p
   pub end : p < upTo v m es + lengthIn v (behind m es)
 
 -- below the view's total there is one
-pub holder : (v p : ℕ) (es : List Entry) → p < total v es → (m : ℕ) × Holds v p es m
+pub holder : (v p : ℕ) (es : List Entry) → p < total v es → (m : ℕ) × HoldsPosition v p es m
 unfolding sumBy
 holder v p [] h = absurd (not-suc-le-zero h)
 holder v p (e ∷ es) h = elim (decLt p (lengthIn v e)) [
@@ -131,7 +131,7 @@ holder v p (e ∷ es) h = elim (decLt p (lengthIn v e)) [
 ]
 
 -- the first that could hold p holds it in the highest lengths
-pub first-is : (es : List Entry) → Ordered es → (m p : ℕ) → Holds 1 p es m → FirstToHold es m p
+pub first-is : (es : List Entry) → Ordered es → (m p : ℕ) → HoldsPosition 1 p es m → FirstToHold es m p
 first-is es o m p h = record {
   could = of-could es o m p (h .there) (let z = low-high m es o in let y = h .start in omega arith) (h .end) (let y = h .start in let x = h .end in omega arith);
   first = λ j c. elim (decLt j m) [
@@ -141,7 +141,7 @@ first-is es o m p h = record {
 }
 
 -- the last that could hold p holds it in the lowest lengths, where their total is above p
-pub last-low : (es : List Entry) → Ordered es → (m p : ℕ) → Holds 0 p es m → LastToHold es m p
+pub last-low : (es : List Entry) → Ordered es → (m p : ℕ) → HoldsPosition 0 p es m → LastToHold es m p
 last-low es o m p h =
     let q = own-order m es o (h .there) in
     let z = low-high m es o in
@@ -156,7 +156,7 @@ last-low es o m p h =
     }
 
 -- and else it holds the last position in the highest lengths
-pub last-high : (es : List Entry) → Ordered es → (m p : ℕ) → total 0 es ≤ p → p < total 1 es → Holds 1 (total 1 es - 1) es m → LastToHold es m p
+pub last-high : (es : List Entry) → Ordered es → (m p : ℕ) → total 0 es ≤ p → p < total 1 es → HoldsPosition 1 (total 1 es - 1) es m → LastToHold es m p
 last-high es o m p lo hi h =
     let y = h .start in
     let x = h .end in

@@ -20,7 +20,7 @@ use Rattle.model.specs.Plan.{idOnly, rowPlan, Ordered, ByChoice}
 use Rattle.theory.specs.CallSimulates.{row-passed}
 use Rattle.theory.specs.RowBounds.{Level, step-level}
 use Rattle.theory.specs.RowNumbers.{number-is}
-use Rattle.theory.specs.PlanChoice.{upTo, Holds, holder, first-is, last-low, last-high, none-could, totals-high, earliest-is, latest-is}
+use Rattle.theory.specs.PlanChoice.{upTo, HoldsPosition, holder, first-is, last-low, last-high, none-could, totals-high, earliest-is, latest-is}
 
 -- no lowest above a highest, as the kind tests it
 pub ordered-of : (es : List Entry) → Level planning es → Ordered es
@@ -59,7 +59,7 @@ id-found v p s f q (e ∷ es) (suc m) lm lo hi =
     rw (le-leb s p (omega arith), le-ltb p (s + lengthIn v e) (omega arith)) (id-found v p (s + lengthIn v e) (f + lengthIn 1 e) (q + lengthIn 0 e) es m (omega arith) (omega arith) (omega arith))
 
 module _ (r : Row) where
-  looked : (v p : ℕ) → p < total v (r .entries) → (m : ℕ) → Holds v p (r .entries) m → idOnly (rowStep planning r (row.lookup v p) .answer) ≡ done (behind m (r .entries) .id ∷ [])
+  looked : (v p : ℕ) → p < total v (r .entries) → (m : ℕ) → HoldsPosition v p (r .entries) m → idOnly (rowStep planning r (row.lookup v p) .answer) ≡ done (behind m (r .entries) .id ∷ [])
   unfolding rowStep rowMove unless refusal
   looked v p lt m h =
       rw (lt-leb (total v (r .entries)) p lt) (ap done (id-found v p 0 0 0 (r .entries) m (h .there) (let z = h .start in omega arith) (let z = h .end in omega arith)))

@@ -13,7 +13,7 @@ use Rattle.model.specs.declared.shape.Shape.{Shape}
 use Rattle.laws.specs.Words.{getD-after}
 use Rattle.laws.specs.Nodes.{Formed}
 use Rattle.laws.specs.Areas.{length-is}
-use Rattle.theory.specs.RepairTrusted.{Fits, Areas}
+use Rattle.theory.specs.RepairTrusted.{TrustedCoherent, LongAreas}
 use Rattle.theory.specs.RepairLists.{length-range}
 use Rattle.model.specs.Mend.{putAll, putEach, homeOf, leafAnew, innerAnew, mend}
 use Rattle.theory.specs.RepairWords.{length-all, length-each, within, leaf-anew, inner-anew, leaf-room, inner-room, length-homes}
@@ -37,7 +37,7 @@ module _ (g : Shape) (e : g .size ≡ 3 + g .fan * g .stride) (f : ℕ → Node)
   each-else (k ∷ ks) a = one-else k (putEach g f ks area) (a .0) (length-each g e f m formed area h ks (a .1)) ∙ each-else ks (a .1)
 
 -- and the areas are as long as they were
-module _ (s e : ℕ) (hs : 0 < s) (t : State) (f : Fits s t) (areas : Areas s t) where
+module _ (s e : ℕ) (hs : 0 < s) (t : State) (f : TrustedCoherent s t) (areas : LongAreas s t) where
   pub leaves-long : length (mend s t .leaves) ≡ length (t .leaves)
   unfolding mend
   leaves-long = length-all (shapeIn s t) refl (leafAnew s t) (t .head .leaves) (leaf-anew s e hs t f areas) (t .leaves) (leaf-room s e hs t f areas) (t .head .leaves) (omega arith)
@@ -50,7 +50,7 @@ module _ (s e : ℕ) (hs : 0 < s) (t : State) (f : Fits s t) (areas : Areas s t)
   unfolding mend
   homes-long = length-homes s e hs t f areas
 
-module _ (s e : ℕ) (hs : 0 < s) (t : State) (f : Fits s t) (areas : Areas s t) (p : ℕ) where
+module _ (s e : ℕ) (hs : 0 < s) (t : State) (f : TrustedCoherent s t) (areas : LongAreas s t) (p : ℕ) where
   pub leaves-else : t .head .leaves * shapeIn s t .size ≤ p → getD (mend s t .leaves) p 0 ≡ getD (t .leaves) p 0
   unfolding mend
   leaves-else q = all-else (shapeIn s t) refl (leafAnew s t) (t .head .leaves) (leaf-anew s e hs t f areas) (t .leaves) (leaf-room s e hs t f areas) p q (t .head .leaves) (omega arith)

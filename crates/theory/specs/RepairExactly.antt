@@ -30,10 +30,10 @@ use Rattle.theory.specs.CallMake.{sizes-of}
 use Rattle.theory.specs.AuditExactly.{audit-exactly}
 use Rattle.theory.specs.SeatRules.{fair-exactly}
 use Rattle.theory.specs.AuditTests.{both, join}
-use Rattle.theory.specs.RepairTrusted.{Areas}
+use Rattle.theory.specs.RepairTrusted.{LongAreas}
 use Rattle.theory.specs.RepairElse.{leaves-else, inners-else, homes-else, leaves-long, inners-long, homes-long}
 use Rattle.theory.specs.RepairKept.{sound-kept}
-use Rattle.theory.specs.RepairTest.{Fit, sound-fit, fit-agree, areas-of, right, agreed, mend-sound, fit-test, test-fit}
+use Rattle.theory.specs.RepairTest.{TrustedSound, sound-fit, fit-agree, areas-of, right, agreed, mend-sound, fit-test, test-fit}
 
 -- a number of 1 and 2 alone
 small : (a b : Bool) → refusal (cause 1 a ∷ cause 2 b ∷ []) ≤ 2
@@ -59,14 +59,14 @@ module _ (K : Kind) (t : State) (b : Seats) where
   sizes h = rw (ne-eqb (sizesIn K t) 0 h)
 
   module _ (z : sizesIn K t ≡ 0) where
-    areas : Areas (stride K) t
+    areas : LongAreas (stride K) t
     areas = areas-of K t (sizes-of K (t .head .fan) (t .head .limit) (t .leaves) (t .inners) (t .homes) z)
 
     opened : repair K t b ≡ mendIf K (isFit K t && fairs) t
     unfolding repairIf
     opened = passed (areaCauses K (t .head .fan) (t .head .limit) (t .leaves) (t .inners) (t .homes)) (λ n. reply t (number.Refused n)) (mendIf K (isFit K t && fairs) t) z
 
-    agreeing : Fit K t → Fair (t .head .limit) (t .head .entries) b → Agreeing K t b
+    agreeing : TrustedSound K t → Fair (t .head .limit) (t .head .entries) b → Agreeing K t b
     agreeing f w = record { tree = mend (stride K) t; seats = b; sound = mend-sound K t f areas; fair = subst (λ (h : Head). Fair (h .limit) (h .entries) b) (sym head-is) w; agrees = agreed K t f areas; seated = refl }
 
     refused : (Agreeing K t b → ⊥) → repair K t b ≡ reply t (number.Refused 21)
@@ -78,7 +78,7 @@ module _ (K : Kind) (t : State) (b : Seats) where
             absurd (n (agreeing (test-fit K t (sizes-of K (t .head .fan) (t .head .limit) (t .leaves) (t .inners) (t .homes) z) (r .0)) (fair-exactly (t .head .limit) (t .head .entries) b .0 (r .1))))
         no false e = e
 
-    fit : Agreeing K t b → Fit K t
+    fit : Agreeing K t b → TrustedSound K t
     fit a = fit-agree K t (a .tree) (a .agrees) (sound-fit K (a .tree) (a .sound))
 
     fair : Agreeing K t b → fairs ≡ true

@@ -18,7 +18,7 @@ use Rattle.laws.specs.Nodes.{words-node}
 use Rattle.laws.specs.Areas.{length-node}
 use Rattle.model.specs.Mend.{noFinger, putAll, putEach, leafAnew, innerAnew, homeOf, mend}
 use Rattle.model.specs.Repair.{Agrees, Same}
-use Rattle.theory.specs.RepairTrusted.{Fits, Areas, sound-fits}
+use Rattle.theory.specs.RepairTrusted.{TrustedCoherent, LongAreas, sound-fits}
 use Rattle.theory.specs.RepairLists.{length-range}
 use Rattle.theory.specs.RepairWords.{within, leaf-is, inner-is, home-is, mend-right}
 
@@ -46,10 +46,10 @@ agrees-self : (s : ℕ) (t : State) → Agrees s t t
 agrees-self s t = record { head = refl; leaf-len = λ k l. refl; leaf-slots = λ k l. refl; inner-len = λ k l. refl; inner-children = λ k l. refl }
 
 module _ (s e : ℕ) (hs : 0 < s) (t : State) (w : CoherentAt s t e) where
-  f : Fits s t
+  f : TrustedCoherent s t
   f = sound-fits s e t w
 
-  areas : Areas s t
+  areas : LongAreas s t
   areas = record { leaf-area = w .leaf-area; inner-area = w .inner-area; home-area = w .home-area }
 
   kept : Same s (mend s t) t

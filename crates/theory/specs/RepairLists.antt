@@ -92,18 +92,18 @@ flat-same f g [] h = refl
 flat-same f g (p ∷ ps) h = rw (h .0, flat-same f g ps (h .1))
 
 -- the place of a child among the slots in use
-pub record Placed (c n : ℕ) (slots : List (List ℕ)) : Type 0 where
+pub record ChildPlace (c n : ℕ) (slots : List (List ℕ)) : Type 0 where
   pub i : ℕ
   pub below : i < n
   pub inside : i < length slots
   pub is : child (getD slots i []) ≡ c
 
-pub child-in : (c n : ℕ) (slots : List (List ℕ)) → In c (map child (take n slots)) → Placed c n slots
+pub child-in : (c n : ℕ) (slots : List (List ℕ)) → In c (map child (take n slots)) → ChildPlace c n slots
 child-in c zero slots i = absurd (no-nil i refl)
 child-in c (suc n) [] i = absurd (no-nil i refl)
 child-in c (suc n) (x ∷ slots) i = go (in-cons i) (λ j. child-in c n slots j)
   where
-    go : (c ≡ child x) ⊎ In c (map child (take n slots)) → (In c (map child (take n slots)) → Placed c n slots) → Placed c (suc n) (x ∷ slots)
+    go : (c ≡ child x) ⊎ In c (map child (take n slots)) → (In c (map child (take n slots)) → ChildPlace c n slots) → ChildPlace c (suc n) (x ∷ slots)
     go (inl e) f = record { i = 0; below = omega arith; inside = omega arith; is = sym e }
     go (inr j) f = let r = f j in record { i = suc (r .i); below = omega (arith, r .below); inside = omega (arith, r .inside); is = r .is }
 

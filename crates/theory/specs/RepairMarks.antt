@@ -20,7 +20,7 @@ use Rattle.theory.specs.LiftCount.{times-same, times-other, times-nodup,
 
 -- what marks say -----------------------------------------------------------------------------------------------------------------------------
 
-pub record Seen (n : ℕ) (ks m : List ℕ) : Type 0 where
+pub record SeenOnce (n : ℕ) (ks m : List ℕ) : Type 0 where
   pub below : All (λ k. k < n) ks
   pub new : (k : ℕ) → (getD m k 0 ≡ 0 → ⊥) → times k ks ≡ 0
   pub most : (k : ℕ) → times k ks ≤ 1
@@ -29,7 +29,7 @@ nothing : (k : ℕ) → times k [] ≡ 0
 unfolding times
 nothing k = refl
 
-pub fresh-seen : (n : ℕ) (ks m : List ℕ) → n ≤ length m → fresh n ks m ≡ true → Seen n ks m
+pub fresh-seen : (n : ℕ) (ks m : List ℕ) → n ≤ length m → fresh n ks m ≡ true → SeenOnce n ks m
 unfolding fresh All
 fresh-seen n [] m l e = record { below = tt; new = λ k h. nothing k; most = λ k. omega (arith, nothing k) }
 fresh-seen n (x ∷ ks) m l e =
@@ -38,7 +38,7 @@ fresh-seen n (x ∷ ks) m l e =
     let h : x < n = ltb-true x n (b .0) in
     go h (eqb-true (getD m x 0) 0 (b .1)) (fresh-seen n ks (set m x 1) (rw (length-set m x 1) l) (a .1))
   where
-    go : x < n → getD m x 0 ≡ 0 → Seen n ks (set m x 1) → Seen n (x ∷ ks) m
+    go : x < n → getD m x 0 ≡ 0 → SeenOnce n ks (set m x 1) → SeenOnce n (x ∷ ks) m
     go h z r = record { below = (h, r .below); new = λ k u. new k u (ℕ-discrete x k); most = λ k. most k (ℕ-discrete x k) }
       where
         own : times x ks ≡ 0
@@ -57,7 +57,7 @@ pub is-once : (n : ℕ) (ks : List ℕ) → isOnce n ks ≡ true → Once n ks
 unfolding All
 is-once n ks e =
     let a = both (fresh n ks (replicate n 0)) (eqb (length ks) n) e in
-    let r : Seen n ks (replicate n 0) = fresh-seen n ks (replicate n 0) (omega (arith, length-replicate {A = ℕ} n 0)) (a .0) in
+    let r : SeenOnce n ks (replicate n 0) = fresh-seen n ks (replicate n 0) (omega (arith, length-replicate {A = ℕ} n 0)) (a .0) in
     let nd : NoDup ks = times-nodup ks (r .most) in
     once-of n ks nd (r .below)
     (λ k lt b. let z = at-most (k ∷ ks) n (All-map (λ y. y ≢ k) (λ y. k ≢ y) (λ y ne q. ne (sym q)) ks b, nd) (lt, r .below) in omega (arith, eqb-true (length ks) n (a .1)))

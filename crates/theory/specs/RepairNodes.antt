@@ -24,7 +24,7 @@ use Rattle.model.specs.Repair.{Agrees}
 use Rattle.theory.specs.LiftCount.{times-append}
 use Rattle.theory.specs.RepairLists.{In, here, all-in, in-all, in-flat, in-range, getD-in, flat-flat, flat-next, range-at, length-range, map-at}
 use Rattle.theory.specs.RepairHolder.{in-times, holder-is, holder-none, depth-is}
-use Rattle.theory.specs.RepairTrusted.{Fits, Settled, Areas, fit-below, levels-as, Repaired, repaired}
+use Rattle.theory.specs.RepairTrusted.{TrustedCoherent, Settled, LongAreas, fit-below, levels-as, Repaired, repaired}
 
 -- r has the nodes and homes of the mended t
 pub record Mended (s : ℕ) (t r : State) : Type 0 where
@@ -89,11 +89,11 @@ deep-inner s t n v c = refl
 
 -- the theorem ----------------------------------------------------------------------------------------------------------------------------------
 
-module _ (s e : ℕ) (t : State) (f : Fits s t) (areas : Areas s t) (lr xr hr : List ℕ) where
+module _ (s e : ℕ) (t : State) (f : TrustedCoherent s t) (areas : LongAreas s t) (lr xr hr : List ℕ) where
   abbrev R : State
   R = state (noFinger (t .head)) lr xr hr
 
-  module _ (long : Areas s R) (m : Mended s t R) where
+  module _ (long : LongAreas s R) (m : Mended s t R) where
     abbrev h : Head
     h = t .head
 

@@ -187,12 +187,12 @@ pub record Behind (j c : ℕ) (l : List ℕ) : Type 0 where
   pub within : at < length l
   pub is : getD l at 0 ≡ c
 
-pub record Found (c : ℕ) (l : List ℕ) : Type 0 where
+pub record PlaceIn (c : ℕ) (l : List ℕ) : Type 0 where
   pub at : ℕ
   pub within : at < length l
   pub is : getD l at 0 ≡ c
 
-pub found : {c : ℕ} (l : List ℕ) → In c l → Found c l
+pub found : {c : ℕ} (l : List ℕ) → In c l → PlaceIn c l
 found (c ∷ l) here = record { at = 0; within = omega arith; is = refl }
 found (x ∷ l) (later i) = let r = found l i in record { at = suc (r .at); within = omega (arith, r .within); is = r .is }
 
@@ -207,13 +207,13 @@ module _ (lev : ℕ → List ℕ) (kids : ℕ → List ℕ) (next : (d : ℕ) �
   none-of d = refl
 
   -- node j stands in level d
-  pub record Stands (j from n : ℕ) (l : List ℕ) : Type 0 where
+  pub record InLevel (j from n : ℕ) (l : List ℕ) : Type 0 where
     pub d : ℕ
     pub low : from ≤ d
     pub high : d < from + n
     pub row : In (getD l j 0) (lev d)
 
-  pub stands : (n d j : ℕ) → j < length (flatMap lev (range d n)) → (rest : List ℕ) → Stands j d n (flatMap lev (range d n) ++ rest)
+  pub stands : (n d j : ℕ) → j < length (flatMap lev (range d n)) → (rest : List ℕ) → InLevel j d n (flatMap lev (range d n) ++ rest)
   stands zero d j h rest = absurd (omega (arith, none-of d))
   stands (suc n) d j h rest = go (ltb j (length (lev d))) refl (λ (v : j - length (lev d) < length (flatMap lev (range (suc d) n))). stands n (suc d) (j - length (lev d)) v rest)
     where
@@ -226,7 +226,7 @@ module _ (lev : ℕ → List ℕ) (kids : ℕ → List ℕ) (next : (d : ℕ) �
       size : length (flatMap lev (range d (suc n))) ≡ length (lev d) + length l
       size = ap length (first-of d n) ∙ length-append (lev d) l
 
-      go : (b : Bool) → ltb j (length (lev d)) ≡ b → (j - length (lev d) < length l → Stands (j - length (lev d)) (suc d) n (l ++ rest)) → Stands j d (suc n) (flatMap lev (range d (suc n)) ++ rest)
+      go : (b : Bool) → ltb j (length (lev d)) ≡ b → (j - length (lev d) < length l → InLevel (j - length (lev d)) (suc d) n (l ++ rest)) → InLevel j d (suc n) (flatMap lev (range d (suc n)) ++ rest)
       go true q f =
           let v : j < length (lev d) = ltb-true j (length (lev d)) q in
           record { d = d; low = omega arith; high = omega arith; row = subst (λ (z : ℕ). In z (lev d)) (sym (ap (λ (z : List ℕ). getD z j 0) whole ∙ List·getD-append (lev d) (l ++ rest) 0 j v)) (getD-in (lev d) j v) }

@@ -23,20 +23,20 @@ use Rattle.theory.specs.LiftSound.{body-of}
 use Rattle.theory.specs.CallMake.{Sizes}
 use Rattle.theory.specs.AuditTests.{both, join, every-at, every-of}
 use Rattle.theory.specs.RepairMarks.{is-once, once-is}
-use Rattle.theory.specs.RepairTrusted.{Fits, Areas, Repaired, sound-fits, fits-agree, agrees-back}
+use Rattle.theory.specs.RepairTrusted.{TrustedCoherent, LongAreas, Repaired, sound-fits, fits-agree, agrees-back}
 use Rattle.theory.specs.RepairWords.{mend-right, mend-agrees}
 
 -- the trusted words of t are those of a sound tree
-pub record Fit (K : Kind) (t : State) : Type 0 where
-  pub fits : Fits (stride K) t
+pub record TrustedSound (K : Kind) (t : State) : Type 0 where
+  pub fits : TrustedCoherent (stride K) t
   pub lines : (k i : ℕ) → k < t .head .leaves → i < leafIn (stride K) t k .len → tooManyLines K (lengths (getD (leafIn (stride K) t k .slots) i [])) ≡ false
   pub bounds : (k i : ℕ) → k < t .head .leaves → i < leafIn (stride K) t k .len → crossed K (lengths (getD (leafIn (stride K) t k .slots) i [])) ≡ false
 
-pub sound-fit : (K : Kind) (t : State) → Sound K t → Fit K t
+pub sound-fit : (K : Kind) (t : State) → Sound K t → TrustedSound K t
 sound-fit K t w = record { fits = sound-fits (stride K) (K .effect) t (w .coherent); lines = w .lines; bounds = w .bounds }
 
 -- which is read from the trusted words
-pub fit-agree : (K : Kind) (a b : State) → Agrees (stride K) a b → Fit K b → Fit K a
+pub fit-agree : (K : Kind) (a b : State) → Agrees (stride K) a b → TrustedSound K b → TrustedSound K a
 fit-agree K a b g f = record { fits = fits-agree (stride K) a b (f .fits) g; lines = λ k i lk li. kept (tooManyLines K) k i lk li (f .lines k i (more k lk) (shorter k i lk li)); bounds = λ k i lk li. kept (crossed K) k i lk li (f .bounds k i (more k lk) (shorter k i lk li)) }
   where
     same : (k i : ℕ) → k < a .head .leaves → i < leafIn (stride K) a k .len → getD (leafIn (stride K) b k .slots) i [] ≡ getD (leafIn (stride K) a k .slots) i []
@@ -55,10 +55,10 @@ fit-agree K a b g f = record { fits = fits-agree (stride K) a b (f .fits) g; lin
     kept q k i lk li e = subst (λ (x : List ℕ). q (lengths x) ≡ false) (same k i lk li) e
 
 -- such a tree is put right
-pub areas-of : (K : Kind) (t : State) → Sizes K (t .head .fan) (t .head .limit) (t .leaves) (t .inners) (t .homes) → Areas (stride K) t
+pub areas-of : (K : Kind) (t : State) → Sizes K (t .head .fan) (t .head .limit) (t .leaves) (t .inners) (t .homes) → LongAreas (stride K) t
 areas-of K t z = record { leaf-area = z .leaf-area; inner-area = z .inner-area; home-area = z .home-area }
 
-module _ (K : Kind) (t : State) (f : Fit K t) (areas : Areas (stride K) t) where
+module _ (K : Kind) (t : State) (f : TrustedSound K t) (areas : LongAreas (stride K) t) where
   pub right : Repaired (stride K) (K .effect) t (mend (stride K) t)
   right = mend-right (stride K) (K .effect) (omega arith) t (f .fits) areas
 
@@ -102,7 +102,7 @@ module _ (K : Kind) (t : State) where
   slot-test : (x : List ℕ) → tooManyLines K (lengths x) ≡ false → crossed K (lengths x) ≡ false → isFitSlot K x ≡ true
   slot-test x p q = join (not (tooManyLines K (lengths x))) (not (crossed K (lengths x))) (not-false (tooManyLines K (lengths x)) p) (not-false (crossed K (lengths x)) q)
 
-  leaf-test : Fit K t → (k : ℕ) → k < h .leaves → isFitLeaf K t k ≡ true
+  leaf-test : TrustedSound K t → (k : ℕ) → k < h .leaves → isFitLeaf K t k ≡ true
   leaf-test f k lk =
       join (isLong s t (leastLeaf s t) (leafIn s t k)) (every (slotTest k) 0 (leafIn s t k .len)) (long-test (leastLeaf s t) (leafIn s t k) (f .fits .leaf-lens k lk .0) (f .fits .leaf-lens k lk .1))
       (every-of (slotTest k) 0 (leafIn s t k .len) (λ i lo hi. slot-test (getD (leafIn s t k .slots) i []) (f .lines k i lk (omega arith)) (f .bounds k i lk (omega arith))))
@@ -129,7 +129,7 @@ module _ (K : Kind) (t : State) where
   abbrev ids : List ℕ
   ids = map child (slotsIn s t (leavesReached s t))
 
-  pub fit-test : Fit K t → Areas s t → isFit K t ≡ true
+  pub fit-test : TrustedSound K t → LongAreas s t → isFit K t ≡ true
   unfolding isFit
   fit-test f areas =
       let w = f .fits in
@@ -147,7 +147,7 @@ module _ (K : Kind) (t : State) where
       )
       (every-of (isWithin s t) 0 (K .views) (λ v lo hi. le-leb _ _ (w .totals v (omega arith))))
 
-  pub test-fit : Sizes K (h .fan) (h .limit) (t .leaves) (t .inners) (t .homes) → isFit K t ≡ true → Fit K t
+  pub test-fit : Sizes K (h .fan) (h .limit) (t .leaves) (t .inners) (t .homes) → isFit K t ≡ true → TrustedSound K t
   unfolding isFit
   test-fit z e =
       let c = isCounted s t in

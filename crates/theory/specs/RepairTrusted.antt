@@ -18,7 +18,7 @@ use Rattle.theory.specs.RepairLists.{In, all-in, in-all, in-flat, in-ran
 use Rattle.theory.specs.RepairUnique.{level-as, same}
 
 -- the fields of CoherentAt that speak of the head without its finger, of len and child numbers in use, and of the lengths in leaf slots
-pub record Fits (s : ℕ) (t : State) : Type 0 where
+pub record TrustedCoherent (s : ℕ) (t : State) : Type 0 where
   pub fan-least : 4 ≤ t .head .fan
   pub fan-most : t .head .fan ≤ 32
   pub limit-least : 1 ≤ t .head .limit
@@ -45,14 +45,14 @@ pub record Settled (s : ℕ) (t : State) : Type 0 where
   pub finger : t .head .finger ≡ held.Absent
 
 -- areas as long as the limit needs
-pub record Areas (s : ℕ) (t : State) : Type 0 where
+pub record LongAreas (s : ℕ) (t : State) : Type 0 where
   pub leaf-area : shapeIn s t .nodes * shapeIn s t .size ≤ length (t .leaves)
   pub inner-area : shapeIn s t .nodes * shapeIn s t .size ≤ length (t .inners)
   pub home-area : t .head .limit ≤ length (t .homes)
 
 -- a sound tree fits; one that fits and is settled is sound
 module _ (s e : ℕ) (t : State) where
-  pub sound-fits : CoherentAt s t e → Fits s t
+  pub sound-fits : CoherentAt s t e → TrustedCoherent s t
   sound-fits w = record {
     fan-least = w .fan-least;
     fan-most = w .fan-most;
@@ -70,7 +70,7 @@ module _ (s e : ℕ) (t : State) where
     totals = w .totals;
   }
 
-  pub fits-sound : Fits s t → Settled s t → Areas s t → CoherentAt s t e
+  pub fits-sound : TrustedCoherent s t → Settled s t → LongAreas s t → CoherentAt s t e
   fits-sound f w a = record {
     fan-least = f .fan-least;
     fan-most = f .fan-most;
@@ -97,7 +97,7 @@ module _ (s e : ℕ) (t : State) where
   }
 
 -- a node of a level of inner nodes is in use
-pub fit-below : (s : ℕ) (t : State) → Fits s t → (d p : ℕ) → d < t .head .levels → In p (level s t d) → p < t .head .inners
+pub fit-below : (s : ℕ) (t : State) → TrustedCoherent s t → (d p : ℕ) → d < t .head .levels → In p (level s t d) → p < t .head .inners
 fit-below s t f d p h i = all-in (λ k. k < t .head .inners) (in-flat (level s t) (in-range 0 (t .head .levels) d (omega arith) (omega arith)) i) (f .inners-once .below)
 
 module _ (s : ℕ) (h : Head) (fa fb : Held) (la xa ha lb xb hb : List ℕ) where
@@ -108,7 +108,7 @@ module _ (s : ℕ) (h : Head) (fa fb : Held) (la xa ha lb xb hb : List ℕ) wher
   B = state (withFinger fb h) lb xb hb
 
   -- A fits, B agrees with it
-  module _ (wa : Fits s A)
+  module _ (wa : TrustedCoherent s A)
       (ll : (k : ℕ) → k < h .leaves → leafIn s B k .len ≡ leafIn s A k .len) (lu : (k : ℕ) → k < h .leaves → used (leafIn s B k) ≡ used (leafIn s A k))
       (il : (k : ℕ) → k < h .inners → innerIn s B k .len ≡ innerIn s A k .len) (ic : (k : ℕ) → k < h .inners → map child (used (innerIn s B k)) ≡ map child (used (innerIn s A k)))
     where
@@ -126,7 +126,7 @@ module _ (s : ℕ) (h : Head) (fa fb : Held) (la xa ha lb xb hb : List ℕ) wher
           ∙ flat-same (λ k. used (leafIn s B k)) (λ k. used (leafIn s A k)) (leavesReached s A)
           (in-all (λ k. used (leafIn s B k) ≡ used (leafIn s A k)) (leavesReached s A) (λ k i. lu k (all-in (λ k. k < h .leaves) i (wa .leaves-once .below))))
 
-      fits-as : Fits s B
+      fits-as : TrustedCoherent s B
       fits-as = record {
         fan-least = wa .fan-least;
         fan-most = wa .fan-most;
@@ -146,24 +146,24 @@ module _ (s : ℕ) (h : Head) (fa fb : Held) (la xa ha lb xb hb : List ℕ) wher
 
 -- under the head x
 record Like (s : ℕ) (a b : State) (x : Head) : Type 0 where
-  pub fits : Fits s (state (withFinger (b .head .finger) x) (b .leaves) (b .inners) (b .homes))
+  pub fits : TrustedCoherent s (state (withFinger (b .head .finger) x) (b .leaves) (b .inners) (b .homes))
   pub ll : (k : ℕ) → k < a .head .leaves → leafIn s (state (withFinger (b .head .finger) x) (b .leaves) (b .inners) (b .homes)) k .len ≡ leafIn s a k .len
   pub lu : (k : ℕ) → k < a .head .leaves → used (leafIn s (state (withFinger (b .head .finger) x) (b .leaves) (b .inners) (b .homes)) k) ≡ used (leafIn s a k)
   pub il : (k : ℕ) → k < a .head .inners → innerIn s (state (withFinger (b .head .finger) x) (b .leaves) (b .inners) (b .homes)) k .len ≡ innerIn s a k .len
   pub ic : (k : ℕ) → k < a .head .inners → map child (used (innerIn s (state (withFinger (b .head .finger) x) (b .leaves) (b .inners) (b .homes)) k)) ≡ map child (used (innerIn s a k))
 
 -- whether a tree fits is read from what is trusted
-pub fits-agree : (s : ℕ) (a b : State) → Fits s b → Agrees s a b → Fits s a
+pub fits-agree : (s : ℕ) (a b : State) → TrustedCoherent s b → Agrees s a b → TrustedCoherent s a
 fits-agree s a b fb g =
     go (subst (Like s a b) (g .head) (record { fits = fb; ll = g .leaf-len; lu = g .leaf-slots; il = g .inner-len; ic = g .inner-children }))
   where
-    go : Like s a b (noFinger (a .head)) → Fits s a
+    go : Like s a b (noFinger (a .head)) → TrustedCoherent s a
     go r =
         fits-as s (noFinger (a .head)) (b .head .finger) (a .head .finger) (b .leaves) (b .inners) (b .homes) (a .leaves) (a .inners) (a .homes)
         (r .fits) (λ k l. sym (r .ll k l)) (λ k l. sym (r .lu k l)) (λ k l. sym (r .il k l)) (λ k l. sym (r .ic k l))
 
 -- a sound tree agrees with what is trusted of a: a fits. So where a doesn't fit, none does: number 21
-pub agreeing-fits : (s e : ℕ) (a b : State) → CoherentAt s b e → Agrees s a b → Fits s a
+pub agreeing-fits : (s e : ℕ) (a b : State) → CoherentAt s b e → Agrees s a b → TrustedCoherent s a
 agreeing-fits s e a b wb g = fits-agree s a b (sound-fits s e b wb) g
 
 -- agreement goes both ways
@@ -203,7 +203,7 @@ pub record Repaired (s e : ℕ) (a r : State) : Type 0 where
   pub sound : CoherentAt s r e
   pub only : (b : State) → CoherentAt s b e → Agrees s a b → Same s r b
 
-pub repaired : (s e : ℕ) (a r : State) → Fits s a → Agrees s a r → Settled s r → Areas s r → Repaired s e a r
+pub repaired : (s e : ℕ) (a r : State) → TrustedCoherent s a → Agrees s a r → Settled s r → LongAreas s r → Repaired s e a r
 repaired s e a r f g w m =
     let v : CoherentAt s r e = fits-sound s e r (fits-agree s r a f (agrees-back s a r g)) w m in
     record { sound = v; only = λ b wb gb. same s e r b v wb (agrees-on s r a b (agrees-back s a r g) gb) }

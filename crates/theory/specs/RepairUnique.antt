@@ -23,7 +23,7 @@ use Rattle.laws.specs.Areas.{formed-at}
 use Rattle.laws.specs.AreaRead.{node-end}
 use Rattle.model.specs.Mend.{noFinger}
 use Rattle.model.specs.Repair.{Agrees, Same}
-use Rattle.theory.specs.RepairLists.{In, all-in, in-all, in-flat, in-range, Of, flat-in, in-range-below, flat-same, Placed, child-in, in-children, only, in-map, Image, map-in, times-in}
+use Rattle.theory.specs.RepairLists.{In, all-in, in-all, in-flat, in-range, Of, flat-in, in-range-below, flat-same, ChildPlace, child-in, in-children, only, in-map, Image, map-in, times-in}
 
 -- facts of one sound tree --------------------------------------------------------------------------------------------------------------------
 
@@ -51,7 +51,7 @@ module _ (s : ℕ) (t : State) (e : ℕ) (w : CoherentAt s t e) where
   pub record Stored (id : ℕ) : Type 0 where
     pub k : ℕ
     pub used-leaf : k < t .head .leaves
-    pub at : Placed id (leafIn s t k .len) (leafIn s t k .slots)
+    pub at : ChildPlace id (leafIn s t k .len) (leafIn s t k .slots)
 
   pub stored : (id : ℕ) → id < t .head .entries → Stored id
   stored id g = go (map-in child (slotsIn s t (leavesReached s t)) (times-in id (map child (slotsIn s t (leavesReached s t))) (omega (arith, w .ids .once id g))))
@@ -72,7 +72,7 @@ module _ (s : ℕ) (t : State) (e : ℕ) (w : CoherentAt s t e) where
   pub record Slotted (d c : ℕ) : Type 0 where
     pub p : ℕ
     pub row : In p (level s t d)
-    pub at : Placed c (innerIn s t p .len) (innerIn s t p .slots)
+    pub at : ChildPlace c (innerIn s t p .len) (innerIn s t p .slots)
 
   pub slotted : (d c : ℕ) → In c (level s t (suc d)) → Slotted d c
   unfolding level

@@ -25,7 +25,7 @@ use Rattle.model.specs.Mend.{noFinger, kids, idsIn, leafLink, innerLink, homeOf
 use Rattle.model.specs.Repair.{Agrees}
 use Rattle.theory.specs.RepairLists.{In, all-in, in-flat, in-cons, no-nil, times-in, getD-in, map-at, length-range, range-at}
 use Rattle.theory.specs.RepairHolder.{holder-is}
-use Rattle.theory.specs.RepairTrusted.{Fits, Areas, Repaired}
+use Rattle.theory.specs.RepairTrusted.{TrustedCoherent, LongAreas, Repaired}
 use Rattle.theory.specs.RepairNodes.{Mended, mended, agrees}
 
 -- nodes written one after the other ------------------------------------------------------------------------------------------------------------
@@ -113,7 +113,7 @@ unfolding All
 rows-wide s f [] h = tt
 rows-wide s f (c ∷ l) h = (h c, rows-wide s f l h)
 
-module _ (s e : ℕ) (hs : 0 < s) (t : State) (f : Fits s t) (areas : Areas s t) where
+module _ (s e : ℕ) (hs : 0 < s) (t : State) (f : TrustedCoherent s t) (areas : LongAreas s t) where
   abbrev g : Shape
   g = shapeIn s t
 
@@ -187,7 +187,7 @@ module _ (s e : ℕ) (hs : 0 < s) (t : State) (f : Fits s t) (areas : Areas s t)
     length-drop (t .head .entries) (t .homes),
   )
 
-  long : Areas s R
+  long : LongAreas s R
   long = record {
     leaf-area = rw (length-all g refl (leafAnew s t) (t .head .leaves) leaf-anew (t .leaves) leaf-room (t .head .leaves) (omega arith)) (areas .leaf-area);
     inner-area = rw (length-each g refl (innerAnew s t) (t .head .inners) inner-anew (t .inners) inner-room (innersReached s t) (f .inners-once .below)) (areas .inner-area);

@@ -11,7 +11,7 @@ use Rattle.model.specs.Lists.{All, Cause, refusal}
 use Rattle.model.specs.State.{State}
 use Rattle.model.specs.Row as row
 use Rattle.model.specs.Row.{Row, Entry, Call, moved, refused, overlong, rowMove, rowStep}
-use Rattle.model.specs.Promise.{Stands}
+use Rattle.model.specs.Promise.{Represents}
 use Rattle.theory.specs.RowViews.{or-false}
 use Rattle.theory.specs.CallOpen.{clear}
 use Rattle.theory.specs.CallSimulates.{Mirrors}
@@ -68,11 +68,11 @@ module _ (K : Kind) where
       go true = h
       go false = move-level r c h
 
-pub stands-level : (K : Kind) (t : State) (r : Row) → Stands K t r → Level K (r .entries)
-stands-level K t r h = subst (Level K) (h .entries) (of-slots K t (h .sound .coherent) (λ l. crossed K l ≡ false) (h .sound .bounds))
+pub represents-level : (K : Kind) (t : State) (r : Row) → Represents K t r → Level K (r .entries)
+represents-level K t r h = subst (Level K) (h .entries) (of-slots K t (h .sound .coherent) (λ l. crossed K l ≡ false) (h .sound .bounds))
 
-pub stands-of : (K : Kind) (t : State) (r : Row) → Mirrors K t r → FewLines K (r .entries) → Level K (r .entries) → Stands K t r
-stands-of K t r h f g = record {
+pub represents-of : (K : Kind) (t : State) (r : Row) → Mirrors K t r → FewLines K (r .entries) → Level K (r .entries) → Represents K t r
+represents-of K t r h f g = record {
   sound = record {
     coherent = h .coherent;
     lines = to-slots K t (h .coherent) (λ l. tooManyLines K l ≡ false) (subst (FewLines K) (sym (h .entries)) f);

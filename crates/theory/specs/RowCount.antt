@@ -16,7 +16,7 @@ use Rattle.model.specs.Row.{Row, Call, Entry, entry, Answer, refused, moved, un
 use Rattle.model.specs.Sound.{Coherent, entriesOf}
 use Rattle.model.specs.SeatedList as list
 use Rattle.model.specs.SeatedList.{deed}
-use Rattle.theory.specs.CallOpen.{clear, seat}
+use Rattle.theory.specs.CallOpen.{clear, entry-found}
 use Rattle.theory.specs.CallSimulates.{rowOf, count-is, from-is}
 use Rattle.theory.specs.RowSeven.{around}
 
@@ -48,7 +48,7 @@ module _ (K : Kind) (t : State) (w : Coherent K t) where
   pub is-there : (i : ℕ) (cs : List Cause) → refusal (row.noSuchId (rowOf K t) i ∷ cs) ≡ 0 → 0 < length (from i (entriesOf K t))
   is-there i cs e =
       let lt : i < t .head .entries = (let z = leb-false (length (entriesOf K t)) i (clear 4 _ cs (λ z. omega arith) e .0) in omega (arith, count-is K t w)) in
-      subst (λ (es : List Entry). 0 < length es) (sym (from-is K t w i (seat K t w i lt))) (omega arith)
+      subst (λ (es : List Entry). 0 < length es) (sym (from-is K t w i (entry-found K t w i lt))) (omega arith)
 
   -- a call that has nothing to do with seats
   pub other-count : (c : Call) → deed c ≡ list.nothing → length (rowMove K (rowOf K t) c .after .entries) ≡ length (entriesOf K t)

@@ -15,10 +15,10 @@ use Rattle.model.specs.declared.shape.Kind.{Kind}
 use Rattle.model.specs.Lists.{All, some, Cause, cause, refusal}
 use Rattle.model.specs.Row as row
 use Rattle.model.specs.Row.{Row, Entry, entry, Moved, moved, refused, before, after, newEntry, divided, rowMove, rowStep}
-use Rattle.model.specs.Promise.{Hollow, Filled, HollowPart, upToSix, Parts}
+use Rattle.model.specs.Promise.{Hollow, NotHollow, HollowPart, upToSix, Parts}
 use Rattle.laws.specs.Lists.{All-append, none-views}
 use Rattle.abstract_tree.specs.Lists.{All-map}
-use Rattle.abstract_tree.specs.Row.{Without, from-at}
+use Rattle.abstract_tree.specs.Row.{RowWithout, from-at}
 use Rattle.theory.specs.RowViews.{or-false, none-in, one-in}
 use Rattle.theory.specs.CallOpen.{clear}
 use Rattle.theory.specs.CallSimulates.{row-passed}
@@ -41,7 +41,7 @@ module _ (K : Kind) (l : List ℕ) where
   pub yes-hollow : Hollow K l → hollow K l ≡ true
   yes-hollow h = ap not (none-views (K .views) above (λ v lv. le-ltb 0 (getD l v 0) (let z = h v lv in omega arith)))
 
-  pub hollow-no : hollow K l ≡ false → Filled K l
+  pub hollow-no : hollow K l ≡ false → NotHollow K l
   hollow-no e = let y = one-in above (K .views) (go (some above (viewsOf K)) e) in (y .0, y .1, ltb-true 0 (getD l (y .0) 0) (y .2))
     where
       go : (b : Bool) → not b ≡ false → b ≡ true
@@ -50,20 +50,20 @@ module _ (K : Kind) (l : List ℕ) where
 
 -- the lengths in a row of two entries side by side -------------------------------------------------------------------------------------------
 
-lengths-first : (i : ℕ) (es : List Entry) (e : Entry) (fs : List Entry) → Without i es → e .id ≡ i → row.lengthsOf i (es ++ e ∷ fs) ≡ e .lengths
+lengths-first : (i : ℕ) (es : List Entry) (e : Entry) (fs : List Entry) → RowWithout i es → e .id ≡ i → row.lengthsOf i (es ++ e ∷ fs) ≡ e .lengths
 lengths-first i es e fs w q = ap (λ (xs : List Entry). getD xs 0 (entry i []) .lengths) (from-at i es e fs w q)
 
-lengths-second : (i : ℕ) (es : List Entry) (d e : Entry) (fs : List Entry) → Without i es → d .id ≢ i → e .id ≡ i → row.lengthsOf i (es ++ d ∷ e ∷ fs) ≡ e .lengths
+lengths-second : (i : ℕ) (es : List Entry) (d e : Entry) (fs : List Entry) → RowWithout i es → d .id ≢ i → e .id ≡ i → row.lengthsOf i (es ++ d ∷ e ∷ fs) ≡ e .lengths
 unfolding All
 lengths-second i es d e fs w n q =
     ap (row.lengthsOf i) (sym (append-assoc es (d ∷ []) (e ∷ fs))) ∙ lengths-first i (es ++ d ∷ []) e fs (All-append (λ x. x .id ≢ i) es (d ∷ []) w (n, tt)) q
 
-before-without : (i : ℕ) (es : List Entry) → Without i (before i es)
+before-without : (i : ℕ) (es : List Entry) → RowWithout i (before i es)
 unfolding All before
 before-without i [] = tt
 before-without i (e ∷ es) = go (ℕ-discrete (e .id) i) (before-without i es)
   where
-    go : Dec (e .id ≡ i) → Without i (before i es) → Without i (cond (eqb (e .id) i) [] (e ∷ before i es))
+    go : Dec (e .id ≡ i) → RowWithout i (before i es) → RowWithout i (cond (eqb (e .id) i) [] (e ∷ before i es))
     go (yes q) k = rw (eq-eqb (e .id) i q) tt
     go (no ne) k = rw (ne-eqb (e .id) i ne) (ne, k)
 
@@ -137,7 +137,7 @@ module _ (K : Kind) (r : Row) (flag : Bool) (i : ℕ) (l : List ℕ) where
     unfolding rowMove rowStep
     left-is = rw (few .0) (ap (λ (m : Moved Row). m .after .entries) (row-passed r _ _ _ (few .1)))
 
-    apart : Without (length (r .entries)) (before i (r .entries))
+    apart : RowWithout (length (r .entries)) (before i (r .entries))
     apart = before-all (λ e. e .id ≢ length (r .entries)) i (r .entries) (All-map (λ e. e .id < length (r .entries)) (λ e. e .id ≢ length (r .entries)) (λ e lt q. omega arith) (r .entries) below)
 
     made-lengths : row.lengthsOf (length (r .entries)) (divided flag i (newEntry r l) (r .entries)) ≡ l
@@ -156,11 +156,11 @@ module _ (K : Kind) (r : Row) (flag : Bool) (i : ℕ) (l : List ℕ) where
         go true = lengths-second i (before i (r .entries)) (newEntry r l) (entry i rest) _ (before-without i (r .entries)) (λ q. let z = known in omega arith) refl
         go false = lengths-first i (before i (r .entries)) (entry i rest) _ (before-without i (r .entries)) refl
 
-    made : Filled K (row.lengthsOf (length (r .entries)) (call .after .entries))
-    made = subst (Filled K) (sym (ap (row.lengthsOf (length (r .entries))) left-is ∙ made-lengths)) (hollow-no K l (parts .0))
+    made : NotHollow K (row.lengthsOf (length (r .entries)) (call .after .entries))
+    made = subst (NotHollow K) (sym (ap (row.lengthsOf (length (r .entries))) left-is ∙ made-lengths)) (hollow-no K l (parts .0))
 
-    left : Filled K (row.lengthsOf i (call .after .entries))
-    left = subst (Filled K) (sym (ap (row.lengthsOf i) left-is ∙ left-lengths)) (hollow-no K rest (parts .1))
+    left : NotHollow K (row.lengthsOf i (call .after .entries))
+    left = subst (NotHollow K) (sym (ap (row.lengthsOf i) left-is ∙ left-lengths)) (hollow-no K rest (parts .1))
 
 -- on a row whose ids are below its count, as on every row that calls have made
 pub parts-are : (K : Kind) (r : Row) → All (λ e. e .id < length (r .entries)) (r .entries) → (flag : Bool) (i : ℕ) (l : List ℕ) → Parts K r flag i l

@@ -13,7 +13,7 @@ use Rattle.model.specs.Lists.{All}
 use Rattle.model.specs.State.{State}
 use Rattle.model.specs.Row as row
 use Rattle.model.specs.Row.{Row, Entry, entry, Call, moved, refused, from, divided, overlong, rowMove, rowStep}
-use Rattle.model.specs.Promise.{Stands}
+use Rattle.model.specs.Promise.{Represents}
 use Rattle.theory.specs.RowEach.{from-all, inserted-all, changed-all, divided-all, unless-all, of-slots}
 
 -- entries of which none has too many
@@ -73,5 +73,5 @@ module _ (K : Kind) where
       go true o = h
       go false o = move-few r c o h
 
-pub stands-few : (K : Kind) (t : State) (r : Row) → Stands K t r → FewLines K (r .entries)
-stands-few K t r h = subst (FewLines K) (h .entries) (of-slots K t (h .sound .coherent) (λ l. tooManyLines K l ≡ false) (h .sound .lines))
+pub represents-few : (K : Kind) (t : State) (r : Row) → Represents K t r → FewLines K (r .entries)
+represents-few K t r h = subst (FewLines K) (h .entries) (of-slots K t (h .sound .coherent) (λ l. tooManyLines K l ≡ false) (h .sound .lines))

@@ -16,7 +16,7 @@ use Rattle.model.specs.State.{State}
 use Rattle.model.specs.Row as row
 use Rattle.model.specs.Row.{Row, Call, Entry, Answer, done, unless, overlong, rowMove, rowStep}
 use Rattle.model.specs.ById.{treeStep}
-use Rattle.model.specs.Promise.{InWords, Stands, Adds, earlier, Numbers}
+use Rattle.model.specs.Promise.{InWords, Represents, Adds, earlier, Numbers}
 use Rattle.abstract_tree.specs.Lists.{All-map}
 use Rattle.theory.specs.CallOpen.{clear}
 use Rattle.theory.specs.CallById.{step}
@@ -169,7 +169,7 @@ row-exactly K r row.first h z f = absurd h
 row-exactly K r row.malformed h z f = absurd h
 
 -- so it is on the tree
-pub numbers-are : (K : Kind) (ok : K .effect < K .views) (s : State) (r : Row) → Stands K s r → (c : Call) → InWords K c → Numbers K s r c
+pub numbers-are : (K : Kind) (ok : K .effect < K .views) (s : State) (r : Row) → Represents K s r → (c : Call) → InWords K c → Numbers K s r c
 numbers-are K ok s r h c k =
     let a : treeStep K s c .answer .number ≡ rowStep K r c .answer .number = ap (λ (x : Answer). x .number) (step K ok s r h c k .same) in
     record { nine = λ e. row-nine K r c (sym a ∙ e); only = λ e. row-eight K r c (sym a ∙ e); always = λ d f e. row-full K r c d f (sym a ∙ e); exactly = λ d z f. a ∙ row-exactly K r c d z f }

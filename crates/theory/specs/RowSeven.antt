@@ -15,10 +15,10 @@ use Rattle.model.specs.State.{State}
 use Rattle.model.specs.Row as row
 use Rattle.model.specs.Row.{Row, Entry, entry, Call, Answer, done, unless, before, from, after, total, overlong, rowMove, rowStep}
 use Rattle.model.specs.ById.{treeStep}
-use Rattle.model.specs.Promise.{InWords, Stands}
+use Rattle.model.specs.Promise.{InWords, Represents}
 use Rattle.theory.specs.CallSimulates.{count-is}
 use Rattle.theory.specs.RowEach.{inserted-all, changed-all}
-use Rattle.theory.specs.RowLines.{FewIn, FewLines, stands-few}
+use Rattle.theory.specs.RowLines.{FewIn, FewLines, represents-few}
 use Rattle.theory.specs.CallById.{step}
 use Rattle.theory.specs.RowNumbers.{number-is, no-cause, comes-only}
 
@@ -87,19 +87,19 @@ wanted r row.first = r .entries
 wanted r row.malformed = r .entries
 
 -- a tree that stands for a row: an insertion, a change, and every call
-module _ (t : State) (r : Row) (h : Stands base t r) where
+module _ (t : State) (r : Row) (h : Represents base t r) where
   few : length (r .entries) ≤ 65536
   few = (let z = ap length (h .entries) in omega (arith, count-is base t (h .sound .coherent), h .sound .coherent .entry-count, h .sound .coherent .limit-most))
 
   pub insert-seven : (i : ℕ) (l : List ℕ) → tooManyLines base l ≡ false
       → row.past base (row.inserted i (row.newEntry r l) (r .entries)) .applies ≡ pastOld (row.inserted i (row.newEntry r l) (r .entries))
   insert-seven i l o =
-      old-views (row.inserted i (row.newEntry r l) (r .entries)) (inserted-all (FewIn base) i (row.newEntry r l) (r .entries) o (stands-few base t r h))
+      old-views (row.inserted i (row.newEntry r l) (r .entries)) (inserted-all (FewIn base) i (row.newEntry r l) (r .entries) o (represents-few base t r h))
       (let z = one-more i (row.newEntry r l) (r .entries) in let y = few in omega arith)
 
   pub set-seven : (i : ℕ) (l : List ℕ) → tooManyLines base l ≡ false → row.past base (row.changed i l (r .entries)) .applies ≡ pastOld (row.changed i l (r .entries))
   set-seven i l o =
-      old-views (row.changed i l (r .entries)) (changed-all (FewIn base) i l (r .entries) o (stands-few base t r h))
+      old-views (row.changed i l (r .entries)) (changed-all (FewIn base) i l (r .entries) o (represents-few base t r h))
       (let z = no-less i l (r .entries) in let y = few in omega arith)
 
   set-by : (i : ℕ) (l vs : List ℕ) → unless r (row.noSuchId r i ∷ row.crossedBounds base l ∷ row.past base (row.changed i l (r .entries)) ∷ []) (row.changed i l (r .entries)) (done vs) .answer .number ≡ 7

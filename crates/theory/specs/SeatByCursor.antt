@@ -18,10 +18,10 @@ use Rattle.model.specs.Answer.{outcomeAnswer, insertedAnswer}
 use Rattle.model.specs.Sound.{Coherent, entriesOf}
 use Rattle.model.specs.Refuse.{opening, stale, atCursor, current}
 use Rattle.model.specs.Calls as calls
-use Rattle.model.specs.ById.{dividedAnswer}
+use Rattle.model.specs.ById.{dividedIdAnswer}
 use Rattle.model.specs.ByCursor as by
 use Rattle.model.specs.ByCursor.{CursorCall, EntryCall, cursorStep, entryStep, entryAt, meant, partsAnswer, withParts}
-use Rattle.model.specs.Promise.{Words, Stands, CursorInWords}
+use Rattle.model.specs.Promise.{Words, Represents, CursorInWords}
 use Rattle.model.specs.Seats.{badSeat, Fair}
 use Rattle.model.specs.SeatedCalls.{seatedReply, SeatedReply, space, insertSeated, splitSeated, resetSeated}
 use Rattle.model.specs.SeatedList as list
@@ -36,14 +36,14 @@ use Rattle.model.specs.declared.answer.Inserted.the-variants as inserted
 use Rattle.model.specs.declared.answer.Divided.{Divided}
 use Rattle.model.specs.declared.answer.Divided.the-variants as divided
 use Rattle.theory.specs.CallOpen.{stopped, few-lines, many-lines}
-use Rattle.theory.specs.CallSimulates.{Agrees, rowOf}
+use Rattle.theory.specs.CallSimulates.{Simulates, rowOf}
 use Rattle.theory.specs.CursorCurrent.{first-applies, is-current}
 use Rattle.theory.specs.CursorAnswered.{current-at, split-at-by}
 use Rattle.theory.specs.CallByCursor.{parts-read, is-clear, stops, small, word, cursor-step}
 use Rattle.theory.specs.TopByCursor.{cursor-fixed}
 use Rattle.theory.specs.SeatDeeds.{by-cursor-deed}
 use Rattle.theory.specs.RowCount.{unless-count, other-count}
-use Rattle.theory.specs.SeatById.{SeatedStands, spaces, seated-step}
+use Rattle.theory.specs.SeatById.{SeatedRepresents, spaces, seated-step}
 use Rattle.theory.specs.SeatRefused.{seated-refusals}
 
 -- calls on cursors that have nothing to do with seats -------------------------------------------------------------------------------------------
@@ -138,7 +138,7 @@ overlong-row K r x c e = rw e
 
 -- calls that name a seat ---------------------------------------------------------------------------------------------------------------------------
 
-module _ (K : Kind) (ok : K .effect < K .views) (s : Seated State) (r : Seated Row) (h : SeatedStands K s r) (x : Seat) where
+module _ (K : Kind) (ok : K .effect < K .views) (s : Seated State) (r : Seated Row) (h : SeatedRepresents K s r) (x : Seat) where
   abbrev t : State
   t = s .of
 
@@ -148,33 +148,33 @@ module _ (K : Kind) (ok : K .effect < K .views) (s : Seated State) (r : Seated R
   row-is : seated (rowOf K t) (s .seats) ≡ r
   row-is = ap₂ seated (ap₂ row.row (h .stands .limit) (h .stands .entries)) (h .seats)
 
-  own : SeatedStands K s (seated (rowOf K t) (s .seats))
-  own = subst (SeatedStands K s) (sym row-is) h
+  own : SeatedRepresents K s (seated (rowOf K t) (s .seats))
+  own = subst (SeatedRepresents K s) (sym row-is) h
 
-  stays : (n : ℕ) → Agrees (SeatedStands K) (moved s (refused n)) (moved r (refused n))
+  stays : (n : ℕ) → Simulates (SeatedRepresents K) (moved s (refused n)) (moved r (refused n))
   stays n = record { same = refl; kept = h }
 
   -- a cursor stands for its entry, or fails; where the lengths given have too many line ends, both answer 10
   with-one : (c : Cursor) (a : Moved (Seated State)) (f : ℕ → EntryCall)
-      → (current K t c ≡ true → Agrees (SeatedStands K) a (seatedEntryMove K r x (f (entryAt K t c))))
+      → (current K t c ≡ true → Simulates (SeatedRepresents K) a (seatedEntryMove K r x (f (entryAt K t c))))
       → ((n : ℕ) → refusal (stale K t c) ≡ suc n → a ≡ moved s (refused (suc n)))
-      → Agrees (SeatedStands K) a (seatedEntryMove K r x (by.standing K t c f))
+      → Simulates (SeatedRepresents K) a (seatedEntryMove K r x (by.standing K t c f))
   unfolding by.standing seatedEntryMove entryStep
   with-one c a f hit miss = go (refusal (stale K t c)) refl
     where
-      go : (n : ℕ) → refusal (stale K t c) ≡ n → Agrees (SeatedStands K) a (seatedEntryMove K r x (cond (eqb (refusal (stale K t c)) 0) (f (entryAt K t c)) (by.failed (refusal (stale K t c)))))
+      go : (n : ℕ) → refusal (stale K t c) ≡ n → Simulates (SeatedRepresents K) a (seatedEntryMove K r x (cond (eqb (refusal (stale K t c)) 0) (f (entryAt K t c)) (by.failed (refusal (stale K t c)))))
       go zero q = rw q (hit (is-clear K ok t w c q))
-      go (suc n) q = rw (q, ne-eqb (suc n) 0 (λ z. omega arith)) (subst (λ (z : Moved (Seated State)). Agrees (SeatedStands K) z (moved r (refused (suc n)))) (sym (miss n q)) (stays (suc n)))
+      go (suc n) q = rw (q, ne-eqb (suc n) 0 (λ z. omega arith)) (subst (λ (z : Moved (Seated State)). Simulates (SeatedRepresents K) z (moved r (refused (suc n)))) (sym (miss n q)) (stays (suc n)))
 
   with-lines : (l : List ℕ) (c : Cursor) (a : Moved (Seated State)) (f : ℕ → EntryCall)
       → (tooManyLines K l ≡ true → (a ≡ moved s (refused 10)) × (seatedEntryMove K r x (f (entryAt K t c)) ≡ moved r (refused 10)))
-      → (tooManyLines K l ≡ false → Agrees (SeatedStands K) a (seatedEntryMove K r x (by.standing K t c f)))
-      → Agrees (SeatedStands K) a (seatedEntryMove K r x (by.standingFor K t l c f))
+      → (tooManyLines K l ≡ false → Simulates (SeatedRepresents K) a (seatedEntryMove K r x (by.standing K t c f)))
+      → Simulates (SeatedRepresents K) a (seatedEntryMove K r x (by.standingFor K t l c f))
   unfolding by.standingFor
   with-lines l c a f many few = go (tooManyLines K l) refl
     where
-      go : (b : Bool) → tooManyLines K l ≡ b → Agrees (SeatedStands K) a (seatedEntryMove K r x (cond b (f (entryAt K t c)) (by.standing K t c f)))
-      go true e = subst (λ (z : Moved (Seated State)). Agrees (SeatedStands K) z (seatedEntryMove K r x (f (entryAt K t c)))) (sym (many e .0)) (subst (λ (z : Moved (Seated Row)). Agrees (SeatedStands K) (moved s (refused 10)) z) (sym (many e .1)) (stays 10))
+      go : (b : Bool) → tooManyLines K l ≡ b → Simulates (SeatedRepresents K) a (seatedEntryMove K r x (cond b (f (entryAt K t c)) (by.standing K t c f)))
+      go true e = subst (λ (z : Moved (Seated State)). Simulates (SeatedRepresents K) z (seatedEntryMove K r x (f (entryAt K t c)))) (sym (many e .0)) (subst (λ (z : Moved (Seated Row)). Simulates (SeatedRepresents K) (moved s (refused 10)) z) (sym (many e .1)) (stays 10))
       go false e = few e
 
   module _ (good : badSeat (s .seats) x ≡ false) where
@@ -185,20 +185,20 @@ module _ (K : Kind) (ok : K .effect < K .views) (s : Seated State) (r : Seated R
     unfolding inserting
     insert-refused tg l n e = ap (λ (z : SeatedReply Inserted). toldSeated z insertedAnswer) (insert-stops K s x tg l good n e)
 
-    by-insert : (c : Cursor) (l : List ℕ) → Words K l → Agrees (SeatedStands K) (inserting (target.Before c) l) (seatedEntryMove K r x (meant K t (by.insert (target.Before c) l)))
+    by-insert : (c : Cursor) (l : List ℕ) → Words K l → Simulates (SeatedRepresents K) (inserting (target.Before c) l) (seatedEntryMove K r x (meant K t (by.insert (target.Before c) l)))
     unfolding inserting meant seatedEntryMove seatedRow seatedTree seatedTreeMove
     by-insert c l k = with-lines l c (inserting (target.Before c) l) (λ i. by.plain (row.insert i l))
         (λ o. (insert-refused (target.Before c) l 9 (many-lines K l _ o), rw o))
         (λ o. with-one c (inserting (target.Before c) l) (λ i. by.plain (row.insert i l))
-        (λ e. subst (λ (z : Moved (Seated State)). Agrees (SeatedStands K) z (seatedRow K r (naming x (row.insert (entryAt K t c) l))))
+        (λ e. subst (λ (z : Moved (Seated State)). Simulates (SeatedRepresents K) z (seatedRow K r (naming x (row.insert (entryAt K t c) l))))
         (rw (o, good, ne-eqb (entryAt K t c) noEntry (λ z. let y = small K ok t w c e in omega arith), is-current K t w c e .1))
         (seated-step K ok s r h (naming x (row.insert (entryAt K t c) l)) (word K ok t w c e, k)))
         (λ n q. insert-refused (target.Before c) l n (few-lines K l _ o ∙ first-applies (opening K t ++ atCursor K t c) _ n (stops K ok t w c n q))))
 
     -- the end: too many line ends are 10 by id, and by the call itself
-    by-end : (l : List ℕ) → Words K l → Agrees (SeatedStands K) (inserting target.End l) (seatedEntryMove K r x (meant K t (by.insert target.End l)))
+    by-end : (l : List ℕ) → Words K l → Simulates (SeatedRepresents K) (inserting target.End l) (seatedEntryMove K r x (meant K t (by.insert target.End l)))
     unfolding inserting meant seatedEntryMove seatedTree seatedTreeMove
-    by-end l k = subst (λ (z : Moved (Seated State)). Agrees (SeatedStands K) z (seatedRow K r (naming x (row.insert noEntry l)))) (go (tooManyLines K l) refl) (seated-step K ok s r h (naming x (row.insert noEntry l)) (omega arith, k))
+    by-end l k = subst (λ (z : Moved (Seated State)). Simulates (SeatedRepresents K) z (seatedRow K r (naming x (row.insert noEntry l)))) (go (tooManyLines K l) refl) (seated-step K ok s r h (naming x (row.insert noEntry l)) (omega arith, k))
       where
         go : (p : Bool) → tooManyLines K l ≡ p → cond (tooManyLines K l || badSeat (s .seats) x) (moved s (refused 10)) (toldSeated (insertSeated K t (s .seats) x target.End l) insertedAnswer) ≡ toldSeated (insertSeated K t (s .seats) x target.End l) insertedAnswer
         go true o = rw o (sym (insert-refused target.End l 9 (many-lines K l _ o)))
@@ -220,7 +220,7 @@ module _ (K : Kind) (ok : K .effect < K .views) (s : Seated State) (r : Seated R
         (rw (o, good) (parts-read K flag (entryAt K t c) (t .head .entries) _ (calls.splitBy K (space t (s .seats) x) t c l flag .answer) _
         (split-at-by K ok t w (space t (s .seats) x) (rowSpace (rowOf K t) (s .seats) x) (spaces K ok t (h .stands .sound) (s .seats) (own .eight) (own .fair) x good) c (entryAt K t c) (current-at K t w c e) l wl o flag)))
 
-    by-split : (flag : Bool) (c : Cursor) (l : List ℕ) → Words K l → Agrees (SeatedStands K) (dividing flag c l) (seatedEntryMove K r x (meant K t (by.split flag c l)))
+    by-split : (flag : Bool) (c : Cursor) (l : List ℕ) → Words K l → Simulates (SeatedRepresents K) (dividing flag c l) (seatedEntryMove K r x (meant K t (by.split flag c l)))
     unfolding dividing meant seatedEntryMove seatedTree seatedTreeMove
     by-split flag c l k = with-lines l c (dividing flag c l) (λ i. by.parts flag i l)
         (λ o. (split-refused flag c l 9 (many-lines K l _ o), ap (λ (m : Moved (Seated Row)). moved (m .after) (withParts flag (entryAt K t c) (m .answer))) (long o)))
@@ -231,37 +231,37 @@ module _ (K : Kind) (ok : K .effect < K .views) (s : Seated State) (r : Seated R
         long : tooManyLines K l ≡ true → seatedRow K r (naming x (row.split flag (entryAt K t c) l)) ≡ moved r (refused 10)
         long o = overlong-row K r x (row.split flag (entryAt K t c) l) o
 
-        by-id : tooManyLines K l ≡ false → current K t c ≡ true → Agrees (SeatedStands K) (toldSeated (splitSeated K t (s .seats) x c l flag) dividedAnswer) (seatedRow K r (naming x (row.split flag (entryAt K t c) l)))
-        by-id o e = subst (λ (z : Moved (Seated State)). Agrees (SeatedStands K) z (seatedRow K r (naming x (row.split flag (entryAt K t c) l))))
+        by-id : tooManyLines K l ≡ false → current K t c ≡ true → Simulates (SeatedRepresents K) (toldSeated (splitSeated K t (s .seats) x c l flag) dividedIdAnswer) (seatedRow K r (naming x (row.split flag (entryAt K t c) l)))
+        by-id o e = subst (λ (z : Moved (Seated State)). Simulates (SeatedRepresents K) z (seatedRow K r (naming x (row.split flag (entryAt K t c) l))))
             (rw (o, good, is-current K t w c e .1)) (seated-step K ok s r h (naming x (row.split flag (entryAt K t c) l)) (word K ok t w c e, k))
 
   -- the others
-  by-reset : (l : List ℕ) → Words K l → Agrees (SeatedStands K) (toldSeated (resetSeated K t (s .seats) l) outcomeAnswer) (seatedEntryMove K r x (meant K t (by.reset l)))
+  by-reset : (l : List ℕ) → Words K l → Simulates (SeatedRepresents K) (toldSeated (resetSeated K t (s .seats) l) outcomeAnswer) (seatedEntryMove K r x (meant K t (by.reset l)))
   unfolding meant seatedEntryMove seatedTree seatedTreeMove resetSeated calls.reset
-  by-reset l k = subst (λ (z : Moved (Seated State)). Agrees (SeatedStands K) z (seatedRow K r (naming x (row.reset l)))) (go (tooManyLines K l) refl) (seated-step K ok s r h (naming x (row.reset l)) k)
+  by-reset l k = subst (λ (z : Moved (Seated State)). Simulates (SeatedRepresents K) z (seatedRow K r (naming x (row.reset l)))) (go (tooManyLines K l) refl) (seated-step K ok s r h (naming x (row.reset l)) k)
     where
       go : (p : Bool) → tooManyLines K l ≡ p → cond (tooManyLines K l || false) (moved s (refused 10)) (toldSeated (resetSeated K t (s .seats) l) outcomeAnswer) ≡ toldSeated (resetSeated K t (s .seats) l) outcomeAnswer
       go true o = rw (stopped (calls.makeCauses K (t .head .fan) (t .head .limit) l (t .leaves) (t .inners) (t .homes)) (λ m. calls.reply t (outcome.Refused m)) _ 9 (many-lines K l _ o), o)
       go false o = rw o
 
-  by-other : (c : CursorCall) → cursorDeed c ≡ list.nothing → CursorInWords K c → Agrees (SeatedStands K) (beside (s .seats) (cursorStep K t c)) (seatedEntryMove K r x (meant K t c))
+  by-other : (c : CursorCall) → cursorDeed c ≡ list.nothing → CursorInWords K c → Simulates (SeatedRepresents K) (beside (s .seats) (cursorStep K t c)) (seatedEntryMove K r x (meant K t c))
   by-other c e k =
-      let a : Agrees (Stands K) (cursorStep K t c) (entryStep K (r .of) (meant K t c)) = cursor-step K ok t w (r .of) (h .stands) c k in
+      let a : Simulates (Represents K) (cursorStep K t c) (entryStep K (r .of) (meant K t c)) = cursor-step K ok t w (r .of) (h .stands) c k in
       let n : Row = entryStep K (r .of) (meant K t c) .after in
       let limit : n .limit ≡ r .of .limit = sym (a .kept .limit) ∙ cursor-fixed K t c .limit ∙ h .stands .limit in
       let count : length (n .entries) ≡ length (r .of .entries) = subst (λ (q : Row). length (entryStep K q (meant K t c) .after .entries) ≡ length (q .entries)) (ap₂ row.row (h .stands .limit) (h .stands .entries)) (entry-count K t w (meant K t c) (meant-still K t c e)) in
-      subst (λ (z : Moved (Seated Row)). Agrees (SeatedStands K) (beside (s .seats) (cursorStep K t c)) z) (sym (entry-still K r x (meant K t c) (meant-still K t c e)))
+      subst (λ (z : Moved (Seated Row)). Simulates (SeatedRepresents K) (beside (s .seats) (cursorStep K t c)) z) (sym (entry-still K r x (meant K t c) (meant-still K t c e)))
       (record { same = a .same; kept = record { stands = a .kept; seats = h .seats; eight = h .eight; fair = subst (λ (m : ℕ). Fair m (length (n .entries)) (r .seats)) (sym limit) (subst (λ (m : ℕ). Fair (r .of .limit) m (r .seats)) (sym count) (h .fair)) } })
 
   -- every call: a wrong seat is 10 before any cursor is looked at
   abbrev Same : CursorCall → Type 0
-  Same c = CursorInWords K c → Agrees (SeatedStands K) (seatedCursorMove K t (s .seats) x c (cursorDeed c)) (seatedEntryMove K r x (cond (misnamed (s .seats) x (cursorDeed c)) (by.failed 10) (meant K t c)))
+  Same c = CursorInWords K c → Simulates (SeatedRepresents K) (seatedCursorMove K t (s .seats) x c (cursorDeed c)) (seatedEntryMove K r x (cond (misnamed (s .seats) x (cursorDeed c)) (by.failed 10) (meant K t c)))
 
   insert-same : (tg : Target) (l : List ℕ) → Same (by.insert tg l)
   unfolding seatedCursorMove insertSeated inserting seatedEntryMove entryStep
   insert-same tg l k = go (badSeat (s .seats) x) refl tg
     where
-      go : (p : Bool) → badSeat (s .seats) x ≡ p → (tg : Target) → Agrees (SeatedStands K) (toldSeated (insertSeated K t (s .seats) x tg l) insertedAnswer) (seatedEntryMove K r x (cond p (by.failed 10) (meant K t (by.insert tg l))))
+      go : (p : Bool) → badSeat (s .seats) x ≡ p → (tg : Target) → Simulates (SeatedRepresents K) (toldSeated (insertSeated K t (s .seats) x tg l) insertedAnswer) (seatedEntryMove K r x (cond p (by.failed 10) (meant K t (by.insert tg l))))
       go true q tg = rw q (stays 10)
       go false q (target.Before c) = by-insert q c l k
       go false q target.End = by-end q l k
@@ -271,7 +271,7 @@ module _ (K : Kind) (ok : K .effect < K .views) (s : Seated State) (r : Seated R
   split-same flag c l k = go (badSeat (s .seats) x) refl
     where
       go : (p : Bool) → badSeat (s .seats) x ≡ p
-          → Agrees (SeatedStands K) (let z = splitSeated K t (s .seats) x c l flag in toldSeated z (partsAnswer K (z .after))) (seatedEntryMove K r x (cond p (by.failed 10) (meant K t (by.split flag c l))))
+          → Simulates (SeatedRepresents K) (let z = splitSeated K t (s .seats) x c l flag in toldSeated z (partsAnswer K (z .after))) (seatedEntryMove K r x (cond p (by.failed 10) (meant K t (by.split flag c l))))
       go true q = rw q (stays 10)
       go false q = by-split q flag c l k
 
@@ -279,8 +279,8 @@ module _ (K : Kind) (ok : K .effect < K .views) (s : Seated State) (r : Seated R
   unfolding seatedCursorMove
   move-step = by-cursor-deed Same by-reset insert-same split-same (λ c e k. rw e (by-other c e k))
 
-pub seated-cursor-step : (K : Kind) (ok : K .effect < K .views) (s : Seated State) (r : Seated Row) → SeatedStands K s r → (c : Naming CursorCall) → CursorInWords K (c .call)
-    → Agrees (SeatedStands K) (seatedCursor K s c) (seatedEntry K r (seatedMeant K s c))
+pub seated-cursor-step : (K : Kind) (ok : K .effect < K .views) (s : Seated State) (r : Seated Row) → SeatedRepresents K s r → (c : Naming CursorCall) → CursorInWords K (c .call)
+    → Simulates (SeatedRepresents K) (seatedCursor K s c) (seatedEntry K r (seatedMeant K s c))
 unfolding seatedCursor seatedEntry seatedMeant
 seated-cursor-step K ok s r h c k = move-step K ok s r h (c .seat) (c .call) k
 

@@ -26,7 +26,7 @@ use Rattle.theory.specs.RowNumbers.{number-is, no-cause, comes-only, com
 use Rattle.theory.specs.CursorCurrent.{first-applies}
 use Rattle.theory.specs.SeatDeeds.{by-deed, nothing-added}
 use Rattle.theory.specs.SeatRules.{over-when, over-then, below-share}
-use Rattle.theory.specs.SeatById.{SeatedStands, number-in, seated-step}
+use Rattle.theory.specs.SeatById.{SeatedRepresents, number-in, seated-step}
 
 -- a cause at the end that doesn't apply
 not-last : (cs : List Cause) (n : ℕ) → refusal (cs ++ cause n false ∷ []) ≡ refusal cs
@@ -207,7 +207,7 @@ module _ (K : Kind) (r : Seated Row) (x : Seat) where
       go (inr n) = n
 
 -- so it is on the tree
-pub seated-numbers : (K : Kind) (ok : K .effect < K .views) (s : Seated State) (r : Seated Row) → SeatedStands K s r → (c : Naming Call) → InWords K (c .call) → SeatedNumbers K s r c
+pub seated-numbers : (K : Kind) (ok : K .effect < K .views) (s : Seated State) (r : Seated Row) → SeatedRepresents K s r → (c : Naming Call) → InWords K (c .call) → SeatedNumbers K s r c
 seated-numbers K ok s r h c k =
     let a : seatedTree K s c .answer .number ≡ seatedRow K r c .answer .number = ap (λ (z : Answer). z .number) (seated-step K ok s r h c k .same) in
     record {

@@ -126,7 +126,7 @@ module _ (K : Kind) (s : Seated State) where
   move-left x = by-deed (λ c. overlong K c ≡ false → InWords K c → Left (seatedTreeMove K (s .of) (s .seats) x c (deed c)))
       (λ l o k. reset-left l k)
       (λ i l o k. at-target i (calls.cursor K (s .of) i) (λ t. toldSeated (insertSeated K (s .of) (s .seats) x t l) insertedAnswer) (λ t. insert-left x t l (k .1)))
-      (λ flag i l o k. at-cursor (calls.cursor K (s .of) i) (λ c. toldSeated (splitSeated K (s .of) (s .seats) x c l flag) byId.dividedAnswer)
+      (λ flag i l o k. at-cursor (calls.cursor K (s .of) i) (λ c. toldSeated (splitSeated K (s .of) (s .seats) x c l flag) byId.dividedIdAnswer)
       (λ c. rw (id-number (splitSeated K (s .of) (s .seats) x c l flag .answer)) (split-left x c l flag (k .1))))
       (λ c e o k. rw e (left _ s (seated (treeMove K (s .of) c .after) (s .seats)) (rw o at (refusals K (s .of) .step c k)) (λ n. refl, record { seated = refl; shares = refl }) (rw o at (fixes K (s .of) .step c))))
 
@@ -225,7 +225,7 @@ module _ (K : Kind) (s : State) (b : Seats) (none : b .seated ≡ false) where
   move-like = by-deed (λ c. Like (seatedTreeMove K s b seat.Nobody c (deed c)) (treeMove K s c))
       (λ l. (refl, refl))
       (λ i l. target-like i (λ t. toldSeated (insertSeated K s b seat.Nobody t l) insertedAnswer) (λ t. told (calls.insert K s t l) insertedAnswer) (λ t. rw (insert-like t l) (refl, refl)))
-      (λ flag i l. cursor-like (calls.cursor K s i) (λ c. toldSeated (splitSeated K s b seat.Nobody c l flag) byId.dividedAnswer) (λ c. told (calls.splitEntry K s c l flag) byId.dividedAnswer) (λ c. rw (split-like c l flag) (refl, refl)))
+      (λ flag i l. cursor-like (calls.cursor K s i) (λ c. toldSeated (splitSeated K s b seat.Nobody c l flag) byId.dividedIdAnswer) (λ c. told (calls.splitEntry K s c l flag) byId.dividedIdAnswer) (λ c. rw (split-like c l flag) (refl, refl)))
       (λ c e. rw e (refl, refl))
 
   step-like : (c : Call) → Like (seatedTree K (seated s b) (naming seat.Nobody c)) (treeStep K s c)

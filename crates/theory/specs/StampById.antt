@@ -21,12 +21,12 @@ use Rattle.model.specs.Refuse as refuse′
 use Rattle.model.specs.Refuse.{shapeOf, opening, atCursor, stale}
 use Rattle.model.specs.Row as row
 use Rattle.model.specs.Row.{Row, Call, Answer, Moved, moved, refused, noEntry, overlong, rowStep}
-use Rattle.model.specs.ById.{withCursor, withTarget, standingAnswer, nextAnswer, locatedAnswer, idAnswer, dividedAnswer, told, treeMove, treeStep}
+use Rattle.model.specs.ById.{withCursor, withTarget, standingIdAnswer, nextAnswer, locatedAnswer, idAnswer, dividedIdAnswer, told, treeMove, treeStep}
 use Rattle.model.specs.Calls as calls
 use Rattle.model.specs.Calls.{Reply, cursorAt}
 use Rattle.model.specs.Sound.{Sound}
 use Rattle.model.specs.Audit.{isSound, audit}
-use Rattle.model.specs.Promise.{InWords, answers, finally, Stands}
+use Rattle.model.specs.Promise.{InWords, answers, finally, Represents}
 use Rattle.model.specs.Stamp.{restamped, AnyStamp, SameById}
 use Rattle.model.specs.declared.shape.Place.{Place}
 use Rattle.model.specs.declared.shape.Place.the-variants as slot
@@ -166,12 +166,12 @@ module _ (K : Kind) (m : ℕ) (s : State) where
       (with-moves i (λ c. told (calls.insert K s (target.Before c) l) insertedAnswer) (λ c. told (calls.insert K s′ (target.Before c) l) insertedAnswer)
       (λ k j. insert-moves (target.Before (here k j)) (target.Before (there k j)) l (record { stamp = m; is = refl }) (at-same k j)))
 
-  split-moves : (flag : Bool) (l : List ℕ) (k j : ℕ) → Moves (told (calls.splitEntry K s (here k j) l flag) dividedAnswer) (told (calls.splitEntry K s′ (there k j) l flag) dividedAnswer)
+  split-moves : (flag : Bool) (l : List ℕ) (k j : ℕ) → Moves (told (calls.splitEntry K s (here k j) l flag) dividedIdAnswer) (told (calls.splitEntry K s′ (there k j) l flag) dividedIdAnswer)
   unfolding calls.splitBy
   split-moves flag l k j =
-      unless-moves m s dividedAnswer divided.Refused (calls.splitCauses K (refuse′.full s ∷ []) s (here k j) l) (calls.splitCauses K (refuse′.full s′ ∷ []) s′ (there k j) l)
+      unless-moves m s dividedIdAnswer divided.Refused (calls.splitCauses K (refuse′.full s ∷ []) s (here k j) l) (calls.splitCauses K (refuse′.full s′ ∷ []) s′ (there k j) l)
       (ap₂ (λ (a b : List Cause). let ls = lengths (calls.slotAt K s (here k j)) in refuse′.manyLines K l ∷ (a ++ b ++ refuse′.tooMuch K l ls ∷ refuse′.hollowPart K l ls ∷ refuse′.crossedParts K l ls ∷ refuse′.full s ∷ [])) opening-same (at-same k j)) _ _
-      (settled-moves m s dividedAnswer divided.Refused (place.divide (shapeOf K (s .head)) flag s k j l) (place.divide (shapeOf K (s .head)) flag s′ k j l) (divide-twins (shapeOf K (s .head)) m flag s k j l) _ _ refl)
+      (settled-moves m s dividedIdAnswer divided.Refused (place.divide (shapeOf K (s .head)) flag s k j l) (place.divide (shapeOf K (s .head)) flag s′ k j l) (divide-twins (shapeOf K (s .head)) m flag s k j l) _ _ refl)
 
   resized-twins : (l : List ℕ) (k j : ℕ) → Climbed (shapeOf K (s .head)) (calls.resized K s (here k j) l) (calls.resized K s′ (there k j) l)
   resized-twins l k j = climb-twins (shapeOf K (s .head)) (K .effect) (minus l (lengths (calls.slotAt K s (here k j)))) _ _ (replace-twins (shapeOf K (s .head)) m s k j l)
@@ -194,8 +194,8 @@ module _ (K : Kind) (m : ℕ) (s : State) where
   unfolding calls.entryToCharIndex
   rank-same v k j = past-same k j number.Refused _
 
-  lengths-same : (k j : ℕ) → calls.lengthsOf K s′ (there k j) ≡ calls.lengthsOf K s (here k j)
-  unfolding calls.lengthsOf
+  lengths-same : (k j : ℕ) → calls.entryLengths K s′ (there k j) ≡ calls.entryLengths K s (here k j)
+  unfolding calls.entryLengths
   lengths-same k j = past-same k j refused _
 
   compare-same : (k j k′ j′ : ℕ) → calls.cmp K s′ (there k j) (there k′ j′) ≡ calls.cmp K s (here k j) (here k′ j′)
@@ -229,12 +229,12 @@ module _ (K : Kind) (m : ℕ) (s : State) where
       after leaf.Nothing = refl
       after leaf.Broken = refl
 
-  first-same : standingAnswer K s′ (calls.first K s′) ≡ standingAnswer K s (calls.first K s)
+  first-same : standingIdAnswer K s′ (calls.first K s′) ≡ standingIdAnswer K s (calls.first K s)
   unfolding calls.first opening
   first-same = both Same (eqb (refusal (opening K s)) 0) (at (firstDown (shapeOf K (s .head)) (s .head .levels) (s .head .root .0) (s .inners))) refl
     where
       Same : Standing → Standing → Type 0
-      Same a b = standingAnswer K s′ b ≡ standingAnswer K s a
+      Same a b = standingIdAnswer K s′ b ≡ standingIdAnswer K s a
 
       at : (x : Leaf) → Same (calls.firstOf (s .head .stamp) x) (calls.firstOf m x)
       at (leaf.At k) = ap (λ (n : Named). idAnswer n []) (id-same (k .0) 0)
@@ -329,8 +329,8 @@ sound-restamped K m s w =
       bounds = w .bounds;
     }
 
-pub stands-restamped : (K : Kind) (m : ℕ) (s : State) (r : Row) → Stands K s r → Stands K (restamped m s) r
-stands-restamped K m s r h =
+pub represents-restamped : (K : Kind) (m : ℕ) (s : State) (r : Row) → Represents K s r → Represents K (restamped m s) r
+represents-restamped K m s r h =
     let w = sound-restamped K m s (h .sound) in
     record { sound = w; entries = entries-are K (restamped m s) (w .coherent) ∙ sym (entries-are K s (h .sound .coherent)) ∙ h .entries; limit = h .limit }
 
@@ -353,9 +353,9 @@ audit-restamped K m s = go (eqb (refusal cs) 0) refl (isSound K s) refl (isSound
     go true p false q false r = rw (p, q, r)
 
 pub any-stamp : (K : Kind) (m : ℕ) (s : State) → AnyStamp K m s
-any-stamp K m s = record { sound = sound-restamped K m s; stands = stands-restamped K m s; audited = audit-restamped K m s }
+any-stamp K m s = record { sound = sound-restamped K m s; stands = represents-restamped K m s; audited = audit-restamped K m s }
 
 -- so both trees that a list by ids leaves stand for one row
-pub same-row : (K : Kind) → K .effect < K .views → (m : ℕ) (s : State) (r : Row) → Stands K s r → (cs : List Call) → All (InWords K) cs
-    → Stands K (finally (treeStep K) s cs) (finally (rowStep K) r cs) × Stands K (finally (treeStep K) (restamped m s) cs) (finally (rowStep K) r cs)
-same-row K ok m s r h cs k = (runs-alike K ok s r cs h k .1, runs-alike K ok (restamped m s) r cs (stands-restamped K m s r h) k .1)
+pub same-row : (K : Kind) → K .effect < K .views → (m : ℕ) (s : State) (r : Row) → Represents K s r → (cs : List Call) → All (InWords K) cs
+    → Represents K (finally (treeStep K) s cs) (finally (rowStep K) r cs) × Represents K (finally (treeStep K) (restamped m s) cs) (finally (rowStep K) r cs)
+same-row K ok m s r h cs k = (runs-alike K ok s r cs h k .1, runs-alike K ok (restamped m s) r cs (represents-restamped K m s r h) k .1)

@@ -21,15 +21,15 @@ use Rattle.model.specs.Calls as calls
 use Rattle.model.specs.Calls.{make}
 use Rattle.model.specs.ByCursor as by
 use Rattle.model.specs.ByCursor.{CursorCall, EntryCall, cursorStep, entryStep, entryAt, meant, meantAll}
-use Rattle.model.specs.Promise.{Words, Fixed, Stands, answers, CursorInWords, AlongCursors, Demand3ByCursor}
+use Rattle.model.specs.Promise.{Words, Fixed, Represents, answers, CursorInWords, AlongCursors, Demand3ByCursor}
 use Rattle.model.specs.declared.head.Cursor.{Cursor}
 use Rattle.model.specs.declared.answer.Target.the-variants as target
 use Rattle.model.specs.declared.answer.Outcome.the-variants as outcome
-use Rattle.theory.specs.CallSimulates.{Agrees}
+use Rattle.theory.specs.CallSimulates.{Simulates}
 use Rattle.theory.specs.CursorCurrent.{Fails, which, fails-by}
 use Rattle.theory.specs.RowNumbers.{row-nine}
 use Rattle.theory.specs.AnyFixed.{fixes}
-use Rattle.theory.specs.TopById.{kept-of, made, fan-made}
+use Rattle.theory.specs.TopById.{invariant-of, made, fan-made}
 use Rattle.theory.specs.CallByCursor.{cursor-step}
 
 -- a cursor that fails doesn't fail by that number
@@ -93,7 +93,7 @@ module _ (K : Kind) (s : State) (w : Coherent K s) (y : ℕ) (three : 3 ≢ y) (
   meant-not by.isEmpty = tt
 
 module _ (K : Kind) (ok : K .effect < K .views) (s : State) (w : Coherent K s) where
-  pub never-nine : (r : Row) → Stands K s r → (c : CursorCall) → CursorInWords K c → cursorStep K s c .answer .number ≢ 9
+  pub never-nine : (r : Row) → Represents K s r → (c : CursorCall) → CursorInWords K c → cursorStep K s c .answer .number ≢ 9
   never-nine r h c k e = entry-nine K r (meant K s c) (meant-not K s w 9 (λ z. omega arith) (λ z. omega arith) (λ z. omega arith) c) (ap (λ (a : Answer). a .number) (sym (cursor-step K ok s w r h c k .same)) ∙ e)
 
 -- no call changes the fan or the limit
@@ -117,19 +117,19 @@ cursor-fixed K s by.len = record { fan = refl; limit = refl }
 cursor-fixed K s by.isEmpty = record { fan = refl; limit = refl }
 
 module _ (K : Kind) (ok : K .effect < K .views) where
-  cursors-alike : (s : State) (r : Row) (cs : List CursorCall) → Stands K s r → All (CursorInWords K) cs → answers (cursorStep K) s cs ≡ answers (entryStep K) r (meantAll K s cs)
+  cursors-alike : (s : State) (r : Row) (cs : List CursorCall) → Represents K s r → All (CursorInWords K) cs → answers (cursorStep K) s cs ≡ answers (entryStep K) r (meantAll K s cs)
   unfolding answers meantAll All
   cursors-alike s r [] h k = refl
   cursors-alike s r (c ∷ cs) h k =
-      let a : Agrees (Stands K) (cursorStep K s c) (entryStep K r (meant K s c)) = cursor-step K ok s (h .sound .coherent) r h c (k .0) in
+      let a : Simulates (Represents K) (cursorStep K s c) (entryStep K r (meant K s c)) = cursor-step K ok s (h .sound .coherent) r h c (k .0) in
       ap₂ _∷_ (a .same) (cursors-alike (cursorStep K s c .after) (entryStep K r (meant K s c) .after) cs (a .kept) (k .1))
 
-  along-cursors : (fan : ℕ) (s : State) (r : Row) (cs : List CursorCall) → Stands K s r → s .head .fan ≡ fan → All (CursorInWords K) cs → AlongCursors K fan s r cs
+  along-cursors : (fan : ℕ) (s : State) (r : Row) (cs : List CursorCall) → Represents K s r → s .head .fan ≡ fan → All (CursorInWords K) cs → AlongCursors K fan s r cs
   unfolding AlongCursors All
-  along-cursors fan s r [] h f k = kept-of K ok fan s r h f
+  along-cursors fan s r [] h f k = invariant-of K ok fan s r h f
   along-cursors fan s r (c ∷ cs) h f k =
-      let a : Agrees (Stands K) (cursorStep K s c) (entryStep K r (meant K s c)) = cursor-step K ok s (h .sound .coherent) r h c (k .0) in
-      (kept-of K ok fan s r h f, a .same, never-nine K ok s (h .sound .coherent) r h c (k .0), along-cursors fan (cursorStep K s c .after) (entryStep K r (meant K s c) .after) cs (a .kept) (cursor-fixed K s c .fan ∙ f) (k .1))
+      let a : Simulates (Represents K) (cursorStep K s c) (entryStep K r (meant K s c)) = cursor-step K ok s (h .sound .coherent) r h c (k .0) in
+      (invariant-of K ok fan s r h f, a .same, never-nine K ok s (h .sound .coherent) r h c (k .0), along-cursors fan (cursorStep K s c .after) (entryStep K r (meant K s c) .after) cs (a .kept) (cursor-fixed K s c .fan ∙ f) (k .1))
 
 -- the whole list, from a make that isn't refused
 pub demand3-by-cursor : (K : Kind) → K .effect < K .views → (fan limit : ℕ) (l ls xs hs : List ℕ) → Words K l → make K fan limit l ls xs hs .answer ≡ outcome.Done → Demand3ByCursor K fan limit l ls xs hs

@@ -17,7 +17,7 @@ use Rattle.model.specs.Row.{Row, Entry, Call, Answer, done, refused, moved, unl
 use Rattle.model.specs.ById.{treeStep}
 use Rattle.model.specs.Calls as calls
 use Rattle.model.specs.Calls.{make, begun, areaCauses, makeCauses}
-use Rattle.model.specs.Promise.{Words, InWords, answers, finally, isLookup, others, otherAnswers, Stands, Kept, Along, Demand3}
+use Rattle.model.specs.Promise.{Words, InWords, answers, finally, isLookup, others, otherAnswers, Represents, Invariant, Along, Demand3}
 use Rattle.model.specs.declared.head.Held.the-variants as held
 use Rattle.model.specs.declared.answer.Outcome.{Outcome}
 use Rattle.model.specs.declared.answer.Outcome.the-variants as outcome
@@ -25,17 +25,17 @@ use Rattle.abstract_tree.specs.Follows.{levels-most, entry-floor}
 use Rattle.theory.specs.LiftTree.{treeOf}
 use Rattle.theory.specs.LiftSound.{body-of}
 use Rattle.theory.specs.CallOpen.{passed, stopped, clear}
-use Rattle.theory.specs.CallSimulates.{Agrees, count-is, ids-below}
-use Rattle.theory.specs.CallMake.{sizes-of, level-made, begun-stands}
-use Rattle.theory.specs.RowBounds.{stands-of}
+use Rattle.theory.specs.CallSimulates.{Simulates, count-is, ids-below}
+use Rattle.theory.specs.CallMake.{sizes-of, level-made, begun-mirrors}
+use Rattle.theory.specs.RowBounds.{represents-of}
 use Rattle.theory.specs.CallById.{step}
 use Rattle.theory.specs.RowNumbers.{numbers-are}
 use Rattle.theory.specs.RowHollow.{parts-are}
 use Rattle.theory.specs.LookupRow.{examines-are}
 use Rattle.theory.specs.AnyFixed.{step-fixed}
 
-pub kept-of : (K : Kind) (ok : K .effect < K .views) (fan : ℕ) (s : State) (r : Row) → Stands K s r → s .head .fan ≡ fan → Kept K fan s r
-kept-of K ok fan s r h f =
+pub invariant-of : (K : Kind) (ok : K .effect < K .views) (fan : ℕ) (s : State) (r : Row) → Represents K s r → s .head .fan ≡ fan → Invariant K fan s r
+invariant-of K ok fan s r h f =
     let n : s .head .entries ≡ length (r .entries) = sym (count-is K s (h .sound .coherent)) ∙ ap length (h .entries) in
     let b = body-of (stride K) s (K .effect) (h .sound .coherent) in
     record {
@@ -80,26 +80,26 @@ lookup-keeps K r row.count e = absurd (never e)
 lookup-keeps K r row.first e = absurd (never e)
 lookup-keeps K r row.malformed e = absurd (never e)
 
-pub runs-alike : (K : Kind) (ok : K .effect < K .views) (s : State) (r : Row) (cs : List Call) → Stands K s r → All (InWords K) cs → (answers (treeStep K) s cs ≡ answers (rowStep K) r cs) × Stands K (finally (treeStep K) s cs) (finally (rowStep K) r cs)
+pub runs-alike : (K : Kind) (ok : K .effect < K .views) (s : State) (r : Row) (cs : List Call) → Represents K s r → All (InWords K) cs → (answers (treeStep K) s cs ≡ answers (rowStep K) r cs) × Represents K (finally (treeStep K) s cs) (finally (rowStep K) r cs)
 unfolding answers finally All
 runs-alike K ok s r [] h k = (refl, h)
 runs-alike K ok s r (c ∷ cs) h k =
-    let a : Agrees (Stands K) (treeStep K s c) (rowStep K r c) = step K ok s r h c (k .0) in
+    let a : Simulates (Represents K) (treeStep K s c) (rowStep K r c) = step K ok s r h c (k .0) in
     let i = runs-alike K ok (treeStep K s c .after) (rowStep K r c .after) cs (a .kept) (k .1) in
     (ap₂ _∷_ (a .same) (i .0), i .1)
 
-along : (K : Kind) (ok : K .effect < K .views) (fan : ℕ) (s : State) (r : Row) (cs : List Call) → Stands K s r → s .head .fan ≡ fan → All (InWords K) cs → Along K fan s r cs
+along : (K : Kind) (ok : K .effect < K .views) (fan : ℕ) (s : State) (r : Row) (cs : List Call) → Represents K s r → s .head .fan ≡ fan → All (InWords K) cs → Along K fan s r cs
 unfolding Along All
-along K ok fan s r [] h f k = kept-of K ok fan s r h f
+along K ok fan s r [] h f k = invariant-of K ok fan s r h f
 along K ok fan s r (c ∷ cs) h f k =
-    let a : Agrees (Stands K) (treeStep K s c) (rowStep K r c) = step K ok s r h c (k .0) in
-    (kept-of K ok fan s r h f, a .same, along K ok fan (treeStep K s c .after) (rowStep K r c .after) cs (a .kept) (step-fixed K s c .fan ∙ f) (k .1))
+    let a : Simulates (Represents K) (treeStep K s c) (rowStep K r c) = step K ok s r h c (k .0) in
+    (invariant-of K ok fan s r h f, a .same, along K ok fan (treeStep K s c .after) (rowStep K r c .after) cs (a .kept) (step-fixed K s c .fan ∙ f) (k .1))
 
-others-alike : (K : Kind) (ok : K .effect < K .views) (s : State) (r : Row) (cs : List Call) → Stands K s r → All (InWords K) cs → otherAnswers (treeStep K) s cs ≡ answers (rowStep K) r (others cs)
+others-alike : (K : Kind) (ok : K .effect < K .views) (s : State) (r : Row) (cs : List Call) → Represents K s r → All (InWords K) cs → otherAnswers (treeStep K) s cs ≡ answers (rowStep K) r (others cs)
 unfolding answers otherAnswers others All
 others-alike K ok s r [] h k = refl
 others-alike K ok s r (c ∷ cs) h k =
-    let a : Agrees (Stands K) (treeStep K s c) (rowStep K r c) = step K ok s r h c (k .0) in
+    let a : Simulates (Represents K) (treeStep K s c) (rowStep K r c) = step K ok s r h c (k .0) in
     other (isLookup c) refl (a .same) (others-alike K ok (treeStep K s c .after) (rowStep K r c .after) cs (a .kept) (k .1))
   where
     other : (b : Bool) → isLookup c ≡ b → treeStep K s c .answer ≡ rowStep K r c .answer → otherAnswers (treeStep K) (treeStep K s c .after) cs ≡ answers (rowStep K) (rowStep K r c .after) (others cs)
@@ -131,10 +131,10 @@ module _ (K : Kind) (ok : K .effect < K .views) (fan limit : ℕ) (l : List ℕ)
   unfolding make
   made-is = passed (makeCauses K fan limit l ls xs hs) (λ n. calls.reply (state (headOf 0 0 0 0 0 0 0 0 held.Absent) ls xs hs) (outcome.Refused n)) (calls.reply (begun K fan limit 1 l ls xs hs) outcome.Done) not-refused
 
-  pub made : Stands K (make K fan limit l ls xs hs .after) (madeRow limit l)
+  pub made : Represents K (make K fan limit l ls xs hs .after) (madeRow limit l)
   unfolding All
-  made = subst (λ (r : calls.Reply Outcome). Stands K (r .after) (madeRow limit l)) (sym made-is)
-      (stands-of K (begun K fan limit 1 l ls xs hs) (madeRow limit l) (begun-stands K fan limit 1 l ls xs hs (sizes-of K fan limit ls xs hs (passes .1)) small) (passes .0, tt) (passes .2, tt))
+  made = subst (λ (r : calls.Reply Outcome). Represents K (r .after) (madeRow limit l)) (sym made-is)
+      (represents-of K (begun K fan limit 1 l ls xs hs) (madeRow limit l) (begun-mirrors K fan limit 1 l ls xs hs (sizes-of K fan limit ls xs hs (passes .1)) small) (passes .0, tt) (passes .2, tt))
 
   pub fan-made : make K fan limit l ls xs hs .after .head .fan ≡ fan
   unfolding begun
@@ -143,11 +143,11 @@ module _ (K : Kind) (ok : K .effect < K .views) (fan limit : ℕ) (l : List ℕ)
   -- every list of calls: the answers are the row's, and the state left is kept
   pub whole : (cs : List Call) → All (InWords K) cs
       → (answers (treeStep K) (make K fan limit l ls xs hs .after) cs ≡ answers (rowStep K) (madeRow limit l) cs)
-      × Kept K fan (finally (treeStep K) (make K fan limit l ls xs hs .after) cs) (finally (rowStep K) (madeRow limit l) cs)
+      × Invariant K fan (finally (treeStep K) (make K fan limit l ls xs hs .after) cs) (finally (rowStep K) (madeRow limit l) cs)
   whole cs k =
       let s = make K fan limit l ls xs hs .after in
       let r = runs-alike K ok s (madeRow limit l) cs made k in
-      (r .0, kept-of K ok fan (finally (treeStep K) s cs) (finally (rowStep K) (madeRow limit l) cs) (r .1) (fan-kept K s cs ∙ fan-made))
+      (r .0, invariant-of K ok fan (finally (treeStep K) s cs) (finally (rowStep K) (madeRow limit l) cs) (r .1) (fan-kept K s cs ∙ fan-made))
 
   -- the same after each call
   pub each : (cs : List Call) → All (InWords K) cs → Along K fan (make K fan limit l ls xs hs .after) (madeRow limit l) cs

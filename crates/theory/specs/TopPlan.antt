@@ -16,7 +16,7 @@ use Rattle.model.specs.Sound.{innerIn}
 use Rattle.model.specs.Refuse.{totalOf}
 use Rattle.model.specs.Calls.{make}
 use Rattle.model.specs.ById.{treeStep}
-use Rattle.model.specs.Promise.{Words, InWords, Leaves, Stands, answers}
+use Rattle.model.specs.Promise.{Words, InWords, Leaves, Represents, answers}
 use Rattle.model.specs.Plan as plan
 use Rattle.model.specs.Plan.{PlanCall, InPlan, asked, said, rowPlan, treePlan, ByChoice, AlongPlan, PlanDemand, PlanRefusals}
 use Rattle.model.specs.declared.answer.Outcome.the-variants as outcome
@@ -26,14 +26,14 @@ use Rattle.abstract_tree.specs.Place.{front, total-is}
 use Rattle.theory.specs.LiftTree.{treeOf, sum-slots}
 use Rattle.theory.specs.LiftSound.{body-of}
 use Rattle.theory.specs.LiftEntries.{entryFrom, total-entries}
-use Rattle.theory.specs.CallOpen.{seat}
-use Rattle.theory.specs.CallSimulates.{Agrees, entries-are, count-is, entries-at, before-is}
-use Rattle.theory.specs.RowBounds.{stands-level}
+use Rattle.theory.specs.CallOpen.{entry-found}
+use Rattle.theory.specs.CallSimulates.{Simulates, entries-are, count-is, entries-at, before-is}
+use Rattle.theory.specs.RowBounds.{represents-level}
 use Rattle.theory.specs.CallById.{step}
 use Rattle.theory.specs.RowNumbers.{row-nine}
 use Rattle.theory.specs.AnyFixed.{step-fixed}
 use Rattle.theory.specs.AnyRefused.{refusals}
-use Rattle.theory.specs.TopById.{kept-of, made, fan-made}
+use Rattle.theory.specs.TopById.{invariant-of, made, fan-made}
 use Rattle.theory.specs.PlanRow.{by-choice}
 
 -- the call that one comes to is in words, and asks for the totals of the two views alone
@@ -85,7 +85,7 @@ said-number (plan.latest i) a = refl
 said-number (plan.firstAt p) a = refl
 said-number (plan.lastAt p) a = refl
 
-module _ (t : State) (r : Row) (h : Stands planning t r) where
+module _ (t : State) (r : Row) (h : Represents planning t r) where
   -- the root's totals are the row's, and words
   sums : (v : ℕ) → v < 2 → totalOf planning t v ≡ sumBy (len v) (tree.row (treeOf 3 t))
   sums v lv = sym (sum-slots v (used (innerIn 3 t (t .head .root .0)))) ∙ total-is (treeOf 3 t) (body-of 3 t 1 (h .sound .coherent)) v
@@ -104,21 +104,21 @@ module _ (t : State) (r : Row) (h : Stands planning t r) where
   there i lt =
       let w = h .sound .coherent in
       let n : length (r .entries) ≡ t .head .entries = ap length (sym (h .entries)) ∙ count-is planning t w in
-      let c = seat planning t w i (omega arith) in
+      let c = entry-found planning t w i (omega arith) in
       subst (λ (es : List Entry). length (before i es) < length es) (h .entries)
       (let a = ap length (before-is planning t w i c) in
       let b = ap length (entries-at planning t w i c) ∙ length-append (map (entryFrom 2) (front (c .cur))) _ in
       omega arith)
 
   pub right : ByChoice r
-  right = by-choice r (stands-level planning t r h) small there
+  right = by-choice r (represents-level planning t r h) small there
 
-  pub plan-step : (c : PlanCall) → InPlan c → Agrees (Stands planning) (treePlan t c) (rowPlan r c)
+  pub plan-step : (c : PlanCall) → InPlan c → Simulates (Represents planning) (treePlan t c) (rowPlan r c)
   unfolding treePlan rowPlan
   plan-step c w =
       let same : asked (totalOf planning t) c ≡ asked (λ v. total v (r .entries)) c = asked-same (totalOf planning t) (λ v. total v (r .entries)) (totals-are 0 (omega arith)) (totals-are 1 (omega arith)) c in
-      let a : Agrees (Stands planning) (treeStep planning t (asked (totalOf planning t) c)) (rowStep planning r (asked (λ v. total v (r .entries)) c)) =
-      subst (λ (d : Call). Agrees (Stands planning) (treeStep planning t (asked (totalOf planning t) c)) (rowStep planning r d)) same (step planning (omega arith) t r h (asked (totalOf planning t) c) (asked-words (totalOf planning t) c w)) in
+      let a : Simulates (Represents planning) (treeStep planning t (asked (totalOf planning t) c)) (rowStep planning r (asked (λ v. total v (r .entries)) c)) =
+      subst (λ (d : Call). Simulates (Represents planning) (treeStep planning t (asked (totalOf planning t) c)) (rowStep planning r d)) same (step planning (omega arith) t r h (asked (totalOf planning t) c) (asked-words (totalOf planning t) c w)) in
       record { same = ap (said c) (a .same); kept = a .kept }
 
 -- never 9
@@ -130,19 +130,19 @@ plan-fan : (t : State) (c : PlanCall) → treePlan t c .after .head .fan ≡ t .
 unfolding treePlan
 plan-fan t c = step-fixed planning t (asked (totalOf planning t) c) .fan
 
-plans-alike : (t : State) (r : Row) (cs : List PlanCall) → Stands planning t r → All InPlan cs → answers treePlan t cs ≡ answers rowPlan r cs
+plans-alike : (t : State) (r : Row) (cs : List PlanCall) → Represents planning t r → All InPlan cs → answers treePlan t cs ≡ answers rowPlan r cs
 unfolding answers All
 plans-alike t r [] h w = refl
 plans-alike t r (c ∷ cs) h w =
-    let a : Agrees (Stands planning) (treePlan t c) (rowPlan r c) = plan-step t r h c (w .0) in
+    let a : Simulates (Represents planning) (treePlan t c) (rowPlan r c) = plan-step t r h c (w .0) in
     ap₂ _∷_ (a .same) (plans-alike (treePlan t c .after) (rowPlan r c .after) cs (a .kept) (w .1))
 
-along-plan : (fan : ℕ) (t : State) (r : Row) (cs : List PlanCall) → Stands planning t r → t .head .fan ≡ fan → All InPlan cs → AlongPlan fan t r cs
+along-plan : (fan : ℕ) (t : State) (r : Row) (cs : List PlanCall) → Represents planning t r → t .head .fan ≡ fan → All InPlan cs → AlongPlan fan t r cs
 unfolding AlongPlan All
-along-plan fan t r [] h f w = (kept-of planning (omega arith) fan t r h f, right t r h)
+along-plan fan t r [] h f w = (invariant-of planning (omega arith) fan t r h f, right t r h)
 along-plan fan t r (c ∷ cs) h f w =
-    let a : Agrees (Stands planning) (treePlan t c) (rowPlan r c) = plan-step t r h c (w .0) in (
-      kept-of planning (omega arith) fan t r h f,
+    let a : Simulates (Represents planning) (treePlan t c) (rowPlan r c) = plan-step t r h c (w .0) in (
+      invariant-of planning (omega arith) fan t r h f,
       right t r h,
       a .same,
       λ e. plan-nine r c (ap (λ (x : Answer). x .number) (sym (a .same)) ∙ e),
@@ -152,7 +152,7 @@ along-plan fan t r (c ∷ cs) h f w =
 -- the list theorem
 pub plan-whole : (fan limit : ℕ) (l ls xs hs : List ℕ) → Words planning l → make planning fan limit l ls xs hs .answer ≡ outcome.Done → PlanDemand fan limit l ls xs hs
 plan-whole fan limit l ls xs hs small given =
-    let h : Stands planning (make planning fan limit l ls xs hs .after) (madeRow limit l) = made planning (omega arith) fan limit l ls xs hs small given in
+    let h : Represents planning (make planning fan limit l ls xs hs .after) (madeRow limit l) = made planning (omega arith) fan limit l ls xs hs small given in
     record {
       answered = λ cs w. plans-alike (make planning fan limit l ls xs hs .after) (madeRow limit l) cs h w;
       each = λ cs w. along-plan fan (make planning fan limit l ls xs hs .after) (madeRow limit l) cs h (fan-made planning (omega arith) fan limit l ls xs hs small given) w;

@@ -19,10 +19,10 @@ use Rattle.model.specs.Sound.{Sound, entriesOf}
 use Rattle.model.specs.Audit.{audit}
 use Rattle.model.specs.declared.answer.Outcome.the-variants as outcome
 use Rattle.model.specs.declared.answer.Verdict.the-variants as verdict
-use Rattle.model.specs.Promise.{Words, InWords, Stands, answers, finally, Demand3}
+use Rattle.model.specs.Promise.{Words, InWords, Represents, answers, finally, Demand3}
 use Rattle.model.specs.Reading.{Reads, effectOf, here, effectPart, Other, ProvidedOf, Provided, Agreement}
 use Rattle.theory.specs.RowViews.{each-small}
-use Rattle.theory.specs.CallSimulates.{Agrees}
+use Rattle.theory.specs.CallSimulates.{Simulates}
 use Rattle.theory.specs.CallById.{step}
 use Rattle.theory.specs.TopById.{made, runs-alike, demand3}
 use Rattle.theory.specs.AuditExactly.{audit-exactly}
@@ -72,31 +72,32 @@ module _ (K : Kind) (ok : K .effect < K .views) (plain : K .ordered ≡ false) w
   all-in-words (c ∷ cs) w d = (in-words c (w .0) (d .0), all-in-words cs (w .1) (d .1))
 
   -- the proviso is the same of the trees and of their rows
-  pub on-rows : (s t : State) (r q : Row) → Stands K s r → Stands reading t q → (cs : List Call) → All (InWords K) cs → All (Reads K) cs → Provided K s t cs
+  pub on-rows : (s t : State) (r q : Row) → Represents K s r → Represents reading t q → (cs : List Call) → All (InWords K) cs → All (Reads K) cs
+      → Provided K s t cs
       → ProvidedOf K (rowStep K) (λ (z : Row). z .entries) (rowStep reading) r q cs
   unfolding ProvidedOf All
   on-rows s t r q a b [] k d p = tt
   on-rows s t r q a b (c ∷ cs) k d p =
-      let f : Agrees (Stands K) (treeStep K s c) (rowStep K r c) = step K ok s r a c (k .0) in
-      let g : Agrees (Stands reading) (treeStep reading t (here K c)) (rowStep reading q (here K c)) = step reading one t q b (here K c) (in-words c (k .0) (d .0)) in (
+      let f : Simulates (Represents K) (treeStep K s c) (rowStep K r c) = step K ok s r a c (k .0) in
+      let g : Simulates (Represents reading) (treeStep reading t (here K c)) (rowStep reading q (here K c)) = step reading one t q b (here K c) (in-words c (k .0) (d .0)) in (
         (λ o. p .0 (subst (λ (es : List Entry). Other K es c (treeStep K s c .answer .number)) (sym (a .entries)) (subst (λ (n : Answer). Other K (r .entries) c (n .number)) (sym (f .same)) o))),
         (λ e. p .1 (ap (λ (n : Answer). n .number) (g .same) ∙ e)),
         on-rows (treeStep K s c .after) (treeStep reading t (here K c) .after) (rowStep K r c .after) (rowStep reading q (here K c) .after) (f .kept) (g .kept) cs (k .1) (d .1) (p .2),
       )
 
-  pub on-trees : (s t : State) (r q : Row) → Stands K s r → Stands reading t q → (cs : List Call) → All (InWords K) cs → All (Reads K) cs
+  pub on-trees : (s t : State) (r q : Row) → Represents K s r → Represents reading t q → (cs : List Call) → All (InWords K) cs → All (Reads K) cs
       → ProvidedOf K (rowStep K) (λ (z : Row). z .entries) (rowStep reading) r q cs → Provided K s t cs
   unfolding ProvidedOf All
   on-trees s t r q a b [] k d p = tt
   on-trees s t r q a b (c ∷ cs) k d p =
-      let f : Agrees (Stands K) (treeStep K s c) (rowStep K r c) = step K ok s r a c (k .0) in
-      let g : Agrees (Stands reading) (treeStep reading t (here K c)) (rowStep reading q (here K c)) = step reading one t q b (here K c) (in-words c (k .0) (d .0)) in (
+      let f : Simulates (Represents K) (treeStep K s c) (rowStep K r c) = step K ok s r a c (k .0) in
+      let g : Simulates (Represents reading) (treeStep reading t (here K c)) (rowStep reading q (here K c)) = step reading one t q b (here K c) (in-words c (k .0) (d .0)) in (
         (λ o. p .0 (subst (λ (es : List Entry). Other K es c (rowStep K r c .answer .number)) (a .entries) (subst (λ (n : Answer). Other K (entriesOf K s) c (n .number)) (f .same) o))),
         (λ e. p .1 (sym (ap (λ (n : Answer). n .number) (g .same)) ∙ e)),
         on-trees (treeStep K s c .after) (treeStep reading t (here K c) .after) (rowStep K r c .after) (rowStep reading q (here K c) .after) (f .kept) (g .kept) cs (k .1) (d .1) (p .2),
       )
 
-  agreement-of : (s t : State) (r q : Row) → Stands K s r → Stands reading t q → RowsAlike K ok r q → Agreement K s t
+  agreement-of : (s t : State) (r q : Row) → Represents K s r → Represents reading t q → RowsAlike K ok r q → Agreement K s t
   agreement-of s t r q a b h = record {
     agrees = λ cs k d p. ap (map effectPart) (runs-alike reading one t q (map (here K) cs) b (all-in-words cs k d) .0) ∙ rows-agree r q h cs k d (on-rows s t r q a b cs k d p) .0
         ∙ sym (ap (map effectPart) (runs-alike K ok s r cs a k .0));
@@ -107,7 +108,7 @@ module _ (K : Kind) (ok : K .effect < K .views) (plain : K .ordered ≡ false) w
         last (finally (treeStep K) s cs) (finally (treeStep reading) t (map (here K) cs)) (finally (rowStep K) r cs) (finally (rowStep reading) q (map (here K) cs)) x y z c kc dc o;
   }
     where
-      last : (s t : State) (r q : Row) → Stands K s r → Stands reading t q → RowsAlike K ok r q → (c : Call) → InWords K c → Reads K c → Other K (entriesOf K s) c (treeStep K s c .answer .number)
+      last : (s t : State) (r q : Row) → Represents K s r → Represents reading t q → RowsAlike K ok r q → (c : Call) → InWords K c → Reads K c → Other K (entriesOf K s) c (treeStep K s c .answer .number)
           → treeStep reading t (here K c) .answer .number ≢ treeStep K s c .answer .number
       last s t r q a b h c k d o e =
           elsewhere K ok plain r q h c k d (treeStep K s c .answer .number) (subst (λ (es : List Entry). Other K es c (treeStep K s c .answer .number)) (a .entries) o)

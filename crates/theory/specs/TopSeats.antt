@@ -19,18 +19,18 @@ use Rattle.model.specs.Promise.{Words, CursorInWords, earlier, answers, finally
 use Rattle.model.specs.Seats.{seatsOf, noCharges, share, charge, Fair}
 use Rattle.model.specs.SeatedCalls.{SeatedReply}
 use Rattle.model.specs.SeatedList.{Seated, seated, Naming, naming, cursorDeed, misnamed, seatedRow, seatedTree, seatedCursor, seatedEntryMove, seatedEntry, seatedMeant, seatedMeantAll}
-use Rattle.model.specs.SeatPromise.{NamingInWords, CursorNamingInWords, Asks, BelowShare, SeatedKept, AlongSeats, AlongSeatedCursors, SeatedDemand3, SeatedLists}
+use Rattle.model.specs.SeatPromise.{NamingInWords, CursorNamingInWords, Asks, BelowShare, SeatedInvariant, AlongSeats, AlongSeatedCursors, SeatedDemand3, SeatedLists}
 use Rattle.model.specs.declared.seats.Seat.{Seat}
 use Rattle.model.specs.declared.seats.Seat.the-variants as seat
 use Rattle.model.specs.declared.answer.Outcome.{Outcome}
 use Rattle.model.specs.declared.answer.Outcome.the-variants as outcome
-use Rattle.theory.specs.CallSimulates.{Agrees}
+use Rattle.theory.specs.CallSimulates.{Simulates}
 use Rattle.theory.specs.RowNumbers.{number-is, no-cause}
-use Rattle.theory.specs.TopById.{kept-of, made, fan-made}
+use Rattle.theory.specs.TopById.{invariant-of, made, fan-made}
 use Rattle.theory.specs.TopByCursor.{NotBy, meant-not}
 use Rattle.theory.specs.TopStamps.{stamped}
 use Rattle.theory.specs.SeatRules.{fair-begun}
-use Rattle.theory.specs.SeatById.{SeatedStands, seated-step}
+use Rattle.theory.specs.SeatById.{SeatedRepresents, seated-step}
 use Rattle.theory.specs.SeatNumbers.{Apart, eight-apart, nine-apart, eighteen-apart, eighteen-only, eight-not, nine-not, seated-numbers}
 use Rattle.theory.specs.SeatRefused.{seated-refusals, seated-made, shares-within}
 use Rattle.theory.specs.SeatByCursor.{seated-cursor-step, seated-cursor-fan}
@@ -48,7 +48,7 @@ module _ (K : Kind) (r : Seated Row) (x : Seat) (y : ℕ) (a : Apart y) (never :
   entry-not by.isEmpty k = λ e. a .done (sym e)
   entry-not (by.failed n) k = k
 
-module _ (K : Kind) (ok : K .effect < K .views) (s : Seated State) (r : Seated Row) (h : SeatedStands K s r) (c : Naming CursorCall) (k : CursorInWords K (c .call)) where
+module _ (K : Kind) (ok : K .effect < K .views) (s : Seated State) (r : Seated Row) (h : SeatedRepresents K s r) (c : Naming CursorCall) (k : CursorInWords K (c .call)) where
   cursor-not : (y : ℕ) → Apart y → 3 ≢ y → 13 ≢ y → 14 ≢ y → ((d : Call) → seatedRow K r (naming (c .seat) d) .answer .number ≢ y) → seatedCursor K s c .answer .number ≢ y
   unfolding seatedEntry seatedMeant
   cursor-not y a three thirteen fourteen never e =
@@ -79,40 +79,40 @@ module _ (K : Kind) (ok : K .effect < K .views) (s : Seated State) (r : Seated R
 -- lists -------------------------------------------------------------------------------------------------------------------------------------------
 
 module _ (K : Kind) (ok : K .effect < K .views) where
-  seated-kept : (fan : ℕ) (s : Seated State) (r : Seated Row) → SeatedStands K s r → s .of .head .fan ≡ fan → SeatedKept K fan s r
+  seated-kept : (fan : ℕ) (s : Seated State) (r : Seated Row) → SeatedRepresents K s r → s .of .head .fan ≡ fan → SeatedInvariant K fan s r
   seated-kept fan s r h f =
-      let k = kept-of K ok fan (s .of) (r .of) (h .stands) f in
+      let k = invariant-of K ok fan (s .of) (r .of) (h .stands) f in
       let fair : Fair (s .of .head .limit) (s .of .head .entries) (r .seats) = subst (λ (n : ℕ). Fair n (s .of .head .entries) (r .seats)) (sym (k .limit)) (subst (λ (n : ℕ). Fair (r .of .limit) n (r .seats)) (sym (k .count)) (h .fair)) in
       record { kept = k; sound = record { sound = h .stands .sound; fair = subst (Fair (s .of .head .limit) (s .of .head .entries)) (sym (h .seats)) fair }; seats = h .seats; numbers = seated-numbers K ok s r h }
 
-  seated-alike : (s : Seated State) (r : Seated Row) (cs : List (Naming Call)) → SeatedStands K s r → All (NamingInWords K) cs
-      → (answers (seatedTree K) s cs ≡ answers (seatedRow K) r cs) × SeatedStands K (finally (seatedTree K) s cs) (finally (seatedRow K) r cs)
+  seated-alike : (s : Seated State) (r : Seated Row) (cs : List (Naming Call)) → SeatedRepresents K s r → All (NamingInWords K) cs
+      → (answers (seatedTree K) s cs ≡ answers (seatedRow K) r cs) × SeatedRepresents K (finally (seatedTree K) s cs) (finally (seatedRow K) r cs)
   unfolding answers finally All
   seated-alike s r [] h k = (refl, h)
   seated-alike s r (c ∷ cs) h k =
-      let a : Agrees (SeatedStands K) (seatedTree K s c) (seatedRow K r c) = seated-step K ok s r h c (k .0) in
+      let a : Simulates (SeatedRepresents K) (seatedTree K s c) (seatedRow K r c) = seated-step K ok s r h c (k .0) in
       let i = seated-alike (seatedTree K s c .after) (seatedRow K r c .after) cs (a .kept) (k .1) in
       (ap₂ _∷_ (a .same) (i .0), i .1)
 
-  along-seats : (fan : ℕ) (s : Seated State) (r : Seated Row) (cs : List (Naming Call)) → SeatedStands K s r → s .of .head .fan ≡ fan → All (NamingInWords K) cs → AlongSeats K fan s r cs
+  along-seats : (fan : ℕ) (s : Seated State) (r : Seated Row) (cs : List (Naming Call)) → SeatedRepresents K s r → s .of .head .fan ≡ fan → All (NamingInWords K) cs → AlongSeats K fan s r cs
   unfolding AlongSeats All
   along-seats fan s r [] h f k = seated-kept fan s r h f
   along-seats fan s r (c ∷ cs) h f k =
-      let a : Agrees (SeatedStands K) (seatedTree K s c) (seatedRow K r c) = seated-step K ok s r h c (k .0) in
+      let a : Simulates (SeatedRepresents K) (seatedTree K s c) (seatedRow K r c) = seated-step K ok s r h c (k .0) in
       (seated-kept fan s r h f, a .same, along-seats fan (seatedTree K s c .after) (seatedRow K r c .after) cs (a .kept) (seated-refusals K s .step c (k .0) .fixed .fan ∙ f) (k .1))
 
-  cursors-alike : (s : Seated State) (r : Seated Row) (cs : List (Naming CursorCall)) → SeatedStands K s r → All (CursorNamingInWords K) cs → answers (seatedCursor K) s cs ≡ answers (seatedEntry K) r (seatedMeantAll K s cs)
+  cursors-alike : (s : Seated State) (r : Seated Row) (cs : List (Naming CursorCall)) → SeatedRepresents K s r → All (CursorNamingInWords K) cs → answers (seatedCursor K) s cs ≡ answers (seatedEntry K) r (seatedMeantAll K s cs)
   unfolding answers seatedMeantAll All
   cursors-alike s r [] h k = refl
   cursors-alike s r (c ∷ cs) h k =
-      let a : Agrees (SeatedStands K) (seatedCursor K s c) (seatedEntry K r (seatedMeant K s c)) = seated-cursor-step K ok s r h c (k .0) in
+      let a : Simulates (SeatedRepresents K) (seatedCursor K s c) (seatedEntry K r (seatedMeant K s c)) = seated-cursor-step K ok s r h c (k .0) in
       ap₂ _∷_ (a .same) (cursors-alike (seatedCursor K s c .after) (seatedEntry K r (seatedMeant K s c) .after) cs (a .kept) (k .1))
 
-  along-cursors : (fan : ℕ) (s : Seated State) (r : Seated Row) (cs : List (Naming CursorCall)) → SeatedStands K s r → s .of .head .fan ≡ fan → All (CursorNamingInWords K) cs → AlongSeatedCursors K fan s r cs
+  along-cursors : (fan : ℕ) (s : Seated State) (r : Seated Row) (cs : List (Naming CursorCall)) → SeatedRepresents K s r → s .of .head .fan ≡ fan → All (CursorNamingInWords K) cs → AlongSeatedCursors K fan s r cs
   unfolding AlongSeatedCursors All
   along-cursors fan s r [] h f k = seated-kept fan s r h f
   along-cursors fan s r (c ∷ cs) h f k =
-      let a : Agrees (SeatedStands K) (seatedCursor K s c) (seatedEntry K r (seatedMeant K s c)) = seated-cursor-step K ok s r h c (k .0) in (
+      let a : Simulates (SeatedRepresents K) (seatedCursor K s c) (seatedEntry K r (seatedMeant K s c)) = seated-cursor-step K ok s r h c (k .0) in (
         seated-kept fan s r h f,
         a .same,
         cursor-nine K ok s r h c (k .0),
@@ -122,16 +122,16 @@ module _ (K : Kind) (ok : K .effect < K .views) where
       )
 
   -- whoever called before
-  never-for-space : (s : Seated State) (r : Seated Row) → SeatedStands K s r → (cs : List (Naming Call)) → All (NamingInWords K) cs → (c : Naming Call) → NamingInWords K c → (i : ℕ)
+  never-for-space : (s : Seated State) (r : Seated Row) → SeatedRepresents K s r → (cs : List (Naming Call)) → All (NamingInWords K) cs → (c : Naming Call) → NamingInWords K c → (i : ℕ)
       → (let q = finally (seatedRow K) r cs in Asks q c i → charge (q .seats) i < share (q .seats) i → seatedTree K (finally (seatedTree K) s cs) c .answer .number ≡ earlier K (q .of) (c .call))
   never-for-space s r h cs k c j i a lt = seated-numbers K ok (finally (seatedTree K) s cs) (finally (seatedRow K) r cs) (seated-alike s r cs h k .1) c j .below i a lt
 
-  left-by-cursors : (s : Seated State) (r : Seated Row) (cs : List (Naming CursorCall)) → SeatedStands K s r → All (CursorNamingInWords K) cs → Coherent K (finally (seatedCursor K) s cs .of)
+  left-by-cursors : (s : Seated State) (r : Seated Row) (cs : List (Naming CursorCall)) → SeatedRepresents K s r → All (CursorNamingInWords K) cs → Coherent K (finally (seatedCursor K) s cs .of)
   unfolding finally All
   left-by-cursors s r [] h k = h .stands .sound .coherent
   left-by-cursors s r (c ∷ cs) h k = left-by-cursors (seatedCursor K s c .after) (seatedEntry K r (seatedMeant K s c) .after) cs (seated-cursor-step K ok s r h c (k .0) .kept) (k .1)
 
-  pub seated-demand3 : (fan : ℕ) (s : Seated State) (r : Seated Row) → SeatedStands K s r → s .of .head .fan ≡ fan → s .of .head .stamp < 2 ^ 64 → SeatedDemand3 K fan s r
+  pub seated-demand3 : (fan : ℕ) (s : Seated State) (r : Seated Row) → SeatedRepresents K s r → s .of .head .fan ≡ fan → s .of .head .stamp < 2 ^ 64 → SeatedDemand3 K fan s r
   seated-demand3 fan s r h f small = record {
     answered = λ cs k. seated-alike s r cs h k .0;
     each = λ cs k. along-seats fan s r cs h f k;

@@ -18,7 +18,7 @@ use Rattle.model.specs.Calls.{make, begun, cursorAt}
 use Rattle.model.specs.Answer.{outcomeAnswer}
 use Rattle.model.specs.ByCursor as by
 use Rattle.model.specs.ByCursor.{CursorCall, cursorStep, entryStep, meant}
-use Rattle.model.specs.Promise.{Words, CursorInWords, finally, Stands}
+use Rattle.model.specs.Promise.{Words, CursorInWords, finally, Represents}
 use Rattle.model.specs.Stamp.{one, makes, makesAll, Counts, GoesRound, AcrossReset, Stamped}
 use Rattle.model.specs.declared.head.Cursor.{Cursor}
 use Rattle.model.specs.declared.answer.Outcome.{Outcome}
@@ -58,38 +58,38 @@ module _ (K : Kind) (l : List ℕ) (few : tooManyLines K l ≡ false) (level : c
 
 module _ (K : Kind) (ok : K .effect < K .views) where
   -- what a call leaves stands for a row again
-  stands-after : (s : State) (r : Row) → Stands K s r → (c : CursorCall) → CursorInWords K c → Stands K (cursorStep K s c .after) (entryStep K r (meant K s c) .after)
-  stands-after s r h c k = cursor-step K ok s (h .sound .coherent) r h c k .kept
+  represents-after : (s : State) (r : Row) → Represents K s r → (c : CursorCall) → CursorInWords K c → Represents K (cursorStep K s c .after) (entryStep K r (meant K s c) .after)
+  represents-after s r h c k = cursor-step K ok s (h .sound .coherent) r h c k .kept
 
-  reset-in : (s : State) (r : Row) → Stands K s r → (xs ys : List CursorCall) (l : List ℕ) → All (CursorInWords K) xs → tooManyLines K l ≡ false → crossed K l ≡ false → 0 < makesAll K s (xs ++ by.reset l ∷ ys)
+  reset-in : (s : State) (r : Row) → Represents K s r → (xs ys : List CursorCall) (l : List ℕ) → All (CursorInWords K) xs → tooManyLines K l ≡ false → crossed K l ≡ false → 0 < makesAll K s (xs ++ by.reset l ∷ ys)
   unfolding makesAll All
   reset-in s r h [] ys l k few level = (let z = reset-makes K l few level s (h .sound .coherent) in omega arith)
-  reset-in s r h (x ∷ xs) ys l k few level = (let z = reset-in (cursorStep K s x .after) (entryStep K r (meant K s x) .after) (stands-after s r h x (k .0)) xs ys l (k .1) few level in omega arith)
+  reset-in s r h (x ∷ xs) ys l k few level = (let z = reset-in (cursorStep K s x .after) (entryStep K r (meant K s x) .after) (represents-after s r h x (k .0)) xs ys l (k .1) few level in omega arith)
 
-  pub across-reset : (s : State) (r : Row) → Stands K s r → s .head .stamp < 2 ^ 64 → (c : Cursor) → c .stamp ≡ s .head .stamp → (xs ys : List CursorCall) (l : List ℕ)
+  pub across-reset : (s : State) (r : Row) → Represents K s r → s .head .stamp < 2 ^ 64 → (c : Cursor) → c .stamp ≡ s .head .stamp → (xs ys : List CursorCall) (l : List ℕ)
       → All (CursorInWords K) xs → tooManyLines K l ≡ false → crossed K l ≡ false
       → makesAll K s (xs ++ by.reset l ∷ ys) < 2 ^ 64 → refusal (stale K (finally (cursorStep K) s (xs ++ by.reset l ∷ ys)) c) ≡ 3
   across-reset s r h small c issued xs ys l k few level less = never-again K s small c issued (xs ++ by.reset l ∷ ys) (reset-in s r h xs ys l k few level) less
 
   -- n resets in a row
   module _ (l : List ℕ) (words : Words K l) (few : tooManyLines K l ≡ false) (level : crossed K l ≡ false) where
-    resets-make : (n : ℕ) (s : State) (r : Row) → Stands K s r → makesAll K s (replicate n (by.reset l)) ≡ n
+    resets-make : (n : ℕ) (s : State) (r : Row) → Represents K s r → makesAll K s (replicate n (by.reset l)) ≡ n
     unfolding makesAll
     resets-make zero s r h = refl
     resets-make (suc n) s r h =
         let a = reset-makes K l few level s (h .sound .coherent) in
-        let b = resets-make n (cursorStep K s (by.reset l) .after) (entryStep K r (meant K s (by.reset l)) .after) (stands-after s r h (by.reset l) words) in
+        let b = resets-make n (cursorStep K s (by.reset l) .after) (entryStep K r (meant K s (by.reset l)) .after) (represents-after s r h (by.reset l) words) in
         omega arith
 
     -- a coherent tree with one leaf
     abbrev Lone : State → Type 0
     Lone t = Coherent K t × (t .head .leaves ≡ 1)
 
-    resets-lone : (n : ℕ) (s : State) (r : Row) → Stands K s r → 0 < n → Lone (finally (cursorStep K) s (replicate n (by.reset l)))
+    resets-lone : (n : ℕ) (s : State) (r : Row) → Represents K s r → 0 < n → Lone (finally (cursorStep K) s (replicate n (by.reset l)))
     unfolding finally
     resets-lone zero s r h more = absurd (omega arith)
-    resets-lone (suc zero) s r h more = (stands-after s r h (by.reset l) words .sound .coherent, reset-lone K l few level s (h .sound .coherent))
-    resets-lone (suc (suc n)) s r h more = resets-lone (suc n) (cursorStep K s (by.reset l) .after) (entryStep K r (meant K s (by.reset l)) .after) (stands-after s r h (by.reset l) words) (omega arith)
+    resets-lone (suc zero) s r h more = (represents-after s r h (by.reset l) words .sound .coherent, reset-lone K l few level s (h .sound .coherent))
+    resets-lone (suc (suc n)) s r h more = resets-lone (suc n) (cursorStep K s (by.reset l) .after) (entryStep K r (meant K s (by.reset l)) .after) (represents-after s r h (by.reset l) words) (omega arith)
 
     lone-passes : (t : State) → Lone t → (m : ℕ) → t .head .stamp ≡ m → refusal (stale K t (cursorAt m 0 0)) ≡ 0
     unfolding refusal
@@ -98,7 +98,7 @@ module _ (K : Kind) (ok : K .effect < K .views) where
         let filled = w .0 .leaf-filled 0 one-leaf .low in
         subst (λ (n : ℕ). refusal (stale K t (cursorAt n 0 0)) ≡ 0) e (fresh K t (w .0) 0 0 [] one-leaf (rw (w .1) at filled))
 
-    module _ (s : State) (r : Row) (h : Stands K s r) (small : s .head .stamp < 2 ^ 64) where
+    module _ (s : State) (r : Row) (h : Represents K s r) (small : s .head .stamp < 2 ^ 64) where
       round-stamp : (n : ℕ) → n ≡ 2 ^ 64 → finally (cursorStep K) s (replicate n (by.reset l)) .head .stamp ≡ s .head .stamp
       round-stamp n e =
           let a = made-by K s small (replicate n (by.reset l)) in
@@ -111,14 +111,14 @@ module _ (K : Kind) (ok : K .effect < K .views) where
       pub goes-round : GoesRound K s l
       goes-round = record { made = resets-make (2 ^ 64) s r h; stamp = round-stamp (2 ^ 64) refl; passes = round-passes (2 ^ 64) refl }
 
-  pub across : (s : State) (r : Row) → Stands K s r → s .head .stamp < 2 ^ 64 → AcrossReset K s
+  pub across : (s : State) (r : Row) → Represents K s r → s .head .stamp < 2 ^ 64 → AcrossReset K s
   across s r h small = record { shut = across-reset s r h small; round = λ l words few level. goes-round l words few level s r h small }
 
   -- after every list of calls
-  across-after : (s : State) (r : Row) → Stands K s r → s .head .stamp < 2 ^ 64 → (cs : List CursorCall) → All (CursorInWords K) cs → AcrossReset K (finally (cursorStep K) s cs)
+  across-after : (s : State) (r : Row) → Represents K s r → s .head .stamp < 2 ^ 64 → (cs : List CursorCall) → All (CursorInWords K) cs → AcrossReset K (finally (cursorStep K) s cs)
   unfolding finally All
   across-after s r h small [] k = across s r h small
-  across-after s r h small (c ∷ cs) k = across-after (cursorStep K s c .after) (entryStep K r (meant K s c) .after) (stands-after s r h c (k .0)) (still-small K s small (c ∷ [])) cs (k .1)
+  across-after s r h small (c ∷ cs) k = across-after (cursorStep K s c .after) (entryStep K r (meant K s c) .after) (represents-after s r h c (k .0)) (still-small K s small (c ∷ [])) cs (k .1)
 
   -- from a make that isn't refused
   module _ (fan limit : ℕ) (l ls xs hs : List ℕ) (words : Words K l) (given : make K fan limit l ls xs hs .answer ≡ outcome.Done) where

@@ -36,7 +36,7 @@ pub record Pre (v e : ℕ) (xs : List (List ℕ)) (index : ℕ) (b : Stand) : Ty
   pub past : b .within ≤ index
 
 -- the slot that a walk finds, with the sums before it
-pub record Reached (v e : ℕ) (xs : List (List ℕ)) (f : Finger) (index : ℕ) : Type 0 where
+pub record WalkReached (v e : ℕ) (xs : List (List ℕ)) (f : Finger) (index : ℕ) : Type 0 where
   pub slot : ℕ
   pub offset : ℕ
   pub effectWithin : ℕ
@@ -71,10 +71,10 @@ module _ (v e : ℕ) (xs : List (List ℕ)) (sv : node.total v xs < 4294967296) 
     unfolding walked stop
     walk-is r q = rw (le-ltb index (stop .within) (pre .past), q)
 
-    pub walk-hit : index < node.total v xs → Reached v e xs f index
+    pub walk-hit : index < node.total v xs → WalkReached v e xs f index
     walk-hit lt = go (find-hit v e (stop .slot) (index - stop .within) (stop .effectWithin) (stop .prepareWithin) (drop (stop .slot) xs) (let z = total-split v (stop .slot) xs in omega (arith, pre .within, pre .past)))
       where
-        go : Hit v e (stop .slot) (index - stop .within) (stop .effectWithin) (stop .prepareWithin) (drop (stop .slot) xs) → Reached v e xs f index
+        go : Hit v e (stop .slot) (index - stop .within) (stop .effectWithin) (stop .prepareWithin) (drop (stop .slot) xs) → WalkReached v e xs f index
         go h =
             let n : ℕ = stop .slot in
             let m : ℕ = length (h .front) in

@@ -33,13 +33,13 @@ use Rattle.abstract_tree.specs.Tree.{order, above, BodyAt}
 use Rattle.abstract_tree.specs.Finger.{climb-at}
 use Rattle.abstract_tree.specs.Edit.{leaf-here}
 use Rattle.abstract_tree.specs.Place.{total-is}
-use Rattle.abstract_tree.specs.Look.{Looked, at-finger}
+use Rattle.abstract_tree.specs.Look.{LooksAt, at-finger}
 use Rattle.theory.specs.LiftTree.{slotOf, slotsOf, treeOf, sum-slots}
 use Rattle.theory.specs.LiftMarks.{getD-slot}
 use Rattle.theory.specs.WordNeat.{size-is, neat-of}
 use Rattle.theory.specs.LiftSound.{body-of, sum-take}
 use Rattle.theory.specs.WalkDown.{Hit, find-hit, find-miss, Arrived, arrive, node-ok}
-use Rattle.theory.specs.WalkFinger.{Reached, walk-hit, walk-miss, total-split}
+use Rattle.theory.specs.WalkFinger.{WalkReached, walk-hit, walk-miss, total-split}
 
 -- what a search comes to
 pub record Got (s ε : ℕ) (t : State) (v x : ℕ) (r : Search) : Type 0 where
@@ -47,7 +47,7 @@ pub record Got (s ε : ℕ) (t : State) (v x : ℕ) (r : Search) : Type 0 where
   pub offset : ℕ
   pub is : r ≡ search.At finger offset
   pub view : finger .view ≡ v
-  pub looked : Looked ε (treeOf s t) v x finger offset
+  pub looked : LooksAt ε (treeOf s t) v x finger offset
 
 module _ (s ε : ℕ) (t : State) (w : CoherentAt s t ε) (v : ℕ) where
   -- a leaf's totals are within u32
@@ -84,7 +84,7 @@ module _ (s ε : ℕ) (t : State) (w : CoherentAt s t ε) (v : ℕ) where
       pw : f .«prepare_within» ≡ node.total 0 (take (f .slot) (used (leafIn s t (f .leaf))))
       pw = r .prepareWithin ∙ sym (sum-take 0 (f .slot) (used (leafIn s t (f .leaf))))
 
-      hit : f .view ≡ v → f .start ≤ x → (q : Reached v ε (used (leafIn s t (f .leaf))) f (x - f .start)) → Looked ε (treeOf s t) v x (finger (f .view) (f .leaf) (f .start) (f .effect) (q .slot) (x - f .start - q .offset) (q .effectWithin) (f .prepare) (q .prepareWithin)) (q .offset)
+      hit : f .view ≡ v → f .start ≤ x → (q : WalkReached v ε (used (leafIn s t (f .leaf))) f (x - f .start)) → LooksAt ε (treeOf s t) v x (finger (f .view) (f .leaf) (f .start) (f .effect) (q .slot) (x - f .start - q .offset) (q .effectWithin) (f .prepare) (q .prepareWithin)) (q .offset)
       hit e le q =
           at-finger ε (treeOf s t) (body-of s t ε w) v x (finger (f .view) (f .leaf) (f .start) (f .effect) (q .slot) (x - f .start - q .offset) (q .effectWithin) (f .prepare) (q .prepareWithin)) (q .offset)
           (record {
@@ -109,7 +109,7 @@ module _ (s ε : ℕ) (t : State) (w : CoherentAt s t ε) (v : ℕ) where
 
           walk : Dec (x - f .start < node.total v (used (leafIn s t (f .leaf)))) → Got s ε t v x (served v ε (shapeIn s t) f (t .head .leaves) x (t .leaves)) ⊎ (served v ε (shapeIn s t) f (t .head .leaves) x (t .leaves) ≡ search.Nothing)
           walk (yes lt) =
-              let q : Reached v ε (used (leafIn s t (f .leaf))) f (x - f .start) = walk-hit v ε (used (leafIn s t (f .leaf))) (leaf-small v (f .leaf) (r .leaf-in)) (leaf-small ε (f .leaf) (r .leaf-in)) (leaf-small 0 (f .leaf) (r .leaf-in)) f (x - f .start) fits (wi e) ew pw lt in
+              let q : WalkReached v ε (used (leafIn s t (f .leaf))) f (x - f .start) = walk-hit v ε (used (leafIn s t (f .leaf))) (leaf-small v (f .leaf) (r .leaf-in)) (leaf-small ε (f .leaf) (r .leaf-in)) (leaf-small 0 (f .leaf) (r .leaf-in)) f (x - f .start) fits (wi e) ew pw lt in
               inl (record {
                 finger = finger (f .view) (f .leaf) (f .start) (f .effect) (q .slot) (x - f .start - q .offset) (q .effectWithin) (f .prepare) (q .prepareWithin);
                 offset = q .offset;

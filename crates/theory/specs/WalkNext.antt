@@ -18,7 +18,7 @@ use Rattle.model.specs.declared.way.Leaf.{Leaf}
 use Rattle.model.specs.declared.way.Leaf.the-variants as leaf
 use Rattle.abstract_tree.specs.Lists.{cat, cat-append, All-map, All-map₂, All-right}
 use Rattle.abstract_tree.specs.Levels.{noSlot, Slot, Area, Links, total, Parent, find-parent}
-use Rattle.abstract_tree.specs.Next.{Step, node, end, firstOf, nextOf, headOf, next-is}
+use Rattle.abstract_tree.specs.Next.{NodeOrEnd, node, end, firstOf, nextOf, headOf, next-is}
 use Rattle.abstract_tree.specs.Sound.{kidsOf, lvl}
 use Rattle.abstract_tree.specs.Pigeon.{In}
 use Rattle.abstract_tree.specs.Cursor.{lastChild, lastAt, firstAt}
@@ -145,7 +145,7 @@ module _ (s : ℕ) (t : State) (nt : Neat s t) (b : Body (treeOf s t)) where
       (in-kids (treeOf s t .body .inner) q (lastChild (slotsOf (innerIn s t q))) (lvl (treeOf s t .body .inner) (t .head .root .0) e) i (in-slot (slotsOf (innerIn s t q)) l (let z = r .1 in omega arith)))
 
   -- on to the next leaf
-  stepDown : ℕ → Step → Leaf
+  stepDown : ℕ → NodeOrEnd → Leaf
   stepDown d (node q) = firstDown (shapeIn s t) d q (t .inners)
   stepDown d end = leaf.Nothing
 
@@ -226,7 +226,7 @@ module _ (s : ℕ) (t : State) (nt : Neat s t) (b : Body (treeOf s t)) where
                 le-leb (innerIn s t (low .parent c) .len) (t .head .fan) lf,
                 le-ltb (low .place c + 1) (innerIn s t (low .parent c) .len) (omega (arith, sz)),
               )
-              (ih (r .P₁) (r .P₂) (r .row) ∙ ap₂ stepDown (add-one d) nx ∙ head-down d (r .P₂) (All-right InUse (r .P₁) (low .parent c ∷ r .P₂) uses .1) ∙ ap (λ (z : Step). stepDown d (firstOf (areaOf (shapeIn s t) (t .inners)) z)) (sym nx))
+              (ih (r .P₁) (r .P₂) (r .row) ∙ ap₂ stepDown (add-one d) nx ∙ head-down d (r .P₂) (All-right InUse (r .P₁) (low .parent c ∷ r .P₂) uses .1) ∙ ap (λ (z : NodeOrEnd). stepDown d (firstOf (areaOf (shapeIn s t) (t .inners)) z)) (sym nx))
 
   in-use : All (All InUse) (above (treeOf s t))
   unfolding InUse

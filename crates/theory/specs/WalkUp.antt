@@ -22,12 +22,12 @@ use Rattle.theory.specs.WordNeat.{Neat}
 use Rattle.theory.specs.LiftSound.{sum-take}
 
 -- d links up from node c of the area low, each to one of n inner nodes
-abbrev pub Way : Area → Area → ℕ → ℕ → ℕ → Type 0
-Way low up n zero c = Unit {0}
-Way low up n (suc d) c = (low .parent c < n) × (low .place c < length (up .slots (low .parent c))) × Way up up n d (low .parent c)
+abbrev pub WayUp : Area → Area → ℕ → ℕ → ℕ → Type 0
+WayUp low up n zero c = Unit {0}
+WayUp low up n (suc d) c = (low .parent c < n) × (low .place c < length (up .slots (low .parent c))) × WayUp up up n d (low .parent c)
 
 pub way : (t : ℕ → ℕ → ℕ) (low up : Area) (root n : ℕ) (A : List ℕ) (c : ℕ) (B : List ℕ) (st : List (List ℕ))
-    → Links t low up root (A ++ c ∷ B) st → All (All (λ k. k < n)) st → Way low up n (length st) c
+    → Links t low up root (A ++ c ∷ B) st → All (All (λ k. k < n)) st → WayUp low up n (length st) c
 unfolding All
 way t low up root n A c B [] l h = tt
 way t low up root n A c B (P ∷ st) l h =
@@ -60,7 +60,7 @@ module _ (s : ℕ) (t : State) (nt : Neat s t) where
       rw (lt-ltb k (shapeIn s t .nodes) (omega (arith, nt .inner-count)), lt-ltb i (t .head .fan) (omega arith))
 
   -- sums on the way up are those of `climb`
-  pub rank-up : (v d : ℕ) (low : Area) (c a : ℕ) → Way low (areaOf (shapeIn s t) (t .inners)) (t .head .inners) d c
+  pub rank-up : (v d : ℕ) (low : Area) (c a : ℕ) → WayUp low (areaOf (shapeIn s t) (t .inners)) (t .head .inners) d c
       → rankUp (shapeIn s t) v d (low .parent c) (low .place c) a (t .inners) ≡ sum.Is (a + climb v low (areaOf (shapeIn s t) (t .inners)) d c)
   unfolding rankUp
   rank-up v zero low c a w = ap sum.Is (let z : a ≡ a + 0 = omega arith in z)
@@ -74,7 +74,7 @@ module _ (s : ℕ) (t : State) (nt : Neat s t) where
       (rank-up v d up p (a + sumBy (len v) (take i (slotsOf (innerIn s t p)))) (w .2) ∙ ap sum.Is (let z : a + sumBy (len v) (take i (slotsOf (innerIn s t p))) + climb v up up d p ≡ a + (sumBy (len v) (take i (slotsOf (innerIn s t p))) + climb v up up d p) = omega arith in z))
 
   -- the places on the way up are the path
-  pub steps-up : (d : ℕ) (low : Area) (c : ℕ) (steps : List ℕ) → Way low (areaOf (shapeIn s t) (t .inners)) (t .head .inners) d c
+  pub steps-up : (d : ℕ) (low : Area) (c : ℕ) (steps : List ℕ) → WayUp low (areaOf (shapeIn s t) (t .inners)) (t .head .inners) d c
       → stepsUp (shapeIn s t) d (low .parent c) (low .place c) steps (t .inners) ≡ path low (areaOf (shapeIn s t) (t .inners)) d c ++ steps
   unfolding stepsUp
   steps-up zero low c steps w = refl

@@ -8,12 +8,12 @@ use Rattle.model.specs.declared.shape.Shape.{Shape}
 use Rattle.laws.specs.Lists.{row-end}
 
 -- the size of a node is that of its three words and its slots
-abbrev pub Sized : Shape → Type 0
-Sized g = g .size ≡ 3 + g .fan * g .stride
+abbrev pub NodeSized : Shape → Type 0
+NodeSized g = g .size ≡ 3 + g .fan * g .stride
 
 -- the area is long enough for node k
-abbrev pub Fits : Shape → ℕ → List ℕ → Type 0
-Fits g k area = k * g .size + g .size ≤ length area
+abbrev pub NodeFits : Shape → ℕ → List ℕ → Type 0
+NodeFits g k area = k * g .size + g .size ≤ length area
 
-pub fits : (g : Shape) (k : ℕ) (area : List ℕ) → k < g .nodes → g .nodes * g .size ≤ length area → Fits g k area
+pub fits : (g : Shape) (k : ℕ) (area : List ℕ) → k < g .nodes → g .nodes * g .size ≤ length area → NodeFits g k area
 fits g k area lt h = omega (arith, row-end k (g .nodes) (g .size) lt)

@@ -12,7 +12,7 @@ use Rattle.model.specs.Sound.{shapeIn}
 use Rattle.model.specs.declared.shape.Shape.{Shape}
 use Rattle.laws.specs.Nodes.{Formed}
 use Rattle.laws.specs.Areas.{length-putNode, node-same, node-other}
-use Rattle.theory.specs.WordFits.{Sized, Fits, fits}
+use Rattle.theory.specs.WordFits.{NodeSized, NodeFits, fits}
 use Rattle.abstract_tree.specs.Update.{upd, upd-same, upd-other, setSlots}
 use Rattle.theory.specs.WordTidy.{Tidy, tidy-formed}
 use Rattle.theory.specs.LiftTree.{slotsOf, areaOf, putArea, area-put, area-ext}
@@ -37,8 +37,8 @@ upd-own f k v e j = go (ℕ-discrete j k)
     go (yes q) = ap (upd f k v) q ∙ upd-same f k v ∙ sym e ∙ ap f (sym q)
     go (no ne) = upd-other f k v j ne
 
-module _ (g : Shape) (sized : Sized g) (pos : 0 < g .stride) where
-  put-fits : (count k : ℕ) (xs : List ℕ) → k < g .nodes → Keeps g count xs → Fits g k xs
+module _ (g : Shape) (sized : NodeSized g) (pos : 0 < g .stride) where
+  put-fits : (count k : ℕ) (xs : List ℕ) → k < g .nodes → Keeps g count xs → NodeFits g k xs
   put-fits count k xs lt h = fits g k xs lt (h .long)
 
   -- node k of the area anew; one more may then be in use
@@ -46,14 +46,14 @@ module _ (g : Shape) (sized : Sized g) (pos : 0 < g .stride) where
       → (m : ℕ) → m ≤ g .nodes → ((j : ℕ) → j < m → j ≢ k → j < count) → Keeps g m (putNode g k n xs)
   put-keeps count k n xs lt td h m le more =
       let f : Formed (g .stride) (g .fan) n = tidy-formed (g .stride) (g .fan) n td pos in
-      let ft : Fits g k xs = put-fits count k xs lt h in
+      let ft : NodeFits g k xs = put-fits count k xs lt h in
       record {
         long = rw (length-putNode g k xs sized ft n f) (h .long);
         few = le;
         tidy = λ j lj. pick f ft j lj (ℕ-discrete j k);
       }
     where
-      pick : Formed (g .stride) (g .fan) n → Fits g k xs → (j : ℕ) → j < m → Dec (j ≡ k) → Tidy (g .stride) (g .fan) (nodeAt g j (putNode g k n xs))
+      pick : Formed (g .stride) (g .fan) n → NodeFits g k xs → (j : ℕ) → j < m → Dec (j ≡ k) → Tidy (g .stride) (g .fan) (nodeAt g j (putNode g k n xs))
       pick f ft j lj (yes q) = subst (λ (i : ℕ). Tidy (g .stride) (g .fan) (nodeAt g i (putNode g k n xs))) (sym q) (subst (Tidy (g .stride) (g .fan)) (sym (node-same g k xs sized ft n f)) td)
       pick f ft j lj (no ne) = subst (Tidy (g .stride) (g .fan)) (sym (node-other g k xs sized ft n f j ne)) (h .tidy j (more j lj ne))
 

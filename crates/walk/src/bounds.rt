@@ -6,7 +6,7 @@ ghost use lib.Dec.{ltb};
 ghost use lib.ListN.{length};
 ghost use Rattle.model.specs.Climb.{inside};
 ghost use Rattle.laws.specs.Down.{sized};
-ghost use Rattle.area.specs.Area.{Area};
+ghost use Rattle.area.specs.Area.{AreaHolds};
 
 // Whether node k is in the area.
 pub fn held(g: Shape, k: u32) -> bool
@@ -33,7 +33,7 @@ pub fn inside(g: Shape, k: u32, i: u32) -> bool
 
 // Whether node k is in the area and says no more slots than it has.
 pub fn sized(area: &[u32], g: Shape, k: u32) -> bool
-    requires { ⌜ Area g (length (now area)) ⌝ }
+    requires { ⌜ AreaHolds g (length (now area)) ⌝ }
     ensures { λ r. ⌜ r ≡ sized g k (now (area .entry)) ⌝ }
 {
     let nodes = g.nodes;

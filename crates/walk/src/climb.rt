@@ -15,14 +15,14 @@ ghost use Prim.Native.Nat.{_+_, _-_, _<_, _≤_};
 ghost use lib.ListN.{length, take};
 ghost use Rattle.model.specs.Climb.{rankUp, climbUp, stepsUp};
 ghost use Rattle.model.specs.Calls.{inOrder};
-ghost use Rattle.area.specs.Area.{Area};
+ghost use Rattle.area.specs.Area.{AreaHolds};
 ghost use Rattle.walk.specs.Raise.{raiseUp};
 ghost use Rattle.walk.specs.Low.{lowWay};
 ghost use Rattle.walk.specs.Steps.{stepsBy};
 
 // sum and the lengths before place i of inner node k, and so on up (entry_to_char_index).
 pub fn rank_up(inners: &[u32], g: Shape, view: usize, left: u32, k: NodeNo, i: u32, sum: u64) -> Sum
-    requires { ⌜ Area g (length (now inners)) × (view + 1 < g .stride) × (left ≤ 15) × (sum ≤ 137438953440) ⌝ }
+    requires { ⌜ AreaHolds g (length (now inners)) × (view + 1 < g .stride) × (left ≤ 15) × (sum ≤ 137438953440) ⌝ }
     ensures { λ r. ⌜ r ≡ rankUp g view left (k .0) i sum (now (inners .entry)) ⌝ }
 {
     let mut total = sum;
@@ -53,7 +53,7 @@ pub fn climb_up(
     i: u32,
     sum: u32,
 ) -> Sum
-    requires { ⌜ Area g (length (now inners)) × (view + 1 < g .stride) × (left ≤ 16) × (length (now delta) ≡ 3) ⌝ }
+    requires { ⌜ AreaHolds g (length (now inners)) × (view + 1 < g .stride) × (left ≤ 16) × (length (now delta) ≡ 3) ⌝ }
     ensures { λ r. ⌜ (r, now (inners .exit)) ≡ lowWay (climbUp g view (take (g .stride - 1) (now (delta .entry))) left (k .0) i sum (now (inners .entry))) ⌝ }
 {
     let mut index = sum;
@@ -78,7 +78,7 @@ pub fn climb_up(
 
 // The same walk without the sum; whether it came to the root (add_to_ancestors).
 pub fn add_up(inners: &mut [u32], g: Shape, delta: &[u32; 3], left: u32, k: NodeNo, i: u32) -> bool
-    requires { ⌜ Area g (length (now inners)) × (length (now delta) ≡ 3) ⌝ }
+    requires { ⌜ AreaHolds g (length (now inners)) × (length (now delta) ≡ 3) ⌝ }
     ensures { λ r. ⌜ (r, now (inners .exit)) ≡ raiseUp g (take (g .stride - 1) (now (delta .entry))) left (k .0) i (now (inners .entry)) ⌝ }
 {
     let mut n = left;
@@ -107,7 +107,7 @@ pub fn steps_up(
     i: u32,
     steps: &mut [u8; 16],
 ) -> bool
-    requires { ⌜ Area g (length (now inners)) × (left ≤ 15) × (length (now steps) ≡ 16) ⌝ }
+    requires { ⌜ AreaHolds g (length (now inners)) × (left ≤ 15) × (length (now steps) ≡ 16) ⌝ }
     ensures { λ r. ⌜ (stepsBy r left (now (steps .exit)) ≡ stepsUp g left (k .0) i [] (now (inners .entry))) × (length (now (steps .exit)) ≡ 16) ⌝ }
 {
     let mut level = left as usize;

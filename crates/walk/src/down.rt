@@ -13,11 +13,11 @@ ghost use mathlib.Core.Path.{_≡_};
 ghost use Prim.Native.Nat.{_+_, _<_, _≤_};
 ghost use lib.ListN.{length};
 ghost use Rattle.model.specs.Climb.{firstDown, lastDown, nextUp};
-ghost use Rattle.area.specs.Area.{Area};
+ghost use Rattle.area.specs.Area.{AreaHolds};
 
 // Down by the first slots (first). Node k is a leaf where no levels are left, so its number has neither kind.
 pub fn first_down(inners: &[u32], g: Shape, left: u32, k: u32) -> Leaf
-    requires { ⌜ Area g (length (now inners)) ⌝ }
+    requires { ⌜ AreaHolds g (length (now inners)) ⌝ }
     ensures { λ r. ⌜ r ≡ firstDown g left k (now (inners .entry)) ⌝ }
 {
     let mut n = left;
@@ -37,7 +37,7 @@ pub fn first_down(inners: &[u32], g: Shape, left: u32, k: u32) -> Leaf
 
 // Down by the last slots in use (last_leaf).
 pub fn last_down(inners: &[u32], g: Shape, left: u32, k: NodeNo) -> Leaf
-    requires { ⌜ Area g (length (now inners)) ⌝ }
+    requires { ⌜ AreaHolds g (length (now inners)) ⌝ }
     ensures { λ r. ⌜ r ≡ lastDown g left (k .0) (now (inners .entry)) ⌝ }
 {
     let mut n = left;
@@ -61,7 +61,7 @@ pub fn last_down(inners: &[u32], g: Shape, left: u32, k: NodeNo) -> Leaf
 
 // Up to the first node with a later child, then down by the first slots (next).
 pub fn next_up(inners: &[u32], g: Shape, left: u32, k: NodeNo, i: u32) -> Leaf
-    requires { ⌜ Area g (length (now inners)) × (left ≤ 15) ⌝ }
+    requires { ⌜ AreaHolds g (length (now inners)) × (left ≤ 15) ⌝ }
     ensures { λ r. ⌜ r ≡ nextUp g left 0 (k .0) i (now (inners .entry)) ⌝ }
 {
     let mut n = left;

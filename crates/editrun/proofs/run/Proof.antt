@@ -3,14 +3,14 @@ use mathlib.Core.Path.{_≡_, refl, _∙_}
 use native.Mathlib.Omega.{arith}
 use borrow.Author.Needs.{needs}
 use lib.ListN.{length}
-use Rattle.editrun.specs.Held.{Holds}
+use Rattle.editrun.specs.Held.{HoldsInput}
 use Rattle.editrun.proofs.HeldLaws.{held-small, held-none, turned-more, turned-end}
 use Rattle.editrun.proofs.run.Statement.{statement}
 use Rattle.editrun.proofs.run.Tie as tie
 
 abbrev Inv-loop : tie.InvT-loop
 Inv-loop first second block₀ area₀ out₀ kept₀ turns₀ block area out kept turns =
-    (length block ≡ length block₀) × (length area ≡ length area₀) × (length out ≡ length out₀) × (length block ≡ 16384) × (length area ≡ 512) × (length out ≡ 5632) × Holds block kept
+    (length block ≡ length block₀) × (length area ≡ length area₀) × (length out ≡ length out₀) × (length block ≡ 16384) × (length area ≡ 512) × (length out ≡ 5632) × HoldsInput block kept
 
 abbrev μ-loop : tie.MeasureT-loop
 μ-loop first second block₀ area₀ out₀ kept₀ turns₀ block area out kept turns = turns

@@ -7,7 +7,7 @@ use denote.Ref.{now}
 use lib.ListN.{length, drop, length-take, length-drop}
 use borrow.Rule.Slice.PartMut.{putMid, take-put}
 use Rattle.model.specs.Lists.{part}
-use Rattle.editrun.specs.Held.{Held}
+use Rattle.editrun.specs.Held.{InputHeld}
 use Rattle.editrun.proofs.HeldLaws.{held-more}
 use borrow.Author.Needs.{needs}
 use Rattle.editrun.proofs.turn.Statement.{statement}
@@ -74,7 +74,7 @@ returns-3 c =
     let same = take-put (args .kept) (length (now (args .block)) - args .kept) (now (args .block)) (read .last .1 .0) (omega (arith, pre)) in (
       count .result,
       omega (arith, c .before .if2 .left),
-      λ input held. subst (λ (k : ℕ). Held (input ++ part (args .kept) (count .result) given) given k) (sym (c .fold .ensures))
+      λ input held. subst (λ (k : ℕ). InputHeld (input ++ part (args .kept) (count .result) given) given k) (sym (c .fold .ensures))
           (held-more input (now (args .block)) (args .kept) held (count .result) given same
           (omega (arith, back .given .1, pre, count .ensures .0 .0, length-take (length given - args .kept) (drop (args .kept) given), length-drop (args .kept) given))),
     )

@@ -10,7 +10,7 @@ use Rattle.model.specs.declared.shape.Kind.{Kind}
 use Rattle.open.proofs.ReadyLaws.{leaf-area, inner-area}
 use Rattle.calls_insert.specs.Put.{aimed}
 use Rattle.calls_insert.specs.declared.any.Aim.{Aim}
-use Rattle.calls_insert.proofs.PutLaws.{Within, in-leaf, aim-lost, place-in, refused-is, put-lost, way-in, put-whole, put-broken}
+use Rattle.calls_insert.proofs.PutLaws.{AimWithin, in-leaf, aim-lost, place-in, refused-is, put-lost, way-in, put-whole, put-broken}
 use borrow.Author.Needs.{needs}
 use Rattle.calls_insert.proofs.any.enter.Statement.{statement}
 use Rattle.calls_insert.proofs.any.enter.Tie as tie
@@ -24,7 +24,7 @@ kindOf a = kind (a .args .views) (a .args .effect)
 
 -- what is known of a slot that was aimed at
 aiming : (s : tie.Start) (a : Aim) → ((K : Kind) (hs : List ℕ) → s .args .g ≡ shapeOf K (s .args .head) → a ≡ aimed K (state (s .args .head) (s .args .leaves .now) (s .args .inners .now) hs) (s .args .before))
-    → a .number ≡ 0 → Within (kindOf s) (entry s) (s .args .before) (s .args .g) a
+    → a .number ≡ 0 → AimWithin (kindOf s) (entry s) (s .args .before) (s .args .g) a
 aiming s a e z = in-leaf (kindOf s) (entry s) (s .args .before) (s .args .g) a (s .pre .0 .same) (s .pre .1) (e (kindOf s) (s .args .homes .now) (s .pre .0 .same)) z
 
 aim-at-requires : tie.Need-aim-at-requires

@@ -2,7 +2,7 @@
 use borrow.Author.Needs.{needs}
 use native.Mathlib.Omega.{arith}
 use Rattle.model.specs.Kind.{kind}
-use Rattle.open.proofs.CursorLaws.{stands, slot-in}
+use Rattle.open.proofs.CursorLaws.{cursor-ready, slot-in}
 use Rattle.open.proofs.ReadyLaws.{inner-area, view-in}
 use Rattle.calls_order.proofs.OrderLaws.{rank-refused, rank-good}
 use Rattle.calls_order.proofs.any.entry_to_char_index.Statement.{statement}
@@ -24,7 +24,7 @@ start-in-requires c κs =
     let args = c .before .before .before .before .before .before .before .args in
     let pre = c .before .before .before .before .before .before .before .pre in
     let open-at = c .before .before .before .open-at in
-    let h = stands (kind (args .views) 0) (pre .0, pre .1) _ (args .at) _ _ (open-at .ensures 0) (c .before .g .given .1) in let i = slot-in _ (args .at) _ h in
+    let h = cursor-ready (kind (args .views) 0) (pre .0, pre .1) _ (args .at) _ _ (open-at .ensures 0) (c .before .g .given .1) in let i = slot-in _ (args .at) _ h in
     (i .0, i .1, view-in _ _ _ (h .ready) (pre .2), omega (arith, i .2))
 
 parent-of-requires : tie.Need-parent-of-requires
@@ -32,7 +32,7 @@ parent-of-requires c κs =
     let args = c .before .before .before .before .before .before .before .before .args in
     let pre = c .before .before .before .before .before .before .before .before .pre in
     let open-at = c .before .before .before .before .open-at in
-    let i = slot-in _ (args .at) _ (stands (kind (args .views) 0) (pre .0, pre .1) _ (args .at) _ _ (open-at .ensures 0) (c .before .before .g .given .1)) in (i .0, i .1)
+    let i = slot-in _ (args .at) _ (cursor-ready (kind (args .views) 0) (pre .0, pre .1) _ (args .at) _ _ (open-at .ensures 0) (c .before .before .g .given .1)) in (i .0, i .1)
 
 at-of-requires : tie.Need-at-of-requires
 at-of-requires c κs =
@@ -40,7 +40,7 @@ at-of-requires c κs =
     let pre = c .before .before .before .before .before .before .before .before .before .pre in
     let open-at = c .before .before .before .before .before .open-at in
     let g = c .before .before .before .g in
-    let i = slot-in _ (args .at) _ (stands (kind (args .views) 0) (pre .0, pre .1) _ (args .at) _ _ (open-at .ensures 0) (g .given .1)) in (i .0, i .1)
+    let i = slot-in _ (args .at) _ (cursor-ready (kind (args .views) 0) (pre .0, pre .1) _ (args .at) _ _ (open-at .ensures 0) (g .given .1)) in (i .0, i .1)
 
 rank-up-requires : tie.Need-rank-up-requires
 rank-up-requires c κs =
@@ -48,7 +48,7 @@ rank-up-requires c κs =
     let pre = c .before .before .before .before .before .before .before .before .before .before .pre in
     let open-at = c .before .before .before .before .before .before .open-at in
     let g = c .before .before .before .before .g in
-    let h = stands (kind (args .views) 0) (pre .0, pre .1) _ (args .at) _ _ (open-at .ensures 0) (g .given .1) in
+    let h = cursor-ready (kind (args .views) 0) (pre .0, pre .1) _ (args .at) _ _ (open-at .ensures 0) (g .given .1) in
     (inner-area _ _ (h .ready), view-in _ _ _ (h .ready) (pre .2), h .ready .levels-most, c .before .before .start-in .ensures .1)
 
 enum-known-n-2 : tie.Need-enum-known-n-2

@@ -3,7 +3,7 @@ use borrow.Author.Needs.{needs}
 use native.Mathlib.Omega.{arith}
 use Rattle.model.specs.Kind.{kind}
 use Rattle.open.proofs.ReadyLaws.{inner-area}
-use Rattle.open.proofs.CursorLaws.{stands, slot-in}
+use Rattle.open.proofs.CursorLaws.{cursor-ready, slot-in}
 use Rattle.calls_order.proofs.OrderLaws.{next-refused, next-here, next-on}
 use Rattle.calls_order.proofs.any.next.Statement.{statement}
 use Rattle.calls_order.proofs.any.next.Tie as tie
@@ -24,7 +24,7 @@ add-i c =
     let args = c .before .before .before .before .before .before .before .before .args in
     let pre = c .before .before .before .before .before .before .before .before .pre in
     let open-at = c .before .before .before .before .open-at in
-    let h = stands (kind (args .views) 0) pre _ (args .at) _ _ (open-at .ensures 0) (c .before .before .g .given .1) in
+    let h = cursor-ready (kind (args .views) 0) pre _ (args .at) _ _ (open-at .ensures 0) (c .before .before .g .given .1) in
     omega (arith, slot-in _ (args .at) _ h .2, h .ready .shaped .few)
 
 len-of-requires : tie.Need-len-of-requires
@@ -32,7 +32,7 @@ len-of-requires c κs =
     let args = c .before .before .before .before .before .before .before .before .args in
     let pre = c .before .before .before .before .before .before .before .before .pre in
     let open-at = c .before .before .before .before .open-at in
-    let i = slot-in _ (args .at) _ (stands (kind (args .views) 0) pre _ (args .at) _ _ (open-at .ensures 0) (c .before .before .g .given .1)) in (i .0, i .1)
+    let i = slot-in _ (args .at) _ (cursor-ready (kind (args .views) 0) pre _ (args .at) _ _ (open-at .ensures 0) (c .before .before .g .given .1)) in (i .0, i .1)
 
 returns : tie.Need-returns
 returns c =
@@ -47,7 +47,7 @@ parent-of-requires c κs =
     let pre = c .before .before .before .before .before .before .before .before .before .before .pre in
     let open-at = c .before .before .before .before .before .before .open-at in
     let g = c .before .before .before .before .g in
-    let i = slot-in _ (args .at) _ (stands (kind (args .views) 0) pre _ (args .at) _ _ (open-at .ensures 0) (g .given .1)) in (i .0, i .1)
+    let i = slot-in _ (args .at) _ (cursor-ready (kind (args .views) 0) pre _ (args .at) _ _ (open-at .ensures 0) (g .given .1)) in (i .0, i .1)
 
 at-of-requires : tie.Need-at-of-requires
 at-of-requires c κs =
@@ -55,7 +55,7 @@ at-of-requires c κs =
     let pre = c .before .before .before .before .before .before .before .before .before .before .before .pre in
     let open-at = c .before .before .before .before .before .before .before .open-at in
     let g = c .before .before .before .before .before .g in
-    let i = slot-in _ (args .at) _ (stands (kind (args .views) 0) pre _ (args .at) _ _ (open-at .ensures 0) (g .given .1)) in (i .0, i .1)
+    let i = slot-in _ (args .at) _ (cursor-ready (kind (args .views) 0) pre _ (args .at) _ _ (open-at .ensures 0) (g .given .1)) in (i .0, i .1)
 
 next-up-requires : tie.Need-next-up-requires
 next-up-requires c κs =
@@ -63,7 +63,7 @@ next-up-requires c κs =
     let pre = c .before .before .before .before .before .before .before .before .before .before .before .before .pre in
     let open-at = c .before .before .before .before .before .before .before .before .open-at in
     let g = c .before .before .before .before .before .before .g in
-    let h = stands (kind (args .views) 0) pre _ (args .at) _ _ (open-at .ensures 0) (g .given .1) in (inner-area _ _ (h .ready), h .ready .levels-most)
+    let h = cursor-ready (kind (args .views) 0) pre _ (args .at) _ _ (open-at .ensures 0) (g .given .1) in (inner-area _ _ (h .ready), h .ready .levels-most)
 
 enum-known-l : tie.Need-enum-known-l
 enum-known-l c = search needs

@@ -1,7 +1,7 @@
 -- `calls_read::any::id`: a current cursor's slot holds the id as its child.
 use borrow.Author.Needs.{needs}
 use Rattle.model.specs.Kind.{kind}
-use Rattle.open.proofs.CursorLaws.{stands, slot-in}
+use Rattle.open.proofs.CursorLaws.{cursor-ready, slot-in}
 use Rattle.calls_read.proofs.ReadLaws.{id-refused, id-good}
 use Rattle.calls_read.proofs.any.id.Statement.{statement}
 use Rattle.calls_read.proofs.any.id.Tie as tie
@@ -24,7 +24,7 @@ child-of-requires : tie.Need-child-of-requires
 child-of-requires c κs =
     let start = c .before .before .before .before .before .before .before .before in
     let open-at = c .before .before .before .before .open-at in
-    slot-in _ (start .args .at) _ (stands (kind _ 0) (start .pre) _ (start .args .at) _ _ (open-at .ensures 0) (c .before .before .g .given .1))
+    slot-in _ (start .args .at) _ (cursor-ready (kind _ 0) (start .pre) _ (start .args .at) _ _ (open-at .ensures 0) (c .before .before .g .given .1))
 
 returns : tie.Need-returns
 returns c effect =

@@ -3,7 +3,7 @@ use borrow.Author.Needs.{needs}
 use Rattle.model.specs.Kind.{kind}
 use Rattle.model.specs.Length.{lengthsIn}
 use Rattle.open.proofs.ReadyLaws.{views-are}
-use Rattle.open.proofs.CursorLaws.{stands, slot-in}
+use Rattle.open.proofs.CursorLaws.{cursor-ready, slot-in}
 use Rattle.calls_read.proofs.ReadLaws.{lengths-refused, lengths-good}
 use Rattle.calls_read.proofs.any.lengths.Statement.{statement}
 use Rattle.calls_read.proofs.any.lengths.Tie as tie
@@ -23,7 +23,7 @@ lengths-at-requires : tie.Need-lengths-at-requires
 lengths-at-requires c κs =
     let args = c .before .before .before .before .before .before .before .before .args in
     let pre = c .before .before .before .before .before .before .before .before .pre in
-    let i = slot-in _ (args .at) _ (stands (kind _ 0) (pre .0, pre .1) _ (args .at) _ _ (c .before .before .before .before .open-at .ensures 0) (c .before .before .g .given .1)) in
+    let i = slot-in _ (args .at) _ (cursor-ready (kind _ 0) (pre .0, pre .1) _ (args .at) _ _ (c .before .before .before .before .open-at .ensures 0) (c .before .before .g .given .1)) in
     (i .0, i .1, i .2, pre .2)
 
 returns : tie.Need-returns
@@ -42,7 +42,7 @@ returns-2 c =
     let o = c .before .before .before .before .before .open-at .ensures in
     let good = c .before .before .before .g .given .1 in
     let x = c .lengths-at .last .1 .1 .1 .1 .0 in (
-      (λ effect. let h = stands (kind (args .views) effect) (pre .0, pre .1) _ (args .at) _ _ (o effect) good in
+      (λ effect. let h = cursor-ready (kind (args .views) effect) (pre .0, pre .1) _ (args .at) _ _ (o effect) good in
           lengths-good (kind (args .views) effect) _ (args .at) _ (o effect) _ good (args .views) x (views-are _ _ (h .ready)) (c .lengths-at .ensures .0)),
       c .lengths-at .ensures .1,
     )

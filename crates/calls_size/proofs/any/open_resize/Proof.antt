@@ -2,7 +2,7 @@
 use borrow.Author.Needs.{needs}
 use Rattle.model.specs.Kind.{kind, kindOf}
 use Rattle.model.specs.Length.{lengthsIn}
-use Rattle.open.proofs.CursorLaws.{stands, slot-in, at-ordered}
+use Rattle.open.proofs.CursorLaws.{cursor-ready, slot-in, at-ordered}
 use Rattle.open.proofs.WidthLaws.{root-in}
 use Rattle.calls_size.proofs.SizeLaws.{resize-many, resize-refused, resize-crossed, resize-past, resize-good}
 use Rattle.calls_size.proofs.any.open_resize.Statement.{statement}
@@ -49,13 +49,13 @@ returns-2 c =
 lengths-at-requires : tie.Need-lengths-at-requires
 lengths-at-requires c κs =
     let s = c .before .before .before .before .before .before .before .before .before .before .before .before in
-    let h = stands (kind (s .args .views) 0) (s .pre .0, s .pre .1) _ (s .args .at) _ _ (c .before .before .before .before .before .before .open-at .ensures 0) (c .before .before .before .before .g .given .1) in
+    let h = cursor-ready (kind (s .args .views) 0) (s .pre .0, s .pre .1) _ (s .args .at) _ _ (c .before .before .before .before .before .before .open-at .ensures 0) (c .before .before .before .before .g .given .1) in
     let i = slot-in _ (s .args .at) _ h in (i .0, i .1, i .2, s .pre .2)
 
 past-requires : tie.Need-past-requires
 past-requires c κs =
     let s = c .before .before .before .before .before .before .before .before .before .before .before .before .before .before in
-    let h = stands (kind (s .args .views) 0) (s .pre .0, s .pre .1) _ (s .args .at) _ _ (c .before .before .before .before .before .before .before .before .open-at .ensures 0) (c .before .before .before .before .before .before .g .given .1) in
+    let h = cursor-ready (kind (s .args .views) 0) (s .pre .0, s .pre .1) _ (s .args .at) _ _ (c .before .before .before .before .before .before .before .before .open-at .ensures 0) (c .before .before .before .before .before .before .g .given .1) in
     let i = root-in _ _ (h .ready) in (i .0, i .1, c .before .lengths-at .ensures .1, s .pre .3)
 
 returns-3 : tie.Need-returns-3

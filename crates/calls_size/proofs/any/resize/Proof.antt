@@ -4,7 +4,7 @@ use borrow.Author.Needs.{needs}
 use Rattle.model.specs.Kind.{kindOf}
 use Rattle.model.specs.Length.{lengthsIn}
 use Rattle.open.proofs.CursorLaws.{slot-in}
-use Rattle.calls_size.proofs.SizeLaws.{resize-stands, climb-in, size-refused, size-whole, size-broken}
+use Rattle.calls_size.proofs.SizeLaws.{resize-ready, climb-in, size-refused, size-whole, size-broken}
 use Rattle.calls_size.proofs.any.resize.Statement.{statement}
 use Rattle.calls_size.proofs.any.resize.Tie as tie
 
@@ -24,7 +24,7 @@ replace-requires c κs =
     let s = c .before .before .before .before .before .before .before .before .before .before .before .before in
     let r = c .before .before .before .before .before .open-resize in
     let g = c .before .before .before .g in
-    let h = resize-stands (kindOf (s .args .views) 0 (s .args .ordered)) (s .pre .0, s .pre .1) _ (s .args .at) (lengthsIn (s .args .views) (s .args .new .now)) _ _ (r .ensures 0 .0) (g .given .1) in
+    let h = resize-ready (kindOf (s .args .views) 0 (s .args .ordered)) (s .pre .0, s .pre .1) _ (s .args .at) (lengthsIn (s .args .views) (s .args .new .now)) _ _ (r .ensures 0 .0) (g .given .1) in
     let i = slot-in _ (s .args .at) _ h in (i .0, i .1, i .2, s .pre .3)
 
 minus-requires : tie.Need-minus-requires
@@ -32,7 +32,7 @@ minus-requires c κs =
     let s = c .before .before .before .before .before .before .before .before .before .before .before .before .before .before .before .before .before in
     let r = c .before .before .before .before .before .before .before .before .before .before .open-resize in
     let g = c .before .before .before .before .before .before .before .before .g in
-    let h = resize-stands (kindOf (s .args .views) 0 (s .args .ordered)) (s .pre .0, s .pre .1) _ (s .args .at) (lengthsIn (s .args .views) (s .args .new .now)) _ _ (r .ensures 0 .0) (g .given .1) in
+    let h = resize-ready (kindOf (s .args .views) 0 (s .args .ordered)) (s .pre .0, s .pre .1) _ (s .args .at) (lengthsIn (s .args .views) (s .args .new .now)) _ _ (r .ensures 0 .0) (g .given .1) in
     (h .ready .shaped, s .pre .3, r .ensures 0 .2, refl)
 
 asked-way-requires : tie.Need-asked-way-requires
@@ -40,7 +40,7 @@ asked-way-requires c κs =
     let s = c .before .before .before .before .before .before .before .before .before .before .before .before .before .before .before .before .before .before .before .before .before in
     let r = c .before .before .before .before .before .before .before .before .before .before .before .before .before .before .open-resize in
     let g = c .before .before .before .before .before .before .before .before .before .before .before .before .g in
-    let h = resize-stands (kindOf (s .args .views) 0 (s .args .ordered)) (s .pre .0, s .pre .1) _ (s .args .at) (lengthsIn (s .args .views) (s .args .new .now)) _ _ (r .ensures 0 .0) (g .given .1) in
+    let h = resize-ready (kindOf (s .args .views) 0 (s .args .ordered)) (s .pre .0, s .pre .1) _ (s .args .at) (lengthsIn (s .args .views) (s .args .new .now)) _ _ (r .ensures 0 .0) (g .given .1) in
     let i = slot-in _ (s .args .at) _ h in
     let w = climb-in _ (s .args .at) _ h _ (c .before .before .before .before .before .before .before .before .replace .kept .1 .0) in (w .0, w .1, s .pre .2, w .2, i .1, i .2, c .before .before .before .minus .ensures .1)
 

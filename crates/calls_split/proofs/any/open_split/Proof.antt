@@ -4,7 +4,7 @@ use mathlib.Core.Path.{refl}
 use borrow.Author.Needs.{needs}
 use Rattle.model.specs.Kind.{kind, kindOf}
 use Rattle.model.specs.Length.{lengthsIn}
-use Rattle.open.proofs.CursorLaws.{stands, slot-in, at-ordered}
+use Rattle.open.proofs.CursorLaws.{cursor-ready, slot-in, at-ordered}
 use Rattle.calls_split.proofs.SplitLaws.{split-many, split-refused, split-much, split-hollow, split-crossed, split-full, split-good}
 use Rattle.calls_split.proofs.any.open_split.Statement.{statement}
 use Rattle.calls_split.proofs.any.open_split.Tie as tie
@@ -33,14 +33,14 @@ lengths-at-requires : tie.Need-lengths-at-requires
 lengths-at-requires c κs =
     let s = c .before .before .before .before .before .before .before .before .before .before in
     let o = c .before .before .before .before .open-at in
-    let h = stands (kind (s .args .views) 0) (s .pre .0, s .pre .1) _ (s .args .at) _ _ (o .ensures 0) (c .before .before .g .given .1) in
+    let h = cursor-ready (kind (s .args .views) 0) (s .pre .0, s .pre .1) _ (s .args .at) _ _ (o .ensures 0) (c .before .before .g .given .1) in
     let i = slot-in _ (s .args .at) _ h in (i .0, i .1, i .2, refl)
 
 too-much-requires : tie.Need-too-much-requires
 too-much-requires c κs =
     let s = c .before .before .before .before .before .before .before .before .before .before .before .before in
     let o = c .before .before .before .before .before .before .open-at in
-    let h = stands (kind (s .args .views) 0) (s .pre .0, s .pre .1) _ (s .args .at) _ _ (o .ensures 0) (c .before .before .before .before .g .given .1) in
+    let h = cursor-ready (kind (s .args .views) 0) (s .pre .0, s .pre .1) _ (s .args .at) _ _ (o .ensures 0) (c .before .before .before .before .g .given .1) in
     (h .ready .shaped, s .pre .2, c .before .lengths-at .ensures .1)
 
 returns-2 : tie.Need-returns-2
@@ -55,7 +55,7 @@ hollow-part-requires : tie.Need-hollow-part-requires
 hollow-part-requires c κs =
     let s = c .before .before .before .before .before .before .before .before .before .before .before .before .before .before .before in
     let o = c .before .before .before .before .before .before .before .before .before .open-at in
-    let h = stands (kind (s .args .views) 0) (s .pre .0, s .pre .1) _ (s .args .at) _ _ (o .ensures 0) (c .before .before .before .before .before .before .before .g .given .1) in
+    let h = cursor-ready (kind (s .args .views) 0) (s .pre .0, s .pre .1) _ (s .args .at) _ _ (o .ensures 0) (c .before .before .before .before .before .before .before .g .given .1) in
     (h .ready .shaped, s .pre .2, c .before .before .before .before .lengths-at .ensures .1)
 
 returns-3 : tie.Need-returns-3

@@ -7,8 +7,8 @@ use lib.ListN.{length, getD}
 use Rattle.model.specs.State.{shapeFor}
 use Rattle.model.specs.Grow.{areas}
 use Rattle.laws.specs.AreaRead.{node-end}
-use Rattle.grow.proofs.Steps.{Stands, stands}
-use Rattle.grow.proofs.Adding.{Found, Ready, moved, as-made, count-as, ended, astray, ready-here, crowded, failed, ready-low, ready-high}
+use Rattle.grow.proofs.Steps.{GoodPlace, good-place}
+use Rattle.grow.proofs.Adding.{PlaceFound, ReadyToLink, moved, as-made, count-as, ended, astray, ready-here, crowded, failed, ready-low, ready-high}
 use Rattle.grow.proofs.Splitting.{three, used-more, levels-same, cut-bad, cut-root, cut-up}
 use Prim.Native.Nat.{ℕ, _+_, _-_, _*_, _<_}
 use borrow.Author.Needs.{needs}
@@ -81,14 +81,14 @@ split-node-calls t = (
 
 -- what is known once the place is found, and once the slots in use are read
 stood : (t : ℕ) (c : add-child-lts.After-known-told (add-child-calls t) (add-child-at t) add-child.Post) → let a = c .before .before .before .before .before .before .before .before .before .before .args in
-    Stands (shapeFor (a .views) (a .fan) (a .nodes)) (getD (a .top .now) 0 0) (a .level) (a .p .0) (a .after) (a .new) (areas (a .leaves .now) (a .inners .now)) (c .before .place .given .0 .0)
+    GoodPlace (shapeFor (a .views) (a .fan) (a .nodes)) (getD (a .top .now) 0 0) (a .level) (a .p .0) (a .after) (a .new) (areas (a .leaves .now) (a .inners .now)) (c .before .place .given .0 .0)
 stood t c =
     let shape-for = c .before .before .before .before .before .before .before .shape-for in
     let the-standing = c .before .before .before .standing in
-    stands _ _ _ _ _ _ _ _ (as-made (shape-for .ensures) _ _ _ _ _ _ _ _ (c .before .place .given .1) (the-standing .ensures))
+    good-place _ _ _ _ _ _ _ _ (as-made (shape-for .ensures) _ _ _ _ _ _ _ _ (c .before .place .given .1) (the-standing .ensures))
 
 found : (t : ℕ) (c : add-child-lts.After-word (add-child-calls t) (add-child-at t) add-child.Post) → let a = c .before .before .before .before .before .before .before .before .before .before .before .before .before .args in
-    Found (shapeFor (a .views) (a .fan) (a .nodes)) (a .left) (a .top .now) (a .level) (a .p .0) (a .after) (a .new) (a .leaves .now) (a .inners .now) (c .before .before .before .before .place .given .0 .0) (c .word .result)
+    PlaceFound (shapeFor (a .views) (a .fan) (a .nodes)) (a .left) (a .top .now) (a .level) (a .p .0) (a .after) (a .new) (a .leaves .now) (a .inners .now) (c .before .before .before .before .place .given .0 .0) (c .word .result)
 found t c =
     let pre = c .before .before .before .before .before .before .before .before .before .before .before .before .before .pre in
     let shape-for = c .before .before .before .before .before .before .before .before .before .before .shape-for in
@@ -104,7 +104,7 @@ found t c =
 
 -- and where the new slot goes in
 ready : (t : ℕ) (c : add-child-lts.Joined1 (add-child-calls t) (add-child-at t) add-child.Post) → let a = c .before .before .before .before .before .before .before .before .before .before .before .before .before .before .args in
-    Ready (shapeFor (a .views) (a .fan) (a .nodes)) (a .left) (a .top .now) (a .level) (a .p .0) (a .after) (a .new) (a .leaves .now) (a .inners .now) (c .if1 .to) (c .if1 .at) (c .if1 .top) (c .if1 .leaves) (c .if1 .inners)
+    ReadyToLink (shapeFor (a .views) (a .fan) (a .nodes)) (a .left) (a .top .now) (a .level) (a .p .0) (a .after) (a .new) (a .leaves .now) (a .inners .now) (c .if1 .to) (c .if1 .at) (c .if1 .top) (c .if1 .leaves) (c .if1 .inners)
 ready t c =
     let f = found t (c .before) in
     ⊎-elim

@@ -12,7 +12,7 @@ use Rattle.model.specs.Node.{Node, inserted}
 use Rattle.model.specs.State.{nodeAt, putNode}
 use Rattle.model.specs.Place as model
 use Rattle.place.proofs.EntryLaws.{roomy, next-slot}
-use Rattle.place.proofs.ReadyLaws.{Ready, ready-at, ready-there, ready-split, ready-done, lost-split, lost-room, gone}
+use Rattle.place.proofs.ReadyLaws.{RoomReady, ready-at, ready-there, ready-split, ready-done, lost-split, lost-room, gone}
 use Rattle.place.proofs.entry.place.Statement.{statement}
 use Rattle.place.proofs.entry.place.Tie as tie
 
@@ -22,7 +22,7 @@ with-entry s j = inserted j (s .args .head .entries ∷ lengthsIn (s .args .view
 
 -- either way the leaf has room then
 ready : (c : tie.Joined1)
-    → Ready (c .before .before .before .before .before .before .args .g) 0 (c .before .before .before .before .before .before .args .head)
+    → RoomReady (c .before .before .before .before .before .before .args .g) 0 (c .before .before .before .before .before .before .args .head)
     (c .before .before .before .before .before .before .args .leaves .now) (c .before .before .before .before .before .before .args .inners .now)
     (c .before .before .before .before .before .before .args .homes .now) (c .before .before .before .before .before .before .args .k .0)
     (c .before .before .before .before .before .before .args .i) (c .if1 .leaves) (c .if1 .inners) (c .if1 .homes) (c .if1 .top) (c .if1 .room)

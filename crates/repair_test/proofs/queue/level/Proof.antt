@@ -4,7 +4,7 @@ use Prim.Native.Nat.{_-_}
 use native.Mathlib.Omega.{arith}
 use borrow.Author.Tests.{not-true, not-false}
 use Rattle.repair_test.specs.Queue.{kidsOf}
-use Rattle.repair_test.proofs.QueueLaws.{Left, begin, left-stop, left-on, left-none, parent-at, all-sizes, still}
+use Rattle.repair_test.proofs.QueueLaws.{QueueLeft, begin, left-stop, left-on, left-none, parent-at, all-sizes, still}
 use Rattle.repair_test.proofs.queue.level.Statement.{statement}
 use Rattle.repair_test.proofs.queue.level.Tie as tie
 use Rattle.repair_test.proofs.queue.level.Reads as reads
@@ -13,7 +13,7 @@ use Rattle.area.proofs.word.len_of.Reads as len-of-reads
 use Rattle.repair_test.proofs.queue.children.Reads as children-reads
 
 abbrev Inv-loop : tie.InvT-loop
-Inv-loop inners g order₀ marks₀ n most count start end noted₀ j₀ order marks noted j = Left (kidsOf g inners) n most start end j count noted order₀ marks₀ order marks
+Inv-loop inners g order₀ marks₀ n most count start end noted₀ j₀ order marks noted j = QueueLeft (kidsOf g inners) n most start end j count noted order₀ marks₀ order marks
 
 abbrev μ-loop : tie.MeasureT-loop
 μ-loop inners g order₀ marks₀ n most count start end noted₀ j₀ order marks noted j = end - j

@@ -43,7 +43,7 @@ returns-2 c =
     let args = c .before .before .before .before .before .before .before .before .before .before .args in
     let head-from = c .before .before .before .head-from in
     answer-good measuredOf _ _ _ _ (sym (bad-head .ensures) ∙ if1 .left) (c .measured-of .ensures)
-    (c .before .lengths .ensures ∙ ap₂ (λ (h : Head) (k : Cursor). calls.lengthsOf base (state h (args .leaves .now) (args .inners .now) (args .homes .now)) k)
+    (c .before .lengths .ensures ∙ ap₂ (λ (h : Head) (k : Cursor). calls.entryLengths base (state h (args .leaves .now) (args .inners .now) (args .homes .now)) k)
     (head-from .ensures .0) (c .before .before .cursor-from .ensures))
 
 pub smelvock-lengths-words-spec : {M : Type 1} → statement M

@@ -2,7 +2,7 @@
 use Prim.Native.Nat.{_+_, _-_, _≤_}
 use native.Mathlib.Omega.{arith}
 use lib.ListN.{length}
-use Rattle.tally.proofs.TallyLaws.{Done, none-done, one-done, all-done}
+use Rattle.tally.proofs.TallyLaws.{TallyDone, none-done, one-done, all-done}
 use Rattle.tally.proofs.write.put.Statement.{statement}
 use Rattle.tally.proofs.write.put.Tie as tie
 use Rattle.tally.proofs.write.put.Reads as reads
@@ -10,7 +10,7 @@ use Rattle.tally.proofs.write.put.Lts as lts
 use Rattle.tally.proofs.write.is_apart.Reads as is-apart-reads
 
 abbrev Inv-loop : tie.InvT-loop
-Inv-loop ws₀ p src n count₀ i₀ ws count i = Done p i count src ws₀ ws × (count ≤ i)
+Inv-loop ws₀ p src n count₀ i₀ ws count i = TallyDone p i count src ws₀ ws × (count ≤ i)
 
 abbrev μ-loop : tie.MeasureT-loop
 μ-loop ws₀ p src n count₀ i₀ ws count i = n - i
