@@ -9,7 +9,7 @@ use lib.ListN.{length, getD, set}
 use lib.Dec.{eqb}
 use borrow.Author.Tests.{eq-eqb, ne-eqb}
 use Rattle.model.specs.Lists.{range, putAt}
-use Rattle.laws.specs.Words.{put-none, set-put, put-next}
+use Rattle.model_laws.specs.Words.{put-none, set-put, put-next}
 use Rattle.model.specs.declared.answer.Number.{Number}
 use Rattle.model.specs.declared.answer.Number.the-variants as number
 use Rattle.calls_edits.specs.Edits.{edits, restsOn, picked, beyond}

@@ -13,7 +13,7 @@ use Rattle.model.specs.Lists.{putAt, refusal}
 use Rattle.model.specs.declared.answer.Outcome.the-variants as outcome
 use Rattle.model.specs.declared.answer.Number.{Number}
 use Rattle.model.specs.declared.answer.Number.the-variants as number
-use Rattle.laws.specs.Words.{length-put}
+use Rattle.model_laws.specs.Words.{length-put}
 use Rattle.calls_edits.specs.Edits.{edits, restsOn, beyond, recordCauses, recordsCauses, absent, checkCauses, differenceCauses, check, difference}
 use Rattle.calls_edits.specs.Promised.{In, Accepted, GoodBefore, Checks, Listed, Differs}
 use Rattle.calls_edits.specs.Causes.{refuse, grant, is-done, is-refused, check-number, check-numbers, every-good, no-cause, first-bad, rest-number, late-number, cut-first, narrow-next, from-check, difference-numbers}

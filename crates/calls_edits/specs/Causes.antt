@@ -11,7 +11,7 @@ use borrow.Author.Tests.{eq-eqb, ne-eqb, eqb-true, eqb-false, lt-ltb, le-ltb, le
 use Rattle.model.specs.Lists.{All, range, Cause, cause, refusal}
 use Rattle.model.specs.Calls.{unless}
 use Rattle.model.specs.declared.answer.Outcome.the-variants as outcome
-use Rattle.laws.specs.Lists.{All-append}
+use Rattle.model_laws.specs.Lists.{All-append}
 use Rattle.calls_edits.specs.Edits.{none, edits, left, right, third, fourth, Parent, by-left, by-right, late, causesOf, recordCauses, recordsCauses, absent, checkCauses, differenceCauses}
 use Rattle.calls_edits.specs.Promised.{In, here, later, Good}
 

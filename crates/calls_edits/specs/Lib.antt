@@ -1,6 +1,6 @@
 -- Files of edits: what is believed of them (Edits), what is promised of the two calls (Promised) and its proof (Answered, with Causes and Exactly),
 -- files that meet its premises (Example), and the walk that the code takes (Walk).
--- Stands on model and laws.
+-- Stands on model and list.
 pub mod Edits
 pub mod Promised
 pub mod Causes

@@ -1,7 +1,7 @@
 // The records of a file, and the checker.
+use list_records::fields::word_at;
 use model::answer::Outcome;
 use model::number::NONE;
-use records::fields::word_at;
 ghost use mathlib.Core.Path.{_≡_};
 ghost use mathlib.Core.Bool.{_||_};
 ghost use Prim.Native.Nat.{_+_, _*_, _≤_};

@@ -1,5 +1,5 @@
 // The edits that an edit rests on, marked by a walk down from it: in an accepted file parents are smaller.
-use records::fields::word_at;
+use list_records::fields::word_at;
 ghost use mathlib.Core.Path.{_≡_};
 ghost use Prim.Native.Nat.{ℕ, _+_, _*_, _<_, _≤_};
 ghost use lib.ListN.{length, getD, set};

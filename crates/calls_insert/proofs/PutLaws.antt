@@ -28,22 +28,22 @@ use Rattle.model.specs.declared.answer.Target.{Target}
 use Rattle.model.specs.declared.answer.Target.the-variants as target
 use Rattle.model.specs.declared.answer.Inserted.{Inserted}
 use Rattle.model.specs.declared.answer.Inserted.the-variants as inserted
-use Rattle.laws.specs.Lens.{by-test, both}
-use Rattle.node.specs.Shaped.{Shaped}
-use Rattle.node_write.proofs.WriteLaws.{four-words}
-use Rattle.area.specs.Area.{AreaHolds}
-use Rattle.walk.specs.Low.{lowWay}
-use Rattle.place.specs.Asked.{wayUp}
-use Rattle.place.specs.Room.{settledIn, Entering}
-use Rattle.place.proofs.NumberLaws.{leaf-ends}
-use Rattle.place.proofs.LevelLaws.{entered-levels, entered-in}
-use Rattle.place.proofs.CallLaws.{low-whole, low-lost, settled-same, settled-zero, settled-head, settled-again}
-use Rattle.open.proofs.Causes.{call-refused, call-good}
-use Rattle.open.proofs.WidthLaws.{own-shape}
-use Rattle.open.specs.Open.{openedBy}
-use Rattle.open.specs.Ready.{Ready}
-use Rattle.open.specs.declared.open.Opened.{Opened}
-use Rattle.open.specs.declared.open.Opened.the-variants.{Good, Refused}
+use Rattle.model_laws.specs.Lens.{by-test, both}
+use Rattle.tree_node.specs.Shaped.{Shaped}
+use Rattle.tree_node.proofs.WriteLaws.{four-words}
+use Rattle.tree_area.specs.Area.{AreaHolds}
+use Rattle.tree_walk.specs.Low.{lowWay}
+use Rattle.tree_place.specs.Asked.{wayUp}
+use Rattle.tree_place.specs.Room.{settledIn, Entering}
+use Rattle.tree_place.proofs.NumberLaws.{leaf-ends}
+use Rattle.tree_place.proofs.LevelLaws.{entered-levels, entered-in}
+use Rattle.tree_place.proofs.CallLaws.{low-whole, low-lost, settled-same, settled-zero, settled-head, settled-again}
+use Rattle.tree_open.proofs.Causes.{call-refused, call-good}
+use Rattle.tree_open.proofs.WidthLaws.{own-shape}
+use Rattle.tree_open.specs.Open.{openedBy}
+use Rattle.tree_open.specs.Ready.{Ready}
+use Rattle.tree_open.specs.declared.open.Opened.{Opened}
+use Rattle.tree_open.specs.declared.open.Opened.the-variants.{Good, Refused}
 use Rattle.calls_insert.specs.Put.{aimAt, inUse, aimed, Aimed, insertedBy}
 use Rattle.calls_insert.specs.declared.any.Aim.{Aim}
 

@@ -14,7 +14,7 @@ use Rattle.model.specs.declared.seats.Seat.{Seat}
 use Rattle.model.specs.declared.answer.Target.{Target}
 use Rattle.model.specs.declared.answer.Inserted.{Inserted}
 use Rattle.model.specs.declared.answer.Inserted.the-variants as inserted
-use Rattle.seating.proofs.ReplyLaws.{seat-refused, seat-taken}
+use Rattle.tree_seats.proofs.ReplyLaws.{seat-refused, seat-taken}
 
 -- who is charged, by the answer
 module _ (t : Seat) (b : Seats) (a : Inserted) where

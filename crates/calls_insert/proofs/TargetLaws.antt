@@ -23,15 +23,15 @@ use Rattle.model.specs.declared.way.Leaf.{Leaf}
 use Rattle.model.specs.declared.way.Leaf.the-variants as leaf
 use Rattle.model.specs.declared.answer.Target.{Target}
 use Rattle.model.specs.declared.answer.Target.the-variants as target
-use Rattle.laws.specs.Lens.{by-test}
-use Rattle.open.proofs.Causes.{opened-first, opened-next, opened-number, opened-zero, opened-stop, opened-more, good-number, good-shape, good-front, good-tail, none-applies, Numbered}
-use Rattle.open.proofs.ReadyLaws.{ready-here}
-use Rattle.open.proofs.WidthLaws.{past-same}
-use Rattle.open.specs.Lengths.{pastIn}
-use Rattle.open.specs.Open.{openedBy}
-use Rattle.open.specs.Ready.{Ready}
-use Rattle.open.specs.declared.open.Opened.{Opened}
-use Rattle.open.specs.declared.open.Opened.the-variants.{Good, Refused}
+use Rattle.model_laws.specs.Lens.{by-test}
+use Rattle.tree_open.proofs.Causes.{opened-first, opened-next, opened-number, opened-zero, opened-stop, opened-more, good-number, good-shape, good-front, good-tail, none-applies, Numbered}
+use Rattle.tree_open.proofs.ReadyLaws.{ready-here}
+use Rattle.tree_open.proofs.WidthLaws.{past-same}
+use Rattle.tree_open.specs.Lengths.{pastIn}
+use Rattle.tree_open.specs.Open.{openedBy}
+use Rattle.tree_open.specs.Ready.{Ready}
+use Rattle.tree_open.specs.declared.open.Opened.{Opened}
+use Rattle.tree_open.specs.declared.open.Opened.the-variants.{Good, Refused}
 use Rattle.calls_insert.specs.Put.{aimAt, inUse, aimed, Aimed}
 use Rattle.calls_insert.specs.declared.any.Aim.{Aim}
 

@@ -1,6 +1,5 @@
 // One entry more in a tree with views lengths an entry, positions answered in view effect; ordered: the first two are a lowest and a
 // highest one.
-use area::word::len_of;
 use model::answer::Inserted;
 use model::answer::InsertedReply;
 use model::answer::Target;
@@ -10,15 +9,16 @@ use model::number::LeafNo;
 use model::shape::Shape;
 use model::way::Leaf;
 use model::way::Sum;
-use open::lengths::crossed;
-use open::lengths::past;
-use open::lengths::too_many_lines;
-use open::open::Opened;
-use open::open::open;
-use open::open::open_at;
-use place::entry::place;
-use place::size::way_sum;
-use walk::down::last_down;
+use tree_area::word::len_of;
+use tree_open::lengths::crossed;
+use tree_open::lengths::past;
+use tree_open::lengths::too_many_lines;
+use tree_open::open::Opened;
+use tree_open::open::open;
+use tree_open::open::open_at;
+use tree_place::entry::place;
+use tree_place::size::way_sum;
+use tree_walk::down::last_down;
 ghost use mathlib.Core.Path.{_≡_};
 ghost use mathlib.Core.List.{List, _++_};
 ghost use Prim.Native.Nat.{ℕ, _<_, _≤_};
@@ -33,9 +33,9 @@ ghost use Rattle.model.specs.Calls.{reply, targetCauses, insertCauses};
 ghost use Rattle.model.specs.declared.shape.Kind.{Kind};
 ghost use Rattle.model.specs.declared.answer.Target.the-variants.{End};
 ghost use Rattle.model.specs.declared.answer.Inserted.the-variants as inserted;
-ghost use Rattle.area.specs.Area.{AreaHolds};
-ghost use Rattle.open.specs.Open.{openedBy};
-ghost use Rattle.open.specs.Ready.{Ready};
+ghost use Rattle.tree_area.specs.Area.{AreaHolds};
+ghost use Rattle.tree_open.specs.Open.{openedBy};
+ghost use Rattle.tree_open.specs.Ready.{Ready};
 ghost use Rattle.calls_insert.specs.Put.{Aimed, aimed, insertedBy};
 
 // 0 or 9, and the slot before which an entry comes.

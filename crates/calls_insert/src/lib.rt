@@ -1,7 +1,7 @@
 // The call that puts an entry into a tree: insert, before a cursor or at the end.
 // It is equated with its definition in model's specs/Calls.antt, refusals first: in `any` for a tree with one to three lengths an
 // entry, in `insert` for the full tree, with no requires, and in `seated` for the full tree with its seats' words.
-// Stands on model, laws, node, node_write, area, walk, links, place, open and seating.
+// Stands on model and tree.
 pub mod any;
 pub mod insert;
 pub mod seated;

@@ -6,9 +6,9 @@ use model::head::Head;
 use model::length::Lengths;
 use model::length::Slot;
 use model::seats::Seat;
-use seating::rule::bad_seat;
-use seating::rule::room;
-use seating::write::charge;
+use tree_seats::rule::bad_seat;
+use tree_seats::rule::room;
+use tree_seats::write::charge;
 ghost use mathlib.Core.Path.{_≡_};
 ghost use mathlib.Core.Bool.{false};
 ghost use lib.ListN.{length, getD};
@@ -17,7 +17,7 @@ ghost use Rattle.model.specs.Kind.{base};
 ghost use Rattle.model.specs.State.{state};
 ghost use Rattle.model.specs.Seats.{badSeat};
 ghost use Rattle.model.specs.SeatedCalls.{seatedReply, afterInsert, insertSeated};
-ghost use Rattle.seating.specs.Words.{seatsFrom};
+ghost use Rattle.tree_seats.specs.Words.{seatsFrom};
 
 // The entry is charged to the seat, unless the call was refused. The flag stays.
 fn charge_for(seats: &mut [u32], seat: Seat, answer: Inserted)

@@ -19,16 +19,16 @@ use Rattle.model.specs.declared.shape.Kind.{Kind}
 use Rattle.model.specs.declared.shape.Shape.{Shape}
 use Rattle.model.specs.declared.answer.Outcome.the-variants as outcome
 use Rattle.model.specs.declared.head.Held.the-variants as held
-use Rattle.laws.specs.Words.{lent-back}
-use Rattle.laws.specs.Lists.{rows-le}
-use Rattle.node.specs.Shaped.{Shaped}
-use Rattle.open.proofs.Bools.{or-false}
-use Rattle.open.proofs.Causes.{Numbered, none-applies, opened-first, opened-next, opened-none, opened-stop, opened-more, opened-number, opened-zero, good-number, good-shape, good-front, good-tail, call-refused, call-good}
-use Rattle.open.proofs.OpenLaws.{sized}
-use Rattle.open.proofs.ReadyLaws.{shaped}
-use Rattle.open.specs.Open.{openedBy}
-use Rattle.open.specs.declared.open.Opened.{Opened}
-use Rattle.open.specs.declared.open.Opened.the-variants.{Good, Refused}
+use Rattle.model_laws.specs.Words.{lent-back}
+use Rattle.model_laws.specs.Lists.{rows-le}
+use Rattle.tree_node.specs.Shaped.{Shaped}
+use Rattle.tree_open.proofs.Bools.{or-false}
+use Rattle.tree_open.proofs.Causes.{Numbered, none-applies, opened-first, opened-next, opened-none, opened-stop, opened-more, opened-number, opened-zero, good-number, good-shape, good-front, good-tail, call-refused, call-good}
+use Rattle.tree_open.proofs.OpenLaws.{sized}
+use Rattle.tree_open.proofs.ReadyLaws.{shaped}
+use Rattle.tree_open.specs.Open.{openedBy}
+use Rattle.tree_open.specs.declared.open.Opened.{Opened}
+use Rattle.tree_open.specs.declared.open.Opened.the-variants.{Good, Refused}
 use Rattle.calls_make.specs.Made.{makeBy}
 
 -- node 0 is the area's first words

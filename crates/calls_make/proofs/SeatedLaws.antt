@@ -16,7 +16,7 @@ use Rattle.model.specs.declared.seats.Seats.{Seats}
 use Rattle.model.specs.declared.head.Held.the-variants as held
 use Rattle.model.specs.declared.answer.Outcome.{Outcome}
 use Rattle.model.specs.declared.answer.Outcome.the-variants as outcome
-use Rattle.seating.proofs.ReplyLaws.{seats-after}
+use Rattle.tree_seats.proofs.ReplyLaws.{seats-after}
 use Rattle.calls_make.specs.Made.{makeBy, seatsMade, madeBy, sharesCauses, seatsGiven, makeWith}
 use Rattle.calls_make.proofs.BeginLaws.{no-more, make-plain}
 

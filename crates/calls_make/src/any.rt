@@ -7,11 +7,11 @@ use model::head::Held;
 use model::length::Slot;
 use model::number::NodeNo;
 use model::shape::Shape;
-use node_write::split::new_one;
-use open::lengths::crossed;
-use open::lengths::too_many_lines;
-use open::open::Opened;
-use open::open::open_areas;
+use tree_node::split::new_one;
+use tree_open::lengths::crossed;
+use tree_open::lengths::too_many_lines;
+use tree_open::open::Opened;
+use tree_open::open::open_areas;
 ghost use mathlib.Core.Path.{_≡_};
 ghost use mathlib.Core.List.{List, [], _∷_, _++_};
 ghost use Prim.Native.Nat.{ℕ, suc, _<_, _≤_};
@@ -24,8 +24,8 @@ ghost use Rattle.model.specs.State.{state, shape, putNode};
 ghost use Rattle.model.specs.Calls as calls;
 ghost use Rattle.model.specs.Calls.{begun, makeCauses, reply};
 ghost use Rattle.model.specs.declared.shape.Kind.{Kind};
-ghost use Rattle.node.specs.Shaped.{Shaped};
-ghost use Rattle.open.specs.Open.{openedBy};
+ghost use Rattle.tree_node.specs.Shaped.{Shaped};
+ghost use Rattle.tree_open.specs.Open.{openedBy};
 ghost use Rattle.calls_make.specs.Made.{makeBy};
 
 // Node 0 of an area written anew with the slot x.

@@ -4,9 +4,9 @@ use model::answer::OutcomeReply;
 use model::head::Head;
 use model::length::Lengths;
 use model::length::Slot;
-use seating::rule::too_high;
-use seating::write::begin;
-use seating::write::clear;
+use tree_seats::rule::too_high;
+use tree_seats::write::begin;
+use tree_seats::write::clear;
 ghost use mathlib.Core.Path.{_≡_};
 ghost use Prim.Native.Nat.{_≤_};
 ghost use lib.ListN.{length, getD};
@@ -16,7 +16,7 @@ ghost use Rattle.model.specs.Kind.{base};
 ghost use Rattle.model.specs.State.{state};
 ghost use Rattle.model.specs.Seats.{noSeats};
 ghost use Rattle.model.specs.SeatedCalls.{seatedReply, afterReset, resetSeated};
-ghost use Rattle.seating.specs.Words.{seatsFrom};
+ghost use Rattle.tree_seats.specs.Words.{seatsFrom};
 ghost use Rattle.calls_make.specs.Made.{sharesCauses, seatsGiven, seatsMade, makeWith};
 
 // 19 where there are shares and they sum too high, else 0.

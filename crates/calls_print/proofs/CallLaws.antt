@@ -17,15 +17,15 @@ use Rattle.model.specs.declared.shape.Kind.{Kind}
 use Rattle.model.specs.declared.shape.Shape.{Shape}
 use Rattle.model.specs.declared.answer.Number.{Number}
 use Rattle.model.specs.declared.answer.Number.the-variants as number
-use Rattle.laws.specs.Words.{put-next}
-use Rattle.laws.specs.Sheet.{length-slot-lines, length-blank-lines}
-use Rattle.laws.specs.Met.{met}
-use Rattle.area.specs.Area.{AreaHolds}
-use Rattle.open.proofs.Causes.{call-refused, call-good}
-use Rattle.open.proofs.ReadyLaws.{leaf-area, inner-area, view-in}
-use Rattle.open.specs.Open.{openedBy}
-use Rattle.open.specs.declared.open.Opened.{Opened}
-use Rattle.open.specs.declared.open.Opened.the-variants.{Good, Refused}
+use Rattle.model_laws.specs.Words.{put-next}
+use Rattle.model_laws.specs.Sheet.{length-slot-lines, length-blank-lines}
+use Rattle.model_laws.specs.Met.{met}
+use Rattle.tree_area.specs.Area.{AreaHolds}
+use Rattle.tree_open.proofs.Causes.{call-refused, call-good}
+use Rattle.tree_open.proofs.ReadyLaws.{leaf-area, inner-area, view-in}
+use Rattle.tree_open.specs.Open.{openedBy}
+use Rattle.tree_open.specs.declared.open.Opened.{Opened}
+use Rattle.tree_open.specs.declared.open.Opened.the-variants.{Good, Refused}
 use Rattle.calls_print.proofs.OpenLaws.{print-ready}
 
 module _ (K : Kind) (s : State) (page : List ℕ) (o : Opened) (e : o ≡ openedBy (printCauses K s (length page)) (shapeOf K (s .head))) where

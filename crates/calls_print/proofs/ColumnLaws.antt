@@ -10,7 +10,7 @@ use borrow.Author.Tests.{lt-ltb, le-ltb, eq-eqb, ne-eqb, ltb-true, ltb-false}
 use Rattle.model.specs.Lists.{putAt}
 use Rattle.model.specs.Numeral.{numeral, decimal}
 use Rattle.model.specs.Sheet.{column}
-use Rattle.laws.specs.Words.{put-none, set-put, put-prev}
+use Rattle.model_laws.specs.Words.{put-none, set-put, put-prev}
 use Rattle.calls_print.specs.Columns.{glyph}
 
 -- the code's cases

@@ -11,8 +11,8 @@ use Rattle.model.specs.Node.{child, lengthIn, wrap}
 use Rattle.model.specs.Sheet.{line}
 use Rattle.model.specs.Print.{slotLines}
 use Rattle.model.specs.declared.shape.Kind.{Kind}
-use Rattle.laws.specs.Words.{length-put, put-next}
-use Rattle.laws.specs.Sheet.{length-line, length-slot-lines}
+use Rattle.model_laws.specs.Words.{length-put, put-next}
+use Rattle.model_laws.specs.Sheet.{length-line, length-slot-lines}
 use Rattle.calls_print.specs.Laid.{Laid, laid, laidBy}
 
 -- one line, with the lengths in view 0 and in view e: the slot's words are read, its line is written and its lengths are added

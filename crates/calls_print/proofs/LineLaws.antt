@@ -8,8 +8,8 @@ use lib.ListN.{length, getD, drop, set, replicate, length-append, length-drop, l
 use lib.Seq.{drop-cons}
 use Rattle.model.specs.Lists.{putAt}
 use Rattle.model.specs.Sheet.{column, line, blankLines}
-use Rattle.laws.specs.Words.{put-none, set-put, put-on, put-next, put-put, length-put}
-use Rattle.laws.specs.Sheet.{length-column, length-blank-lines}
+use Rattle.model_laws.specs.Words.{put-none, set-put, put-on, put-next, put-put, length-put}
+use Rattle.model_laws.specs.Sheet.{length-column, length-blank-lines}
 use Rattle.calls_print.specs.Columns.{fields}
 
 -- one blank more

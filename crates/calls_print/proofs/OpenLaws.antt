@@ -12,13 +12,13 @@ use Rattle.model.specs.Sheet.{pagesFor}
 use Rattle.model.specs.Print.{smallBuffer, printCauses}
 use Rattle.model.specs.declared.shape.Kind.{Kind}
 use Rattle.model.specs.declared.shape.Shape.{Shape}
-use Rattle.open.proofs.Causes.{opened-first, opened-next, opened-none, opened-stop, opened-more, good-number, good-shape, none-applies, Numbered}
-use Rattle.open.proofs.OpenLaws.{areasOf, areas-numbered}
-use Rattle.open.proofs.ReadyLaws.{ready-here}
-use Rattle.open.specs.Open.{openedBy}
-use Rattle.open.specs.Ready.{Ready}
-use Rattle.open.specs.declared.open.Opened.{Opened}
-use Rattle.open.specs.declared.open.Opened.the-variants.{Good, Refused}
+use Rattle.tree_open.proofs.Causes.{opened-first, opened-next, opened-none, opened-stop, opened-more, good-number, good-shape, none-applies, Numbered}
+use Rattle.tree_open.proofs.OpenLaws.{areasOf, areas-numbered}
+use Rattle.tree_open.proofs.ReadyLaws.{ready-here}
+use Rattle.tree_open.specs.Open.{openedBy}
+use Rattle.tree_open.specs.Ready.{Ready}
+use Rattle.tree_open.specs.declared.open.Opened.{Opened}
+use Rattle.tree_open.specs.declared.open.Opened.the-variants.{Good, Refused}
 
 module _ (K : Kind) (s : State) (bytes : ℕ) where
   abbrev late : List Cause

@@ -17,9 +17,9 @@ use Rattle.model.specs.declared.shape.Shape.{Shape}
 use Rattle.model.specs.declared.number.LeafNo.{LeafNo}
 use Rattle.model.specs.declared.way.Leaf.{Leaf}
 use Rattle.model.specs.declared.way.Leaf.the-variants as leaf
-use Rattle.laws.specs.Words.{put-none}
-use Rattle.laws.specs.AreaRead.{slots-are}
-use Rattle.laws.specs.Met.{Within, met, met-few, met-leaf}
+use Rattle.model_laws.specs.Words.{put-none}
+use Rattle.model_laws.specs.AreaRead.{slots-are}
+use Rattle.model_laws.specs.Met.{Within, met, met-few, met-leaf}
 use Rattle.calls_print.specs.Laid.{Laid, laid, laidBy}
 use Rattle.calls_print.proofs.LaidLaws.{laid-all, laid-at}
 

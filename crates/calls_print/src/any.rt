@@ -4,9 +4,9 @@ use crate::line::blank_lines;
 use crate::walk_lines::entry_lines;
 use model::answer::Number;
 use model::head::Head;
-use open::open::Opened;
-use open::open::astray;
-use open::open::open_areas;
+use tree_open::open::Opened;
+use tree_open::open::astray;
+use tree_open::open::open_areas;
 ghost use mathlib.Core.Path.{_≡_};
 ghost use Prim.Native.Nat.{ℕ, _<_, _≤_};
 ghost use Rattle.model.specs.Kind.{kind};
@@ -14,7 +14,7 @@ ghost use Rattle.model.specs.State.{state};
 ghost use Rattle.model.specs.Refuse.{shapeOf};
 ghost use Rattle.model.specs.Sheet.{pagesFor};
 ghost use Rattle.model.specs.Print.{printCauses, print};
-ghost use Rattle.open.specs.Open.{openedBy};
+ghost use Rattle.tree_open.specs.Open.{openedBy};
 
 // The pages of 50 lines that n lines take.
 fn pages_for(n: u32) -> usize

@@ -1,16 +1,16 @@
 // The lines of a leaf, and of as many entries as the head says, leaf after leaf.
 use crate::line::line;
-use area::word::at_of;
-use area::word::child_of;
-use area::word::len_of;
-use area::word::length_of;
-use area::word::parent_of;
 use model::number::LeafNo;
 use model::number::NodeNo;
 use model::shape::Shape;
 use model::way::Leaf;
-use walk::down::first_down;
-use walk::down::next_up;
+use tree_area::word::at_of;
+use tree_area::word::child_of;
+use tree_area::word::len_of;
+use tree_area::word::length_of;
+use tree_area::word::parent_of;
+use tree_walk::down::first_down;
+use tree_walk::down::next_up;
 ghost use mathlib.Core.Path.{_≡_};
 ghost use mathlib.Core.Bool.{cond};
 ghost use Prim.Native.Nat.{ℕ, _+_, _*_, _<_, _≤_};
@@ -21,7 +21,7 @@ ghost use Rattle.model.specs.Lists.{putAt};
 ghost use Rattle.model.specs.State.{nodeAt};
 ghost use Rattle.model.specs.Climb.{firstDown};
 ghost use Rattle.model.specs.Print.{metFrom, slotLines};
-ghost use Rattle.area.specs.Area.{AreaHolds};
+ghost use Rattle.tree_area.specs.Area.{AreaHolds};
 ghost use Rattle.calls_print.specs.Laid.{laid, laidBy};
 
 // The place behind some lines, and the positions of the entry after them.

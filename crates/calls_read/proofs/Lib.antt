@@ -1,1 +1,4 @@
 pub mod ReadLaws
+pub mod OrderLaws
+pub mod LookupLaws
+pub mod StayLaws

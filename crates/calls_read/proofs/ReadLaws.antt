@@ -23,14 +23,14 @@ use Rattle.model.specs.declared.answer.Standing.the-variants as standing
 use Rattle.model.specs.declared.answer.Named.{Named}
 use Rattle.model.specs.declared.answer.Named.the-variants as named
 use Rattle.model.specs.declared.answer.Measured.the-variants as measured
-use Rattle.laws.specs.AreaRead.{used-length}
-use Rattle.node.specs.Shaped.{Shaped}
-use Rattle.open.proofs.Causes.{opened-first, opened-next, opened-none, opened-stop, opened-more, good-shape, refused-number, call-refused, call-good}
-use Rattle.open.proofs.OpenLaws.{opening-numbered}
-use Rattle.open.specs.Open.{openedBy}
+use Rattle.model_laws.specs.AreaRead.{used-length}
+use Rattle.tree_node.specs.Shaped.{Shaped}
+use Rattle.tree_open.proofs.Causes.{opened-first, opened-next, opened-none, opened-stop, opened-more, good-shape, refused-number, call-refused, call-good}
+use Rattle.tree_open.proofs.OpenLaws.{opening-numbered}
+use Rattle.tree_open.specs.Open.{openedBy}
 use Rattle.calls_read.specs.Read.{cursorIn, lengthsBy}
-use Rattle.open.specs.declared.open.Opened.{Opened}
-use Rattle.open.specs.declared.open.Opened.the-variants.{Good, Refused}
+use Rattle.tree_open.specs.declared.open.Opened.{Opened}
+use Rattle.tree_open.specs.declared.open.Opened.the-variants.{Good, Refused}
 
 -- the answers, made with the sizes g
 module _ (s : State) (c : Cursor) where

@@ -8,7 +8,7 @@ use model::head::Cursor;
 use model::head::Head;
 use model::length::Lengths;
 use model::number::EntryId;
-use open::open::bad_size;
+use tree_open::open::bad_size;
 ghost use mathlib.Core.Path.{_≡_};
 ghost use Rattle.model.specs.Kind.{base};
 ghost use Rattle.model.specs.State.{state};

@@ -25,21 +25,21 @@ use Rattle.model.specs.declared.answer.Number.{Number}
 use Rattle.model.specs.declared.answer.Number.the-variants as number
 use Rattle.model.specs.declared.answer.Outcome.{Outcome}
 use Rattle.model.specs.declared.answer.Outcome.the-variants as outcome
-use Rattle.node_write.proofs.WriteLaws.{three-words, four-words}
-use Rattle.area.specs.Area.{AreaHolds}
-use Rattle.walk.specs.Low.{lowWay}
-use Rattle.place.specs.Asked.{asked, askedWay, wayUp}
-use Rattle.place.proofs.SizeLaws.{asked-whole, asked-lost, asked-wrap}
-use Rattle.place.proofs.CallLaws.{low-whole, low-lost}
-use Rattle.open.proofs.Causes.{opened-first, opened-next, opened-none, opened-stop, opened-more, good-shape, good-front, good-tail, call-refused, call-good}
-use Rattle.open.proofs.CursorLaws.{at-numbered, cursor-ready, slot-in, own-lengths}
-use Rattle.open.proofs.ReadyLaws.{inner-area}
-use Rattle.open.proofs.WidthLaws.{own-shape, own-views, past-same}
-use Rattle.open.specs.Lengths.{pastIn}
-use Rattle.open.specs.Open.{openedBy}
-use Rattle.open.specs.Ready.{CursorReady}
-use Rattle.open.specs.declared.open.Opened.{Opened}
-use Rattle.open.specs.declared.open.Opened.the-variants.{Good, Refused}
+use Rattle.tree_node.proofs.WriteLaws.{three-words, four-words}
+use Rattle.tree_area.specs.Area.{AreaHolds}
+use Rattle.tree_walk.specs.Low.{lowWay}
+use Rattle.tree_place.specs.Asked.{asked, askedWay, wayUp}
+use Rattle.tree_place.proofs.SizeLaws.{asked-whole, asked-lost, asked-wrap}
+use Rattle.tree_place.proofs.CallLaws.{low-whole, low-lost}
+use Rattle.tree_open.proofs.Causes.{opened-first, opened-next, opened-none, opened-stop, opened-more, good-shape, good-front, good-tail, call-refused, call-good}
+use Rattle.tree_open.proofs.CursorLaws.{at-numbered, cursor-ready, slot-in, own-lengths}
+use Rattle.tree_open.proofs.ReadyLaws.{inner-area}
+use Rattle.tree_open.proofs.WidthLaws.{own-shape, own-views, past-same}
+use Rattle.tree_open.specs.Lengths.{pastIn}
+use Rattle.tree_open.specs.Open.{openedBy}
+use Rattle.tree_open.specs.Ready.{CursorReady}
+use Rattle.tree_open.specs.declared.open.Opened.{Opened}
+use Rattle.tree_open.specs.declared.open.Opened.the-variants.{Good, Refused}
 use Rattle.calls_size.specs.Size.{oldBy, resize, unnumbered}
 
 -- one to three differences are those of the lists

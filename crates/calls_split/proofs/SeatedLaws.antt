@@ -14,7 +14,7 @@ use Rattle.model.specs.declared.seats.Seat.{Seat}
 use Rattle.model.specs.declared.head.Cursor.{Cursor}
 use Rattle.model.specs.declared.answer.Divided.{Divided}
 use Rattle.model.specs.declared.answer.Divided.the-variants as divided
-use Rattle.seating.proofs.ReplyLaws.{seat-refused, seat-taken}
+use Rattle.tree_seats.proofs.ReplyLaws.{seat-refused, seat-taken}
 
 -- who is charged, by the answer
 module _ (t : Seat) (b : Seats) (a : Divided) where

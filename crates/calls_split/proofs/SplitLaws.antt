@@ -20,17 +20,17 @@ use Rattle.model.specs.declared.head.Cursor.{Cursor}
 use Rattle.model.specs.declared.head.Head.{Head}
 use Rattle.model.specs.declared.answer.Divided.{Divided}
 use Rattle.model.specs.declared.answer.Divided.the-variants as divided
-use Rattle.place.specs.Room.{settledIn, Entering}
-use Rattle.place.proofs.LevelLaws.{entered-in}
-use Rattle.place.proofs.CallLaws.{settled-head, settled-again}
-use Rattle.open.proofs.Causes.{one-cause, opened-first, opened-next, opened-number, opened-zero, opened-stop, opened-more, good-number, good-shape, good-front, good-tail, call-refused, call-good}
-use Rattle.open.proofs.CursorLaws.{at-numbered, cursor-ready, own-lengths}
-use Rattle.open.proofs.WidthLaws.{own-shape, own-views, more-same, hollow-same}
-use Rattle.open.specs.Lengths.{moreIn, hollowIn}
-use Rattle.open.specs.Open.{openedBy}
-use Rattle.open.specs.Ready.{CursorReady}
-use Rattle.open.specs.declared.open.Opened.{Opened}
-use Rattle.open.specs.declared.open.Opened.the-variants.{Good, Refused}
+use Rattle.tree_place.specs.Room.{settledIn, Entering}
+use Rattle.tree_place.proofs.LevelLaws.{entered-in}
+use Rattle.tree_place.proofs.CallLaws.{settled-head, settled-again}
+use Rattle.tree_open.proofs.Causes.{one-cause, opened-first, opened-next, opened-number, opened-zero, opened-stop, opened-more, good-number, good-shape, good-front, good-tail, call-refused, call-good}
+use Rattle.tree_open.proofs.CursorLaws.{at-numbered, cursor-ready, own-lengths}
+use Rattle.tree_open.proofs.WidthLaws.{own-shape, own-views, more-same, hollow-same}
+use Rattle.tree_open.specs.Lengths.{moreIn, hollowIn}
+use Rattle.tree_open.specs.Open.{openedBy}
+use Rattle.tree_open.specs.Ready.{CursorReady}
+use Rattle.tree_open.specs.declared.open.Opened.{Opened}
+use Rattle.tree_open.specs.declared.open.Opened.the-variants.{Good, Refused}
 
 -- what `open_split` answers: 10 where there are too many line ends
 pub split-many : (K : Kind) (causes : List Cause) (s : State) (c : Cursor) (l : List ℕ) (m : Bool) → m ≡ tooManyLines K l → m ≡ true → Refused 10 ≡ openedBy (splitCauses K causes s c l) (shapeOf K (s .head))

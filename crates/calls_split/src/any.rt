@@ -5,14 +5,14 @@ use model::head::Cursor;
 use model::head::Head;
 use model::number::EntryId;
 use model::number::LeafNo;
-use open::lengths::crossed_part;
-use open::lengths::hollow_part;
-use open::lengths::lengths_at;
-use open::lengths::too_many_lines;
-use open::lengths::too_much;
-use open::open::Opened;
-use open::open::open_at;
-use place::entry::divide;
+use tree_open::lengths::crossed_part;
+use tree_open::lengths::hollow_part;
+use tree_open::lengths::lengths_at;
+use tree_open::lengths::too_many_lines;
+use tree_open::lengths::too_much;
+use tree_open::open::Opened;
+use tree_open::open::open_at;
+use tree_place::entry::divide;
 ghost use mathlib.Core.Path.{_≡_};
 ghost use mathlib.Core.List.{List};
 ghost use Prim.Native.Nat.{ℕ, _<_, _≤_};
@@ -24,7 +24,7 @@ ghost use Rattle.model.specs.State.{state, nextStamp};
 ghost use Rattle.model.specs.Refuse.{shapeOf};
 ghost use Rattle.model.specs.Calls as calls;
 ghost use Rattle.model.specs.Calls.{reply, dividedAt, splitCauses};
-ghost use Rattle.open.specs.Open.{openedBy};
+ghost use Rattle.tree_open.specs.Open.{openedBy};
 
 // What split_entry tests, too many line ends before all else, and room, the number for want of space, behind all else.
 fn open_split(

@@ -4,7 +4,7 @@ use model::head::Cursor;
 use model::head::Head;
 use model::length::Lengths;
 use model::length::Slot;
-use seating::rule::without;
+use tree_seats::rule::without;
 ghost use mathlib.Core.Path.{_≡_};
 ghost use Rattle.model.specs.Length.{listOf};
 ghost use Rattle.model.specs.Kind.{base};

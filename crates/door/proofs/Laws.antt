@@ -7,9 +7,9 @@ use lib.ListN.{length}
 use Rattle.model.specs.Length.{listOf}
 use Rattle.model.specs.declared.answer.Outcome.{Outcome}
 use Rattle.model.specs.declared.answer.Outcome.the-variants as outcome
-use Rattle.row.specs.Run.{fit, Ran, runOn, AsRow}
-use Rattle.row.specs.Made.{runMade, makeAndRun, firstLengths, doorTree, doorRow}
-use Rattle.row.proofs.MadeLaws.{door-made}
+use Rattle.list_row.specs.Run.{fit, Ran, runOn, AsRow}
+use Rattle.list_row.specs.Made.{runMade, makeAndRun, firstLengths, doorTree, doorRow}
+use Rattle.list_row.proofs.MadeLaws.{door-made}
 use Rattle.door.specs.Door.{doorAnswer, doorOn}
 
 module _ (ls xs hs : List ℕ) (el : length ls ≡ 4480) (ex : length xs ≡ 4480) (eh : length hs ≡ 512) (bs out : List ℕ) (m : Ran)

@@ -4,8 +4,8 @@ use mathlib.Core.List.{List}
 use Prim.Native.Nat.{ℕ}
 use Rattle.model.specs.Kind.{base}
 use Rattle.model.specs.Row.{rowStep}
-use Rattle.row.specs.Run.{recordsOf, played, fit}
-use Rattle.row.specs.Made.{doorRow}
+use Rattle.list_row.specs.Run.{recordsOf, played, fit}
+use Rattle.list_row.specs.Made.{doorRow}
 
 -- the number returned, and the output
 pub record DoorAnswer : Type 0 where

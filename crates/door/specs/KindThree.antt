@@ -5,9 +5,9 @@ use mathlib.Core.List.{List}
 use Prim.Native.Nat.{ℕ}
 use Rattle.model.specs.Kind.{base}
 use Rattle.model.specs.Row.{rowStep}
-use Rattle.row.specs.Run.{recordsOf, played, fit}
-use Rattle.row.specs.Made.{doorRow}
-use Rattle.row.specs.KindThree.{ButForKind, asTwos, alike, same-fit, played-three}
+use Rattle.list_row.specs.Run.{recordsOf, played, fit}
+use Rattle.list_row.specs.Made.{doorRow}
+use Rattle.list_row.specs.KindThree.{ButForKind, asTwos, alike, same-fit, played-three}
 use Rattle.door.specs.Door.{DoorAnswer, doorAnswer, doorOn}
 
 -- two answers of the door that are alike but for the kind of an answer record

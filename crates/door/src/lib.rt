@@ -1,11 +1,11 @@
 // The door: records in, answer records out, on a tree of its own made anew in each call.
 // Its output is equated with the plain row's answers.
-// Stands on row, and on all that it stands on.
+// Stands on model and list.
+use list_row::made::FAN;
+use list_row::made::FIRST;
+use list_row::made::LIMIT;
+use list_row::made::make_and_run;
 use model::answer::Outcome;
-use row::made::FAN;
-use row::made::FIRST;
-use row::made::LIMIT;
-use row::made::make_and_run;
 ghost use mathlib.Core.Path.{_≡_};
 ghost use Rattle.door.specs.Door.{doorAnswer, doorOn};
 

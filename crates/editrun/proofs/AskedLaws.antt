@@ -9,7 +9,7 @@ use native.Mathlib.Omega.{arith}
 use lib.ListN.{length, getD, drop, drop-of-length-le}
 use lib.Seq.{drop-cons}
 use borrow.Author.Tests.{lt-ltb, le-ltb, le-leb, lt-leb}
-use Rattle.text.specs.Lines.{saidBy}
+use Rattle.list_stream.specs.Lines.{saidBy}
 use Rattle.editrun.specs.Asked.{digits, word, asked}
 use Rattle.editrun.specs.declared.Argument.{Argument}
 use Rattle.editrun.specs.declared.Argument.the-variants as argument

@@ -10,7 +10,7 @@ use lib.Seq.{take-all, take-take, take-add, take-append-le, length-take-le}
 use lib.Dec.{ltb, eqb}
 use borrow.Author.Tests.{le-leb, lt-leb, ltb-true, ltb-false, eqb-true, eqb-false}
 use Rattle.model.specs.Lists.{part}
-use Rattle.laws.specs.Words.{length-part}
+use Rattle.model_laws.specs.Words.{length-part}
 use Rattle.calls_edits.specs.Edits.{difference}
 use Rattle.calls_edits.specs.Answered.{checks, differs}
 use Rattle.editrun.specs.Held.{folded, InputHeld, Turned, HoldsInput}

@@ -12,8 +12,8 @@ use Rattle.model.specs.declared.answer.Number.the-variants as number
 use Rattle.calls_edits.specs.Edits.{difference}
 use Rattle.calls_edits.specs.Promised.{Listed}
 use Rattle.calls_edits.specs.Answered.{differs}
-use Rattle.text.specs.Text.{put}
-use Rattle.text.proofs.TextLaws.{put-more, put-nil}
+use Rattle.list_stream.specs.Text.{put}
+use Rattle.list_stream.proofs.TextLaws.{put-more, put-nil}
 use Rattle.editrun.specs.Held.{InputHeld, HoldsInput}
 use Rattle.editrun.specs.Printed.{lines, Printed, Answered}
 use Rattle.editrun.specs.declared.Shown.{Shown}

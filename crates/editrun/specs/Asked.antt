@@ -4,7 +4,7 @@ use mathlib.Core.List.{List, [], _∷_}
 use Prim.Native.Nat.{ℕ}
 use lib.ListN.{length}
 use lib.Dec.{ltb, leb}
-use Rattle.text.specs.Lines.{saidBy}
+use Rattle.list_stream.specs.Lines.{saidBy}
 use Rattle.editrun.specs.declared.Argument.{Argument}
 use Rattle.editrun.specs.declared.Argument.the-variants as argument
 

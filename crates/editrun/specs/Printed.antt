@@ -9,7 +9,7 @@ use Rattle.model.specs.Numeral.{decimal}
 use Rattle.model.specs.declared.answer.Number.the-variants as number
 use Rattle.calls_edits.specs.Edits.{difference}
 use Rattle.calls_edits.specs.Promised.{Difference}
-use Rattle.text.specs.Text.{put}
+use Rattle.list_stream.specs.Text.{put}
 use Rattle.editrun.specs.declared.Shown.{Shown}
 use Rattle.editrun.specs.declared.Shown.the-variants as shown
 

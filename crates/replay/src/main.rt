@@ -3,10 +3,10 @@
 use calls_make::begin::new;
 use libc::STDIN_FILENO;
 use libc::STDOUT_FILENO;
+use list_records::fields::read;
+use list_stream::block::show;
 use model::head::Head;
 use model::length::Lengths;
-use records::fields::read;
-use stream::block::show;
 
 // Whether the list goes on.
 enum Input {

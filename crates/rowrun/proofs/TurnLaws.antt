@@ -8,10 +8,10 @@ use lib.Dec.{eqb}
 use borrow.Author.Tests.{eq-eqb, ne-eqb}
 use Rattle.model.specs.State.{State, state}
 use Rattle.model.specs.declared.head.Head.{Head}
-use Rattle.text.specs.Text.{put}
-use Rattle.stream.specs.Shown.{Fed, fedOf, feed, tail}
-use Rattle.stream.proofs.FeedLaws.{fed-short, kept-few}
-use Rattle.stream.proofs.RestLaws.{tail-short}
+use Rattle.list_stream.specs.Text.{put}
+use Rattle.list_stream.specs.Shown.{Fed, fedOf, feed, tail}
+use Rattle.list_stream.proofs.FeedLaws.{fed-short, kept-few}
+use Rattle.list_stream.proofs.RestLaws.{tail-short}
 use Rattle.rowrun.specs.Turn.{answered, Turned}
 use Rattle.rowrun.specs.declared.Input.{Input}
 use Rattle.rowrun.specs.declared.Input.the-variants as input

@@ -6,8 +6,8 @@ use Prim.Native.Nat.{ℕ, _+_, _<_, _≤_}
 use lib.ListN.{length, take}
 use lib.Dec.{eqb}
 use Rattle.model.specs.State.{State, state}
-use Rattle.text.specs.Text.{put}
-use Rattle.stream.specs.Shown.{Fed, fedOf, feed, tail}
+use Rattle.list_stream.specs.Text.{put}
+use Rattle.list_stream.specs.Shown.{Fed, fedOf, feed, tail}
 use Rattle.rowrun.specs.declared.Input.{Input}
 use Rattle.rowrun.specs.declared.Input.the-variants as input
 

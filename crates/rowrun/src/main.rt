@@ -3,19 +3,19 @@
 use libc::STDERR_FILENO;
 use libc::STDIN_FILENO;
 use libc::STDOUT_FILENO;
+use list_row::made::door_tree;
+use list_stream::block::Fed;
+use list_stream::block::feed;
+use list_stream::rest::tail;
 use model::head::Head;
-use row::made::door_tree;
-use stream::block::Fed;
-use stream::block::feed;
-use stream::rest::tail;
 ghost use mathlib.Core.Path.{_≡_};
 ghost use Prim.Native.Nat.{_+_, _*_, _/_, _<_, _≤_};
 ghost use lib.ListN.{length};
 ghost use Rattle.model.specs.Kind.{base};
 ghost use Rattle.model.specs.State.{state};
 ghost use Rattle.model.specs.Promise.{Represents};
-ghost use Rattle.row.specs.Made.{doorRow};
-ghost use Rattle.stream.specs.Shown.{fedOf};
+ghost use Rattle.list_row.specs.Made.{doorRow};
+ghost use Rattle.list_stream.specs.Shown.{fedOf};
 ghost use Rattle.rowrun.specs.Turn.{answered, Turned};
 
 // Whether the input goes on: with the head, and how many bytes are kept at the block's start.

@@ -13,8 +13,8 @@ use Rattle.model.specs.Row.{Row, Call, Entry, Answer, Moved, moved, unless, ove
 use Rattle.model.specs.State.{State}
 use Rattle.model.specs.Sheet.{pagesFor}
 use Rattle.model.specs.Promise.{finally, Represents}
-use Rattle.theory.specs.CallSimulates.{count-is}
-use Rattle.row.specs.Made.{doorRow}
+use Rattle.model_theory.specs.CallSimulates.{count-is}
+use Rattle.list_row.specs.Made.{doorRow}
 use Rattle.sheetrun.specs.Turn.{leftRow}
 
 -- calls behind calls

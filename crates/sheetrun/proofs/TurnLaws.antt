@@ -19,12 +19,12 @@ use Rattle.model.specs.declared.head.Head.{Head}
 use Rattle.model.specs.declared.answer.Outcome.{Outcome}
 use Rattle.model.specs.declared.answer.Number.{Number}
 use Rattle.model.specs.declared.answer.Number.the-variants as number
-use Rattle.laws.specs.Words.{length-part}
-use Rattle.theory.specs.CallPrint.{prints-row, print-leaves}
-use Rattle.text.specs.Text.{put}
-use Rattle.text.proofs.TextLaws.{behind}
-use Rattle.row.specs.Run.{recordsOf, callsOf, left, fit, Ran, ran, runOn, AsRow}
-use Rattle.row.specs.Made.{doorRow}
+use Rattle.model_laws.specs.Words.{length-part}
+use Rattle.model_theory.specs.CallPrint.{prints-row, print-leaves}
+use Rattle.list_stream.specs.Text.{put}
+use Rattle.list_stream.proofs.TextLaws.{behind}
+use Rattle.list_row.specs.Run.{recordsOf, callsOf, left, fit, Ran, ran, runOn, AsRow}
+use Rattle.list_row.specs.Made.{doorRow}
 use Rattle.sheetrun.specs.Turn.{wholeOf, BlockPlayed, Turned, leftRow, ForRow}
 use Rattle.sheetrun.specs.declared.Input.{Input}
 use Rattle.sheetrun.specs.declared.Input.the-variants as input

@@ -9,9 +9,9 @@ use Rattle.model.specs.Row.{Row, Call, rowStep}
 use Rattle.model.specs.State.{State, state}
 use Rattle.model.specs.ById.{treeStep}
 use Rattle.model.specs.Promise.{finally, Represents}
-use Rattle.text.specs.Text.{put}
-use Rattle.row.specs.Run.{recordsOf, left}
-use Rattle.row.specs.Made.{doorRow}
+use Rattle.list_stream.specs.Text.{put}
+use Rattle.list_row.specs.Run.{recordsOf, left}
+use Rattle.list_row.specs.Made.{doorRow}
 use Rattle.sheetrun.specs.declared.Input.{Input}
 use Rattle.sheetrun.specs.declared.Input.the-variants as input
 

@@ -4,11 +4,11 @@ use calls_print::print::print;
 use libc::STDERR_FILENO;
 use libc::STDIN_FILENO;
 use libc::STDOUT_FILENO;
+use list_row::made::door_tree;
+use list_row::run::run;
+use list_stream::rest::keep;
 use model::answer::Number;
 use model::head::Head;
-use row::made::door_tree;
-use row::run::run;
-use stream::rest::keep;
 ghost use mathlib.Core.Path.{_≡_};
 ghost use mathlib.Core.List.{List};
 ghost use Prim.Native.Nat.{_+_, _*_, _<_, _≤_};
@@ -18,7 +18,7 @@ ghost use Rattle.model.specs.Row.{Call};
 ghost use Rattle.model.specs.State.{state};
 ghost use Rattle.model.specs.Promise.{Represents};
 ghost use Rattle.model.specs.Sheet.{pagesFor, sheet};
-ghost use Rattle.row.specs.Made.{doorRow};
+ghost use Rattle.list_row.specs.Made.{doorRow};
 ghost use Rattle.sheetrun.specs.Turn.{BlockPlayed, Turned, ForRow, leftRow};
 
 // The head after a block, and how many bytes are kept at the block's start.

@@ -11,9 +11,9 @@ use Rattle.model.specs.declared.seats.Seats.{Seats}
 use Rattle.model.specs.declared.head.Head.{Head}
 use Rattle.model.specs.Answer.{numberAnswer}
 use Rattle.model.specs.declared.answer.Number.{Number}
-use Rattle.marshal.specs.Flat.{headAfter, numberOf}
-use Rattle.marshal.specs.Lent.{Given, left}
-use Rattle.marshal.specs.declared.flat.FlatNumber.{FlatNumber}
+use Rattle.smelvock_marshal.specs.Flat.{headAfter, numberOf}
+use Rattle.smelvock_marshal.specs.Lent.{Given, left}
+use Rattle.smelvock_marshal.specs.declared.flat.FlatNumber.{FlatNumber}
 use Rattle.smelvock.specs.Changes.{leftBy, leftSeated}
 use Rattle.smelvock.specs.Prints.{printedBy}
 use Rattle.smelvock.specs.Edits.{listedBy}

@@ -34,10 +34,10 @@ use Rattle.model.specs.declared.way.Search.{Search}
 use Rattle.model.specs.declared.way.Search.the-variants as search
 use Rattle.model.specs.declared.answer.Number.the-variants as number
 use Rattle.model.specs.declared.answer.Located.the-variants as located
-use Rattle.place.specs.Asked.{asked}
+use Rattle.tree_place.specs.Asked.{asked}
 use Rattle.calls_size.specs.Size as size
-use Rattle.calls_look.specs.Lookup.{Stayed}
-use Rattle.marshal.specs.Flat.{headFrom, fingerFrom, heldFrom, presentOf, InLeaf}
+use Rattle.calls_read.specs.Lookup.{Stayed}
+use Rattle.smelvock_marshal.specs.Flat.{headFrom, fingerFrom, heldFrom, presentOf, InLeaf}
 
 -- t has the head of s but for the finger
 abbrev Fingered : State → State → Type 0

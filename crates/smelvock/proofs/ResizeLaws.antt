@@ -18,9 +18,9 @@ use Rattle.model.specs.declared.answer.Number.{Number}
 use Rattle.model.specs.declared.answer.Number.the-variants as number
 use Rattle.model.specs.declared.answer.Outcome.{Outcome}
 use Rattle.model.specs.declared.answer.Outcome.the-variants as outcome
-use Rattle.marshal.specs.Flat.{badHead, headAfter, numberOf}
-use Rattle.marshal.specs.Lent.{Given, stateOf}
-use Rattle.marshal.specs.declared.flat.FlatNumber.{FlatNumber}
+use Rattle.smelvock_marshal.specs.Flat.{badHead, headAfter, numberOf}
+use Rattle.smelvock_marshal.specs.Lent.{Given, stateOf}
+use Rattle.smelvock_marshal.specs.declared.flat.FlatNumber.{FlatNumber}
 use Rattle.calls_size.specs.Size as size
 use Rattle.smelvock.specs.Changes as flat
 use Rattle.smelvock.specs.Changes.{leftBy}

@@ -32,11 +32,11 @@ use Rattle.model.specs.declared.answer.Inserted.{Inserted}
 use Rattle.model.specs.declared.answer.Inserted.the-variants as inserted
 use Rattle.model.specs.declared.answer.Divided.{Divided}
 use Rattle.model.specs.declared.answer.Divided.the-variants as divided
-use Rattle.laws.specs.Words.{length-part, length-put, getD-part, put-same, getD-before, lent, lent-back}
-use Rattle.theory.specs.AnyFixed.{insert-fixed, split-entry-fixed}
-use Rattle.seating.specs.Words.{seatsFrom, seatsWords}
-use Rattle.seating.proofs.WriteLaws.{seats-back}
-use Rattle.marshal.specs.Flat.{headFrom, headWords, headAfter}
+use Rattle.model_laws.specs.Words.{length-part, length-put, getD-part, put-same, getD-before, lent, lent-back}
+use Rattle.model_theory.specs.AnyFixed.{insert-fixed, split-entry-fixed}
+use Rattle.tree_seats.specs.Words.{seatsFrom, seatsWords}
+use Rattle.tree_seats.proofs.WriteLaws.{seats-back}
+use Rattle.smelvock_marshal.specs.Flat.{headFrom, headWords, headAfter}
 use Rattle.smelvock.specs.Changes.{seatedAfter}
 
 -- the words lent: seventeen, the first of them the head's flag for seats

@@ -20,15 +20,15 @@ use Rattle.model.specs.declared.seats.Seats.{Seats}
 use Rattle.model.specs.declared.head.Cursor.{Cursor}
 use Rattle.model.specs.declared.head.Head.{Head}
 use Rattle.model.specs.declared.length.Lengths.{Lengths}
-use Rattle.marshal.specs.Flat.{viewFrom, targetFrom, seatFrom, badShares, badHead, badSeats, badStored, headWords, headAfter, numberOf, locatedOf, insertedOf, dividedOf}
-use Rattle.marshal.specs.Lent.{Given, stateOf, Left, left, numberAlone}
-use Rattle.seating.specs.Words.{seatsWords}
+use Rattle.smelvock_marshal.specs.Flat.{viewFrom, targetFrom, seatFrom, badShares, badHead, badSeats, badStored, headWords, headAfter, numberOf, locatedOf, insertedOf, dividedOf}
+use Rattle.smelvock_marshal.specs.Lent.{Given, stateOf, Left, left, numberAlone}
+use Rattle.tree_seats.specs.Words.{seatsWords}
 use Rattle.calls_make.specs.Made.{makeWith}
 use Rattle.smelvock.specs.Reads.{seatsOf}
-use Rattle.marshal.specs.declared.flat.FlatNumber.{FlatNumber}
-use Rattle.marshal.specs.declared.flat.FlatLocated.{FlatLocated}
-use Rattle.marshal.specs.declared.flat.FlatInserted.{FlatInserted}
-use Rattle.marshal.specs.declared.flat.FlatDivided.{FlatDivided}
+use Rattle.smelvock_marshal.specs.declared.flat.FlatNumber.{FlatNumber}
+use Rattle.smelvock_marshal.specs.declared.flat.FlatLocated.{FlatLocated}
+use Rattle.smelvock_marshal.specs.declared.flat.FlatInserted.{FlatInserted}
+use Rattle.smelvock_marshal.specs.declared.flat.FlatDivided.{FlatDivided}
 
 -- refused by 10 where something is bad, else the call's reply in words, with the head's words by its number
 unfoldable pub leftBy : {A : Type 0} {R : Type 0} → (Answer → R) → (A → Answer) → (ℕ → Head → List ℕ → List ℕ) → Bool → Given → Reply A → Left R

@@ -4,8 +4,8 @@ use Prim.Native.Nat.{ℕ}
 use Rattle.model.specs.Answer.{outcomeAnswer, numberAnswer}
 use Rattle.model.specs.declared.answer.Number.{Number}
 use Rattle.calls_edits.specs.Edits as calls
-use Rattle.marshal.specs.Flat.{numberOf}
-use Rattle.marshal.specs.declared.flat.FlatNumber.{FlatNumber}
+use Rattle.smelvock_marshal.specs.Flat.{numberOf}
+use Rattle.smelvock_marshal.specs.declared.flat.FlatNumber.{FlatNumber}
 
 -- 0 where the file is accepted
 unfoldable pub check : List ℕ → ℕ

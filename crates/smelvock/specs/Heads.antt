@@ -22,10 +22,10 @@ use Rattle.model.specs.SeatedCalls.{SeatedReply, seatedReply, makeSeated}
 use Rattle.model.specs.declared.answer.Outcome.{Outcome}
 use Rattle.model.specs.declared.answer.Outcome.the-variants as outcome
 use Rattle.model.specs.declared.length.Lengths.{Lengths}
-use Rattle.seating.specs.Words.{seatsWords}
+use Rattle.tree_seats.specs.Words.{seatsWords}
 use Rattle.calls_make.specs.Made.{makeWith}
-use Rattle.marshal.specs.Flat.{badShares, headWords, headAfter}
-use Rattle.marshal.specs.Lent.{Given}
+use Rattle.smelvock_marshal.specs.Flat.{badShares, headWords, headAfter}
+use Rattle.smelvock_marshal.specs.Lent.{Given}
 use Rattle.smelvock.specs.Changes.{leftBy, leftSeated, seatedAfter, make}
 
 module _ (fan limit : ℕ) (shares : List ℕ) (l : Lengths) (g : Given) where

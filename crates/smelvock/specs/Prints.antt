@@ -8,9 +8,9 @@ use Rattle.model.specs.Row.{refused}
 use Rattle.model.specs.Answer.{numberAnswer}
 use Rattle.model.specs.Print as calls
 use Rattle.model.specs.declared.answer.Number.{Number}
-use Rattle.marshal.specs.Flat.{badHead, numberOf}
-use Rattle.marshal.specs.Lent.{Given, stateOf}
-use Rattle.marshal.specs.declared.flat.FlatNumber.{FlatNumber}
+use Rattle.smelvock_marshal.specs.Flat.{badHead, numberOf}
+use Rattle.smelvock_marshal.specs.Lent.{Given, stateOf}
+use Rattle.smelvock_marshal.specs.declared.flat.FlatNumber.{FlatNumber}
 
 -- the reply's words and the buffer
 unfoldable pub printedBy : Bool → List ℕ → Number × List ℕ → FlatNumber × List ℕ

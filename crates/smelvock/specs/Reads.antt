@@ -13,12 +13,12 @@ use Rattle.model.specs.declared.head.Cursor.{Cursor}
 use Rattle.model.specs.Lists.{part}
 use Rattle.model.specs.SeatedCalls.{auditSeated}
 use Rattle.model.specs.declared.seats.Seats.{Seats}
-use Rattle.seating.specs.Words.{seatsFrom}
-use Rattle.marshal.specs.Flat.{badHead, badSeats, headFrom, viewFrom, numberOf, measuredOf, standingOf}
-use Rattle.marshal.specs.Lent.{Given, stateOf, unlessBad}
-use Rattle.marshal.specs.declared.flat.FlatNumber.{FlatNumber}
-use Rattle.marshal.specs.declared.flat.FlatMeasured.{FlatMeasured}
-use Rattle.marshal.specs.declared.flat.FlatStanding.{FlatStanding}
+use Rattle.tree_seats.specs.Words.{seatsFrom}
+use Rattle.smelvock_marshal.specs.Flat.{badHead, badSeats, headFrom, viewFrom, numberOf, measuredOf, standingOf}
+use Rattle.smelvock_marshal.specs.Lent.{Given, stateOf, unlessBad}
+use Rattle.smelvock_marshal.specs.declared.flat.FlatNumber.{FlatNumber}
+use Rattle.smelvock_marshal.specs.declared.flat.FlatMeasured.{FlatMeasured}
+use Rattle.smelvock_marshal.specs.declared.flat.FlatStanding.{FlatStanding}
 
 -- the seats' words are the last seventeen of the head's
 abbrev pub seatsOf : Given → Seats

@@ -1,12 +1,12 @@
 // The exported audit.
-use audit::seated::audit;
-use marshal::answered::number_of_verdict;
-use marshal::answered::refused_number;
-use marshal::flat::FlatNumber;
-use marshal::head::bad_seats;
-use marshal::head::head_from;
+use calls_audit::seated::audit;
+use smelvock_marshal::answered::number_of_verdict;
+use smelvock_marshal::answered::refused_number;
+use smelvock_marshal::flat::FlatNumber;
+use smelvock_marshal::head::bad_seats;
+use smelvock_marshal::head::head_from;
 ghost use mathlib.Core.Path.{_≡_};
-ghost use Rattle.marshal.specs.Lent.{given};
+ghost use Rattle.smelvock_marshal.specs.Lent.{given};
 ghost use Rattle.smelvock.specs.Reads as flat;
 
 #[no_mangle]

@@ -1,9 +1,9 @@
 // The exported calls on files of edits.
 use calls_edits::check::check;
 use calls_edits::difference::difference;
-use marshal::answered::number_of;
-use marshal::answered::outcome_of;
-use marshal::flat::FlatNumber;
+use smelvock_marshal::answered::number_of;
+use smelvock_marshal::answered::outcome_of;
+use smelvock_marshal::flat::FlatNumber;
 ghost use mathlib.Core.Path.{_≡_};
 ghost use Rattle.smelvock.specs.Edits as flat;
 

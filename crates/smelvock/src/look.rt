@@ -1,14 +1,14 @@
 // The exported lookup.
-use calls_look::lookup::locate;
-use marshal::answered::located_of;
-use marshal::answered::refused_located;
-use marshal::flat::FlatLocated;
-use marshal::given::view_from;
-use marshal::head::bad_view;
-use marshal::head::head_from;
-use marshal::head::settle_found;
+use calls_read::lookup::locate;
+use smelvock_marshal::answered::located_of;
+use smelvock_marshal::answered::refused_located;
+use smelvock_marshal::flat::FlatLocated;
+use smelvock_marshal::given::view_from;
+use smelvock_marshal::head::bad_view;
+use smelvock_marshal::head::head_from;
+use smelvock_marshal::head::settle_found;
 ghost use mathlib.Core.Path.{_≡_};
-ghost use Rattle.marshal.specs.Lent.{given, left};
+ghost use Rattle.smelvock_marshal.specs.Lent.{given, left};
 ghost use Rattle.smelvock.specs.Changes as flat;
 
 #[no_mangle]

@@ -1,16 +1,16 @@
 // The exported calls that make a tree.
 use calls_make::seated::new;
 use calls_make::seated::reset;
-use marshal::answered::outcome_of;
-use marshal::given::bad_made;
-use marshal::given::lengths_from;
-use marshal::head::bad_seats;
-use marshal::head::head_from;
-use marshal::head::put_head;
-use marshal::head::settle;
+use smelvock_marshal::answered::outcome_of;
+use smelvock_marshal::given::bad_made;
+use smelvock_marshal::given::lengths_from;
+use smelvock_marshal::head::bad_seats;
+use smelvock_marshal::head::head_from;
+use smelvock_marshal::head::put_head;
+use smelvock_marshal::head::settle;
 ghost use mathlib.Core.Path.{_≡_};
-ghost use Rattle.marshal.specs.Flat.{lengthsFrom};
-ghost use Rattle.marshal.specs.Lent.{given, left};
+ghost use Rattle.smelvock_marshal.specs.Flat.{lengthsFrom};
+ghost use Rattle.smelvock_marshal.specs.Lent.{given, left};
 ghost use Rattle.smelvock.specs.Changes as flat;
 
 // Without shares a tree without seats, else one with eight. What the lent head holds is of no account; a refused make leaves zeros in it.

@@ -1,13 +1,13 @@
 // The exported repair.
-use marshal::answered::number_of;
-use marshal::answered::refused_number;
-use marshal::flat::FlatNumber;
-use marshal::head::bad_stored;
-use marshal::head::head_from;
-use marshal::head::settle_finger;
-use repair::seated::repair;
+use calls_repair::seated::repair;
+use smelvock_marshal::answered::number_of;
+use smelvock_marshal::answered::refused_number;
+use smelvock_marshal::flat::FlatNumber;
+use smelvock_marshal::head::bad_stored;
+use smelvock_marshal::head::head_from;
+use smelvock_marshal::head::settle_finger;
 ghost use mathlib.Core.Path.{_≡_};
-ghost use Rattle.marshal.specs.Lent.{given, left};
+ghost use Rattle.smelvock_marshal.specs.Lent.{given, left};
 ghost use Rattle.smelvock.specs.Changes as flat;
 
 // Puts a stored tree right, or answers 21; some 384 KiB of stack.

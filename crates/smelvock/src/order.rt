@@ -1,20 +1,20 @@
 // The exported calls that follow the order of the entries.
-use calls_order::order::cmp;
-use calls_order::order::first;
-use calls_order::order::next;
-use marshal::answered::number_of_compared;
-use marshal::answered::refused_number;
-use marshal::answered::refused_standing;
-use marshal::answered::standing_of;
-use marshal::answered::standing_of_next;
-use marshal::flat::FlatNumber;
-use marshal::flat::FlatStanding;
-use marshal::given::cursor_from;
-use marshal::head::bad_head;
-use marshal::head::head_from;
+use calls_read::order::cmp;
+use calls_read::order::first;
+use calls_read::order::next;
+use smelvock_marshal::answered::number_of_compared;
+use smelvock_marshal::answered::refused_number;
+use smelvock_marshal::answered::refused_standing;
+use smelvock_marshal::answered::standing_of;
+use smelvock_marshal::answered::standing_of_next;
+use smelvock_marshal::flat::FlatNumber;
+use smelvock_marshal::flat::FlatStanding;
+use smelvock_marshal::given::cursor_from;
+use smelvock_marshal::head::bad_head;
+use smelvock_marshal::head::head_from;
 ghost use mathlib.Core.Path.{_≡_};
-ghost use Rattle.marshal.specs.Flat.{cursorFrom};
-ghost use Rattle.marshal.specs.Lent.{given};
+ghost use Rattle.smelvock_marshal.specs.Flat.{cursorFrom};
+ghost use Rattle.smelvock_marshal.specs.Lent.{given};
 ghost use Rattle.smelvock.specs.Reads as flat;
 
 #[no_mangle]

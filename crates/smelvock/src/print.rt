@@ -1,12 +1,12 @@
 // The exported call that prints the sheet.
 use calls_print::print::print;
-use marshal::answered::number_of;
-use marshal::answered::refused_number;
-use marshal::flat::FlatNumber;
-use marshal::head::bad_head;
-use marshal::head::head_from;
+use smelvock_marshal::answered::number_of;
+use smelvock_marshal::answered::refused_number;
+use smelvock_marshal::flat::FlatNumber;
+use smelvock_marshal::head::bad_head;
+use smelvock_marshal::head::head_from;
 ghost use mathlib.Core.Path.{_≡_};
-ghost use Rattle.marshal.specs.Lent.{given};
+ghost use Rattle.smelvock_marshal.specs.Lent.{given};
 ghost use Rattle.smelvock.specs.Prints as flat;
 
 #[no_mangle]

@@ -11,10 +11,10 @@ use Rattle.model.specs.Answer.{verdictAnswer}
 use Rattle.model.specs.Audit as model
 use Rattle.model.specs.Plan as plan
 use Rattle.model.specs.Plan.{PlanCall, treePlan}
-use Rattle.marshal.specs.Flat.{badHead, headAfter, value, numberOf, insertedOf}
-use Rattle.marshal.specs.Lent.{Given, stateOf, Left, numberAlone, unlessBad, leftBy, unseatedMake}
-use Rattle.marshal.specs.declared.flat.FlatNumber.{FlatNumber}
-use Rattle.marshal.specs.declared.flat.FlatInserted.{FlatInserted}
+use Rattle.smelvock_marshal.specs.Flat.{badHead, headAfter, value, numberOf, insertedOf}
+use Rattle.smelvock_marshal.specs.Lent.{Given, stateOf, Left, numberAlone, unlessBad, leftBy, unseatedMake}
+use Rattle.smelvock_marshal.specs.declared.flat.FlatNumber.{FlatNumber}
+use Rattle.smelvock_marshal.specs.declared.flat.FlatInserted.{FlatInserted}
 use Rattle.smelvock_planning.specs.declared.flat.FlatBounds.{FlatBounds}
 
 -- what lengths answers

@@ -5,12 +5,12 @@ use Rattle.model.specs.ById.{dividedIdAnswer}
 use Rattle.model.specs.declared.head.Cursor.{Cursor}
 use Rattle.model.specs.declared.number.EntryId.{EntryId}
 use Rattle.model.specs.declared.answer.Divided.the-variants as divided
-use Rattle.marshal.specs.Flat.{numberOf}
-use Rattle.by_id_read.specs.Answer.{followingAnswer}
-use Rattle.by_id_read.specs.declared.answer.Following.the-variants as following
-use Rattle.planning.specs.Bounds.{rangedAnswer}
-use Rattle.planning.specs.declared.bounds.Bounds.{Bounds}
-use Rattle.planning.specs.declared.bounds.Ranged.the-variants as ranged
+use Rattle.smelvock_marshal.specs.Flat.{numberOf}
+use Rattle.calls_by_id.specs.Answer.{followingAnswer}
+use Rattle.calls_by_id.specs.declared.answer.Following.the-variants as following
+use Rattle.calls_planning.specs.Bounds.{rangedAnswer}
+use Rattle.calls_planning.specs.declared.bounds.Bounds.{Bounds}
+use Rattle.calls_planning.specs.declared.bounds.Ranged.the-variants as ranged
 use Rattle.smelvock_planning.specs.Calls.{rangedOf}
 
 -- number 0 and the values; after the last entry the value is 4,294,967,295, which is no id

@@ -1,9 +1,9 @@
 // What lengths answers, in the words that cross the C boundary.
 use crate::flat::FlatBounds;
-use planning::bounds::Ranged;
+use calls_planning::bounds::Ranged;
 ghost use mathlib.Core.Path.{_≡_};
 ghost use Rattle.model.specs.Row.{refused};
-ghost use Rattle.planning.specs.Bounds.{rangedAnswer};
+ghost use Rattle.calls_planning.specs.Bounds.{rangedAnswer};
 ghost use Rattle.smelvock_planning.specs.Calls.{rangedOf};
 
 pub fn refused_ranged(n: u32) -> FlatBounds

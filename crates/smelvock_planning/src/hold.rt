@@ -1,14 +1,14 @@
 // The exported lookups for a position, which keep the finger found.
-use marshal::answered::number_of_named;
-use marshal::answered::refused_number;
-use marshal::flat::FlatNumber;
-use marshal::head::bad_head;
-use marshal::head::head_from;
-use marshal::head::settle;
-use planning::hold::first_at;
-use planning::hold::last_at;
+use calls_planning::hold::first_at;
+use calls_planning::hold::last_at;
+use smelvock_marshal::answered::number_of_named;
+use smelvock_marshal::answered::refused_number;
+use smelvock_marshal::flat::FlatNumber;
+use smelvock_marshal::head::bad_head;
+use smelvock_marshal::head::head_from;
+use smelvock_marshal::head::settle;
 ghost use mathlib.Core.Path.{_≡_};
-ghost use Rattle.marshal.specs.Lent.{given, left};
+ghost use Rattle.smelvock_marshal.specs.Lent.{given, left};
 ghost use Rattle.smelvock_planning.specs.Calls as flat;
 
 #[no_mangle]

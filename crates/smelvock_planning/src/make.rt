@@ -1,14 +1,14 @@
 // The exported calls that begin a planning tree.
-use marshal::answered::outcome_of;
-use marshal::head::bad_head;
-use marshal::head::head_from;
-use marshal::head::put_unseated;
-use marshal::head::settle;
-use planning::bounds::Bounds;
-use planning::make::new;
-use planning::make::reset;
+use calls_planning::bounds::Bounds;
+use calls_planning::make::new;
+use calls_planning::make::reset;
+use smelvock_marshal::answered::outcome_of;
+use smelvock_marshal::head::bad_head;
+use smelvock_marshal::head::head_from;
+use smelvock_marshal::head::put_unseated;
+use smelvock_marshal::head::settle;
 ghost use mathlib.Core.Path.{_≡_};
-ghost use Rattle.marshal.specs.Lent.{given, left};
+ghost use Rattle.smelvock_marshal.specs.Lent.{given, left};
 ghost use Rattle.smelvock_planning.specs.Calls as flat;
 
 // What the lent head holds is of no account; a refused make leaves zeros in it.

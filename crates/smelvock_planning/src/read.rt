@@ -2,22 +2,22 @@
 use crate::answered::ranged_of;
 use crate::answered::refused_ranged;
 use crate::flat::FlatBounds;
-use marshal::answered::number_of;
-use marshal::answered::number_of_following;
-use marshal::answered::number_of_verdict;
-use marshal::answered::refused_number;
-use marshal::flat::FlatNumber;
-use marshal::head::bad_head;
-use marshal::head::head_from;
+use calls_planning::read::audit;
+use calls_planning::read::count;
+use calls_planning::read::earliest;
+use calls_planning::read::latest;
+use calls_planning::read::lengths;
+use calls_planning::read::next;
 use model::number::EntryId;
-use planning::read::audit;
-use planning::read::count;
-use planning::read::earliest;
-use planning::read::latest;
-use planning::read::lengths;
-use planning::read::next;
+use smelvock_marshal::answered::number_of;
+use smelvock_marshal::answered::number_of_following;
+use smelvock_marshal::answered::number_of_verdict;
+use smelvock_marshal::answered::refused_number;
+use smelvock_marshal::flat::FlatNumber;
+use smelvock_marshal::head::bad_head;
+use smelvock_marshal::head::head_from;
 ghost use mathlib.Core.Path.{_≡_};
-ghost use Rattle.marshal.specs.Lent.{given};
+ghost use Rattle.smelvock_marshal.specs.Lent.{given};
 ghost use Rattle.smelvock_planning.specs.Calls as flat;
 
 #[no_mangle]

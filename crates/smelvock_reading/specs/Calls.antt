@@ -9,10 +9,10 @@ use Rattle.model.specs.Kind.{reading}
 use Rattle.model.specs.Row as row
 use Rattle.model.specs.Row.{Call, Answer}
 use Rattle.model.specs.ById.{treeStep}
-use Rattle.marshal.specs.Flat.{badHead, headAfter, value, numberOf, insertedOf}
-use Rattle.marshal.specs.Lent.{Given, stateOf, Left, numberAlone, unlessBad, leftBy, unseatedMake}
-use Rattle.marshal.specs.declared.flat.FlatNumber.{FlatNumber}
-use Rattle.marshal.specs.declared.flat.FlatInserted.{FlatInserted}
+use Rattle.smelvock_marshal.specs.Flat.{badHead, headAfter, value, numberOf, insertedOf}
+use Rattle.smelvock_marshal.specs.Lent.{Given, stateOf, Left, numberAlone, unlessBad, leftBy, unseatedMake}
+use Rattle.smelvock_marshal.specs.declared.flat.FlatNumber.{FlatNumber}
+use Rattle.smelvock_marshal.specs.declared.flat.FlatInserted.{FlatInserted}
 use Rattle.smelvock_reading.specs.declared.flat.FlatLooked.{FlatLooked}
 
 -- what a lookup answers, its fourth value left out: the position again, in the view of that one length

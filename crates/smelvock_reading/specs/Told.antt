@@ -2,8 +2,8 @@
 use mathlib.Core.Path.{_≡_, refl}
 use Prim.Native.Nat.{ℕ}
 use Rattle.model.specs.declared.number.EntryId.{EntryId}
-use Rattle.by_id_read.specs.Answer.{lookedAnswer}
-use Rattle.by_id_read.specs.declared.answer.Looked.the-variants as looked
+use Rattle.calls_by_id.specs.Answer.{lookedAnswer}
+use Rattle.calls_by_id.specs.declared.answer.Looked.the-variants as looked
 use Rattle.smelvock_reading.specs.Calls.{lookedOf}
 
 -- number 0, the entry, the offset into it and its position

@@ -1,9 +1,9 @@
 // What a lookup answers, in the words that cross the C boundary.
 use crate::flat::FlatLooked;
-use by_id_read::answer::Looked;
+use calls_by_id::answer::Looked;
 ghost use mathlib.Core.Path.{_≡_};
 ghost use Rattle.model.specs.Row.{refused};
-ghost use Rattle.by_id_read.specs.Answer.{lookedAnswer};
+ghost use Rattle.calls_by_id.specs.Answer.{lookedAnswer};
 ghost use Rattle.smelvock_reading.specs.Calls.{lookedOf};
 
 pub fn refused_looked(n: u32) -> FlatLooked

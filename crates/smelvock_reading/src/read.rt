@@ -2,21 +2,21 @@
 use crate::answered::looked_of;
 use crate::answered::refused_looked;
 use crate::flat::FlatLooked;
-use marshal::answered::number_of;
-use marshal::answered::number_of_compared;
-use marshal::answered::number_of_following;
-use marshal::answered::refused_number;
-use marshal::flat::FlatNumber;
-use marshal::head::bad_head;
-use marshal::head::head_from;
-use marshal::head::settle;
+use calls_reading::read::compare;
+use calls_reading::read::lookup;
+use calls_reading::read::next;
+use calls_reading::read::rank;
 use model::number::EntryId;
-use reading::read::compare;
-use reading::read::lookup;
-use reading::read::next;
-use reading::read::rank;
+use smelvock_marshal::answered::number_of;
+use smelvock_marshal::answered::number_of_compared;
+use smelvock_marshal::answered::number_of_following;
+use smelvock_marshal::answered::refused_number;
+use smelvock_marshal::flat::FlatNumber;
+use smelvock_marshal::head::bad_head;
+use smelvock_marshal::head::head_from;
+use smelvock_marshal::head::settle;
 ghost use mathlib.Core.Path.{_≡_};
-ghost use Rattle.marshal.specs.Lent.{given, left};
+ghost use Rattle.smelvock_marshal.specs.Lent.{given, left};
 ghost use Rattle.smelvock_reading.specs.Calls as flat;
 
 #[no_mangle]

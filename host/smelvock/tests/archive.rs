@@ -5,28 +5,32 @@ use std::collections::BTreeSet;
 use std::process::Command;
 
 /// What isn't compiled into its callers: audit's test of a node's children, and what is done once in many insertions.
-const OUT_OF_LINE: [&str; 4] =
-    ["audit_link::link::are_children", "grow::grow::add_child", "links::split::grow_root", "place::room::split_leaf"];
+const OUT_OF_LINE: [&str; 4] = [
+    "calls_audit::link::are_children",
+    "tree_links::grow::add_child",
+    "tree_links::split::grow_root",
+    "tree_place::room::split_leaf",
+];
 
 /// The planning tree's: of the same list what it has, what more than one of its calls uses, and the lookup that first_at and last_at make.
 const OUT_OF_LINE_IN_PLANNING: [&str; 8] = [
-    "audit_link::link::are_children",
-    "by_id::order::rank",
+    "calls_audit::link::are_children",
+    "calls_by_id::order::rank",
     "calls_read::any::cursor",
     "calls_read::any::id",
-    "grow::grow::add_child",
-    "links::split::grow_root",
-    "place::room::split_leaf",
-    "planning::hold::held",
+    "tree_links::grow::add_child",
+    "tree_links::split::grow_root",
+    "tree_place::room::split_leaf",
+    "calls_planning::hold::held",
 ];
 
 /// The reading copy's: the same less audit, the planning tree's rank and the lookup that only one of its calls makes.
 const OUT_OF_LINE_IN_READING: [&str; 5] = [
     "calls_read::any::cursor",
     "calls_read::any::id",
-    "grow::grow::add_child",
-    "links::split::grow_root",
-    "place::room::split_leaf",
+    "tree_links::grow::add_child",
+    "tree_links::split::grow_root",
+    "tree_place::room::split_leaf",
 ];
 
 /// The names of a kind (`T` for exports, `t` for local functions) in what nm lists.

@@ -3,8 +3,8 @@ use mathlib.Core.Path.{_≡_, refl, _∙_}
 use Prim.Native.Nat.{_-_, _*_, _≤_}
 use native.Mathlib.Omega.{arith}
 use lib.ListN.{length, getD, take}
-use Rattle.text.specs.Text.{put}
-use Rattle.text.proofs.TextLaws.{field-short}
+use Rattle.list_stream.specs.Text.{put}
+use Rattle.list_stream.proofs.TextLaws.{field-short}
 use Rattle.editrun.specs.Printed.{lines}
 use Rattle.editrun.proofs.PrintedLaws.{no-line, line-more, all-lines}
 use Rattle.editrun.proofs.list_lines.Statement.{statement}

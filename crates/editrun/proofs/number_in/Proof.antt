@@ -4,7 +4,7 @@ use Prim.Native.Nat.{_-_, _^_, _<_, _≤_}
 use native.Mathlib.Omega.{arith}
 use lib.ListN.{length, drop}
 use borrow.Author.Needs.{needs}
-use Rattle.text.specs.Lines.{saidBy}
+use Rattle.list_stream.specs.Lines.{saidBy}
 use Rattle.editrun.specs.Asked.{digits}
 use Rattle.editrun.proofs.AskedLaws.{empty, long, no-digits, by-digits, too-low, too-high, more-digits, more-said, all-digits, all-said, said-less, few-said}
 use Rattle.editrun.proofs.number_in.Statement.{statement}

@@ -7,7 +7,7 @@ use lib.Seq.{length-take-le}
 use denote.Ref.{now}
 use borrow.Rule.Slice.PartMut.{putMid, take-put}
 use borrow.Author.Needs.{needs}
-use Rattle.stream.proofs.RestLaws.{within}
+use Rattle.list_stream.proofs.RestLaws.{within}
 use Rattle.rowrun.proofs.turn.Statement.{statement}
 use Rattle.rowrun.proofs.turn.Tie as tie
 

@@ -5,7 +5,7 @@ use native.Mathlib.Omega.{arith}
 use lib.ListN.{length}
 use denote.Ref.{now}
 use borrow.Rule.Slice.PartMut.{putMid, take-put}
-use Rattle.stream.proofs.RestLaws.{within}
+use Rattle.list_stream.proofs.RestLaws.{within}
 use Rattle.sheetrun.proofs.turn.Statement.{statement}
 use Rattle.sheetrun.proofs.turn.Tie as tie
 

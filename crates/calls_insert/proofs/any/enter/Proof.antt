@@ -7,7 +7,7 @@ use Rattle.model.specs.Length.{lengthsIn}
 use Rattle.model.specs.State.{State, state}
 use Rattle.model.specs.Refuse.{shapeOf}
 use Rattle.model.specs.declared.shape.Kind.{Kind}
-use Rattle.open.proofs.ReadyLaws.{leaf-area, inner-area}
+use Rattle.tree_open.proofs.ReadyLaws.{leaf-area, inner-area}
 use Rattle.calls_insert.specs.Put.{aimed}
 use Rattle.calls_insert.specs.declared.any.Aim.{Aim}
 use Rattle.calls_insert.proofs.PutLaws.{AimWithin, in-leaf, aim-lost, place-in, refused-is, put-lost, way-in, put-whole, put-broken}

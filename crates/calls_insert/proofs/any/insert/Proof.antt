@@ -6,8 +6,8 @@ use Rattle.model.specs.Lists.{Cause, cause}
 use Rattle.model.specs.Kind.{kindOf}
 use Rattle.model.specs.Length.{lengthsIn}
 use Rattle.model.specs.State.{State, state}
-use Rattle.open.proofs.Causes.{one-cause}
-use Rattle.open.proofs.ReadyLaws.{ready-plain}
+use Rattle.tree_open.proofs.Causes.{one-cause}
+use Rattle.tree_open.proofs.ReadyLaws.{ready-plain}
 use Rattle.calls_insert.proofs.TargetLaws.{insert-ready, insert-room, aimed-plain}
 use Rattle.calls_insert.proofs.PutLaws.{refused-is, insert-refused, inserted-ordered, insert-done}
 use borrow.Author.Needs.{needs}

@@ -3,7 +3,7 @@ use mathlib.Core.Path.{refl}
 use Rattle.model.specs.Kind.{kind, kindOf}
 use Rattle.model.specs.Length.{lengthsIn}
 use Rattle.model.specs.State.{State, state}
-use Rattle.open.proofs.WidthLaws.{root-in}
+use Rattle.tree_open.proofs.WidthLaws.{root-in}
 use Rattle.calls_insert.proofs.TargetLaws.{front-ready, front-ordered, insert-many, insert-stop, insert-crossed, insert-past, insert-full, insert-good}
 use borrow.Author.Needs.{needs}
 use Rattle.calls_insert.proofs.any.open_insert.Statement.{statement}

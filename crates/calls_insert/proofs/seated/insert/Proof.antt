@@ -8,7 +8,7 @@ use Rattle.model.specs.State.{State, state}
 use Rattle.model.specs.Calls.{insertBy}
 use Rattle.model.specs.SeatedCalls.{space}
 use Rattle.model.specs.declared.length.Slot.{Slot}
-use Rattle.seating.specs.Words.{seatsFrom}
+use Rattle.tree_seats.specs.Words.{seatsFrom}
 use Rattle.calls_insert.proofs.SeatedLaws.{seated-refused, seated-done}
 use borrow.Author.Needs.{needs}
 use Rattle.calls_insert.proofs.seated.insert.Statement.{statement}

@@ -6,7 +6,7 @@ use borrow.Author.Needs.{needs}
 use Rattle.model.specs.Lists.{Cause, cause}
 use Rattle.model.specs.Kind.{kindOf}
 use Rattle.model.specs.Length.{lengthsIn}
-use Rattle.open.proofs.Causes.{one-cause}
+use Rattle.tree_open.proofs.Causes.{one-cause}
 use Rattle.calls_make.proofs.BeginLaws.{new-room, make-refused, make-good}
 use Rattle.calls_make.proofs.any.new.Statement.{statement}
 use Rattle.calls_make.proofs.any.new.Tie as tie

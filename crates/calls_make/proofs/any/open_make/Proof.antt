@@ -3,7 +3,7 @@ use borrow.Author.Needs.{needs}
 use mathlib.Core.Path.{sym, _∙_}
 use Rattle.model.specs.Kind.{kindOf}
 use Rattle.model.specs.Length.{lengthsIn}
-use Rattle.open.proofs.Causes.{opened-first}
+use Rattle.tree_open.proofs.Causes.{opened-first}
 use Rattle.calls_make.proofs.BeginLaws.{make-closed, make-crossed, make-opened}
 use Rattle.calls_make.proofs.any.open_make.Statement.{statement}
 use Rattle.calls_make.proofs.any.open_make.Tie as tie

@@ -3,8 +3,8 @@ use mathlib.Core.Path.{refl, ap, _∙_}
 use mathlib.Core.List.{List}
 use Prim.Native.Nat.{ℕ}
 use lib.ListN.{getD}
-use Rattle.seating.specs.Words.{seatsFrom}
-use Rattle.seating.proofs.WriteLaws.{seats-cleared, flag-cleared}
+use Rattle.tree_seats.specs.Words.{seatsFrom}
+use Rattle.tree_seats.proofs.WriteLaws.{seats-cleared, flag-cleared}
 use Rattle.calls_make.proofs.SeatedLaws.{reset-done, reset-kept}
 use borrow.Author.Needs.{needs}
 use Rattle.calls_make.proofs.seated.clear_for.Statement.{statement}

@@ -1,8 +1,8 @@
 -- `calls_make::seated::put_none`: the words of a tree without seats.
 use mathlib.Core.Path.{refl, ap, _∙_}
 use native.Mathlib.Omega.{arith}
-use Rattle.seating.specs.Words.{seatsFrom}
-use Rattle.seating.proofs.WriteLaws.{seats-begun}
+use Rattle.tree_seats.specs.Words.{seatsFrom}
+use Rattle.tree_seats.proofs.WriteLaws.{seats-begun}
 use Rattle.calls_make.proofs.SeatedLaws.{flag-at}
 use borrow.Author.Needs.{needs}
 use Rattle.calls_make.proofs.seated.put_none.Statement.{statement}

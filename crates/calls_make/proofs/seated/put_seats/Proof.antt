@@ -1,8 +1,8 @@
 -- `calls_make::seated::put_seats`: the words of the shares given, or of none.
 use mathlib.Core.Path.{ap, _∙_}
 use native.Mathlib.Omega.{arith}
-use Rattle.seating.specs.Words.{seatsFrom}
-use Rattle.seating.proofs.WriteLaws.{seats-begun}
+use Rattle.tree_seats.specs.Words.{seatsFrom}
+use Rattle.tree_seats.proofs.WriteLaws.{seats-begun}
 use Rattle.calls_make.proofs.SeatedLaws.{flag-at, none-given, some-given}
 use borrow.Author.Needs.{needs}
 use Rattle.calls_make.proofs.seated.put_seats.Statement.{statement}

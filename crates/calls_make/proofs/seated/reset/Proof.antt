@@ -7,7 +7,7 @@ use Rattle.model.specs.Length.{listOf}
 use Rattle.model.specs.State.{state}
 use Rattle.model.specs.Calls as calls
 use Rattle.model.specs.declared.length.Slot.{Slot}
-use Rattle.seating.specs.Words.{seatsFrom}
+use Rattle.tree_seats.specs.Words.{seatsFrom}
 use Rattle.calls_make.proofs.SeatedLaws.{reset-reply}
 use borrow.Author.Needs.{needs}
 use Rattle.calls_make.proofs.seated.reset.Statement.{statement}

@@ -4,7 +4,7 @@ use Prim.Native.Nat.{_-_, _≤_}
 use native.Mathlib.Omega.{arith}
 use lib.ListN.{length, replicate, length-set}
 use Rattle.model.specs.Lists.{putAt}
-use Rattle.laws.specs.Words.{put-none}
+use Rattle.model_laws.specs.Words.{put-none}
 use Rattle.calls_print.proofs.LineLaws.{one-blank, line-end}
 use Rattle.calls_print.proofs.line.blank_line.Statement.{statement}
 use Rattle.calls_print.proofs.line.blank_line.Tie as tie

@@ -3,7 +3,7 @@ use mathlib.Core.Path.{sym, subst}
 use native.Mathlib.Omega.{arith}
 use borrow.Author.Needs.{needs}
 use Rattle.model.specs.Climb.{firstDown}
-use Rattle.laws.specs.Met.{Within, first-within, next-within, met-none, met-nothing, met-broken, met-empty, met-over}
+use Rattle.model_laws.specs.Met.{Within, first-within, next-within, met-none, met-nothing, met-broken, met-empty, met-over}
 use Rattle.calls_print.specs.Laid.{laid}
 use Rattle.calls_print.proofs.WalkLaws.{Going, leaf-in, least-in, start, onward, stopped, ended}
 use Rattle.calls_print.proofs.walk_lines.entry_lines.Statement.{statement}

@@ -5,7 +5,7 @@ use native.Mathlib.Omega.{arith}
 use lib.ListN.{length, take, drop}
 use Rattle.model.specs.State.{nodeAt}
 use Rattle.calls_print.specs.Laid.{laid, laidBy}
-use Rattle.laws.specs.AreaRead.{slots-are}
+use Rattle.model_laws.specs.AreaRead.{slots-are}
 use Rattle.calls_print.proofs.LaidLaws.{one-slot, no-slot}
 use Rattle.calls_print.proofs.walk_lines.leaf_lines.Statement.{statement}
 use Rattle.calls_print.proofs.walk_lines.leaf_lines.Tie as tie

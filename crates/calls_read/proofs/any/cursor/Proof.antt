@@ -4,7 +4,7 @@ use mathlib.Core.Path.{refl}
 use native.Mathlib.Omega.{arith}
 use native.Mathlib.Nat.{lt-of-lt-of-le}
 use Rattle.model.specs.Kind.{kind}
-use Rattle.open.proofs.ReadyLaws.{ready, leaf-area}
+use Rattle.tree_open.proofs.ReadyLaws.{ready, leaf-area}
 use Rattle.calls_read.proofs.ReadLaws.{cursor-refused, cursor-past, cursor-astray, cursor-good}
 use Rattle.calls_read.proofs.any.cursor.Statement.{statement}
 use Rattle.calls_read.proofs.any.cursor.Tie as tie

@@ -1,7 +1,7 @@
 -- `calls_read::any::id`: a current cursor's slot holds the id as its child.
 use borrow.Author.Needs.{needs}
 use Rattle.model.specs.Kind.{kind}
-use Rattle.open.proofs.CursorLaws.{cursor-ready, slot-in}
+use Rattle.tree_open.proofs.CursorLaws.{cursor-ready, slot-in}
 use Rattle.calls_read.proofs.ReadLaws.{id-refused, id-good}
 use Rattle.calls_read.proofs.any.id.Statement.{statement}
 use Rattle.calls_read.proofs.any.id.Tie as tie

@@ -2,8 +2,8 @@
 use borrow.Author.Needs.{needs}
 use Rattle.model.specs.Kind.{kind}
 use Rattle.model.specs.Length.{lengthsIn}
-use Rattle.open.proofs.ReadyLaws.{views-are}
-use Rattle.open.proofs.CursorLaws.{cursor-ready, slot-in}
+use Rattle.tree_open.proofs.ReadyLaws.{views-are}
+use Rattle.tree_open.proofs.CursorLaws.{cursor-ready, slot-in}
 use Rattle.calls_read.proofs.ReadLaws.{lengths-refused, lengths-good}
 use Rattle.calls_read.proofs.any.lengths.Statement.{statement}
 use Rattle.calls_read.proofs.any.lengths.Tie as tie

@@ -6,8 +6,8 @@ use native.Mathlib.Omega.{arith}
 use lib.ListN.{length}
 use Rattle.model.specs.Node.{nodeOf}
 use Rattle.model.specs.declared.shape.Scan.{Scan}
-use Rattle.laws.specs.Words.{lent}
-use Rattle.laws.specs.AreaRead.{node-end, node-length}
+use Rattle.model_laws.specs.Words.{lent}
+use Rattle.model_laws.specs.AreaRead.{node-end, node-length}
 use Rattle.calls_read.proofs.any.slot_of.Statement.{statement}
 use Rattle.calls_read.proofs.any.slot_of.Tie as tie
 

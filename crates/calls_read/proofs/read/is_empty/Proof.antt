@@ -3,7 +3,7 @@ use mathlib.Core.Path.{sym, _∙_}
 use borrow.Author.Needs.{needs}
 use Rattle.model.specs.Calls.{isEmpty}
 use Rattle.model.specs.declared.answer.Verdict.the-variants.{Refused}
-use Rattle.open.proofs.Causes.{one-refused, one-good}
+use Rattle.tree_open.proofs.Causes.{one-refused, one-good}
 use Rattle.calls_read.proofs.read.is_empty.Statement.{statement}
 use Rattle.calls_read.proofs.read.is_empty.Tie as tie
 

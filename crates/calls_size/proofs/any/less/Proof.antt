@@ -1,6 +1,6 @@
 -- `calls_size::any::less`: the standard library wraps.
 use native.Mathlib.Omega.{arith}
-use Rattle.words.proofs.Turns.{wrapped-less}
+use Rattle.tree_words.proofs.Turns.{wrapped-less}
 use Rattle.calls_size.proofs.any.less.Statement.{statement}
 use Rattle.calls_size.proofs.any.less.Tie as tie
 

@@ -2,8 +2,8 @@
 use borrow.Author.Needs.{needs}
 use Rattle.model.specs.Kind.{kind, kindOf}
 use Rattle.model.specs.Length.{lengthsIn}
-use Rattle.open.proofs.CursorLaws.{cursor-ready, slot-in, at-ordered}
-use Rattle.open.proofs.WidthLaws.{root-in}
+use Rattle.tree_open.proofs.CursorLaws.{cursor-ready, slot-in, at-ordered}
+use Rattle.tree_open.proofs.WidthLaws.{root-in}
 use Rattle.calls_size.proofs.SizeLaws.{resize-many, resize-refused, resize-crossed, resize-past, resize-good}
 use Rattle.calls_size.proofs.any.open_resize.Statement.{statement}
 use Rattle.calls_size.proofs.any.open_resize.Tie as tie

@@ -3,7 +3,7 @@ use mathlib.Core.Path.{refl}
 use borrow.Author.Needs.{needs}
 use Rattle.model.specs.Kind.{kindOf}
 use Rattle.model.specs.Length.{lengthsIn}
-use Rattle.open.proofs.CursorLaws.{slot-in}
+use Rattle.tree_open.proofs.CursorLaws.{slot-in}
 use Rattle.calls_size.proofs.SizeLaws.{resize-ready, climb-in, size-refused, size-whole, size-broken}
 use Rattle.calls_size.proofs.any.resize.Statement.{statement}
 use Rattle.calls_size.proofs.any.resize.Tie as tie

@@ -4,7 +4,7 @@ use mathlib.Core.Path.{refl}
 use borrow.Author.Needs.{needs}
 use Rattle.model.specs.Kind.{kind, kindOf}
 use Rattle.model.specs.Length.{lengthsIn}
-use Rattle.open.proofs.CursorLaws.{cursor-ready, slot-in, at-ordered}
+use Rattle.tree_open.proofs.CursorLaws.{cursor-ready, slot-in, at-ordered}
 use Rattle.calls_split.proofs.SplitLaws.{split-many, split-refused, split-much, split-hollow, split-crossed, split-full, split-good}
 use Rattle.calls_split.proofs.any.open_split.Statement.{statement}
 use Rattle.calls_split.proofs.any.open_split.Tie as tie

@@ -6,7 +6,7 @@ use borrow.Author.Needs.{needs}
 use Rattle.model.specs.Lists.{cause}
 use Rattle.model.specs.Kind.{kindOf}
 use Rattle.model.specs.Length.{lengthsIn}
-use Rattle.open.proofs.Causes.{one-cause}
+use Rattle.tree_open.proofs.Causes.{one-cause}
 use Rattle.calls_split.proofs.SplitLaws.{divide-in, answer-in, entry-refused, entry-broken, entry-whole}
 use Rattle.calls_split.proofs.any.split_entry.Statement.{statement}
 use Rattle.calls_split.proofs.any.split_entry.Tie as tie

@@ -9,7 +9,7 @@ use Rattle.model.specs.State.{State, state}
 use Rattle.model.specs.Calls.{splitBy}
 use Rattle.model.specs.SeatedCalls.{space}
 use Rattle.model.specs.declared.length.Slot.{Slot}
-use Rattle.seating.specs.Words.{seatsFrom}
+use Rattle.tree_seats.specs.Words.{seatsFrom}
 use Rattle.calls_split.proofs.SeatedLaws.{seated-refused, seated-done}
 use Rattle.calls_split.proofs.seated.split_entry.Statement.{statement}
 use Rattle.calls_split.proofs.seated.split_entry.Tie as tie

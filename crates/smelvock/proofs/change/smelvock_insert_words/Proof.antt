@@ -5,16 +5,16 @@ use lib.ListN.{length, take, drop}
 use borrow.Rule.Slice.PartMut.{putMid}
 use Rattle.model.specs.Length.{listOf}
 use Rattle.model.specs.State.{state}
-use Rattle.laws.specs.Words.{lent}
-use Rattle.seating.specs.Words.{seatsFrom}
+use Rattle.model_laws.specs.Words.{lent}
+use Rattle.tree_seats.specs.Words.{seatsFrom}
 use Rattle.smelvock.specs.Changes as flat
 use Rattle.model.specs.Kind.{base}
 use Rattle.model.specs.Answer.{insertedAnswer}
 use Rattle.model.specs.SeatedCalls.{insertSeated}
-use Rattle.marshal.specs.Flat.{targetFrom, insertedOf}
-use Rattle.marshal.specs.Lent.{given}
-use Rattle.marshal.specs.declared.flat.FlatInserted.{FlatInserted}
-use Rattle.marshal.proofs.HeadLaws.{good-seated-flag}
+use Rattle.smelvock_marshal.specs.Flat.{targetFrom, insertedOf}
+use Rattle.smelvock_marshal.specs.Lent.{given}
+use Rattle.smelvock_marshal.specs.declared.flat.FlatInserted.{FlatInserted}
+use Rattle.smelvock_marshal.proofs.HeadLaws.{good-seated-flag}
 use Rattle.smelvock.specs.Changes.{seatedAfter}
 use Rattle.smelvock.proofs.FlatLaws.{seated-refused, seated-good}
 use Rattle.smelvock.proofs.SeatLaws.{lent-length, head-length, words-there, words-settled, kept-by, insert-kept, insert-sizes, sizes-since, insert-same}

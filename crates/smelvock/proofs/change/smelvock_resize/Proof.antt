@@ -10,10 +10,10 @@ use Rattle.model.specs.State.{state}
 use Rattle.model.specs.declared.head.Head.{Head}
 use Rattle.model.specs.declared.head.Cursor.{Cursor}
 use Rattle.model.specs.declared.length.Lengths.{Lengths}
-use Rattle.marshal.specs.Flat.{cursorFrom, lengthsFrom, headAfter, numberOf}
-use Rattle.marshal.specs.Lent.{given}
-use Rattle.marshal.specs.declared.flat.FlatNumber.{FlatNumber}
-use Rattle.marshal.proofs.HeadLaws.{good-flag, good-present}
+use Rattle.smelvock_marshal.specs.Flat.{cursorFrom, lengthsFrom, headAfter, numberOf}
+use Rattle.smelvock_marshal.specs.Lent.{given}
+use Rattle.smelvock_marshal.specs.declared.flat.FlatNumber.{FlatNumber}
+use Rattle.smelvock_marshal.proofs.HeadLaws.{good-flag, good-present}
 use Rattle.calls_size.specs.Size as size
 use Rattle.smelvock.proofs.FlatLaws.{reply-refused, reply-settled, ap₃}
 use Rattle.smelvock.proofs.KeptLaws.{resize-left, finger-alone, held-left, in-leaf}

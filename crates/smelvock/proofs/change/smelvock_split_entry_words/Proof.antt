@@ -5,17 +5,17 @@ use lib.ListN.{length, take, drop}
 use borrow.Rule.Slice.PartMut.{putMid}
 use Rattle.model.specs.Length.{listOf}
 use Rattle.model.specs.State.{state}
-use Rattle.laws.specs.Words.{lent}
-use Rattle.seating.specs.Words.{seatsFrom}
+use Rattle.model_laws.specs.Words.{lent}
+use Rattle.tree_seats.specs.Words.{seatsFrom}
 use Rattle.smelvock.specs.Changes as flat
 use lib.Dec.{eqb}
 use Rattle.model.specs.Kind.{base}
 use Rattle.model.specs.Answer.{dividedAnswer}
 use Rattle.model.specs.SeatedCalls.{splitSeated}
-use Rattle.marshal.specs.Flat.{dividedOf}
-use Rattle.marshal.specs.Lent.{given}
-use Rattle.marshal.specs.declared.flat.FlatDivided.{FlatDivided}
-use Rattle.marshal.proofs.HeadLaws.{good-seated-flag}
+use Rattle.smelvock_marshal.specs.Flat.{dividedOf}
+use Rattle.smelvock_marshal.specs.Lent.{given}
+use Rattle.smelvock_marshal.specs.declared.flat.FlatDivided.{FlatDivided}
+use Rattle.smelvock_marshal.proofs.HeadLaws.{good-seated-flag}
 use Rattle.smelvock.specs.Changes.{seatedAfter}
 use Rattle.smelvock.proofs.FlatLaws.{seated-refused, seated-good}
 use Rattle.smelvock.proofs.SeatLaws.{lent-length, head-length, words-there, words-settled, kept-by, split-kept, split-sizes, sizes-since, split-same}

@@ -7,12 +7,12 @@ use Rattle.model.specs.Answer.{verdictAnswer}
 use Rattle.model.specs.SeatedCalls.{auditSeated}
 use Rattle.model.specs.declared.head.Head.{Head}
 use Rattle.model.specs.declared.seats.Seats.{Seats}
-use Rattle.laws.specs.Words.{lent}
-use Rattle.seating.specs.Words.{seatsFrom}
-use Rattle.marshal.specs.Flat.{numberOf}
-use Rattle.marshal.proofs.HeadLaws.{good-seats}
+use Rattle.model_laws.specs.Words.{lent}
+use Rattle.tree_seats.specs.Words.{seatsFrom}
+use Rattle.smelvock_marshal.specs.Flat.{numberOf}
+use Rattle.smelvock_marshal.proofs.HeadLaws.{good-seats}
 use Rattle.smelvock.specs.Reads as flat
-use Rattle.marshal.proofs.LentLaws.{answer-refused, answer-good}
+use Rattle.smelvock_marshal.proofs.LentLaws.{answer-refused, answer-good}
 use Rattle.smelvock.proofs.SeatLaws.{lent-length}
 use borrow.Author.Needs.{needs}
 use Rattle.smelvock.proofs.check.smelvock_audit.Statement.{statement}

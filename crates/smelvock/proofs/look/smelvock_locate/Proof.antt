@@ -1,8 +1,8 @@
 -- `smelvock::look::smelvock_locate`: 10 where head or view is bad, else the call's answer in words, and its finger where it was done.
 use borrow.Author.Needs.{needs}
 use mathlib.Core.Path.{refl, sym, ap₂, _∙_}
-use Rattle.marshal.specs.Flat.{headAfter, locatedOf}
-use Rattle.marshal.specs.Lent.{given}
+use Rattle.smelvock_marshal.specs.Flat.{headAfter, locatedOf}
+use Rattle.smelvock_marshal.specs.Lent.{given}
 use Rattle.model.specs.Length.{viewNumber}
 use Rattle.model.specs.Kind.{base}
 use Rattle.model.specs.Examined as count
@@ -11,10 +11,10 @@ use Rattle.model.specs.State.{state}
 use Rattle.smelvock.specs.Changes as flat
 use Rattle.smelvock.proofs.FlatLaws.{reply-refused, reply-settled}
 use Rattle.smelvock.proofs.KeptLaws.{locate-fingered, finger-alone, in-leaf}
-use Rattle.marshal.proofs.HeadLaws.{good-flag, good-present}
+use Rattle.smelvock_marshal.proofs.HeadLaws.{good-flag, good-present}
 use Rattle.model.specs.declared.head.Head.{Head}
 use Rattle.model.specs.declared.length.View.{View}
-use Rattle.marshal.specs.declared.flat.FlatLocated.{FlatLocated}
+use Rattle.smelvock_marshal.specs.declared.flat.FlatLocated.{FlatLocated}
 use Rattle.smelvock.proofs.look.smelvock_locate.Statement.{statement}
 use Rattle.smelvock.proofs.look.smelvock_locate.Tie as tie
 

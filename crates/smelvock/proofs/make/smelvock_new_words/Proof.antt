@@ -9,11 +9,11 @@ use Rattle.model.specs.Answer.{outcomeAnswer}
 use Rattle.model.specs.declared.head.Head.{Head}
 use Rattle.model.specs.declared.length.Lengths.{Lengths}
 use Rattle.model.specs.declared.seats.Seats.{Seats}
-use Rattle.seating.specs.Words.{seatsWords}
+use Rattle.tree_seats.specs.Words.{seatsWords}
 use Rattle.calls_make.specs.Made.{makeWith}
-use Rattle.marshal.specs.Flat.{headWords}
-use Rattle.marshal.specs.Lent.{given, numberAlone}
-use Rattle.marshal.proofs.HeadLaws.{good-made}
+use Rattle.smelvock_marshal.specs.Flat.{headWords}
+use Rattle.smelvock_marshal.specs.Lent.{given, numberAlone}
+use Rattle.smelvock_marshal.proofs.HeadLaws.{good-made}
 use Rattle.smelvock.specs.Changes as flat
 use Rattle.smelvock.proofs.FlatLaws.{seated-refused, seated-good}
 use Rattle.smelvock.proofs.SeatLaws.{lent-length, head-length, words-made}

@@ -4,15 +4,15 @@ use native.Mathlib.Omega.{arith}
 use lib.ListN.{length, take, drop}
 use Rattle.model.specs.Length.{listOf}
 use Rattle.model.specs.State.{state}
-use Rattle.laws.specs.Words.{lent}
-use Rattle.seating.specs.Words.{seatsFrom}
-use Rattle.marshal.specs.Lent.{given, numberAlone}
+use Rattle.model_laws.specs.Words.{lent}
+use Rattle.tree_seats.specs.Words.{seatsFrom}
+use Rattle.smelvock_marshal.specs.Lent.{given, numberAlone}
 use Rattle.smelvock.specs.Changes as flat
 use Prim.Native.Nat.{ℕ}
 use Rattle.model.specs.Kind.{base}
 use Rattle.model.specs.Answer.{outcomeAnswer}
 use Rattle.model.specs.SeatedCalls.{resetSeated}
-use Rattle.marshal.proofs.HeadLaws.{good-seats}
+use Rattle.smelvock_marshal.proofs.HeadLaws.{good-seats}
 use Rattle.smelvock.specs.Changes.{seatedAfter}
 use Rattle.smelvock.proofs.FlatLaws.{seated-refused, seated-good}
 use Rattle.smelvock.proofs.SeatLaws.{lent-length, head-length, words-settled, kept-by, reset-kept, reset-same}

@@ -8,12 +8,12 @@ use Rattle.model.specs.Answer.{numberAnswer}
 use Rattle.model.specs.Repair as mended
 use Rattle.model.specs.declared.head.Head.{Head}
 use Rattle.model.specs.declared.seats.Seats.{Seats}
-use Rattle.laws.specs.Words.{lent}
-use Rattle.seating.specs.Words.{seatsFrom}
-use Rattle.marshal.specs.Flat.{headAfter, numberOf}
-use Rattle.marshal.specs.Lent.{given}
-use Rattle.marshal.specs.declared.flat.FlatNumber.{FlatNumber}
-use Rattle.marshal.proofs.HeadLaws.{good-stored}
+use Rattle.model_laws.specs.Words.{lent}
+use Rattle.tree_seats.specs.Words.{seatsFrom}
+use Rattle.smelvock_marshal.specs.Flat.{headAfter, numberOf}
+use Rattle.smelvock_marshal.specs.Lent.{given}
+use Rattle.smelvock_marshal.specs.declared.flat.FlatNumber.{FlatNumber}
+use Rattle.smelvock_marshal.proofs.HeadLaws.{good-stored}
 use Rattle.smelvock.specs.Changes as flat
 use Rattle.smelvock.proofs.FlatLaws.{reply-refused, reply-settled}
 use Rattle.smelvock.proofs.KeptLaws.{repair-fingered, finger-alone}

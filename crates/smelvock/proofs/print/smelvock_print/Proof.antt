@@ -5,7 +5,7 @@ use Rattle.model.specs.Kind.{base}
 use Rattle.model.specs.State.{state}
 use Rattle.model.specs.Print as calls
 use Rattle.model.specs.declared.head.Head.{Head}
-use Rattle.marshal.proofs.HeadLaws.{good-head}
+use Rattle.smelvock_marshal.proofs.HeadLaws.{good-head}
 use Rattle.smelvock.specs.Prints as flat
 use Rattle.smelvock.proofs.FlatLaws.{print-refused, print-good}
 use Rattle.smelvock.proofs.print.smelvock_print.Statement.{statement}

@@ -1,15 +1,15 @@
 -- `smelvock::read::smelvock_entry_to_char_index_words`: 10 where head or view is bad, else the call's answer in words.
 use borrow.Author.Needs.{needs}
 use mathlib.Core.Path.{sym, ap, _∙_}
-use Rattle.marshal.specs.Flat.{numberOf}
+use Rattle.smelvock_marshal.specs.Flat.{numberOf}
 use Rattle.model.specs.Length.{viewNumber}
 use Rattle.model.specs.Kind.{base}
 use Rattle.model.specs.Answer.{numberAnswer}
 use Rattle.model.specs.State.{state}
 use Rattle.smelvock.specs.Reads as flat
-use Rattle.marshal.proofs.LentLaws.{answer-refused, answer-good}
+use Rattle.smelvock_marshal.proofs.LentLaws.{answer-refused, answer-good}
 use Rattle.smelvock.proofs.FlatLaws.{ap₃}
-use Rattle.marshal.proofs.HeadLaws.{good-flag}
+use Rattle.smelvock_marshal.proofs.HeadLaws.{good-flag}
 use Rattle.model.specs.Calls as calls
 use Rattle.model.specs.declared.head.Head.{Head}
 use Rattle.model.specs.declared.head.Cursor.{Cursor}

@@ -1,8 +1,8 @@
 -- `smelvock_planning::answered::ranged_of`: one case of the answer at a time.
 use borrow.Author.Needs.{needs}
 use mathlib.Core.Path.{sym, ap, _∙_}
-use Rattle.planning.specs.Bounds.{rangedAnswer}
-use Rattle.planning.specs.declared.bounds.Ranged.{Ranged}
+use Rattle.calls_planning.specs.Bounds.{rangedAnswer}
+use Rattle.calls_planning.specs.declared.bounds.Ranged.{Ranged}
 use Rattle.smelvock_planning.specs.Calls.{rangedOf}
 use Rattle.smelvock_planning.proofs.answered.ranged_of.Statement.{statement}
 use Rattle.smelvock_planning.proofs.answered.ranged_of.Tie as tie

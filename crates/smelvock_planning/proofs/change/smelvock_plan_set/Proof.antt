@@ -7,10 +7,10 @@ use Rattle.model.specs.State.{state}
 use Rattle.model.specs.Plan as plan
 use Rattle.model.specs.Plan.{treePlan}
 use Rattle.model.specs.declared.head.Head.{Head}
-use Rattle.marshal.specs.Flat.{headAfter}
-use Rattle.marshal.specs.Lent.{given, numberAlone}
-use Rattle.marshal.proofs.HeadLaws.{good-head}
-use Rattle.marshal.proofs.LentLaws.{left-refused, left-settled}
+use Rattle.smelvock_marshal.specs.Flat.{headAfter}
+use Rattle.smelvock_marshal.specs.Lent.{given, numberAlone}
+use Rattle.smelvock_marshal.proofs.HeadLaws.{good-head}
+use Rattle.smelvock_marshal.proofs.LentLaws.{left-refused, left-settled}
 use Rattle.smelvock_planning.specs.Calls as flat
 use Rattle.smelvock_planning.proofs.change.smelvock_plan_set.Statement.{statement}
 use Rattle.smelvock_planning.proofs.change.smelvock_plan_set.Tie as tie

@@ -2,8 +2,8 @@
 use borrow.Author.Needs.{needs}
 use mathlib.Core.List.{[], _∷_}
 use Rattle.model.specs.Kind.{planning}
-use Rattle.marshal.specs.Lent.{given}
-use Rattle.marshal.proofs.LentLaws.{make-refused, make-good}
+use Rattle.smelvock_marshal.specs.Lent.{given}
+use Rattle.smelvock_marshal.proofs.LentLaws.{make-refused, make-good}
 use Rattle.smelvock_planning.specs.Calls as flat
 use Rattle.smelvock_planning.proofs.make.smelvock_plan_new.Statement.{statement}
 use Rattle.smelvock_planning.proofs.make.smelvock_plan_new.Tie as tie

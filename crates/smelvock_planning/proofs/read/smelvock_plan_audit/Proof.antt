@@ -6,9 +6,9 @@ use Rattle.model.specs.State.{state}
 use Rattle.model.specs.Answer.{verdictAnswer}
 use Rattle.model.specs.Audit as model
 use Rattle.model.specs.declared.head.Head.{Head}
-use Rattle.marshal.specs.Flat.{numberOf}
-use Rattle.marshal.proofs.HeadLaws.{good-head}
-use Rattle.marshal.proofs.LentLaws.{answer-refused, answer-good}
+use Rattle.smelvock_marshal.specs.Flat.{numberOf}
+use Rattle.smelvock_marshal.proofs.HeadLaws.{good-head}
+use Rattle.smelvock_marshal.proofs.LentLaws.{answer-refused, answer-good}
 use Rattle.smelvock_planning.specs.Calls as flat
 use Rattle.smelvock_planning.proofs.read.smelvock_plan_audit.Statement.{statement}
 use Rattle.smelvock_planning.proofs.read.smelvock_plan_audit.Tie as tie

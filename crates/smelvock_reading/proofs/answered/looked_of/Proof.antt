@@ -1,8 +1,8 @@
 -- `smelvock_reading::answered::looked_of`: one case of the answer at a time.
 use borrow.Author.Needs.{needs}
 use mathlib.Core.Path.{sym, ap, _∙_}
-use Rattle.by_id_read.specs.Answer.{lookedAnswer}
-use Rattle.by_id_read.specs.declared.answer.Looked.{Looked}
+use Rattle.calls_by_id.specs.Answer.{lookedAnswer}
+use Rattle.calls_by_id.specs.declared.answer.Looked.{Looked}
 use Rattle.smelvock_reading.specs.Calls.{lookedOf}
 use Rattle.smelvock_reading.proofs.answered.looked_of.Statement.{statement}
 use Rattle.smelvock_reading.proofs.answered.looked_of.Tie as tie

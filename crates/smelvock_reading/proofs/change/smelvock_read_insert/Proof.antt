@@ -7,11 +7,11 @@ use Rattle.model.specs.Row as row
 use Rattle.model.specs.State.{state}
 use Rattle.model.specs.ById.{treeStep}
 use Rattle.model.specs.declared.head.Head.{Head}
-use Rattle.marshal.specs.Flat.{headAfter, insertedOf}
-use Rattle.marshal.specs.Lent.{given}
-use Rattle.marshal.specs.declared.flat.FlatInserted.{FlatInserted}
-use Rattle.marshal.proofs.HeadLaws.{good-head}
-use Rattle.marshal.proofs.LentLaws.{left-refused, left-settled}
+use Rattle.smelvock_marshal.specs.Flat.{headAfter, insertedOf}
+use Rattle.smelvock_marshal.specs.Lent.{given}
+use Rattle.smelvock_marshal.specs.declared.flat.FlatInserted.{FlatInserted}
+use Rattle.smelvock_marshal.proofs.HeadLaws.{good-head}
+use Rattle.smelvock_marshal.proofs.LentLaws.{left-refused, left-settled}
 use Rattle.smelvock_reading.specs.Calls as flat
 use Rattle.smelvock_reading.proofs.change.smelvock_read_insert.Statement.{statement}
 use Rattle.smelvock_reading.proofs.change.smelvock_read_insert.Tie as tie

@@ -2,8 +2,8 @@
 use borrow.Author.Needs.{needs}
 use mathlib.Core.List.{[], _∷_}
 use Rattle.model.specs.Kind.{reading}
-use Rattle.marshal.specs.Lent.{given}
-use Rattle.marshal.proofs.LentLaws.{make-refused, make-good}
+use Rattle.smelvock_marshal.specs.Lent.{given}
+use Rattle.smelvock_marshal.proofs.LentLaws.{make-refused, make-good}
 use Rattle.smelvock_reading.specs.Calls as flat
 use Rattle.smelvock_reading.proofs.make.smelvock_read_new.Statement.{statement}
 use Rattle.smelvock_reading.proofs.make.smelvock_read_new.Tie as tie

@@ -1,3 +1,0 @@
-pub mod SoundLaws
-pub mod TreeLaws
-pub mod FairLaws

@@ -1,3 +1,0 @@
-pub mod InnerLaws
-pub mod LeafLaws
-pub mod LinkLaws

@@ -1,0 +1,4 @@
+pub mod Known
+pub mod Links
+pub mod Counts
+pub mod Part

@@ -1,0 +1,4 @@
+pub mod TextLaws
+pub mod FeedLaws
+pub mod RestLaws
+pub mod ShownLaws

@@ -1,6 +1,0 @@
-// What crosses the C boundary, as words, and back: the head that a host lends, what it hands over beside it, and the answers.
-// Stands on model and by_id_read.
-pub mod answered;
-pub mod flat;
-pub mod given;
-pub mod head;

@@ -1,8 +1,0 @@
-// The changes of a tree at a slot of a leaf: other lengths, one entry more, one entry divided.
-// Every contract is one equation with the model's definition (specs/Place.antt), on any words.
-// Stands on model, laws, node_write, area, walk, finger_search, links and grow.
-pub mod change;
-pub mod entry;
-pub mod home;
-pub mod room;
-pub mod size;

@@ -1,4 +1,0 @@
-pub mod AsRow
-pub mod MadeLaws
-pub mod RunLaws
-pub mod Words

@@ -1,0 +1,3 @@
+pub mod AddSteps
+pub mod Adding
+pub mod Splitting

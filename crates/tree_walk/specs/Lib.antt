@@ -1,0 +1,3 @@
+pub mod PathSteps
+pub mod Raise
+pub mod Low

@@ -1,3 +1,0 @@
-pub mod Steps
-pub mod Raise
-pub mod Low
