@@ -27,6 +27,7 @@ ghost use Rattle.model.specs.Kind.{kindOf};
 ghost use Rattle.model.specs.Lists.{sumBy, range};
 ghost use Rattle.model.specs.Node.{total, used};
 ghost use Rattle.model.specs.State.{state, nodeAt};
+ghost use Rattle.model.specs.Moments.{atEntry};
 ghost use Rattle.model.specs.Refuse.{shapeOf};
 ghost use Rattle.model.specs.Audit.{every, isSum, isInner, isLeaf, isFinger, isHeldFinger, isSound, audit};
 ghost use Rattle.model.specs.declared.shape.Kind.{Kind};
@@ -208,7 +209,7 @@ fn every_leaf(
     count: u32,
 ) -> bool
     requires { ⌜ Known head g (length (now leaves)) (length (now inners)) × (head .entries ≤ length (now homes)) × (count ≤ head .leaves) ⌝ }
-    ensures { λ r. ⌜ ((K : Kind) → g ≡ shapeOf K head → K .ordered ≡ ordered → r ≡ every (isLeaf K (state head (now (leaves .entry)) (now (inners .entry)) (now (homes .entry)))) 0 count) ⌝ }
+    ensures { λ r. ⌜ ((K : Kind) → g ≡ shapeOf K head → K .ordered ≡ ordered → r ≡ every (isLeaf K (atEntry head leaves inners homes)) 0 count) ⌝ }
 {
     let mut k: u32 = 0;
     while k < count {
@@ -260,7 +261,7 @@ fn is_sound(
     ordered: bool,
 ) -> bool
     requires { ⌜ AreaHolds g (length (now leaves)) × AreaHolds g (length (now inners)) × (effect + 1 < g .stride) × (head .limit ≤ length (now homes)) ⌝ }
-    ensures { λ r. ⌜ ((views : ℕ) → g ≡ shapeOf (kindOf views effect ordered) head → r ≡ isSound (kindOf views effect ordered) (state head (now (leaves .entry)) (now (inners .entry)) (now (homes .entry)))) ⌝ }
+    ensures { λ r. ⌜ ((views : ℕ) → g ≡ shapeOf (kindOf views effect ordered) head → r ≡ isSound (kindOf views effect ordered) (atEntry head leaves inners homes)) ⌝ }
 {
     let finger = head.finger;
     if !counts(head, g) {
@@ -293,7 +294,7 @@ pub fn audit(
     homes: &[u32],
 ) -> Verdict
     requires { ⌜ (1 ≤ views) × (views ≤ 3) × (effect < views) ⌝ }
-    ensures { λ r. ⌜ r ≡ audit (kindOf views effect ordered) (state head (now (leaves .entry)) (now (inners .entry)) (now (homes .entry))) ⌝ }
+    ensures { λ r. ⌜ r ≡ audit (kindOf views effect ordered) (atEntry head leaves inners homes) ⌝ }
 {
     let fan = head.fan;
     let limit = head.limit;

@@ -21,6 +21,7 @@ ghost use lib.ListN.{length, getD};
 ghost use Rattle.model.specs.Kind.{kindOf, crossed};
 ghost use Rattle.model.specs.Node.{lengths};
 ghost use Rattle.model.specs.State.{state, nodeAt};
+ghost use Rattle.model.specs.Moments.{atEntry};
 ghost use Rattle.model.specs.Refuse.{shapeOf};
 ghost use Rattle.model.specs.Sound.{leastLeaf};
 ghost use Rattle.model.specs.Audit.{every, isOther, isLeaf};
@@ -132,7 +133,7 @@ pub fn is_leaf(
     k: LeafNo,
 ) -> bool
     requires { ⌜ Known head g (length (now leaves)) (length (now inners)) × (head .entries ≤ length (now homes)) × (k .0 < head .leaves) ⌝ }
-    ensures { λ r. ⌜ ((K : Kind) → g ≡ shapeOf K head → K .ordered ≡ ordered → r ≡ isLeaf K (state head (now (leaves .entry)) (now (inners .entry)) (now (homes .entry))) (k .0)) ⌝ }
+    ensures { λ r. ⌜ ((K : Kind) → g ≡ shapeOf K head → K .ordered ≡ ordered → r ≡ isLeaf K (atEntry head leaves inners homes) (k .0)) ⌝ }
 {
     let levels = head.levels;
     let used = head.inners;

@@ -16,7 +16,7 @@ ghost use Prim.Native.Nat.{ℕ, _<_, _≤_};
 ghost use Rattle.model.specs.Kind.{kind};
 ghost use Rattle.model.specs.Row as row;
 ghost use Rattle.model.specs.Row.{moved};
-ghost use Rattle.model.specs.State.{state};
+ghost use Rattle.model.specs.Moments.{atEntry, atExit};
 ghost use Rattle.model.specs.Answer.{numberAnswer};
 ghost use Rattle.model.specs.Calls as calls;
 ghost use Rattle.model.specs.ById.{nextAnswer, treeMove};
@@ -34,7 +34,7 @@ pub fn locate(
     index: u32,
 ) -> LookedReply
     requires { ⌜ (1 ≤ views) × (views ≤ 3) × (effect < views) × (view < views) ⌝ }
-    ensures { λ r. ⌜ moved (state (r .head) (now (leaves .exit)) (now (inners .exit)) (now (homes .exit))) (lookedAnswer (r .answer)) ≡ treeMove (kind views effect) (state head (now (leaves .entry)) (now (inners .entry)) (now (homes .entry))) (row.lookup view index) ⌝ }
+    ensures { λ r. ⌜ moved (atExit (r .head) leaves inners homes) (lookedAnswer (r .answer)) ≡ treeMove (kind views effect) (atEntry head leaves inners homes) (row.lookup view index) ⌝ }
 {
     let r = calls_read::any_lookup::locate(views, effect, head, leaves, inners, homes, view, index);
     let kept = r.head;
@@ -74,7 +74,7 @@ pub fn next(
     at: Cursor,
 ) -> Following
     requires { ⌜ (1 ≤ views) × (views ≤ 3) ⌝ }
-    ensures { λ r. ⌜ ((effect : ℕ) → followingAnswer r ≡ nextAnswer (kind views effect) (state head (now (leaves .entry)) (now (inners .entry)) (now (homes .entry))) (calls.nextAfter (kind views effect) (state head (now (leaves .entry)) (now (inners .entry)) (now (homes .entry))) at)) ⌝ }
+    ensures { λ r. ⌜ ((effect : ℕ) → followingAnswer r ≡ nextAnswer (kind views effect) (atEntry head leaves inners homes) (calls.nextAfter (kind views effect) (atEntry head leaves inners homes) at)) ⌝ }
 {
     match calls_read::any::next(views, head, leaves, inners, homes, at) {
         Next::Refused(n) => Following::Refused(n),
@@ -89,7 +89,7 @@ pub fn next(
 // How many entries the tree has.
 pub fn len(views: usize, head: Head, leaves: &[u32], inners: &[u32], homes: &[u32]) -> Number
     requires { ⌜ (1 ≤ views) × (views ≤ 3) ⌝ }
-    ensures { λ r. ⌜ ((effect : ℕ) → moved (state head (now (leaves .entry)) (now (inners .entry)) (now (homes .entry))) (numberAnswer r) ≡ treeMove (kind views effect) (state head (now (leaves .entry)) (now (inners .entry)) (now (homes .entry))) row.count) ⌝ }
+    ensures { λ r. ⌜ ((effect : ℕ) → moved (atEntry head leaves inners homes) (numberAnswer r) ≡ treeMove (kind views effect) (atEntry head leaves inners homes) row.count) ⌝ }
 {
     let fan = head.fan;
     let limit = head.limit;

@@ -22,7 +22,7 @@ ghost use Rattle.model.specs.Length.{lengthsIn};
 ghost use Rattle.model.specs.Kind.{kind, kindOf};
 ghost use Rattle.model.specs.Row as row;
 ghost use Rattle.model.specs.Row.{moved};
-ghost use Rattle.model.specs.State.{state};
+ghost use Rattle.model.specs.Moments.{atEntry, atExit};
 ghost use Rattle.model.specs.Answer.{outcomeAnswer, insertedAnswer};
 ghost use Rattle.model.specs.ById.{dividedIdAnswer, treeMove};
 ghost use Rattle.calls_by_id.specs.Place.{placeOf};
@@ -37,7 +37,7 @@ fn place(
     id: EntryId,
 ) -> Standing
     requires { ⌜ (1 ≤ views) × (views ≤ 3) ⌝ }
-    ensures { λ r. ⌜ ((effect : ℕ) → r ≡ placeOf (kind views effect) (state head (now (leaves .entry)) (now (inners .entry)) (now (homes .entry))) (id .0)) ⌝ }
+    ensures { λ r. ⌜ ((effect : ℕ) → r ≡ placeOf (kind views effect) (atEntry head leaves inners homes) (id .0)) ⌝ }
 {
     let i = id.0;
     if i == NONE {
@@ -63,7 +63,7 @@ pub fn insert(
     x: &[u32; 4],
 ) -> InsertedReply
     requires { ⌜ (1 ≤ views) × (views ≤ 3) × (effect < views) × (getD (now x) 0 0 ≡ head .entries) × (length (now x) ≡ 4) ⌝ }
-    ensures { λ r. ⌜ moved (state (r .head) (now (leaves .exit)) (now (inners .exit)) (now (homes .exit))) (insertedAnswer (r .answer)) ≡ treeMove (kindOf views effect ordered) (state head (now (leaves .entry)) (now (inners .entry)) (now (homes .entry))) (row.insert (id .0) (lengthsIn views (now (x .entry)))) ⌝ }
+    ensures { λ r. ⌜ moved (atExit (r .head) leaves inners homes) (insertedAnswer (r .answer)) ≡ treeMove (kindOf views effect ordered) (atEntry head leaves inners homes) (row.insert (id .0) (lengthsIn views (now (x .entry)))) ⌝ }
 {
     match place(views, head, leaves, inners, homes, id) {
         Standing::Refused(n) => InsertedReply {
@@ -102,7 +102,7 @@ pub fn split_entry(
     before: bool,
 ) -> DividedReply
     requires { ⌜ (1 ≤ views) × (views ≤ 3) × (getD (now x) 0 0 ≡ head .entries) × (length (now x) ≡ 4) ⌝ }
-    ensures { λ r. ⌜ ((effect : ℕ) → moved (state (r .head) (now (leaves .exit)) (now (inners .exit)) (now (homes .exit))) (dividedIdAnswer (r .answer)) ≡ treeMove (kindOf views effect ordered) (state head (now (leaves .entry)) (now (inners .entry)) (now (homes .entry))) (row.split before (id .0) (lengthsIn views (now (x .entry))))) ⌝ }
+    ensures { λ r. ⌜ ((effect : ℕ) → moved (atExit (r .head) leaves inners homes) (dividedIdAnswer (r .answer)) ≡ treeMove (kindOf views effect ordered) (atEntry head leaves inners homes) (row.split before (id .0) (lengthsIn views (now (x .entry))))) ⌝ }
 {
     match cursor(views, head, leaves, inners, homes, id) {
         Standing::Refused(n) => DividedReply {
@@ -140,7 +140,7 @@ pub fn set_lengths(
     new: &[u32; 4],
 ) -> OutcomeReply
     requires { ⌜ (1 ≤ views) × (views ≤ 3) × (effect < views) × (length (now new) ≡ 4) ⌝ }
-    ensures { λ r. ⌜ moved (state (r .head) (now (leaves .exit)) (now (inners .exit)) (now (homes .exit))) (outcomeAnswer (r .answer)) ≡ treeMove (kindOf views effect ordered) (state head (now (leaves .entry)) (now (inners .entry)) (now (homes .entry))) (row.setLengths (id .0) (lengthsIn views (now (new .entry)))) ⌝ }
+    ensures { λ r. ⌜ moved (atExit (r .head) leaves inners homes) (outcomeAnswer (r .answer)) ≡ treeMove (kindOf views effect ordered) (atEntry head leaves inners homes) (row.setLengths (id .0) (lengthsIn views (now (new .entry)))) ⌝ }
 {
     match cursor(views, head, leaves, inners, homes, id) {
         Standing::Refused(n) => OutcomeReply {

@@ -7,7 +7,7 @@ ghost use Rattle.model.specs.Length.{viewNumber};
 ghost use Rattle.model.specs.Kind.{base};
 ghost use Rattle.model.specs.Row as row;
 ghost use Rattle.model.specs.Row.{moved};
-ghost use Rattle.model.specs.State.{state};
+ghost use Rattle.model.specs.Moments.{atEntry, atExit};
 ghost use Rattle.model.specs.ById.{treeStep};
 ghost use Rattle.calls_by_id.specs.Answer.{lookedAnswer};
 
@@ -20,7 +20,7 @@ pub fn locate(
     view: View,
     index: u32,
 ) -> LookedReply
-    ensures { λ r. ⌜ moved (state (r .head) (now (leaves .exit)) (now (inners .exit)) (now (homes .exit))) (lookedAnswer (r .answer)) ≡ treeStep base (state head (now (leaves .entry)) (now (inners .entry)) (now (homes .entry))) (row.lookup (viewNumber view) index) ⌝ }
+    ensures { λ r. ⌜ moved (atExit (r .head) leaves inners homes) (lookedAnswer (r .answer)) ≡ treeStep base (atEntry head leaves inners homes) (row.lookup (viewNumber view) index) ⌝ }
 {
     crate::any::locate(3, 1, head, leaves, inners, homes, view.number(), index)
 }

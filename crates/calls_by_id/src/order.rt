@@ -11,7 +11,7 @@ ghost use Prim.Native.Nat.{ℕ, _<_, _≤_};
 ghost use Rattle.model.specs.Kind.{kind};
 ghost use Rattle.model.specs.Row as row;
 ghost use Rattle.model.specs.Row.{moved};
-ghost use Rattle.model.specs.State.{state};
+ghost use Rattle.model.specs.Moments.{atEntry};
 ghost use Rattle.model.specs.Answer.{numberAnswer, comparedAnswer};
 ghost use Rattle.model.specs.ById.{treeMove};
 ghost use Rattle.calls_by_id.specs.Answer.{followingAnswer};
@@ -27,7 +27,7 @@ pub fn rank(
     id: EntryId,
 ) -> Number
     requires { ⌜ (1 ≤ views) × (views ≤ 3) × (view < views) ⌝ }
-    ensures { λ r. ⌜ ((effect : ℕ) → moved (state head (now (leaves .entry)) (now (inners .entry)) (now (homes .entry))) (numberAnswer r) ≡ treeMove (kind views effect) (state head (now (leaves .entry)) (now (inners .entry)) (now (homes .entry))) (row.rank view (id .0))) ⌝ }
+    ensures { λ r. ⌜ ((effect : ℕ) → moved (atEntry head leaves inners homes) (numberAnswer r) ≡ treeMove (kind views effect) (atEntry head leaves inners homes) (row.rank view (id .0))) ⌝ }
 {
     match cursor(views, head, leaves, inners, homes, id) {
         Standing::Refused(n) => Number::Refused(n),
@@ -47,7 +47,7 @@ pub fn next(
     id: EntryId,
 ) -> Following
     requires { ⌜ (1 ≤ views) × (views ≤ 3) ⌝ }
-    ensures { λ r. ⌜ ((effect : ℕ) → moved (state head (now (leaves .entry)) (now (inners .entry)) (now (homes .entry))) (followingAnswer r) ≡ treeMove (kind views effect) (state head (now (leaves .entry)) (now (inners .entry)) (now (homes .entry))) (row.next (id .0))) ⌝ }
+    ensures { λ r. ⌜ ((effect : ℕ) → moved (atEntry head leaves inners homes) (followingAnswer r) ≡ treeMove (kind views effect) (atEntry head leaves inners homes) (row.next (id .0))) ⌝ }
 {
     match cursor(views, head, leaves, inners, homes, id) {
         Standing::Refused(n) => Following::Refused(n),
@@ -66,7 +66,7 @@ pub fn cmp(
     other: EntryId,
 ) -> Compared
     requires { ⌜ (1 ≤ views) × (views ≤ 3) ⌝ }
-    ensures { λ r. ⌜ ((effect : ℕ) → moved (state head (now (leaves .entry)) (now (inners .entry)) (now (homes .entry))) (comparedAnswer r) ≡ treeMove (kind views effect) (state head (now (leaves .entry)) (now (inners .entry)) (now (homes .entry))) (row.compare (id .0) (other .0))) ⌝ }
+    ensures { λ r. ⌜ ((effect : ℕ) → moved (atEntry head leaves inners homes) (comparedAnswer r) ≡ treeMove (kind views effect) (atEntry head leaves inners homes) (row.compare (id .0) (other .0))) ⌝ }
 {
     match cursor(views, head, leaves, inners, homes, id) {
         Standing::Refused(n) => Compared::Refused(n),

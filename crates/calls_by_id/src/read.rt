@@ -6,12 +6,12 @@ ghost use Rattle.model.specs.Kind.{base};
 ghost use Rattle.model.specs.Row as row;
 ghost use Rattle.model.specs.Row.{moved};
 ghost use Rattle.model.specs.Answer.{numberAnswer};
-ghost use Rattle.model.specs.State.{state};
+ghost use Rattle.model.specs.Moments.{atEntry};
 ghost use Rattle.model.specs.ById.{treeStep};
 
 // How many entries the tree has.
 pub fn len(head: Head, leaves: &[u32], inners: &[u32], homes: &[u32]) -> Number
-    ensures { λ r. ⌜ moved (state head (now (leaves .entry)) (now (inners .entry)) (now (homes .entry))) (numberAnswer r) ≡ treeStep base (state head (now (leaves .entry)) (now (inners .entry)) (now (homes .entry))) row.count ⌝ }
+    ensures { λ r. ⌜ moved (atEntry head leaves inners homes) (numberAnswer r) ≡ treeStep base (atEntry head leaves inners homes) row.count ⌝ }
 {
     crate::any::len(3, head, leaves, inners, homes)
 }

@@ -27,6 +27,7 @@ ghost use Rattle.model.specs.Length.{lengthsIn};
 ghost use Rattle.model.specs.Kind.{kind, kindOf};
 ghost use Rattle.model.specs.Lists.{Cause, refusal};
 ghost use Rattle.model.specs.State.{state};
+ghost use Rattle.model.specs.Moments.{atEntry, atExit};
 ghost use Rattle.model.specs.Refuse.{shapeOf, opening};
 ghost use Rattle.model.specs.Calls as calls;
 ghost use Rattle.model.specs.Calls.{reply, targetCauses, insertCauses};
@@ -55,7 +56,7 @@ fn open_for(
     before: Target,
 ) -> Opened
     requires { ⌜ (1 ≤ views) × (views ≤ 3) ⌝ }
-    ensures { λ r. ⌜ ((effect : ℕ) → r ≡ openedBy (opening (kind views effect) (state head (now (leaves .entry)) (now (inners .entry)) (now (homes .entry))) ++ targetCauses (kind views effect) (state head (now (leaves .entry)) (now (inners .entry)) (now (homes .entry))) before) (shapeOf (kind views effect) head)) ⌝ }
+    ensures { λ r. ⌜ ((effect : ℕ) → r ≡ openedBy (opening (kind views effect) (atEntry head leaves inners homes) ++ targetCauses (kind views effect) (atEntry head leaves inners homes) before) (shapeOf (kind views effect) head)) ⌝ }
 {
     match before {
         Target::Before(at) => open_at(views, head, leaves, inners, homes, at),
@@ -77,7 +78,7 @@ fn open_insert(
     x: &[u32; 4],
 ) -> Opened
     requires { ⌜ (1 ≤ views) × (views ≤ 3) × (length (now x) ≡ 4) ⌝ }
-    ensures { λ r. ⌜ ((effect : ℕ) (causes : List Cause) → refusal causes ≡ room → r ≡ openedBy (insertCauses (kindOf views effect ordered) causes (state head (now (leaves .entry)) (now (inners .entry)) (now (homes .entry))) before (lengthsIn views (now (x .entry)))) (shapeOf (kindOf views effect ordered) head)) ⌝ }
+    ensures { λ r. ⌜ ((effect : ℕ) (causes : List Cause) → refusal causes ≡ room → r ≡ openedBy (insertCauses (kindOf views effect ordered) causes (atEntry head leaves inners homes) before (lengthsIn views (now (x .entry)))) (shapeOf (kindOf views effect ordered) head)) ⌝ }
 {
     if too_many_lines(views, x) {
         return Opened::Refused(10);
@@ -171,7 +172,7 @@ fn enter(
     x: &[u32; 4],
 ) -> InsertedReply
     requires { ⌜ Ready (kind views effect) (state head (now leaves) (now inners) (now homes)) g × Aimed (kind views effect) (state head (now leaves) (now inners) (now homes)) before × (effect < views) × (head .entries < head .limit) × (getD (now x) 0 0 ≡ head .entries) × (length (now x) ≡ 4) ⌝ }
-    ensures { λ r. ⌜ reply (state (r .head) (now (leaves .exit)) (now (inners .exit)) (now (homes .exit))) (r .answer) ≡ insertedBy (kind views effect) g (state head (now (leaves .entry)) (now (inners .entry)) (now (homes .entry))) before (lengthsIn views (now (x .entry))) ⌝ }
+    ensures { λ r. ⌜ reply (atExit (r .head) leaves inners homes) (r .answer) ≡ insertedBy (kind views effect) g (atEntry head leaves inners homes) before (lengthsIn views (now (x .entry))) ⌝ }
 {
     let to = aim_at(head, leaves, inners, g, before);
     if to.number != 0 {
@@ -224,7 +225,7 @@ pub fn insert(
     x: &[u32; 4],
 ) -> InsertedReply
     requires { ⌜ (1 ≤ views) × (views ≤ 3) × (effect < views) × (getD (now x) 0 0 ≡ head .entries) × (length (now x) ≡ 4) × (room ≡ 0 → head .entries < head .limit) ⌝ }
-    ensures { λ r. ⌜ ((causes : List Cause) → refusal causes ≡ room → reply (state (r .head) (now (leaves .exit)) (now (inners .exit)) (now (homes .exit))) (r .answer) ≡ calls.insertBy (kindOf views effect ordered) causes (state head (now (leaves .entry)) (now (inners .entry)) (now (homes .entry))) before (lengthsIn views (now (x .entry)))) ⌝ }
+    ensures { λ r. ⌜ ((causes : List Cause) → refusal causes ≡ room → reply (atExit (r .head) leaves inners homes) (r .answer) ≡ calls.insertBy (kindOf views effect ordered) causes (atEntry head leaves inners homes) before (lengthsIn views (now (x .entry)))) ⌝ }
 {
     match open_insert(views, ordered, room, head, leaves, inners, homes, before, x) {
         Opened::Refused(n) => refused(head, n),

@@ -8,7 +8,7 @@ use tree_seats::rule::without;
 ghost use mathlib.Core.Path.{_≡_};
 ghost use Rattle.model.specs.Length.{listOf};
 ghost use Rattle.model.specs.Kind.{base};
-ghost use Rattle.model.specs.State.{state};
+ghost use Rattle.model.specs.Moments.{atEntry, atExit};
 ghost use Rattle.model.specs.Calls as calls;
 ghost use Rattle.model.specs.Calls.{reply};
 
@@ -21,7 +21,7 @@ pub fn insert(
     before: Target,
     lengths: Lengths,
 ) -> InsertedReply
-    ensures { λ r. ⌜ reply (state (r .head) (now (leaves .exit)) (now (inners .exit)) (now (homes .exit))) (r .answer) ≡ calls.insert base (state head (now (leaves .entry)) (now (inners .entry)) (now (homes .entry))) before (listOf lengths) ⌝ }
+    ensures { λ r. ⌜ reply (atExit (r .head) leaves inners homes) (r .answer) ≡ calls.insert base (atEntry head leaves inners homes) before (listOf lengths) ⌝ }
 {
     let slot = Slot::new(head.entries, lengths);
     let x: [u32; 4] = [

@@ -14,7 +14,7 @@ ghost use mathlib.Core.Bool.{false};
 ghost use lib.ListN.{length, getD};
 ghost use Rattle.model.specs.Length.{listOf};
 ghost use Rattle.model.specs.Kind.{base};
-ghost use Rattle.model.specs.State.{state};
+ghost use Rattle.model.specs.Moments.{atEntry, atExit};
 ghost use Rattle.model.specs.Seats.{badSeat};
 ghost use Rattle.model.specs.SeatedCalls.{seatedReply, afterInsert, insertSeated};
 ghost use Rattle.tree_seats.specs.Words.{seatsFrom};
@@ -42,7 +42,7 @@ pub fn insert(
     lengths: Lengths,
 ) -> InsertedReply
     requires { ⌜ length (now seats) ≡ 17 ⌝ }
-    ensures { λ r. ⌜ (seatedReply (state (r .head) (now (leaves .exit)) (now (inners .exit)) (now (homes .exit))) (seatsFrom (now (seats .exit))) (r .answer) ≡ insertSeated base (state head (now (leaves .entry)) (now (inners .entry)) (now (homes .entry))) (seatsFrom (now (seats .entry))) seat before (listOf lengths)) × (getD (now (seats .exit)) 0 0 ≡ getD (now (seats .entry)) 0 0) ⌝ }
+    ensures { λ r. ⌜ (seatedReply (atExit (r .head) leaves inners homes) (seatsFrom (now (seats .exit))) (r .answer) ≡ insertSeated base (atEntry head leaves inners homes) (seatsFrom (now (seats .entry))) seat before (listOf lengths)) × (getD (now (seats .exit)) 0 0 ≡ getD (now (seats .entry)) 0 0) ⌝ }
 {
     if bad_seat(seats, seat) {
         return InsertedReply {

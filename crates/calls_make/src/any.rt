@@ -20,7 +20,8 @@ ghost use Rattle.model.specs.Length.{lengthsIn};
 ghost use Rattle.model.specs.Lists.{Cause, refusal};
 ghost use Rattle.model.specs.Kind.{kindOf, stride};
 ghost use Rattle.model.specs.Node.{newNode};
-ghost use Rattle.model.specs.State.{state, shape, putNode};
+ghost use Rattle.model.specs.State.{shape, putNode};
+ghost use Rattle.model.specs.Moments.{atEntry, atExit};
 ghost use Rattle.model.specs.Calls as calls;
 ghost use Rattle.model.specs.Calls.{begun, makeCauses, reply};
 ghost use Rattle.model.specs.declared.shape.Kind.{Kind};
@@ -50,7 +51,7 @@ fn begin(
     homes: &mut [u32],
 ) -> Head
     requires { ⌜ Shaped g × (g .size ≤ length (now leaves)) × (g .size ≤ length (now inners)) × (0 < length (now homes)) × (getD (now x) 0 0 ≡ 0) × (length (now x) ≡ 4) ⌝ }
-    ensures { λ r. ⌜ ((K : Kind) → g ≡ shape (stride K) fan limit → state r (now (leaves .exit)) (now (inners .exit)) (now (homes .exit)) ≡ begun K fan limit stamp (lengthsIn (K .views) (now (x .entry))) (now (leaves .entry)) (now (inners .entry)) (now (homes .entry))) ⌝ }
+    ensures { λ r. ⌜ ((K : Kind) → g ≡ shape (stride K) fan limit → atExit r leaves inners homes ≡ begun K fan limit stamp (lengthsIn (K .views) (now (x .entry))) (now (leaves .entry)) (now (inners .entry)) (now (homes .entry))) ⌝ }
 {
     let empty = Slot::EMPTY;
     write_first(leaves, g, 0, x);
@@ -137,7 +138,7 @@ pub fn new(
     homes: &mut [u32],
 ) -> OutcomeReply
     requires { ⌜ (1 ≤ views) × (views ≤ 3) × (getD (now x) 0 0 ≡ 0) × (length (now x) ≡ 4) ⌝ }
-    ensures { λ r. ⌜ ((effect : ℕ) (more : List Cause) → refusal more ≡ high → reply (state (r .head) (now (leaves .exit)) (now (inners .exit)) (now (homes .exit))) (r .answer) ≡ makeBy (kindOf views effect ordered) more fan limit (lengthsIn views (now (x .entry))) (now (leaves .entry)) (now (inners .entry)) (now (homes .entry))) ⌝ }
+    ensures { λ r. ⌜ ((effect : ℕ) (more : List Cause) → refusal more ≡ high → reply (atExit (r .head) leaves inners homes) (r .answer) ≡ makeBy (kindOf views effect ordered) more fan limit (lengthsIn views (now (x .entry))) (now (leaves .entry)) (now (inners .entry)) (now (homes .entry))) ⌝ }
 {
     match open_new(views, ordered, high, fan, limit, x, leaves, inners, homes) {
         Opened::Refused(n) => {
@@ -175,7 +176,7 @@ pub fn reset(
     homes: &mut [u32],
 ) -> OutcomeReply
     requires { ⌜ (1 ≤ views) × (views ≤ 3) × (getD (now x) 0 0 ≡ 0) × (length (now x) ≡ 4) ⌝ }
-    ensures { λ r. ⌜ ((effect : ℕ) → reply (state (r .head) (now (leaves .exit)) (now (inners .exit)) (now (homes .exit))) (r .answer) ≡ calls.reset (kindOf views effect ordered) (state head (now (leaves .entry)) (now (inners .entry)) (now (homes .entry))) (lengthsIn views (now (x .entry)))) ⌝ }
+    ensures { λ r. ⌜ ((effect : ℕ) → reply (atExit (r .head) leaves inners homes) (r .answer) ≡ calls.reset (kindOf views effect ordered) (atEntry head leaves inners homes) (lengthsIn views (now (x .entry)))) ⌝ }
 {
     let fan = head.fan;
     let limit = head.limit;

@@ -6,7 +6,7 @@ use model::length::Slot;
 ghost use mathlib.Core.Path.{_≡_};
 ghost use Rattle.model.specs.Length.{listOf};
 ghost use Rattle.model.specs.Kind.{base};
-ghost use Rattle.model.specs.State.{state};
+ghost use Rattle.model.specs.Moments.{atEntry, atExit};
 ghost use Rattle.model.specs.Calls as calls;
 ghost use Rattle.model.specs.Calls.{reply};
 
@@ -19,7 +19,7 @@ pub fn new(
     inners: &mut [u32],
     homes: &mut [u32],
 ) -> OutcomeReply
-    ensures { λ r. ⌜ reply (state (r .head) (now (leaves .exit)) (now (inners .exit)) (now (homes .exit))) (r .answer) ≡ calls.make base fan limit (listOf lengths) (now (leaves .entry)) (now (inners .entry)) (now (homes .entry)) ⌝ }
+    ensures { λ r. ⌜ reply (atExit (r .head) leaves inners homes) (r .answer) ≡ calls.make base fan limit (listOf lengths) (now (leaves .entry)) (now (inners .entry)) (now (homes .entry)) ⌝ }
 {
     let slot = Slot::new(0, lengths);
     let x: [u32; 4] = [
@@ -39,7 +39,7 @@ pub fn reset(
     inners: &mut [u32],
     homes: &mut [u32],
 ) -> OutcomeReply
-    ensures { λ r. ⌜ reply (state (r .head) (now (leaves .exit)) (now (inners .exit)) (now (homes .exit))) (r .answer) ≡ calls.reset base (state head (now (leaves .entry)) (now (inners .entry)) (now (homes .entry))) (listOf lengths) ⌝ }
+    ensures { λ r. ⌜ reply (atExit (r .head) leaves inners homes) (r .answer) ≡ calls.reset base (atEntry head leaves inners homes) (listOf lengths) ⌝ }
 {
     let slot = Slot::new(0, lengths);
     let x: [u32; 4] = [

@@ -13,7 +13,7 @@ ghost use lib.ListN.{length, getD};
 ghost use Rattle.model.specs.Lists.{refusal};
 ghost use Rattle.model.specs.Length.{listOf};
 ghost use Rattle.model.specs.Kind.{base};
-ghost use Rattle.model.specs.State.{state};
+ghost use Rattle.model.specs.Moments.{atEntry, atExit};
 ghost use Rattle.model.specs.Seats.{noSeats};
 ghost use Rattle.model.specs.SeatedCalls.{seatedReply, afterReset, resetSeated};
 ghost use Rattle.tree_seats.specs.Words.{seatsFrom};
@@ -73,7 +73,7 @@ pub fn new(
     homes: &mut [u32],
 ) -> OutcomeReply
     requires { ⌜ (length (now seats) ≡ 17) × ((length (now shares) ≡ 0 → ⊥) → length (now shares) ≡ 8) ⌝ }
-    ensures { λ r. ⌜ (seatedReply (state (r .head) (now (leaves .exit)) (now (inners .exit)) (now (homes .exit))) (seatsFrom (now (seats .exit))) (r .answer) ≡ makeWith base fan limit (now (shares .entry)) (listOf lengths) (now (leaves .entry)) (now (inners .entry)) (now (homes .entry))) × (getD (now (seats .exit)) 0 0 ≤ 1) ⌝ }
+    ensures { λ r. ⌜ (seatedReply (atExit (r .head) leaves inners homes) (seatsFrom (now (seats .exit))) (r .answer) ≡ makeWith base fan limit (now (shares .entry)) (listOf lengths) (now (leaves .entry)) (now (inners .entry)) (now (homes .entry))) × (getD (now (seats .exit)) 0 0 ≤ 1) ⌝ }
 {
     let high = high_for(limit, shares);
     let slot = Slot::new(0, lengths);
@@ -114,7 +114,7 @@ pub fn reset(
     homes: &mut [u32],
 ) -> OutcomeReply
     requires { ⌜ length (now seats) ≡ 17 ⌝ }
-    ensures { λ r. ⌜ (seatedReply (state (r .head) (now (leaves .exit)) (now (inners .exit)) (now (homes .exit))) (seatsFrom (now (seats .exit))) (r .answer) ≡ resetSeated base (state head (now (leaves .entry)) (now (inners .entry)) (now (homes .entry))) (seatsFrom (now (seats .entry))) (listOf lengths)) × (getD (now (seats .exit)) 0 0 ≡ getD (now (seats .entry)) 0 0) ⌝ }
+    ensures { λ r. ⌜ (seatedReply (atExit (r .head) leaves inners homes) (seatsFrom (now (seats .exit))) (r .answer) ≡ resetSeated base (atEntry head leaves inners homes) (seatsFrom (now (seats .entry))) (listOf lengths)) × (getD (now (seats .exit)) 0 0 ≡ getD (now (seats .entry)) 0 0) ⌝ }
 {
     let slot = Slot::new(0, lengths);
     let x: [u32; 4] = [

@@ -7,7 +7,7 @@ use model::head::Head;
 use model::number::EntryId;
 ghost use mathlib.Core.Path.{_≡_};
 ghost use Rattle.model.specs.Row.{moved};
-ghost use Rattle.model.specs.State.{state};
+ghost use Rattle.model.specs.Moments.{atEntry, atExit};
 ghost use Rattle.model.specs.Answer.{outcomeAnswer, insertedAnswer};
 ghost use Rattle.model.specs.ById.{dividedIdAnswer};
 ghost use Rattle.model.specs.Plan as plan;
@@ -23,7 +23,7 @@ pub fn insert(
     id: EntryId,
     bounds: Bounds,
 ) -> InsertedReply
-    ensures { λ r. ⌜ moved (state (r .head) (now (leaves .exit)) (now (inners .exit)) (now (homes .exit))) (insertedAnswer (r .answer)) ≡ treePlan (state head (now (leaves .entry)) (now (inners .entry)) (now (homes .entry))) (plan.insert (id .0) (boundsOf bounds)) ⌝ }
+    ensures { λ r. ⌜ moved (atExit (r .head) leaves inners homes) (insertedAnswer (r .answer)) ≡ treePlan (atEntry head leaves inners homes) (plan.insert (id .0) (boundsOf bounds)) ⌝ }
 {
     let next = head.entries;
     let x: [u32; 4] = [next, bounds.lowest, bounds.highest, 0];
@@ -40,7 +40,7 @@ pub fn split(
     bounds: Bounds,
     before: bool,
 ) -> DividedReply
-    ensures { λ r. ⌜ moved (state (r .head) (now (leaves .exit)) (now (inners .exit)) (now (homes .exit))) (dividedIdAnswer (r .answer)) ≡ treePlan (state head (now (leaves .entry)) (now (inners .entry)) (now (homes .entry))) (plan.split before (id .0) (boundsOf bounds)) ⌝ }
+    ensures { λ r. ⌜ moved (atExit (r .head) leaves inners homes) (dividedIdAnswer (r .answer)) ≡ treePlan (atEntry head leaves inners homes) (plan.split before (id .0) (boundsOf bounds)) ⌝ }
 {
     let next = head.entries;
     let x: [u32; 4] = [next, bounds.lowest, bounds.highest, 0];
@@ -56,7 +56,7 @@ pub fn set(
     id: EntryId,
     bounds: Bounds,
 ) -> OutcomeReply
-    ensures { λ r. ⌜ moved (state (r .head) (now (leaves .exit)) (now (inners .exit)) (now (homes .exit))) (outcomeAnswer (r .answer)) ≡ treePlan (state head (now (leaves .entry)) (now (inners .entry)) (now (homes .entry))) (plan.setLengths (id .0) (boundsOf bounds)) ⌝ }
+    ensures { λ r. ⌜ moved (atExit (r .head) leaves inners homes) (outcomeAnswer (r .answer)) ≡ treePlan (atEntry head leaves inners homes) (plan.setLengths (id .0) (boundsOf bounds)) ⌝ }
 {
     let x: [u32; 4] = [0, bounds.lowest, bounds.highest, 0];
     calls_by_id::change::set_lengths(2, 1, true, head, leaves, inners, homes, id, &x)

@@ -14,7 +14,7 @@ ghost use Rattle.model.specs.Kind.{planning};
 ghost use Rattle.model.specs.Node.{wrap};
 ghost use Rattle.model.specs.Row as row;
 ghost use Rattle.model.specs.Row.{moved};
-ghost use Rattle.model.specs.State.{state};
+ghost use Rattle.model.specs.Moments.{atEntry, atExit};
 ghost use Rattle.model.specs.Answer.{namedAnswer};
 ghost use Rattle.model.specs.ById.{treeStep};
 ghost use Rattle.model.specs.Plan as plan;
@@ -41,7 +41,7 @@ fn held(
     index: u32,
 ) -> NamedReply
     requires { ⌜ view < 2 ⌝ }
-    ensures { λ r. ⌜ moved (state (r .head) (now (leaves .exit)) (now (inners .exit)) (now (homes .exit))) (namedAnswer (r .answer)) ≡ idMove (treeStep planning (state head (now (leaves .entry)) (now (inners .entry)) (now (homes .entry))) (row.lookup view index)) ⌝ }
+    ensures { λ r. ⌜ moved (atExit (r .head) leaves inners homes) (namedAnswer (r .answer)) ≡ idMove (treeStep planning (atEntry head leaves inners homes) (row.lookup view index)) ⌝ }
 {
     let r = calls_by_id::any::locate(2, 1, head, leaves, inners, homes, view, index);
     let after = r.head;
@@ -71,7 +71,7 @@ pub fn first_at(
     homes: &[u32],
     position: u32,
 ) -> NamedReply
-    ensures { λ r. ⌜ moved (state (r .head) (now (leaves .exit)) (now (inners .exit)) (now (homes .exit))) (namedAnswer (r .answer)) ≡ treePlan (state head (now (leaves .entry)) (now (inners .entry)) (now (homes .entry))) (plan.firstAt position) ⌝ }
+    ensures { λ r. ⌜ moved (atExit (r .head) leaves inners homes) (namedAnswer (r .answer)) ≡ treePlan (atEntry head leaves inners homes) (plan.firstAt position) ⌝ }
 {
     held(head, leaves, inners, homes, 1, position)
 }
@@ -84,7 +84,7 @@ pub fn last_at(
     homes: &[u32],
     position: u32,
 ) -> NamedReply
-    ensures { λ r. ⌜ moved (state (r .head) (now (leaves .exit)) (now (inners .exit)) (now (homes .exit))) (namedAnswer (r .answer)) ≡ treePlan (state head (now (leaves .entry)) (now (inners .entry)) (now (homes .entry))) (plan.lastAt position) ⌝ }
+    ensures { λ r. ⌜ moved (atExit (r .head) leaves inners homes) (namedAnswer (r .answer)) ≡ treePlan (atEntry head leaves inners homes) (plan.lastAt position) ⌝ }
 {
     match open(2, head, leaves, inners, homes) {
         Opened::Refused(n) => NamedReply {

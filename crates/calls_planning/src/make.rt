@@ -5,7 +5,7 @@ use model::head::Head;
 ghost use mathlib.Core.Path.{_≡_};
 ghost use Rattle.model.specs.Kind.{planning};
 ghost use Rattle.model.specs.Row.{moved};
-ghost use Rattle.model.specs.State.{state};
+ghost use Rattle.model.specs.Moments.{atEntry, atExit};
 ghost use Rattle.model.specs.Answer.{outcomeAnswer};
 ghost use Rattle.model.specs.Calls as calls;
 ghost use Rattle.model.specs.Calls.{reply};
@@ -22,7 +22,7 @@ pub fn new(
     inners: &mut [u32],
     homes: &mut [u32],
 ) -> OutcomeReply
-    ensures { λ r. ⌜ reply (state (r .head) (now (leaves .exit)) (now (inners .exit)) (now (homes .exit))) (r .answer) ≡ calls.make planning fan limit (boundsOf bounds) (now (leaves .entry)) (now (inners .entry)) (now (homes .entry)) ⌝ }
+    ensures { λ r. ⌜ reply (atExit (r .head) leaves inners homes) (r .answer) ≡ calls.make planning fan limit (boundsOf bounds) (now (leaves .entry)) (now (inners .entry)) (now (homes .entry)) ⌝ }
 {
     let x: [u32; 4] = [0, bounds.lowest, bounds.highest, 0];
     calls_make::any::new(2, true, 0, fan, limit, &x, leaves, inners, homes)
@@ -36,7 +36,7 @@ pub fn reset(
     homes: &mut [u32],
     bounds: Bounds,
 ) -> OutcomeReply
-    ensures { λ r. ⌜ moved (state (r .head) (now (leaves .exit)) (now (inners .exit)) (now (homes .exit))) (outcomeAnswer (r .answer)) ≡ treePlan (state head (now (leaves .entry)) (now (inners .entry)) (now (homes .entry))) (plan.reset (boundsOf bounds)) ⌝ }
+    ensures { λ r. ⌜ moved (atExit (r .head) leaves inners homes) (outcomeAnswer (r .answer)) ≡ treePlan (atEntry head leaves inners homes) (plan.reset (boundsOf bounds)) ⌝ }
 {
     let x: [u32; 4] = [0, bounds.lowest, bounds.highest, 0];
     calls_make::any::reset(2, true, head, &x, leaves, inners, homes)

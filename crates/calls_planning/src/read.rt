@@ -13,7 +13,7 @@ use model::number::EntryId;
 ghost use mathlib.Core.Path.{_≡_};
 ghost use Rattle.model.specs.Kind.{planning};
 ghost use Rattle.model.specs.Row.{moved};
-ghost use Rattle.model.specs.State.{state};
+ghost use Rattle.model.specs.Moments.{atEntry};
 ghost use Rattle.model.specs.Answer.{numberAnswer};
 ghost use Rattle.model.specs.Audit.{audit};
 ghost use Rattle.model.specs.Calls.{entryLengths};
@@ -24,7 +24,7 @@ ghost use Rattle.calls_planning.specs.Bounds.{rangedAnswer};
 
 // The lengths of the entry at a cursor.
 fn lengths_of(head: Head, leaves: &[u32], inners: &[u32], homes: &[u32], at: Cursor) -> Ranged
-    ensures { λ r. ⌜ rangedAnswer r ≡ entryLengths planning (state head (now (leaves .entry)) (now (inners .entry)) (now (homes .entry))) at ⌝ }
+    ensures { λ r. ⌜ rangedAnswer r ≡ entryLengths planning (atEntry head leaves inners homes) at ⌝ }
 {
     let mut x: [u32; 4] = [0; 4];
     let n = calls_read::any::lengths(2, head, leaves, inners, homes, at, &mut x);
@@ -39,7 +39,7 @@ fn lengths_of(head: Head, leaves: &[u32], inners: &[u32], homes: &[u32], at: Cur
 
 // The lengths of the entry id.
 pub fn lengths(head: Head, leaves: &[u32], inners: &[u32], homes: &[u32], id: EntryId) -> Ranged
-    ensures { λ r. ⌜ moved (state head (now (leaves .entry)) (now (inners .entry)) (now (homes .entry))) (rangedAnswer r) ≡ treePlan (state head (now (leaves .entry)) (now (inners .entry)) (now (homes .entry))) (plan.lengths (id .0)) ⌝ }
+    ensures { λ r. ⌜ moved (atEntry head leaves inners homes) (rangedAnswer r) ≡ treePlan (atEntry head leaves inners homes) (plan.lengths (id .0)) ⌝ }
 {
     match cursor(2, head, leaves, inners, homes, id) {
         Standing::Refused(n) => Ranged::Refused(n),
@@ -49,35 +49,35 @@ pub fn lengths(head: Head, leaves: &[u32], inners: &[u32], homes: &[u32], id: En
 
 // How many entries the tree has.
 pub fn count(head: Head, leaves: &[u32], inners: &[u32], homes: &[u32]) -> Number
-    ensures { λ r. ⌜ moved (state head (now (leaves .entry)) (now (inners .entry)) (now (homes .entry))) (numberAnswer r) ≡ treePlan (state head (now (leaves .entry)) (now (inners .entry)) (now (homes .entry))) plan.count ⌝ }
+    ensures { λ r. ⌜ moved (atEntry head leaves inners homes) (numberAnswer r) ≡ treePlan (atEntry head leaves inners homes) plan.count ⌝ }
 {
     calls_by_id::any::len(2, head, leaves, inners, homes)
 }
 
 // The entry after the entry id, or nothing after the last.
 pub fn next(head: Head, leaves: &[u32], inners: &[u32], homes: &[u32], id: EntryId) -> Following
-    ensures { λ r. ⌜ moved (state head (now (leaves .entry)) (now (inners .entry)) (now (homes .entry))) (followingAnswer r) ≡ treePlan (state head (now (leaves .entry)) (now (inners .entry)) (now (homes .entry))) (plan.next (id .0)) ⌝ }
+    ensures { λ r. ⌜ moved (atEntry head leaves inners homes) (followingAnswer r) ≡ treePlan (atEntry head leaves inners homes) (plan.next (id .0)) ⌝ }
 {
     calls_by_id::order::next(2, head, leaves, inners, homes, id)
 }
 
 // The least position that the entry id can have: the lowest lengths before it.
 pub fn earliest(head: Head, leaves: &[u32], inners: &[u32], homes: &[u32], id: EntryId) -> Number
-    ensures { λ r. ⌜ moved (state head (now (leaves .entry)) (now (inners .entry)) (now (homes .entry))) (numberAnswer r) ≡ treePlan (state head (now (leaves .entry)) (now (inners .entry)) (now (homes .entry))) (plan.earliest (id .0)) ⌝ }
+    ensures { λ r. ⌜ moved (atEntry head leaves inners homes) (numberAnswer r) ≡ treePlan (atEntry head leaves inners homes) (plan.earliest (id .0)) ⌝ }
 {
     rank(2, head, leaves, inners, homes, 0, id)
 }
 
 // The greatest: the highest lengths before it.
 pub fn latest(head: Head, leaves: &[u32], inners: &[u32], homes: &[u32], id: EntryId) -> Number
-    ensures { λ r. ⌜ moved (state head (now (leaves .entry)) (now (inners .entry)) (now (homes .entry))) (numberAnswer r) ≡ treePlan (state head (now (leaves .entry)) (now (inners .entry)) (now (homes .entry))) (plan.latest (id .0)) ⌝ }
+    ensures { λ r. ⌜ moved (atEntry head leaves inners homes) (numberAnswer r) ≡ treePlan (atEntry head leaves inners homes) (plan.latest (id .0)) ⌝ }
 {
     rank(2, head, leaves, inners, homes, 1, id)
 }
 
 // Whether the tree is sound.
 pub fn audit(head: Head, leaves: &[u32], inners: &[u32], homes: &[u32]) -> Verdict
-    ensures { λ r. ⌜ r ≡ audit planning (state head (now (leaves .entry)) (now (inners .entry)) (now (homes .entry))) ⌝ }
+    ensures { λ r. ⌜ r ≡ audit planning (atEntry head leaves inners homes) ⌝ }
 {
     calls_audit::any::audit(2, 1, true, head, leaves, inners, homes)
 }

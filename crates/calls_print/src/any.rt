@@ -10,7 +10,7 @@ use tree_open::open::open_areas;
 ghost use mathlib.Core.Path.{_≡_};
 ghost use Prim.Native.Nat.{ℕ, _<_, _≤_};
 ghost use Rattle.model.specs.Kind.{kind};
-ghost use Rattle.model.specs.State.{state};
+ghost use Rattle.model.specs.Moments.{atEntry};
 ghost use Rattle.model.specs.Refuse.{shapeOf};
 ghost use Rattle.model.specs.Sheet.{pagesFor};
 ghost use Rattle.model.specs.Print.{printCauses, print};
@@ -33,7 +33,7 @@ fn open_print(
     bytes: usize,
 ) -> Opened
     requires { ⌜ (1 ≤ views) × (views ≤ 3) ⌝ }
-    ensures { λ r. ⌜ ((effect : ℕ) → r ≡ openedBy (printCauses (kind views effect) (state head (now (leaves .entry)) (now (inners .entry)) (now (homes .entry))) bytes) (shapeOf (kind views effect) head)) ⌝ }
+    ensures { λ r. ⌜ ((effect : ℕ) → r ≡ openedBy (printCauses (kind views effect) (atEntry head leaves inners homes) bytes) (shapeOf (kind views effect) head)) ⌝ }
 {
     let fan = head.fan;
     let limit = head.limit;
@@ -63,7 +63,7 @@ pub fn print(
     page: &mut [u8],
 ) -> Number
     requires { ⌜ (1 ≤ views) × (views ≤ 3) × (effect < views) ⌝ }
-    ensures { λ r. ⌜ (r, now (page .exit)) ≡ print (kind views effect) (state head (now (leaves .entry)) (now (inners .entry)) (now (homes .entry))) (now (page .entry)) ⌝ }
+    ensures { λ r. ⌜ (r, now (page .exit)) ≡ print (kind views effect) (atEntry head leaves inners homes) (now (page .entry)) ⌝ }
 {
     let bytes = page.len();
     match open_print(views, head, leaves, inners, homes, bytes) {

@@ -35,7 +35,8 @@ ghost use lib.ListN.{length};
 ghost use Rattle.model.specs.Kind.{kind};
 ghost use Rattle.model.specs.Length.{lengthsIn};
 ghost use Rattle.model.specs.Node.{used, indexFrom};
-ghost use Rattle.model.specs.State.{state, nodeAt};
+ghost use Rattle.model.specs.State.{nodeAt};
+ghost use Rattle.model.specs.Moments.{atEntry};
 ghost use Rattle.model.specs.Calls as calls;
 ghost use Rattle.tree_area.specs.Area.{AreaHolds};
 ghost use Rattle.calls_read.specs.Read.{cursorIn, lengthsBy};
@@ -53,7 +54,7 @@ pub fn id(
     at: Cursor,
 ) -> Named
     requires { ⌜ (1 ≤ views) × (views ≤ 3) ⌝ }
-    ensures { λ r. ⌜ ((effect : ℕ) → r ≡ calls.id (kind views effect) (state head (now (leaves .entry)) (now (inners .entry)) (now (homes .entry))) at) ⌝ }
+    ensures { λ r. ⌜ ((effect : ℕ) → r ≡ calls.id (kind views effect) (atEntry head leaves inners homes) at) ⌝ }
 {
     match open_at(views, head, leaves, inners, homes, at) {
         Opened::Refused(n) => Named::Refused(n),
@@ -77,7 +78,7 @@ pub fn lengths(
     x: &mut [u32; 4],
 ) -> u32
     requires { ⌜ (1 ≤ views) × (views ≤ 3) × (length (now x) ≡ 4) ⌝ }
-    ensures { λ r. ⌜ ((effect : ℕ) → lengthsBy r (lengthsIn views (now (x .exit))) ≡ calls.entryLengths (kind views effect) (state head (now (leaves .entry)) (now (inners .entry)) (now (homes .entry))) at) × (length (now (x .exit)) ≡ 4) ⌝ }
+    ensures { λ r. ⌜ ((effect : ℕ) → lengthsBy r (lengthsIn views (now (x .exit))) ≡ calls.entryLengths (kind views effect) (atEntry head leaves inners homes) at) × (length (now (x .exit)) ≡ 4) ⌝ }
 {
     match open_at(views, head, leaves, inners, homes, at) {
         Opened::Refused(n) => n,
@@ -129,7 +130,7 @@ pub fn cursor(
     id: EntryId,
 ) -> Standing
     requires { ⌜ (1 ≤ views) × (views ≤ 3) ⌝ }
-    ensures { λ r. ⌜ ((effect : ℕ) → r ≡ calls.cursor (kind views effect) (state head (now (leaves .entry)) (now (inners .entry)) (now (homes .entry))) (id .0)) ⌝ }
+    ensures { λ r. ⌜ ((effect : ℕ) → r ≡ calls.cursor (kind views effect) (atEntry head leaves inners homes) (id .0)) ⌝ }
 {
     match open(views, head, leaves, inners, homes) {
         Opened::Refused(n) => Standing::Refused(n),
@@ -159,7 +160,7 @@ pub fn entry_to_char_index(
     at: Cursor,
 ) -> Number
     requires { ⌜ (1 ≤ views) × (views ≤ 3) × (view < views) ⌝ }
-    ensures { λ r. ⌜ ((effect : ℕ) → r ≡ calls.entryToCharIndex (kind views effect) (state head (now (leaves .entry)) (now (inners .entry)) (now (homes .entry))) view at) ⌝ }
+    ensures { λ r. ⌜ ((effect : ℕ) → r ≡ calls.entryToCharIndex (kind views effect) (atEntry head leaves inners homes) view at) ⌝ }
 {
     match open_at(views, head, leaves, inners, homes, at) {
         Opened::Refused(n) => Number::Refused(n),
@@ -179,7 +180,7 @@ pub fn entry_to_char_index(
 // The cursor of the first entry.
 pub fn first(views: usize, head: Head, leaves: &[u32], inners: &[u32], homes: &[u32]) -> Standing
     requires { ⌜ (1 ≤ views) × (views ≤ 3) ⌝ }
-    ensures { λ r. ⌜ ((effect : ℕ) → r ≡ calls.first (kind views effect) (state head (now (leaves .entry)) (now (inners .entry)) (now (homes .entry)))) ⌝ }
+    ensures { λ r. ⌜ ((effect : ℕ) → r ≡ calls.first (kind views effect) (atEntry head leaves inners homes)) ⌝ }
 {
     match open(views, head, leaves, inners, homes) {
         Opened::Refused(n) => Standing::Refused(n),
@@ -208,7 +209,7 @@ pub fn next(
     at: Cursor,
 ) -> Next
     requires { ⌜ (1 ≤ views) × (views ≤ 3) ⌝ }
-    ensures { λ r. ⌜ ((effect : ℕ) → r ≡ calls.nextAfter (kind views effect) (state head (now (leaves .entry)) (now (inners .entry)) (now (homes .entry))) at) ⌝ }
+    ensures { λ r. ⌜ ((effect : ℕ) → r ≡ calls.nextAfter (kind views effect) (atEntry head leaves inners homes) at) ⌝ }
 {
     match open_at(views, head, leaves, inners, homes, at) {
         Opened::Refused(n) => Next::Refused(n),
@@ -303,7 +304,7 @@ pub fn cmp(
     b: Cursor,
 ) -> Compared
     requires { ⌜ (1 ≤ views) × (views ≤ 3) ⌝ }
-    ensures { λ r. ⌜ ((effect : ℕ) → r ≡ calls.cmp (kind views effect) (state head (now (leaves .entry)) (now (inners .entry)) (now (homes .entry))) a b) ⌝ }
+    ensures { λ r. ⌜ ((effect : ℕ) → r ≡ calls.cmp (kind views effect) (atEntry head leaves inners homes) a b) ⌝ }
 {
     match open(views, head, leaves, inners, homes) {
         Opened::Refused(n) => Compared::Refused(n),

@@ -17,7 +17,7 @@ ghost use mathlib.Core.Path.{_≡_};
 ghost use mathlib.Core.Bool.{true, false};
 ghost use Prim.Native.Nat.{_+_, _<_, _≤_};
 ghost use Rattle.model.specs.Kind.{kind};
-ghost use Rattle.model.specs.State.{state};
+ghost use Rattle.model.specs.Moments.{atEntry, atExit};
 ghost use Rattle.model.specs.Node.{wrap};
 ghost use Rattle.model.specs.Calls.{reply};
 ghost use Rattle.model.specs.Examined as count;
@@ -95,7 +95,7 @@ pub fn locate(
     index: u32,
 ) -> LocatedReply
     requires { ⌜ (1 ≤ views) × (views ≤ 3) × (effect < views) × (view < views) ⌝ }
-    ensures { λ r. ⌜ (reply (state (r .head) (now (leaves .exit)) (now (inners .exit)) (now (homes .exit))) (counted (r .answer) (r .examined)) ≡ count.locate (kind views effect) (state head (now (leaves .entry)) (now (inners .entry)) (now (homes .entry))) view index) × (r .stayed ≡ true → Stayed (head .finger) (r .head .finger)) ⌝ }
+    ensures { λ r. ⌜ (reply (atExit (r .head) leaves inners homes) (counted (r .answer) (r .examined)) ≡ count.locate (kind views effect) (atEntry head leaves inners homes) view index) × (r .stayed ≡ true → Stayed (head .finger) (r .head .finger)) ⌝ }
 {
     match open(views, head, leaves, inners, homes) {
         Opened::Refused(n) => refused(head, n),

@@ -9,7 +9,7 @@ ghost use mathlib.Core.Path.{_≡_};
 ghost use mathlib.Core.Bool.{true};
 ghost use Rattle.model.specs.Length.{viewNumber};
 ghost use Rattle.model.specs.Kind.{base};
-ghost use Rattle.model.specs.State.{state};
+ghost use Rattle.model.specs.Moments.{atEntry, atExit};
 ghost use Rattle.model.specs.Calls.{reply};
 ghost use Rattle.model.specs.Examined as count;
 ghost use Rattle.model.specs.Examined.{counted};
@@ -24,7 +24,7 @@ pub fn locate(
     view: View,
     index: u32,
 ) -> LocatedReply
-    ensures { λ r. ⌜ (reply (state (r .head) (now (leaves .exit)) (now (inners .exit)) (now (homes .exit))) (counted (r .answer) (r .examined)) ≡ count.locate base (state head (now (leaves .entry)) (now (inners .entry)) (now (homes .entry))) (viewNumber view) index) × (r .stayed ≡ true → Stayed (head .finger) (r .head .finger)) ⌝ }
+    ensures { λ r. ⌜ (reply (atExit (r .head) leaves inners homes) (counted (r .answer) (r .examined)) ≡ count.locate base (atEntry head leaves inners homes) (viewNumber view) index) × (r .stayed ≡ true → Stayed (head .finger) (r .head .finger)) ⌝ }
 {
     crate::any_lookup::locate(3, 1, head, leaves, inners, homes, view.number(), index)
 }
@@ -38,7 +38,7 @@ pub fn char_index_to_entry(
     view: View,
     index: u32,
 ) -> SelectedReply
-    ensures { λ r. ⌜ reply (state (r .head) (now (leaves .exit)) (now (inners .exit)) (now (homes .exit))) (counted (r .answer) (r .examined)) ≡ count.charIndexToEntry base (state head (now (leaves .entry)) (now (inners .entry)) (now (homes .entry))) (viewNumber view) index ⌝ }
+    ensures { λ r. ⌜ reply (atExit (r .head) leaves inners homes) (counted (r .answer) (r .examined)) ≡ count.charIndexToEntry base (atEntry head leaves inners homes) (viewNumber view) index ⌝ }
 {
     let r = locate(head, leaves, inners, homes, view, index);
     let kept = r.head;

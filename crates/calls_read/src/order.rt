@@ -9,7 +9,7 @@ use model::length::View;
 ghost use mathlib.Core.Path.{_≡_};
 ghost use Rattle.model.specs.Length.{viewNumber};
 ghost use Rattle.model.specs.Kind.{base};
-ghost use Rattle.model.specs.State.{state};
+ghost use Rattle.model.specs.Moments.{atEntry};
 ghost use Rattle.model.specs.Calls as calls;
 
 // The position in a view of the entry at a cursor: the lengths before it.
@@ -21,21 +21,21 @@ pub fn entry_to_char_index(
     view: View,
     at: Cursor,
 ) -> Number
-    ensures { λ r. ⌜ r ≡ calls.entryToCharIndex base (state head (now (leaves .entry)) (now (inners .entry)) (now (homes .entry))) (viewNumber view) at ⌝ }
+    ensures { λ r. ⌜ r ≡ calls.entryToCharIndex base (atEntry head leaves inners homes) (viewNumber view) at ⌝ }
 {
     crate::any::entry_to_char_index(3, head, leaves, inners, homes, view.number(), at)
 }
 
 // The cursor of the first entry.
 pub fn first(head: Head, leaves: &[u32], inners: &[u32], homes: &[u32]) -> Standing
-    ensures { λ r. ⌜ r ≡ calls.first base (state head (now (leaves .entry)) (now (inners .entry)) (now (homes .entry))) ⌝ }
+    ensures { λ r. ⌜ r ≡ calls.first base (atEntry head leaves inners homes) ⌝ }
 {
     crate::any::first(3, head, leaves, inners, homes)
 }
 
 // The cursor of the entry after the one at a cursor, or nothing after the last.
 pub fn next(head: Head, leaves: &[u32], inners: &[u32], homes: &[u32], at: Cursor) -> Next
-    ensures { λ r. ⌜ r ≡ calls.nextAfter base (state head (now (leaves .entry)) (now (inners .entry)) (now (homes .entry))) at ⌝ }
+    ensures { λ r. ⌜ r ≡ calls.nextAfter base (atEntry head leaves inners homes) at ⌝ }
 {
     crate::any::next(3, head, leaves, inners, homes, at)
 }
@@ -49,7 +49,7 @@ pub fn cmp(
     a: Cursor,
     b: Cursor,
 ) -> Compared
-    ensures { λ r. ⌜ r ≡ calls.cmp base (state head (now (leaves .entry)) (now (inners .entry)) (now (homes .entry))) a b ⌝ }
+    ensures { λ r. ⌜ r ≡ calls.cmp base (atEntry head leaves inners homes) a b ⌝ }
 {
     crate::any::cmp(3, head, leaves, inners, homes, a, b)
 }

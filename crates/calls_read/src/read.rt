@@ -11,7 +11,7 @@ use model::number::EntryId;
 use tree_open::open::bad_size;
 ghost use mathlib.Core.Path.{_≡_};
 ghost use Rattle.model.specs.Kind.{base};
-ghost use Rattle.model.specs.State.{state};
+ghost use Rattle.model.specs.Moments.{atEntry};
 ghost use Rattle.model.specs.Answer.{measuredAnswer};
 ghost use Rattle.model.specs.Calls as calls;
 
@@ -41,14 +41,14 @@ pub fn is_empty(head: Head) -> Verdict
 
 // The id of the entry at a cursor.
 pub fn id(head: Head, leaves: &[u32], inners: &[u32], homes: &[u32], at: Cursor) -> Named
-    ensures { λ r. ⌜ r ≡ calls.id base (state head (now (leaves .entry)) (now (inners .entry)) (now (homes .entry))) at ⌝ }
+    ensures { λ r. ⌜ r ≡ calls.id base (atEntry head leaves inners homes) at ⌝ }
 {
     crate::any::id(3, head, leaves, inners, homes, at)
 }
 
 // The lengths of the entry at a cursor.
 pub fn lengths(head: Head, leaves: &[u32], inners: &[u32], homes: &[u32], at: Cursor) -> Measured
-    ensures { λ r. ⌜ measuredAnswer r ≡ calls.entryLengths base (state head (now (leaves .entry)) (now (inners .entry)) (now (homes .entry))) at ⌝ }
+    ensures { λ r. ⌜ measuredAnswer r ≡ calls.entryLengths base (atEntry head leaves inners homes) at ⌝ }
 {
     let mut x: [u32; 4] = [0; 4];
     let n = crate::any::lengths(3, head, leaves, inners, homes, at, &mut x);
@@ -64,7 +64,7 @@ pub fn lengths(head: Head, leaves: &[u32], inners: &[u32], homes: &[u32], at: Cu
 
 // The cursor of an entry.
 pub fn cursor(head: Head, leaves: &[u32], inners: &[u32], homes: &[u32], id: EntryId) -> Standing
-    ensures { λ r. ⌜ r ≡ calls.cursor base (state head (now (leaves .entry)) (now (inners .entry)) (now (homes .entry))) (id .0) ⌝ }
+    ensures { λ r. ⌜ r ≡ calls.cursor base (atEntry head leaves inners homes) (id .0) ⌝ }
 {
     crate::any::cursor(3, head, leaves, inners, homes, id)
 }

@@ -9,7 +9,7 @@ ghost use mathlib.Core.List.{[], _∷_};
 ghost use Rattle.model.specs.Kind.{reading};
 ghost use Rattle.model.specs.Row as row;
 ghost use Rattle.model.specs.Row.{moved};
-ghost use Rattle.model.specs.State.{state};
+ghost use Rattle.model.specs.Moments.{atEntry, atExit};
 ghost use Rattle.model.specs.Answer.{outcomeAnswer, insertedAnswer};
 ghost use Rattle.model.specs.ById.{dividedIdAnswer, treeStep};
 
@@ -22,7 +22,7 @@ pub fn insert(
     id: EntryId,
     length: u32,
 ) -> InsertedReply
-    ensures { λ r. ⌜ moved (state (r .head) (now (leaves .exit)) (now (inners .exit)) (now (homes .exit))) (insertedAnswer (r .answer)) ≡ treeStep reading (state head (now (leaves .entry)) (now (inners .entry)) (now (homes .entry))) (row.insert (id .0) (length ∷ [])) ⌝ }
+    ensures { λ r. ⌜ moved (atExit (r .head) leaves inners homes) (insertedAnswer (r .answer)) ≡ treeStep reading (atEntry head leaves inners homes) (row.insert (id .0) (length ∷ [])) ⌝ }
 {
     let next = head.entries;
     let x: [u32; 4] = [next, length, 0, 0];
@@ -39,7 +39,7 @@ pub fn split(
     length: u32,
     before: bool,
 ) -> DividedReply
-    ensures { λ r. ⌜ moved (state (r .head) (now (leaves .exit)) (now (inners .exit)) (now (homes .exit))) (dividedIdAnswer (r .answer)) ≡ treeStep reading (state head (now (leaves .entry)) (now (inners .entry)) (now (homes .entry))) (row.split before (id .0) (length ∷ [])) ⌝ }
+    ensures { λ r. ⌜ moved (atExit (r .head) leaves inners homes) (dividedIdAnswer (r .answer)) ≡ treeStep reading (atEntry head leaves inners homes) (row.split before (id .0) (length ∷ [])) ⌝ }
 {
     let next = head.entries;
     let x: [u32; 4] = [next, length, 0, 0];
@@ -55,7 +55,7 @@ pub fn set(
     id: EntryId,
     length: u32,
 ) -> OutcomeReply
-    ensures { λ r. ⌜ moved (state (r .head) (now (leaves .exit)) (now (inners .exit)) (now (homes .exit))) (outcomeAnswer (r .answer)) ≡ treeStep reading (state head (now (leaves .entry)) (now (inners .entry)) (now (homes .entry))) (row.setLengths (id .0) (length ∷ [])) ⌝ }
+    ensures { λ r. ⌜ moved (atExit (r .head) leaves inners homes) (outcomeAnswer (r .answer)) ≡ treeStep reading (atEntry head leaves inners homes) (row.setLengths (id .0) (length ∷ [])) ⌝ }
 {
     let x: [u32; 4] = [0, length, 0, 0];
     calls_by_id::change::set_lengths(1, 0, false, head, leaves, inners, homes, id, &x)

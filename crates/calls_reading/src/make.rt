@@ -6,7 +6,7 @@ ghost use mathlib.Core.List.{[], _∷_};
 ghost use Rattle.model.specs.Kind.{reading};
 ghost use Rattle.model.specs.Row as row;
 ghost use Rattle.model.specs.Row.{moved};
-ghost use Rattle.model.specs.State.{state};
+ghost use Rattle.model.specs.Moments.{atEntry, atExit};
 ghost use Rattle.model.specs.Answer.{outcomeAnswer};
 ghost use Rattle.model.specs.Calls as calls;
 ghost use Rattle.model.specs.Calls.{reply};
@@ -21,7 +21,7 @@ pub fn new(
     inners: &mut [u32],
     homes: &mut [u32],
 ) -> OutcomeReply
-    ensures { λ r. ⌜ reply (state (r .head) (now (leaves .exit)) (now (inners .exit)) (now (homes .exit))) (r .answer) ≡ calls.make reading fan limit (length ∷ []) (now (leaves .entry)) (now (inners .entry)) (now (homes .entry)) ⌝ }
+    ensures { λ r. ⌜ reply (atExit (r .head) leaves inners homes) (r .answer) ≡ calls.make reading fan limit (length ∷ []) (now (leaves .entry)) (now (inners .entry)) (now (homes .entry)) ⌝ }
 {
     let x: [u32; 4] = [0, length, 0, 0];
     calls_make::any::new(1, false, 0, fan, limit, &x, leaves, inners, homes)
@@ -35,7 +35,7 @@ pub fn reset(
     homes: &mut [u32],
     length: u32,
 ) -> OutcomeReply
-    ensures { λ r. ⌜ moved (state (r .head) (now (leaves .exit)) (now (inners .exit)) (now (homes .exit))) (outcomeAnswer (r .answer)) ≡ treeStep reading (state head (now (leaves .entry)) (now (inners .entry)) (now (homes .entry))) (row.reset (length ∷ [])) ⌝ }
+    ensures { λ r. ⌜ moved (atExit (r .head) leaves inners homes) (outcomeAnswer (r .answer)) ≡ treeStep reading (atEntry head leaves inners homes) (row.reset (length ∷ [])) ⌝ }
 {
     let x: [u32; 4] = [0, length, 0, 0];
     calls_make::any::reset(1, false, head, &x, leaves, inners, homes)

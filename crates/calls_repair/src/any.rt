@@ -13,7 +13,7 @@ ghost use mathlib.Core.Bool.{_&&_};
 ghost use Prim.Native.Nat.{ℕ, _<_, _≤_};
 ghost use lib.ListN.{length};
 ghost use Rattle.model.specs.Kind.{kindOf};
-ghost use Rattle.model.specs.State.{state};
+ghost use Rattle.model.specs.Moments.{atEntry, atExit};
 ghost use Rattle.model.specs.Calls.{reply};
 ghost use Rattle.model.specs.Mend.{noFinger, isFit};
 ghost use Rattle.model.specs.Repair.{mendIf, repairIf};
@@ -53,7 +53,7 @@ fn by_queue(
     named: &mut [u8],
 ) -> NumberReply
     requires { ⌜ Open head g (now leaves) (now inners) (now homes) × FreshQueue head g (length (now order)) (now upper) (now lower) (now named) ⌝ }
-    ensures { λ r. ⌜ ((effect : ℕ) (w : Open head g (now (leaves .entry)) (now (inners .entry)) (now (homes .entry))) → reply (state (r .head) (now (leaves .exit)) (now (inners .exit)) (now (homes .exit))) (r .answer) ≡ mendIf (kindOf (w .views) effect ordered) (isFit (kindOf (w .views) effect ordered) (state head (now (leaves .entry)) (now (inners .entry)) (now (homes .entry))) && fair) (state head (now (leaves .entry)) (now (inners .entry)) (now (homes .entry)))) ⌝ }
+    ensures { λ r. ⌜ ((effect : ℕ) (w : Open head g (now (leaves .entry)) (now (inners .entry)) (now (homes .entry))) → reply (atExit (r .head) leaves inners homes) (r .answer) ≡ mendIf (kindOf (w .views) effect ordered) (isFit (kindOf (w .views) effect ordered) (atEntry head leaves inners homes) && fair) (atEntry head leaves inners homes)) ⌝ }
 {
     let fit = is_fit(head, leaves, inners, g, ordered, order, upper, lower, named);
     let no = NumberReply {
@@ -84,7 +84,7 @@ fn with_queue(
     g: Shape,
 ) -> NumberReply
     requires { ⌜ Open head g (now leaves) (now inners) (now homes) ⌝ }
-    ensures { λ r. ⌜ ((effect : ℕ) (w : Open head g (now (leaves .entry)) (now (inners .entry)) (now (homes .entry))) → reply (state (r .head) (now (leaves .exit)) (now (inners .exit)) (now (homes .exit))) (r .answer) ≡ mendIf (kindOf (w .views) effect ordered) (isFit (kindOf (w .views) effect ordered) (state head (now (leaves .entry)) (now (inners .entry)) (now (homes .entry))) && fair) (state head (now (leaves .entry)) (now (inners .entry)) (now (homes .entry)))) ⌝ }
+    ensures { λ r. ⌜ ((effect : ℕ) (w : Open head g (now (leaves .entry)) (now (inners .entry)) (now (homes .entry))) → reply (atExit (r .head) leaves inners homes) (r .answer) ≡ mendIf (kindOf (w .views) effect ordered) (isFit (kindOf (w .views) effect ordered) (atEntry head leaves inners homes) && fair) (atEntry head leaves inners homes)) ⌝ }
 {
     let mut order: [u16; 131072] = [0; 131072];
     let mut upper: [u8; 32768] = [0; 32768];
@@ -118,7 +118,7 @@ pub fn repair(
     homes: &mut [u32],
 ) -> NumberReply
     requires { ⌜ (1 ≤ views) × (views ≤ 3) × (effect < views) ⌝ }
-    ensures { λ r. ⌜ reply (state (r .head) (now (leaves .exit)) (now (inners .exit)) (now (homes .exit))) (r .answer) ≡ repairIf (kindOf views effect ordered) fair (state head (now (leaves .entry)) (now (inners .entry)) (now (homes .entry))) ⌝ }
+    ensures { λ r. ⌜ reply (atExit (r .head) leaves inners homes) (r .answer) ≡ repairIf (kindOf views effect ordered) fair (atEntry head leaves inners homes) ⌝ }
 {
     let fan = head.fan;
     let limit = head.limit;

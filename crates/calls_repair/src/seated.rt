@@ -5,7 +5,7 @@ use tree_seats::rule::is_fair;
 ghost use mathlib.Core.Path.{_≡_};
 ghost use lib.ListN.{length};
 ghost use Rattle.model.specs.Kind.{base};
-ghost use Rattle.model.specs.State.{state};
+ghost use Rattle.model.specs.Moments.{atEntry, atExit};
 ghost use Rattle.model.specs.Calls.{reply};
 ghost use Rattle.model.specs.Repair.{repair};
 ghost use Rattle.tree_seats.specs.Words.{seatsFrom};
@@ -19,7 +19,7 @@ pub fn repair(
     homes: &mut [u32],
 ) -> NumberReply
     requires { ⌜ length (now seats) ≡ 17 ⌝ }
-    ensures { λ r. ⌜ reply (state (r .head) (now (leaves .exit)) (now (inners .exit)) (now (homes .exit))) (r .answer) ≡ repair base (state head (now (leaves .entry)) (now (inners .entry)) (now (homes .entry))) (seatsFrom (now (seats .entry))) ⌝ }
+    ensures { λ r. ⌜ reply (atExit (r .head) leaves inners homes) (r .answer) ≡ repair base (atEntry head leaves inners homes) (seatsFrom (now (seats .entry))) ⌝ }
 {
     let fair = is_fair(head.limit, head.entries, seats);
     crate::any::repair(3, 1, false, fair, head, leaves, inners, homes)

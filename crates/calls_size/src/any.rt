@@ -20,7 +20,7 @@ ghost use lib.ListN.{length, take};
 ghost use Rattle.model.specs.Kind.{kindOf};
 ghost use Rattle.model.specs.Length.{lengthsIn};
 ghost use Rattle.model.specs.Node.{lengths, minus, wrap};
-ghost use Rattle.model.specs.State.{state};
+ghost use Rattle.model.specs.Moments.{atEntry, atExit};
 ghost use Rattle.model.specs.Refuse.{shapeOf};
 ghost use Rattle.model.specs.Calls.{reply, resizeCauses, slotAt};
 ghost use Rattle.tree_node.specs.Shaped.{Shaped};
@@ -40,7 +40,7 @@ fn open_resize(
     new: &[u32; 4],
 ) -> Opened
     requires { ⌜ (1 ≤ views) × (views ≤ 3) × (length (now old) ≡ 4) × (length (now new) ≡ 4) ⌝ }
-    ensures { λ r. ⌜ ((effect : ℕ) → (r ≡ openedBy (resizeCauses (kindOf views effect ordered) (state head (now (leaves .entry)) (now (inners .entry)) (now (homes .entry))) at (lengthsIn views (now (new .entry)))) (shapeOf (kindOf views effect ordered) head)) × oldBy r (lengthsIn views (now (old .exit))) (lengths (slotAt (kindOf views effect ordered) (state head (now (leaves .entry)) (now (inners .entry)) (now (homes .entry))) at)) × (length (now (old .exit)) ≡ 4)) ⌝ }
+    ensures { λ r. ⌜ ((effect : ℕ) → (r ≡ openedBy (resizeCauses (kindOf views effect ordered) (atEntry head leaves inners homes) at (lengthsIn views (now (new .entry)))) (shapeOf (kindOf views effect ordered) head)) × oldBy r (lengthsIn views (now (old .exit))) (lengths (slotAt (kindOf views effect ordered) (atEntry head leaves inners homes) at)) × (length (now (old .exit)) ≡ 4)) ⌝ }
 {
     if too_many_lines(views, new) {
         return Opened::Refused(10);
@@ -97,7 +97,7 @@ pub fn resize(
     summed: bool,
 ) -> NumberReply
     requires { ⌜ (1 ≤ views) × (views ≤ 3) × (effect < views) × (length (now new) ≡ 4) ⌝ }
-    ensures { λ r. ⌜ reply (state (r .head) (now (leaves .exit)) (now (inners .exit)) (now (homes .exit))) (r .answer) ≡ resize (kindOf views effect ordered) summed (state head (now (leaves .entry)) (now (inners .entry)) (now (homes .entry))) at (lengthsIn views (now (new .entry))) ⌝ }
+    ensures { λ r. ⌜ reply (atExit (r .head) leaves inners homes) (r .answer) ≡ resize (kindOf views effect ordered) summed (atEntry head leaves inners homes) at (lengthsIn views (now (new .entry))) ⌝ }
 {
     let mut old: [u32; 4] = [0; 4];
     let mut delta: [u32; 3] = [0; 3];

@@ -10,7 +10,7 @@ use model::length::View;
 ghost use mathlib.Core.Path.{_≡_};
 ghost use Rattle.model.specs.Kind.{base};
 ghost use Rattle.model.specs.Length.{listOf};
-ghost use Rattle.model.specs.State.{state};
+ghost use Rattle.model.specs.Moments.{atEntry, atExit};
 ghost use Rattle.model.specs.Calls as calls;
 ghost use Rattle.model.specs.Calls.{reply};
 ghost use Rattle.calls_size.specs.Size.{resize, unnumbered};
@@ -25,7 +25,7 @@ pub fn resize(
     lengths: Lengths,
     summed: bool,
 ) -> NumberReply
-    ensures { λ r. ⌜ reply (state (r .head) (now (leaves .exit)) (now (inners .exit)) (now (homes .exit))) (r .answer) ≡ resize base summed (state head (now (leaves .entry)) (now (inners .entry)) (now (homes .entry))) at (listOf lengths) ⌝ }
+    ensures { λ r. ⌜ reply (atExit (r .head) leaves inners homes) (r .answer) ≡ resize base summed (atEntry head leaves inners homes) at (listOf lengths) ⌝ }
 {
     let x: [u32; 4] = [
         0,
@@ -45,7 +45,7 @@ pub fn update(
     at: Cursor,
     lengths: Lengths,
 ) -> NumberReply
-    ensures { λ r. ⌜ reply (state (r .head) (now (leaves .exit)) (now (inners .exit)) (now (homes .exit))) (r .answer) ≡ calls.update base (state head (now (leaves .entry)) (now (inners .entry)) (now (homes .entry))) at (listOf lengths) ⌝ }
+    ensures { λ r. ⌜ reply (atExit (r .head) leaves inners homes) (r .answer) ≡ calls.update base (atEntry head leaves inners homes) at (listOf lengths) ⌝ }
 {
     resize(head, leaves, inners, homes, at, lengths, true)
 }
@@ -69,7 +69,7 @@ pub fn set_lengths(
     at: Cursor,
     lengths: Lengths,
 ) -> OutcomeReply
-    ensures { λ r. ⌜ reply (state (r .head) (now (leaves .exit)) (now (inners .exit)) (now (homes .exit))) (r .answer) ≡ calls.setLengths base (state head (now (leaves .entry)) (now (inners .entry)) (now (homes .entry))) at (listOf lengths) ⌝ }
+    ensures { λ r. ⌜ reply (atExit (r .head) leaves inners homes) (r .answer) ≡ calls.setLengths base (atEntry head leaves inners homes) at (listOf lengths) ⌝ }
 {
     let r = resize(head, leaves, inners, homes, at, lengths, false);
     let after = r.head;

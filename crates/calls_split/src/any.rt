@@ -20,7 +20,8 @@ ghost use lib.ListN.{length, getD};
 ghost use Rattle.model.specs.Length.{lengthsIn};
 ghost use Rattle.model.specs.Kind.{kindOf};
 ghost use Rattle.model.specs.Lists.{Cause, refusal};
-ghost use Rattle.model.specs.State.{state, nextStamp};
+ghost use Rattle.model.specs.State.{nextStamp};
+ghost use Rattle.model.specs.Moments.{atEntry, atExit};
 ghost use Rattle.model.specs.Refuse.{shapeOf};
 ghost use Rattle.model.specs.Calls as calls;
 ghost use Rattle.model.specs.Calls.{reply, dividedAt, splitCauses};
@@ -39,7 +40,7 @@ fn open_split(
     x: &[u32; 4],
 ) -> Opened
     requires { ⌜ (1 ≤ views) × (views ≤ 3) × (length (now x) ≡ 4) ⌝ }
-    ensures { λ r. ⌜ ((effect : ℕ) (causes : List Cause) → refusal causes ≡ room → r ≡ openedBy (splitCauses (kindOf views effect ordered) causes (state head (now (leaves .entry)) (now (inners .entry)) (now (homes .entry))) at (lengthsIn views (now (x .entry)))) (shapeOf (kindOf views effect ordered) head)) ⌝ }
+    ensures { λ r. ⌜ ((effect : ℕ) (causes : List Cause) → refusal causes ≡ room → r ≡ openedBy (splitCauses (kindOf views effect ordered) causes (atEntry head leaves inners homes) at (lengthsIn views (now (x .entry)))) (shapeOf (kindOf views effect ordered) head)) ⌝ }
 {
     if too_many_lines(views, x) {
         return Opened::Refused(10);
@@ -100,7 +101,7 @@ pub fn split_entry(
     before: bool,
 ) -> DividedReply
     requires { ⌜ (1 ≤ views) × (views ≤ 3) × (getD (now x) 0 0 ≡ head .entries) × (length (now x) ≡ 4) × (room ≡ 0 → head .entries < head .limit) ⌝ }
-    ensures { λ r. ⌜ ((effect : ℕ) (causes : List Cause) → refusal causes ≡ room → reply (state (r .head) (now (leaves .exit)) (now (inners .exit)) (now (homes .exit))) (r .answer) ≡ calls.splitBy (kindOf views effect ordered) causes (state head (now (leaves .entry)) (now (inners .entry)) (now (homes .entry))) at (lengthsIn views (now (x .entry))) before) ⌝ }
+    ensures { λ r. ⌜ ((effect : ℕ) (causes : List Cause) → refusal causes ≡ room → reply (atExit (r .head) leaves inners homes) (r .answer) ≡ calls.splitBy (kindOf views effect ordered) causes (atEntry head leaves inners homes) at (lengthsIn views (now (x .entry))) before) ⌝ }
 {
     match open_split(views, ordered, room, head, leaves, inners, homes, at, x) {
         Opened::Refused(n) => DividedReply {

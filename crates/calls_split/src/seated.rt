@@ -14,7 +14,7 @@ ghost use mathlib.Core.Bool.{false};
 ghost use lib.ListN.{length, getD};
 ghost use Rattle.model.specs.Length.{listOf};
 ghost use Rattle.model.specs.Kind.{base};
-ghost use Rattle.model.specs.State.{state};
+ghost use Rattle.model.specs.Moments.{atEntry, atExit};
 ghost use Rattle.model.specs.Seats.{badSeat};
 ghost use Rattle.model.specs.SeatedCalls.{seatedReply, afterSplit, splitSeated};
 ghost use Rattle.tree_seats.specs.Words.{seatsFrom};
@@ -43,7 +43,7 @@ pub fn split_entry(
     before: bool,
 ) -> DividedReply
     requires { ⌜ length (now seats) ≡ 17 ⌝ }
-    ensures { λ r. ⌜ (seatedReply (state (r .head) (now (leaves .exit)) (now (inners .exit)) (now (homes .exit))) (seatsFrom (now (seats .exit))) (r .answer) ≡ splitSeated base (state head (now (leaves .entry)) (now (inners .entry)) (now (homes .entry))) (seatsFrom (now (seats .entry))) seat at (listOf lengths) before) × (getD (now (seats .exit)) 0 0 ≡ getD (now (seats .entry)) 0 0) ⌝ }
+    ensures { λ r. ⌜ (seatedReply (atExit (r .head) leaves inners homes) (seatsFrom (now (seats .exit))) (r .answer) ≡ splitSeated base (atEntry head leaves inners homes) (seatsFrom (now (seats .entry))) seat at (listOf lengths) before) × (getD (now (seats .exit)) 0 0 ≡ getD (now (seats .entry)) 0 0) ⌝ }
 {
     if bad_seat(seats, seat) {
         return DividedReply {

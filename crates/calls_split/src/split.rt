@@ -8,7 +8,7 @@ use tree_seats::rule::without;
 ghost use mathlib.Core.Path.{_≡_};
 ghost use Rattle.model.specs.Length.{listOf};
 ghost use Rattle.model.specs.Kind.{base};
-ghost use Rattle.model.specs.State.{state};
+ghost use Rattle.model.specs.Moments.{atEntry, atExit};
 ghost use Rattle.model.specs.Calls as calls;
 ghost use Rattle.model.specs.Calls.{reply};
 
@@ -22,7 +22,7 @@ pub fn split_entry(
     lengths: Lengths,
     before: bool,
 ) -> DividedReply
-    ensures { λ r. ⌜ reply (state (r .head) (now (leaves .exit)) (now (inners .exit)) (now (homes .exit))) (r .answer) ≡ calls.splitEntry base (state head (now (leaves .entry)) (now (inners .entry)) (now (homes .entry))) at (listOf lengths) before ⌝ }
+    ensures { λ r. ⌜ reply (atExit (r .head) leaves inners homes) (r .answer) ≡ calls.splitEntry base (atEntry head leaves inners homes) at (listOf lengths) before ⌝ }
 {
     let slot = Slot::new(head.entries, lengths);
     let x: [u32; 4] = [

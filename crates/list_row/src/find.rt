@@ -8,7 +8,7 @@ use model::number::EntryId;
 use model::number::LeafNo;
 use model::number::NONE;
 ghost use mathlib.Core.Path.{_≡_};
-ghost use Rattle.model.specs.State.{state};
+ghost use Rattle.model.specs.Moments.{atEntry};
 ghost use Rattle.list_records.specs.Said.{callOf};
 ghost use Rattle.list_row.specs.Find.{noIds, oneId, targetIds, idsOf, foundOf};
 
@@ -82,7 +82,7 @@ pub fn ids_of(call: Call) -> Ids
 
 // The cursors of the entries with these ids. A loop for two of them at most: a function that is called at one place only is compiled into it.
 pub fn find(head: Head, leaves: &[u32], inners: &[u32], homes: &[u32], ids: Ids) -> FoundCursors
-    ensures { λ r. ⌜ r ≡ foundOf (state head (now (leaves .entry)) (now (inners .entry)) (now (homes .entry))) ids ⌝ }
+    ensures { λ r. ⌜ r ≡ foundOf (atEntry head leaves inners homes) ids ⌝ }
 {
     let second = ids.second;
     let mut left = ids.count;

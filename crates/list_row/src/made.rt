@@ -10,7 +10,7 @@ ghost use lib.ListN.{length};
 ghost use Rattle.model.specs.Length.{listOf};
 ghost use Rattle.model.specs.Kind.{base};
 ghost use Rattle.model.specs.Row.{madeRow};
-ghost use Rattle.model.specs.State.{state};
+ghost use Rattle.model.specs.Moments.{atExit};
 ghost use Rattle.model.specs.Calls.{reply, make};
 ghost use Rattle.model.specs.Promise.{Represents};
 ghost use Rattle.model.specs.declared.answer.Outcome.the-variants as outcome;
@@ -28,8 +28,8 @@ pub fn make_and_run(
     records: &[u8],
     out: &mut [u8],
 ) -> OutcomeReply
-    ensures { λ r. ⌜ ran (state (r .head) (now (leaves .exit)) (now (inners .exit)) (now (homes .exit))) (r .answer) (now (out .exit)) ≡ makeAndRun fan limit (listOf lengths) (now (leaves .entry)) (now (inners .entry)) (now (homes .entry)) (now (records .entry)) (now (out .entry)) ⌝ }
-    ensures { λ r. ⌜ (make base fan limit (listOf lengths) (now (leaves .entry)) (now (inners .entry)) (now (homes .entry)) .answer ≡ outcome.Done → fit (now (records .entry)) (now (out .entry)) ≡ true → AsRow (now (records .entry)) (ran (state (r .head) (now (leaves .exit)) (now (inners .exit)) (now (homes .exit))) (r .answer) (now (out .exit))) fan (madeRow limit (listOf lengths))) ⌝ }
+    ensures { λ r. ⌜ ran (atExit (r .head) leaves inners homes) (r .answer) (now (out .exit)) ≡ makeAndRun fan limit (listOf lengths) (now (leaves .entry)) (now (inners .entry)) (now (homes .entry)) (now (records .entry)) (now (out .entry)) ⌝ }
+    ensures { λ r. ⌜ (make base fan limit (listOf lengths) (now (leaves .entry)) (now (inners .entry)) (now (homes .entry)) .answer ≡ outcome.Done → fit (now (records .entry)) (now (out .entry)) ≡ true → AsRow (now (records .entry)) (ran (atExit (r .head) leaves inners homes) (r .answer) (now (out .exit))) fan (madeRow limit (listOf lengths))) ⌝ }
 {
     let made = new(fan, limit, lengths, leaves, inners, homes);
     let head = made.head;
@@ -56,8 +56,8 @@ pub const FIRST: Lengths = Lengths {
 
 // The door's tree.
 pub fn door_tree(leaves: &mut [u32], inners: &mut [u32], homes: &mut [u32]) -> OutcomeReply
-    ensures { λ r. ⌜ reply (state (r .head) (now (leaves .exit)) (now (inners .exit)) (now (homes .exit))) (r .answer) ≡ doorTree (now (leaves .entry)) (now (inners .entry)) (now (homes .entry)) ⌝ }
-    ensures { λ r. ⌜ (length (now (leaves .entry)) ≡ 4480 → length (now (inners .entry)) ≡ 4480 → length (now (homes .entry)) ≡ 512 → Represents base (state (r .head) (now (leaves .exit)) (now (inners .exit)) (now (homes .exit))) doorRow) ⌝ }
+    ensures { λ r. ⌜ reply (atExit (r .head) leaves inners homes) (r .answer) ≡ doorTree (now (leaves .entry)) (now (inners .entry)) (now (homes .entry)) ⌝ }
+    ensures { λ r. ⌜ (length (now (leaves .entry)) ≡ 4480 → length (now (inners .entry)) ≡ 4480 → length (now (homes .entry)) ≡ 512 → Represents base (atExit (r .head) leaves inners homes) doorRow) ⌝ }
 {
     new(FAN, LIMIT, FIRST, leaves, inners, homes)
 }

@@ -12,7 +12,7 @@ ghost use Prim.Native.Nat.{_%_};
 ghost use lib.ListN.{length};
 ghost use Rattle.model.specs.Kind.{base};
 ghost use Rattle.model.specs.Row.{Row};
-ghost use Rattle.model.specs.State.{state};
+ghost use Rattle.model.specs.Moments.{atEntry, atExit};
 ghost use Rattle.model.specs.Promise.{Represents};
 ghost use Rattle.list_row.specs.Run.{recordsOf, treeOutput, turn, turns, fit, ran, runOn, AsRow};
 
@@ -26,7 +26,7 @@ fn one(
     out: &mut [u8],
 ) -> Head
     requires { ⌜ (length (now bytes) ≡ 16) × (length (now out) ≡ 16) ⌝ }
-    ensures { λ r. ⌜ treeOutput (state r (now (leaves .exit)) (now (inners .exit)) (now (homes .exit))) (now (out .exit)) ≡ turn (state head (now (leaves .entry)) (now (inners .entry)) (now (homes .entry))) (now (bytes .entry)) ⌝ }
+    ensures { λ r. ⌜ treeOutput (atExit r leaves inners homes) (now (out .exit)) ≡ turn (atEntry head leaves inners homes) (now (bytes .entry)) ⌝ }
 {
     let fields = read(bytes);
     let kind = fields.kind;
@@ -48,7 +48,7 @@ fn all(
     out: &mut [u8],
 ) -> Head
     requires { ⌜ (length (now records) ≡ length (now out)) × (length (now records) % 16 ≡ 0) ⌝ }
-    ensures { λ r. ⌜ treeOutput (state r (now (leaves .exit)) (now (inners .exit)) (now (homes .exit))) (now (out .exit)) ≡ turns (state head (now (leaves .entry)) (now (inners .entry)) (now (homes .entry))) (recordsOf (now (records .entry))) ⌝ }
+    ensures { λ r. ⌜ treeOutput (atExit r leaves inners homes) (now (out .exit)) ≡ turns (atEntry head leaves inners homes) (recordsOf (now (records .entry))) ⌝ }
 {
     let mut h = head;
     let mut at = 0;
@@ -78,8 +78,8 @@ pub fn run(
     records: &[u8],
     out: &mut [u8],
 ) -> OutcomeReply
-    ensures { λ r. ⌜ ran (state (r .head) (now (leaves .exit)) (now (inners .exit)) (now (homes .exit))) (r .answer) (now (out .exit)) ≡ runOn (state head (now (leaves .entry)) (now (inners .entry)) (now (homes .entry))) (now (records .entry)) (now (out .entry)) ⌝ }
-    ensures { λ r. ⌜ ((q : Row) → fit (now (records .entry)) (now (out .entry)) ≡ true → Represents base (state head (now (leaves .entry)) (now (inners .entry)) (now (homes .entry))) q → AsRow (now (records .entry)) (ran (state (r .head) (now (leaves .exit)) (now (inners .exit)) (now (homes .exit))) (r .answer) (now (out .exit))) (head .fan) q) ⌝ }
+    ensures { λ r. ⌜ ran (atExit (r .head) leaves inners homes) (r .answer) (now (out .exit)) ≡ runOn (atEntry head leaves inners homes) (now (records .entry)) (now (out .entry)) ⌝ }
+    ensures { λ r. ⌜ ((q : Row) → fit (now (records .entry)) (now (out .entry)) ≡ true → Represents base (atEntry head leaves inners homes) q → AsRow (now (records .entry)) (ran (atExit (r .head) leaves inners homes) (r .answer) (now (out .exit))) (head .fan) q) ⌝ }
 {
     if records.len() != out.len() {
         return OutcomeReply {

@@ -32,7 +32,7 @@ use model::head::Head;
 ghost use mathlib.Core.Path.{_≡_};
 ghost use Rattle.model.specs.Kind.{base};
 ghost use Rattle.model.specs.Row.{overlong};
-ghost use Rattle.model.specs.State.{state};
+ghost use Rattle.model.specs.Moments.{atEntry, atExit};
 ghost use Rattle.model.specs.ById.{treeStep};
 ghost use Rattle.list_records.specs.Said.{callOf};
 ghost use Rattle.list_row.specs.Find.{callAt};
@@ -68,7 +68,7 @@ fn call_at(
     a: Cursor,
     b: Cursor,
 ) -> Step
-    ensures { λ r. ⌜ stepped (state (r .head) (now (leaves .exit)) (now (inners .exit)) (now (homes .exit))) (r .answer) ≡ stepBy (callAt (state head (now (leaves .entry)) (now (inners .entry)) (now (homes .entry))) (callOf call) a b) ⌝ }
+    ensures { λ r. ⌜ stepped (atExit (r .head) leaves inners homes) (r .answer) ≡ stepBy (callAt (atEntry head leaves inners homes) (callOf call) a b) ⌝ }
 {
     match call {
         Call::Reset(l) => outcome(reset(head, l, leaves, inners, homes)),
@@ -102,7 +102,7 @@ pub fn step(
     homes: &mut [u32],
     call: Call,
 ) -> Step
-    ensures { λ r. ⌜ stepped (state (r .head) (now (leaves .exit)) (now (inners .exit)) (now (homes .exit))) (r .answer) ≡ stepBy (treeStep base (state head (now (leaves .entry)) (now (inners .entry)) (now (homes .entry))) (callOf call)) ⌝ }
+    ensures { λ r. ⌜ stepped (atExit (r .head) leaves inners homes) (r .answer) ≡ stepBy (treeStep base (atEntry head leaves inners homes) (callOf call)) ⌝ }
 {
     if is_overlong(call) {
         return refuse(head, 10);

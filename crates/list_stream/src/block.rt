@@ -9,7 +9,7 @@ ghost use mathlib.Core.Path.{_≡_};
 ghost use Prim.Native.Nat.{_+_, _*_, _/_, _%_, _≤_};
 ghost use lib.ListN.{length};
 ghost use Rattle.model.specs.Record.{decode};
-ghost use Rattle.model.specs.State.{state};
+ghost use Rattle.model.specs.Moments.{atEntry, atExit};
 ghost use Rattle.list_row.specs.Run.{callsOf, recordsOf};
 ghost use Rattle.list_stream.specs.Shown.{shown, showOne, showFrom, fedOf, feed};
 
@@ -30,7 +30,7 @@ fn show_record(
     at: usize,
 ) -> Played
     requires { ⌜ (length (now bytes) ≡ 16) × (at + 44 ≤ length (now out)) ⌝ }
-    ensures { λ r. ⌜ shown (state (r .head) (now (leaves .exit)) (now (inners .exit)) (now (homes .exit))) (r .end) (now (out .exit)) ≡ showOne (state head (now (leaves .entry)) (now (inners .entry)) (now (homes .entry))) (decode (now (bytes .entry))) at (now (out .entry)) ⌝ }
+    ensures { λ r. ⌜ shown (atExit (r .head) leaves inners homes) (r .end) (now (out .exit)) ≡ showOne (atEntry head leaves inners homes) (decode (now (bytes .entry))) at (now (out .entry)) ⌝ }
 {
     let call = decode(read(bytes));
     let done = step(head, leaves, inners, homes, call);
@@ -53,7 +53,7 @@ pub fn show(
     out: &mut [u8],
 ) -> Played
     requires { ⌜ 44 * (length (now block) / 16) ≤ length (now out) ⌝ }
-    ensures { λ r. ⌜ shown (state (r .head) (now (leaves .exit)) (now (inners .exit)) (now (homes .exit))) (r .end) (now (out .exit)) ≡ showFrom (state head (now (leaves .entry)) (now (inners .entry)) (now (homes .entry))) (callsOf (recordsOf (now (block .entry)))) 0 (now (out .entry)) ⌝ }
+    ensures { λ r. ⌜ shown (atExit (r .head) leaves inners homes) (r .end) (now (out .exit)) ≡ showFrom (atEntry head leaves inners homes) (callsOf (recordsOf (now (block .entry)))) 0 (now (out .entry)) ⌝ }
 {
     let mut after = head;
     let mut at = 0;
@@ -91,7 +91,7 @@ pub fn feed(
     out: &mut [u8],
 ) -> Fed
     requires { ⌜ (have ≤ length (now block)) × (44 * (have / 16) ≤ length (now out)) ⌝ }
-    ensures { λ r. ⌜ fedOf (state (r .head) (now (leaves .exit)) (now (inners .exit)) (now (homes .exit))) (r .end) (now (out .exit)) (r .kept) (now (block .exit)) ≡ feed (state head (now (leaves .entry)) (now (inners .entry)) (now (homes .entry))) (now (block .entry)) have (now (out .entry)) ⌝ }
+    ensures { λ r. ⌜ fedOf (atExit (r .head) leaves inners homes) (r .end) (now (out .exit)) (r .kept) (now (block .exit)) ≡ feed (atEntry head leaves inners homes) (now (block .entry)) have (now (out .entry)) ⌝ }
 {
     let played = show(head, leaves, inners, homes, &block[..have], out);
     let after = played.head;

@@ -2,6 +2,7 @@ pub mod Length
 pub mod Lists
 pub mod Node
 pub mod State
+pub mod Moments
 pub mod Kind
 pub mod Row
 pub mod Choice

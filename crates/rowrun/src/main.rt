@@ -13,6 +13,7 @@ ghost use Prim.Native.Nat.{_+_, _*_, _/_, _<_, _≤_};
 ghost use lib.ListN.{length};
 ghost use Rattle.model.specs.Kind.{base};
 ghost use Rattle.model.specs.State.{state};
+ghost use Rattle.model.specs.Moments.{atEntry, atExit};
 ghost use Rattle.model.specs.Promise.{Represents};
 ghost use Rattle.list_row.specs.Made.{doorRow};
 ghost use Rattle.list_stream.specs.Shown.{fedOf};
@@ -37,7 +38,7 @@ fn answer(
     out: &mut [u8],
 ) -> Fed
     requires { ⌜ (kept + n ≤ length (now block)) × (44 * ((kept + n) / 16) ≤ length (now out)) × (44 ≤ length (now out)) ⌝ }
-    ensures { λ r. ⌜ fedOf (state (r .head) (now (leaves .exit)) (now (inners .exit)) (now (homes .exit))) (r .end) (now (out .exit)) (r .kept) (now (block .exit)) ≡ answered (state head (now (leaves .entry)) (now (inners .entry)) (now (homes .entry))) (now (block .entry)) kept n (now (out .entry)) ⌝ }
+    ensures { λ r. ⌜ fedOf (atExit (r .head) leaves inners homes) (r .end) (now (out .exit)) (r .kept) (now (block .exit)) ≡ answered (atEntry head leaves inners homes) (now (block .entry)) kept n (now (out .entry)) ⌝ }
     ensures { λ r. ⌜ r .end ≤ length (now (out .exit)) ⌝ }
 {
     if n == 0 {
@@ -62,7 +63,7 @@ fn turn(
     out: &mut [u8],
 ) -> Input
     requires { ⌜ (length (now block) ≡ 4096) × (length (now out) ≡ 11264) × (kept < 16) ⌝ }
-    ensures { λ r. ⌜ Turned r (state head (now (leaves .entry)) (now (inners .entry)) (now (homes .entry))) (now (block .entry)) kept (now (out .entry)) (now (leaves .exit)) (now (inners .exit)) (now (homes .exit)) (now (block .exit)) (now (out .exit)) ⌝ }
+    ensures { λ r. ⌜ Turned r (atEntry head leaves inners homes) (now (block .entry)) kept (now (out .entry)) (now (leaves .exit)) (now (inners .exit)) (now (homes .exit)) (now (block .exit)) (now (out .exit)) ⌝ }
 {
     let got = libc::read(STDIN_FILENO, &mut block[kept..]);
     if got < 0 {

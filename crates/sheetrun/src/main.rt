@@ -16,6 +16,7 @@ ghost use lib.ListN.{length, take};
 ghost use Rattle.model.specs.Kind.{base};
 ghost use Rattle.model.specs.Row.{Call};
 ghost use Rattle.model.specs.State.{state};
+ghost use Rattle.model.specs.Moments.{atEntry, atExit};
 ghost use Rattle.model.specs.Promise.{Represents};
 ghost use Rattle.model.specs.Sheet.{pagesFor, sheet};
 ghost use Rattle.list_row.specs.Made.{doorRow};
@@ -38,7 +39,7 @@ fn play(
     out: &mut [u8],
 ) -> Left
     requires { ⌜ (have ≤ length (now block)) × (length (now block) ≤ length (now out)) ⌝ }
-    ensures { λ r. ⌜ BlockPlayed (state head (now (leaves .entry)) (now (inners .entry)) (now (homes .entry))) (now (block .entry)) have (state (r .head) (now (leaves .exit)) (now (inners .exit)) (now (homes .exit))) (r .kept) (now (block .exit)) ⌝ }
+    ensures { λ r. ⌜ BlockPlayed (atEntry head leaves inners homes) (now (block .entry)) have (atExit (r .head) leaves inners homes) (r .kept) (now (block .exit)) ⌝ }
 {
     let kept = have % 16;
     let whole = have - kept;
@@ -76,7 +77,7 @@ fn turn(
     out: &mut [u8],
 ) -> Input
     requires { ⌜ (length (now block) ≡ 4096) × (length (now out) ≡ 4096) × (kept < 16) ⌝ }
-    ensures { λ r. ⌜ Turned r (state head (now (leaves .entry)) (now (inners .entry)) (now (homes .entry))) (now (block .entry)) kept (now (leaves .exit)) (now (inners .exit)) (now (homes .exit)) (now (block .exit)) ⌝ }
+    ensures { λ r. ⌜ Turned r (atEntry head leaves inners homes) (now (block .entry)) kept (now (leaves .exit)) (now (inners .exit)) (now (homes .exit)) (now (block .exit)) ⌝ }
 {
     let got = libc::read(STDIN_FILENO, &mut block[kept..]);
     if got < 0 {
@@ -96,7 +97,7 @@ fn turn(
 // The sheet of the tree, at the start of the page; how many bytes it has.
 fn pages(head: Head, leaves: &[u32], inners: &[u32], homes: &[u32], page: &mut [u8]) -> usize
     ensures { λ r. ⌜ r ≤ length (now (page .exit)) ⌝ }
-    ensures { λ r. ⌜ ((cs : List Call) → Represents base (state head (now (leaves .entry)) (now (inners .entry)) (now (homes .entry))) (leftRow cs) → length (now (page .entry)) ≡ 30250 → (r ≡ 2750 * pagesFor (length (leftRow cs .entries))) × (take r (now (page .exit)) ≡ sheet base (leftRow cs .entries))) ⌝ }
+    ensures { λ r. ⌜ ((cs : List Call) → Represents base (atEntry head leaves inners homes) (leftRow cs) → length (now (page .entry)) ≡ 30250 → (r ≡ 2750 * pagesFor (length (leftRow cs .entries))) × (take r (now (page .exit)) ≡ sheet base (leftRow cs .entries))) ⌝ }
 {
     match print(head, leaves, inners, homes, page) {
         Number::Is(n) => 2750 * (n as usize),

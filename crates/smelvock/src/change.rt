@@ -23,7 +23,7 @@ use smelvock_marshal::head::settle_found;
 use smelvock_marshal::head::settle_grown;
 ghost use mathlib.Core.Path.{_≡_};
 ghost use Rattle.smelvock_marshal.specs.Flat.{cursorFrom, lengthsFrom};
-ghost use Rattle.smelvock_marshal.specs.Lent.{given, left};
+ghost use Rattle.smelvock_marshal.specs.Lent.{givenAtEntry, leftAtExit};
 ghost use Rattle.smelvock.specs.Changes as flat;
 
 // update where summed is 1; where it is 0, set_lengths, with 0 for the position.
@@ -41,7 +41,7 @@ pub extern "C" fn smelvock_resize(
     lines: u32,
     summed: u32,
 ) -> FlatNumber
-    ensures { λ r. ⌜ left r (now (head .exit)) (now (leaves .exit)) (now (inners .exit)) (now (homes .exit)) ≡ flat.resize (given (now (head .entry)) (now (leaves .entry)) (now (inners .entry)) (now (homes .entry))) (cursorFrom leaf slot stamp) (lengthsFrom prepare effect lines) summed ⌝ }
+    ensures { λ r. ⌜ leftAtExit r head leaves inners homes ≡ flat.resize (givenAtEntry head leaves inners homes) (cursorFrom leaf slot stamp) (lengthsFrom prepare effect lines) summed ⌝ }
 {
     if bad_flag(head, summed) {
         return refused_number(10);
@@ -82,7 +82,7 @@ pub extern "C" fn smelvock_insert_words(
     effect: u32,
     lines: u32,
 ) -> FlatInserted
-    ensures { λ r. ⌜ left r (now (head .exit)) (now (leaves .exit)) (now (inners .exit)) (now (homes .exit)) ≡ flat.insert (given (now (head .entry)) (now (leaves .entry)) (now (inners .entry)) (now (homes .entry))) seat end (cursorFrom leaf slot stamp) (lengthsFrom prepare effect lines) ⌝ }
+    ensures { λ r. ⌜ leftAtExit r head leaves inners homes ≡ flat.insert (givenAtEntry head leaves inners homes) seat end (cursorFrom leaf slot stamp) (lengthsFrom prepare effect lines) ⌝ }
 {
     if bad_seated_flag(head, end) {
         return refused_inserted(10);
@@ -125,7 +125,7 @@ pub extern "C" fn smelvock_split_entry_words(
     lines: u32,
     before: u32,
 ) -> FlatDivided
-    ensures { λ r. ⌜ left r (now (head .exit)) (now (leaves .exit)) (now (inners .exit)) (now (homes .exit)) ≡ flat.splitEntry (given (now (head .entry)) (now (leaves .entry)) (now (inners .entry)) (now (homes .entry))) seat (cursorFrom leaf slot stamp) (lengthsFrom prepare effect lines) before ⌝ }
+    ensures { λ r. ⌜ leftAtExit r head leaves inners homes ≡ flat.splitEntry (givenAtEntry head leaves inners homes) seat (cursorFrom leaf slot stamp) (lengthsFrom prepare effect lines) before ⌝ }
 {
     if bad_seated_flag(head, before) {
         return refused_divided(10);

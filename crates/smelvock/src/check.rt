@@ -6,7 +6,7 @@ use smelvock_marshal::flat::FlatNumber;
 use smelvock_marshal::head::bad_seats;
 use smelvock_marshal::head::head_from;
 ghost use mathlib.Core.Path.{_≡_};
-ghost use Rattle.smelvock_marshal.specs.Lent.{given};
+ghost use Rattle.smelvock_marshal.specs.Lent.{givenAtEntry};
 ghost use Rattle.smelvock.specs.Reads as flat;
 
 #[no_mangle]
@@ -16,7 +16,7 @@ pub extern "C" fn smelvock_audit(
     inners: &[u32],
     homes: &[u32],
 ) -> FlatNumber
-    ensures { λ r. ⌜ r ≡ flat.audit (given (now (head .entry)) (now (leaves .entry)) (now (inners .entry)) (now (homes .entry))) ⌝ }
+    ensures { λ r. ⌜ r ≡ flat.audit (givenAtEntry head leaves inners homes) ⌝ }
 {
     if bad_seats(head) {
         return refused_number(10);

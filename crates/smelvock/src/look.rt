@@ -8,7 +8,7 @@ use smelvock_marshal::head::bad_view;
 use smelvock_marshal::head::head_from;
 use smelvock_marshal::head::settle_found;
 ghost use mathlib.Core.Path.{_≡_};
-ghost use Rattle.smelvock_marshal.specs.Lent.{given, left};
+ghost use Rattle.smelvock_marshal.specs.Lent.{givenAtEntry, leftAtExit};
 ghost use Rattle.smelvock.specs.Changes as flat;
 
 #[no_mangle]
@@ -20,7 +20,7 @@ pub extern "C" fn smelvock_locate(
     view: u32,
     index: u32,
 ) -> FlatLocated
-    ensures { λ r. ⌜ left r (now (head .exit)) (now (leaves .exit)) (now (inners .exit)) (now (homes .exit)) ≡ flat.locate (given (now (head .entry)) (now (leaves .entry)) (now (inners .entry)) (now (homes .entry))) view index ⌝ }
+    ensures { λ r. ⌜ leftAtExit r head leaves inners homes ≡ flat.locate (givenAtEntry head leaves inners homes) view index ⌝ }
 {
     if bad_view(head, view) {
         return refused_located(10);

@@ -10,7 +10,7 @@ use smelvock_marshal::head::put_head;
 use smelvock_marshal::head::settle;
 ghost use mathlib.Core.Path.{_≡_};
 ghost use Rattle.smelvock_marshal.specs.Flat.{lengthsFrom};
-ghost use Rattle.smelvock_marshal.specs.Lent.{given, left};
+ghost use Rattle.smelvock_marshal.specs.Lent.{givenAtEntry, leftAtExit};
 ghost use Rattle.smelvock.specs.Changes as flat;
 
 // Without shares a tree without seats, else one with eight. What the lent head holds is of no account; a refused make leaves zeros in it.
@@ -27,7 +27,7 @@ pub extern "C" fn smelvock_new_words(
     inners: &mut [u32],
     homes: &mut [u32],
 ) -> u32
-    ensures { λ r. ⌜ left r (now (head .exit)) (now (leaves .exit)) (now (inners .exit)) (now (homes .exit)) ≡ flat.make fan limit (now (shares .entry)) (lengthsFrom prepare effect lines) (given (now (head .entry)) (now (leaves .entry)) (now (inners .entry)) (now (homes .entry))) ⌝ }
+    ensures { λ r. ⌜ leftAtExit r head leaves inners homes ≡ flat.make fan limit (now (shares .entry)) (lengthsFrom prepare effect lines) (givenAtEntry head leaves inners homes) ⌝ }
 {
     if bad_made(head, shares) {
         return 10;
@@ -60,7 +60,7 @@ pub extern "C" fn smelvock_reset_words(
     effect: u32,
     lines: u32,
 ) -> u32
-    ensures { λ r. ⌜ left r (now (head .exit)) (now (leaves .exit)) (now (inners .exit)) (now (homes .exit)) ≡ flat.reset (given (now (head .entry)) (now (leaves .entry)) (now (inners .entry)) (now (homes .entry))) (lengthsFrom prepare effect lines) ⌝ }
+    ensures { λ r. ⌜ leftAtExit r head leaves inners homes ≡ flat.reset (givenAtEntry head leaves inners homes) (lengthsFrom prepare effect lines) ⌝ }
 {
     if bad_seats(head) {
         return 10;

@@ -7,7 +7,7 @@ use smelvock_marshal::head::bad_stored;
 use smelvock_marshal::head::head_from;
 use smelvock_marshal::head::settle_finger;
 ghost use mathlib.Core.Path.{_≡_};
-ghost use Rattle.smelvock_marshal.specs.Lent.{given, left};
+ghost use Rattle.smelvock_marshal.specs.Lent.{givenAtEntry, leftAtExit};
 ghost use Rattle.smelvock.specs.Changes as flat;
 
 // Puts a stored tree right, or answers 21; some 384 KiB of stack.
@@ -18,7 +18,7 @@ pub extern "C" fn smelvock_repair(
     inners: &mut [u32],
     homes: &mut [u32],
 ) -> FlatNumber
-    ensures { λ r. ⌜ left r (now (head .exit)) (now (leaves .exit)) (now (inners .exit)) (now (homes .exit)) ≡ flat.repair (given (now (head .entry)) (now (leaves .entry)) (now (inners .entry)) (now (homes .entry))) ⌝ }
+    ensures { λ r. ⌜ leftAtExit r head leaves inners homes ≡ flat.repair (givenAtEntry head leaves inners homes) ⌝ }
 {
     if bad_stored(head) {
         return refused_number(10);

@@ -14,7 +14,7 @@ use smelvock_marshal::head::bad_head;
 use smelvock_marshal::head::head_from;
 ghost use mathlib.Core.Path.{_≡_};
 ghost use Rattle.smelvock_marshal.specs.Flat.{cursorFrom};
-ghost use Rattle.smelvock_marshal.specs.Lent.{given};
+ghost use Rattle.smelvock_marshal.specs.Lent.{givenAtEntry};
 ghost use Rattle.smelvock.specs.Reads as flat;
 
 #[no_mangle]
@@ -24,7 +24,7 @@ pub extern "C" fn smelvock_first(
     inners: &[u32],
     homes: &[u32],
 ) -> FlatStanding
-    ensures { λ r. ⌜ r ≡ flat.first (given (now (head .entry)) (now (leaves .entry)) (now (inners .entry)) (now (homes .entry))) ⌝ }
+    ensures { λ r. ⌜ r ≡ flat.first (givenAtEntry head leaves inners homes) ⌝ }
 {
     if bad_head(head) {
         return refused_standing(10);
@@ -43,7 +43,7 @@ pub extern "C" fn smelvock_next_words(
     slot: u32,
     stamp: u64,
 ) -> FlatStanding
-    ensures { λ r. ⌜ r ≡ flat.next (given (now (head .entry)) (now (leaves .entry)) (now (inners .entry)) (now (homes .entry))) (cursorFrom leaf slot stamp) ⌝ }
+    ensures { λ r. ⌜ r ≡ flat.next (givenAtEntry head leaves inners homes) (cursorFrom leaf slot stamp) ⌝ }
 {
     if bad_head(head) {
         return refused_standing(10);
@@ -71,7 +71,7 @@ pub extern "C" fn smelvock_cmp_words(
     other_slot: u32,
     other_stamp: u64,
 ) -> FlatNumber
-    ensures { λ r. ⌜ r ≡ flat.cmp (given (now (head .entry)) (now (leaves .entry)) (now (inners .entry)) (now (homes .entry))) (cursorFrom leaf slot stamp) (cursorFrom «other_leaf» «other_slot» «other_stamp») ⌝ }
+    ensures { λ r. ⌜ r ≡ flat.cmp (givenAtEntry head leaves inners homes) (cursorFrom leaf slot stamp) (cursorFrom «other_leaf» «other_slot» «other_stamp») ⌝ }
 {
     if bad_head(head) {
         return refused_number(10);

@@ -6,7 +6,7 @@ use smelvock_marshal::flat::FlatNumber;
 use smelvock_marshal::head::bad_head;
 use smelvock_marshal::head::head_from;
 ghost use mathlib.Core.Path.{_≡_};
-ghost use Rattle.smelvock_marshal.specs.Lent.{given};
+ghost use Rattle.smelvock_marshal.specs.Lent.{givenAtEntry};
 ghost use Rattle.smelvock.specs.Prints as flat;
 
 #[no_mangle]
@@ -17,7 +17,7 @@ pub extern "C" fn smelvock_print(
     homes: &[u32],
     page: &mut [u8],
 ) -> FlatNumber
-    ensures { λ r. ⌜ (r, now (page .exit)) ≡ flat.print (given (now (head .entry)) (now (leaves .entry)) (now (inners .entry)) (now (homes .entry))) (now (page .entry)) ⌝ }
+    ensures { λ r. ⌜ (r, now (page .exit)) ≡ flat.print (givenAtEntry head leaves inners homes) (now (page .entry)) ⌝ }
 {
     if bad_head(head) {
         return refused_number(10);

@@ -24,7 +24,7 @@ use smelvock_marshal::head::bad_view;
 use smelvock_marshal::head::head_from;
 ghost use mathlib.Core.Path.{_≡_};
 ghost use Rattle.smelvock_marshal.specs.Flat.{cursorFrom};
-ghost use Rattle.smelvock_marshal.specs.Lent.{given};
+ghost use Rattle.smelvock_marshal.specs.Lent.{givenAtEntry};
 ghost use Rattle.smelvock.specs.Reads as flat;
 
 #[no_mangle]
@@ -59,7 +59,7 @@ pub extern "C" fn smelvock_id_words(
     slot: u32,
     stamp: u64,
 ) -> FlatNumber
-    ensures { λ r. ⌜ r ≡ flat.id (given (now (head .entry)) (now (leaves .entry)) (now (inners .entry)) (now (homes .entry))) (cursorFrom leaf slot stamp) ⌝ }
+    ensures { λ r. ⌜ r ≡ flat.id (givenAtEntry head leaves inners homes) (cursorFrom leaf slot stamp) ⌝ }
 {
     if bad_head(head) {
         return refused_number(10);
@@ -84,7 +84,7 @@ pub extern "C" fn smelvock_lengths_words(
     slot: u32,
     stamp: u64,
 ) -> FlatMeasured
-    ensures { λ r. ⌜ r ≡ flat.lengths (given (now (head .entry)) (now (leaves .entry)) (now (inners .entry)) (now (homes .entry))) (cursorFrom leaf slot stamp) ⌝ }
+    ensures { λ r. ⌜ r ≡ flat.lengths (givenAtEntry head leaves inners homes) (cursorFrom leaf slot stamp) ⌝ }
 {
     if bad_head(head) {
         return refused_measured(10);
@@ -107,7 +107,7 @@ pub extern "C" fn smelvock_cursor(
     homes: &[u32],
     id: u32,
 ) -> FlatStanding
-    ensures { λ r. ⌜ r ≡ flat.cursor (given (now (head .entry)) (now (leaves .entry)) (now (inners .entry)) (now (homes .entry))) id ⌝ }
+    ensures { λ r. ⌜ r ≡ flat.cursor (givenAtEntry head leaves inners homes) id ⌝ }
 {
     if bad_head(head) {
         return refused_standing(10);
@@ -127,7 +127,7 @@ pub extern "C" fn smelvock_entry_to_char_index_words(
     slot: u32,
     stamp: u64,
 ) -> FlatNumber
-    ensures { λ r. ⌜ r ≡ flat.entryToCharIndex (given (now (head .entry)) (now (leaves .entry)) (now (inners .entry)) (now (homes .entry))) view (cursorFrom leaf slot stamp) ⌝ }
+    ensures { λ r. ⌜ r ≡ flat.entryToCharIndex (givenAtEntry head leaves inners homes) view (cursorFrom leaf slot stamp) ⌝ }
 {
     if bad_view(head, view) {
         return refused_number(10);

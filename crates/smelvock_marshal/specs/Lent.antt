@@ -4,6 +4,8 @@ use mathlib.Core.List.{List, _++_}
 use Prim.Native.Nat.{ℕ}
 use lib.ListN.{length, replicate}
 use lib.Dec.{eqb}
+use denote.Ref.{RefT, now}
+use denote.Triple.Both.{Both}
 use Rattle.model.specs.Row.{Answer, refused, Moved}
 use Rattle.model.specs.State.{State, state}
 use Rattle.model.specs.Answer.{outcomeAnswer}
@@ -23,6 +25,10 @@ pub record Given : Type 0 where
 abbrev pub given : List ℕ → List ℕ → List ℕ → List ℕ → Given
 given w ls xs hs = record { head = w; leaves = ls; inners = xs; homes = hs }
 
+-- the same from the four that an export is lent, as it finds them
+abbrev pub givenAtEntry : {W X Y Z : Type 0} → Both (RefT (List ℕ)) W → Both (RefT (List ℕ)) X → Both (RefT (List ℕ)) Y → Both (RefT (List ℕ)) Z → Given
+givenAtEntry head leaves inners homes = given (now (head .entry)) (now (leaves .entry)) (now (inners .entry)) (now (homes .entry))
+
 abbrev pub stateOf : Given → State
 stateOf g = state (headFrom (g .head)) (g .leaves) (g .inners) (g .homes)
 
@@ -36,6 +42,10 @@ pub record Left (R : Type 0) : Type 0 where
 
 abbrev pub left : {R : Type 0} → R → List ℕ → List ℕ → List ℕ → List ℕ → Left R
 left r w ls xs hs = record { reply = r; head = w; leaves = ls; inners = xs; homes = hs }
+
+-- the same from the four, as an export leaves them
+abbrev pub leftAtExit : {R W X Y Z : Type 0} → R → Both W (RefT (List ℕ)) → Both X (RefT (List ℕ)) → Both Y (RefT (List ℕ)) → Both Z (RefT (List ℕ)) → Left R
+leftAtExit r head leaves inners homes = left r (now (head .exit)) (now (leaves .exit)) (now (inners .exit)) (now (homes .exit))
 
 abbrev pub numberAlone : Answer → ℕ
 numberAlone a = a .number

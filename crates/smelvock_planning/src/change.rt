@@ -16,7 +16,7 @@ use smelvock_marshal::head::bad_head;
 use smelvock_marshal::head::head_from;
 use smelvock_marshal::head::settle;
 ghost use mathlib.Core.Path.{_≡_};
-ghost use Rattle.smelvock_marshal.specs.Lent.{given, left};
+ghost use Rattle.smelvock_marshal.specs.Lent.{givenAtEntry, leftAtExit};
 ghost use Rattle.smelvock_planning.specs.Calls as flat;
 
 // Before the entry id, or at the end where id is 4,294,967,295.
@@ -30,7 +30,7 @@ pub extern "C" fn smelvock_plan_insert(
     lowest: u32,
     highest: u32,
 ) -> FlatInserted
-    ensures { λ r. ⌜ left r (now (head .exit)) (now (leaves .exit)) (now (inners .exit)) (now (homes .exit)) ≡ flat.insert (given (now (head .entry)) (now (leaves .entry)) (now (inners .entry)) (now (homes .entry))) id lowest highest ⌝ }
+    ensures { λ r. ⌜ leftAtExit r head leaves inners homes ≡ flat.insert (givenAtEntry head leaves inners homes) id lowest highest ⌝ }
 {
     if bad_head(head) {
         return refused_inserted(10);
@@ -59,7 +59,7 @@ pub extern "C" fn smelvock_plan_split(
     highest: u32,
     before: u32,
 ) -> FlatNumber
-    ensures { λ r. ⌜ left r (now (head .exit)) (now (leaves .exit)) (now (inners .exit)) (now (homes .exit)) ≡ flat.split (given (now (head .entry)) (now (leaves .entry)) (now (inners .entry)) (now (homes .entry))) id lowest highest before ⌝ }
+    ensures { λ r. ⌜ leftAtExit r head leaves inners homes ≡ flat.split (givenAtEntry head leaves inners homes) id lowest highest before ⌝ }
 {
     if bad_flag(head, before) {
         return refused_number(10);
@@ -94,7 +94,7 @@ pub extern "C" fn smelvock_plan_set(
     lowest: u32,
     highest: u32,
 ) -> u32
-    ensures { λ r. ⌜ left r (now (head .exit)) (now (leaves .exit)) (now (inners .exit)) (now (homes .exit)) ≡ flat.set (given (now (head .entry)) (now (leaves .entry)) (now (inners .entry)) (now (homes .entry))) id lowest highest ⌝ }
+    ensures { λ r. ⌜ leftAtExit r head leaves inners homes ≡ flat.set (givenAtEntry head leaves inners homes) id lowest highest ⌝ }
 {
     if bad_head(head) {
         return 10;

@@ -8,7 +8,7 @@ use smelvock_marshal::head::bad_head;
 use smelvock_marshal::head::head_from;
 use smelvock_marshal::head::settle;
 ghost use mathlib.Core.Path.{_≡_};
-ghost use Rattle.smelvock_marshal.specs.Lent.{given, left};
+ghost use Rattle.smelvock_marshal.specs.Lent.{givenAtEntry, leftAtExit};
 ghost use Rattle.smelvock_planning.specs.Calls as flat;
 
 #[no_mangle]
@@ -19,7 +19,7 @@ pub extern "C" fn smelvock_plan_first_at(
     homes: &[u32],
     position: u32,
 ) -> FlatNumber
-    ensures { λ r. ⌜ left r (now (head .exit)) (now (leaves .exit)) (now (inners .exit)) (now (homes .exit)) ≡ flat.firstAt (given (now (head .entry)) (now (leaves .entry)) (now (inners .entry)) (now (homes .entry))) position ⌝ }
+    ensures { λ r. ⌜ leftAtExit r head leaves inners homes ≡ flat.firstAt (givenAtEntry head leaves inners homes) position ⌝ }
 {
     if bad_head(head) {
         return refused_number(10);
@@ -40,7 +40,7 @@ pub extern "C" fn smelvock_plan_last_at(
     homes: &[u32],
     position: u32,
 ) -> FlatNumber
-    ensures { λ r. ⌜ left r (now (head .exit)) (now (leaves .exit)) (now (inners .exit)) (now (homes .exit)) ≡ flat.lastAt (given (now (head .entry)) (now (leaves .entry)) (now (inners .entry)) (now (homes .entry))) position ⌝ }
+    ensures { λ r. ⌜ leftAtExit r head leaves inners homes ≡ flat.lastAt (givenAtEntry head leaves inners homes) position ⌝ }
 {
     if bad_head(head) {
         return refused_number(10);

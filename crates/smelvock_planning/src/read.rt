@@ -17,7 +17,7 @@ use smelvock_marshal::flat::FlatNumber;
 use smelvock_marshal::head::bad_head;
 use smelvock_marshal::head::head_from;
 ghost use mathlib.Core.Path.{_≡_};
-ghost use Rattle.smelvock_marshal.specs.Lent.{given};
+ghost use Rattle.smelvock_marshal.specs.Lent.{givenAtEntry};
 ghost use Rattle.smelvock_planning.specs.Calls as flat;
 
 #[no_mangle]
@@ -28,7 +28,7 @@ pub extern "C" fn smelvock_plan_lengths(
     homes: &[u32],
     id: u32,
 ) -> FlatBounds
-    ensures { λ r. ⌜ r ≡ flat.lengths (given (now (head .entry)) (now (leaves .entry)) (now (inners .entry)) (now (homes .entry))) id ⌝ }
+    ensures { λ r. ⌜ r ≡ flat.lengths (givenAtEntry head leaves inners homes) id ⌝ }
 {
     if bad_head(head) {
         return refused_ranged(10);
@@ -44,7 +44,7 @@ pub extern "C" fn smelvock_plan_count(
     inners: &[u32],
     homes: &[u32],
 ) -> FlatNumber
-    ensures { λ r. ⌜ r ≡ flat.count (given (now (head .entry)) (now (leaves .entry)) (now (inners .entry)) (now (homes .entry))) ⌝ }
+    ensures { λ r. ⌜ r ≡ flat.count (givenAtEntry head leaves inners homes) ⌝ }
 {
     if bad_head(head) {
         return refused_number(10);
@@ -62,7 +62,7 @@ pub extern "C" fn smelvock_plan_next(
     homes: &[u32],
     id: u32,
 ) -> FlatNumber
-    ensures { λ r. ⌜ r ≡ flat.next (given (now (head .entry)) (now (leaves .entry)) (now (inners .entry)) (now (homes .entry))) id ⌝ }
+    ensures { λ r. ⌜ r ≡ flat.next (givenAtEntry head leaves inners homes) id ⌝ }
 {
     if bad_head(head) {
         return refused_number(10);
@@ -79,7 +79,7 @@ pub extern "C" fn smelvock_plan_earliest(
     homes: &[u32],
     id: u32,
 ) -> FlatNumber
-    ensures { λ r. ⌜ r ≡ flat.earliest (given (now (head .entry)) (now (leaves .entry)) (now (inners .entry)) (now (homes .entry))) id ⌝ }
+    ensures { λ r. ⌜ r ≡ flat.earliest (givenAtEntry head leaves inners homes) id ⌝ }
 {
     if bad_head(head) {
         return refused_number(10);
@@ -96,7 +96,7 @@ pub extern "C" fn smelvock_plan_latest(
     homes: &[u32],
     id: u32,
 ) -> FlatNumber
-    ensures { λ r. ⌜ r ≡ flat.latest (given (now (head .entry)) (now (leaves .entry)) (now (inners .entry)) (now (homes .entry))) id ⌝ }
+    ensures { λ r. ⌜ r ≡ flat.latest (givenAtEntry head leaves inners homes) id ⌝ }
 {
     if bad_head(head) {
         return refused_number(10);
@@ -112,7 +112,7 @@ pub extern "C" fn smelvock_plan_audit(
     inners: &[u32],
     homes: &[u32],
 ) -> FlatNumber
-    ensures { λ r. ⌜ r ≡ flat.audit (given (now (head .entry)) (now (leaves .entry)) (now (inners .entry)) (now (homes .entry))) ⌝ }
+    ensures { λ r. ⌜ r ≡ flat.audit (givenAtEntry head leaves inners homes) ⌝ }
 {
     if bad_head(head) {
         return refused_number(10);

@@ -15,7 +15,7 @@ use smelvock_marshal::head::bad_head;
 use smelvock_marshal::head::head_from;
 use smelvock_marshal::head::settle;
 ghost use mathlib.Core.Path.{_≡_};
-ghost use Rattle.smelvock_marshal.specs.Lent.{given, left};
+ghost use Rattle.smelvock_marshal.specs.Lent.{givenAtEntry, leftAtExit};
 ghost use Rattle.smelvock_reading.specs.Calls as flat;
 
 // Before the entry id, or at the end where id is 4,294,967,295.
@@ -28,7 +28,7 @@ pub extern "C" fn smelvock_read_insert(
     id: u32,
     length: u32,
 ) -> FlatInserted
-    ensures { λ r. ⌜ left r (now (head .exit)) (now (leaves .exit)) (now (inners .exit)) (now (homes .exit)) ≡ flat.insert (given (now (head .entry)) (now (leaves .entry)) (now (inners .entry)) (now (homes .entry))) id length ⌝ }
+    ensures { λ r. ⌜ leftAtExit r head leaves inners homes ≡ flat.insert (givenAtEntry head leaves inners homes) id length ⌝ }
 {
     if bad_head(head) {
         return refused_inserted(10);
@@ -52,7 +52,7 @@ pub extern "C" fn smelvock_read_split(
     length: u32,
     before: u32,
 ) -> FlatNumber
-    ensures { λ r. ⌜ left r (now (head .exit)) (now (leaves .exit)) (now (inners .exit)) (now (homes .exit)) ≡ flat.split (given (now (head .entry)) (now (leaves .entry)) (now (inners .entry)) (now (homes .entry))) id length before ⌝ }
+    ensures { λ r. ⌜ leftAtExit r head leaves inners homes ≡ flat.split (givenAtEntry head leaves inners homes) id length before ⌝ }
 {
     if bad_flag(head, before) {
         return refused_number(10);
@@ -82,7 +82,7 @@ pub extern "C" fn smelvock_read_set(
     id: u32,
     length: u32,
 ) -> u32
-    ensures { λ r. ⌜ left r (now (head .exit)) (now (leaves .exit)) (now (inners .exit)) (now (homes .exit)) ≡ flat.set (given (now (head .entry)) (now (leaves .entry)) (now (inners .entry)) (now (homes .entry))) id length ⌝ }
+    ensures { λ r. ⌜ leftAtExit r head leaves inners homes ≡ flat.set (givenAtEntry head leaves inners homes) id length ⌝ }
 {
     if bad_head(head) {
         return 10;

@@ -16,7 +16,7 @@ use smelvock_marshal::head::bad_head;
 use smelvock_marshal::head::head_from;
 use smelvock_marshal::head::settle;
 ghost use mathlib.Core.Path.{_≡_};
-ghost use Rattle.smelvock_marshal.specs.Lent.{given, left};
+ghost use Rattle.smelvock_marshal.specs.Lent.{givenAtEntry, leftAtExit};
 ghost use Rattle.smelvock_reading.specs.Calls as flat;
 
 #[no_mangle]
@@ -27,7 +27,7 @@ pub extern "C" fn smelvock_read_lookup(
     homes: &[u32],
     index: u32,
 ) -> FlatLooked
-    ensures { λ r. ⌜ left r (now (head .exit)) (now (leaves .exit)) (now (inners .exit)) (now (homes .exit)) ≡ flat.lookup (given (now (head .entry)) (now (leaves .entry)) (now (inners .entry)) (now (homes .entry))) index ⌝ }
+    ensures { λ r. ⌜ leftAtExit r head leaves inners homes ≡ flat.lookup (givenAtEntry head leaves inners homes) index ⌝ }
 {
     if bad_head(head) {
         return refused_looked(10);
@@ -48,7 +48,7 @@ pub extern "C" fn smelvock_read_rank(
     homes: &[u32],
     id: u32,
 ) -> FlatNumber
-    ensures { λ r. ⌜ r ≡ flat.rank (given (now (head .entry)) (now (leaves .entry)) (now (inners .entry)) (now (homes .entry))) id ⌝ }
+    ensures { λ r. ⌜ r ≡ flat.rank (givenAtEntry head leaves inners homes) id ⌝ }
 {
     if bad_head(head) {
         return refused_number(10);
@@ -66,7 +66,7 @@ pub extern "C" fn smelvock_read_next(
     homes: &[u32],
     id: u32,
 ) -> FlatNumber
-    ensures { λ r. ⌜ r ≡ flat.next (given (now (head .entry)) (now (leaves .entry)) (now (inners .entry)) (now (homes .entry))) id ⌝ }
+    ensures { λ r. ⌜ r ≡ flat.next (givenAtEntry head leaves inners homes) id ⌝ }
 {
     if bad_head(head) {
         return refused_number(10);
@@ -85,7 +85,7 @@ pub extern "C" fn smelvock_read_compare(
     id: u32,
     other: u32,
 ) -> FlatNumber
-    ensures { λ r. ⌜ r ≡ flat.compare (given (now (head .entry)) (now (leaves .entry)) (now (inners .entry)) (now (homes .entry))) id other ⌝ }
+    ensures { λ r. ⌜ r ≡ flat.compare (givenAtEntry head leaves inners homes) id other ⌝ }
 {
     if bad_head(head) {
         return refused_number(10);

@@ -11,6 +11,7 @@ ghost use lib.ListN.{length, getD};
 ghost use Rattle.model.specs.Kind.{kind};
 ghost use Rattle.model.specs.Lists.{refusal};
 ghost use Rattle.model.specs.State.{state, shape, nodesFor, nodeAt};
+ghost use Rattle.model.specs.Moments.{atEntry};
 ghost use Rattle.model.specs.Refuse.{badSize, tooShort, astray, shapeOf, opening, stale, atCursor};
 ghost use Rattle.model.specs.Calls.{areaCauses};
 ghost use Rattle.model.specs.declared.shape.Kind.{Kind};
@@ -148,7 +149,7 @@ pub fn open_areas(
 // What every call tests that reads links.
 pub fn open(views: usize, head: Head, leaves: &[u32], inners: &[u32], homes: &[u32]) -> Opened
     requires { ⌜ (1 ≤ views) × (views ≤ 3) ⌝ }
-    ensures { λ r. ⌜ ((effect : ℕ) → r ≡ openedBy (opening (kind views effect) (state head (now (leaves .entry)) (now (inners .entry)) (now (homes .entry)))) (shapeOf (kind views effect) head)) ⌝ }
+    ensures { λ r. ⌜ ((effect : ℕ) → r ≡ openedBy (opening (kind views effect) (atEntry head leaves inners homes)) (shapeOf (kind views effect) head)) ⌝ }
 {
     let fan = head.fan;
     let limit = head.limit;
@@ -193,7 +194,7 @@ pub fn open_at(
     c: Cursor,
 ) -> Opened
     requires { ⌜ (1 ≤ views) × (views ≤ 3) ⌝ }
-    ensures { λ r. ⌜ ((effect : ℕ) → r ≡ openedBy (opening (kind views effect) (state head (now (leaves .entry)) (now (inners .entry)) (now (homes .entry))) ++ atCursor (kind views effect) (state head (now (leaves .entry)) (now (inners .entry)) (now (homes .entry))) c) (shapeOf (kind views effect) head)) ⌝ }
+    ensures { λ r. ⌜ ((effect : ℕ) → r ≡ openedBy (opening (kind views effect) (atEntry head leaves inners homes) ++ atCursor (kind views effect) (atEntry head leaves inners homes) c) (shapeOf (kind views effect) head)) ⌝ }
 {
     match open(views, head, leaves, inners, homes) {
         Opened::Refused(n) => Opened::Refused(n),

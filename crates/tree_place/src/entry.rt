@@ -17,7 +17,8 @@ ghost use mathlib.Core.Path.{_≡_};
 ghost use Prim.Native.Nat.{_<_, _≤_};
 ghost use lib.ListN.{length};
 ghost use Rattle.model.specs.Length.{lengthsIn};
-ghost use Rattle.model.specs.State.{state, nodeAt};
+ghost use Rattle.model.specs.State.{nodeAt};
+ghost use Rattle.model.specs.Moments.{atEntry, atExit};
 ghost use Rattle.model.specs.Place.{change, place, divide};
 ghost use Rattle.tree_place.specs.Room.{settledIn, Entering};
 
@@ -34,7 +35,7 @@ pub fn place(
     x: &[u32; 4],
 ) -> HeadChange
     requires { ⌜ Entering views g head (now leaves) (now inners) (now homes) (k .0) (now x) × (i ≤ nodeAt g (k .0) (now leaves) .len) × (length (now x) ≡ 4) ⌝ }
-    ensures { λ r. ⌜ change (r .number) (state (r .head) (now (leaves .exit)) (now (inners .exit)) (now (homes .exit))) (r .leaf .0) (r .slot) ≡ settledIn head (place g (state head (now (leaves .entry)) (now (inners .entry)) (now (homes .entry))) (k .0) i (lengthsIn views (now (x .entry)))) ⌝ }
+    ensures { λ r. ⌜ change (r .number) (atExit (r .head) leaves inners homes) (r .leaf .0) (r .slot) ≡ settledIn head (place g (atEntry head leaves inners homes) (k .0) i (lengthsIn views (now (x .entry)))) ⌝ }
 {
     let fan = g.fan;
     let used = head.leaves;
@@ -87,7 +88,7 @@ pub fn divide(
     x: &[u32; 4],
 ) -> HeadChange
     requires { ⌜ Entering views g head (now leaves) (now inners) (now homes) (k .0) (now x) × (i < nodeAt g (k .0) (now leaves) .len) × (length (now x) ≡ 4) ⌝ }
-    ensures { λ r. ⌜ change (r .number) (state (r .head) (now (leaves .exit)) (now (inners .exit)) (now (homes .exit))) (r .leaf .0) (r .slot) ≡ settledIn head (divide g before (state head (now (leaves .entry)) (now (inners .entry)) (now (homes .entry))) (k .0) i (lengthsIn views (now (x .entry)))) ⌝ }
+    ensures { λ r. ⌜ change (r .number) (atExit (r .head) leaves inners homes) (r .leaf .0) (r .slot) ≡ settledIn head (divide g before (atEntry head leaves inners homes) (k .0) i (lengthsIn views (now (x .entry)))) ⌝ }
 {
     let fan = g.fan;
     let used = head.leaves;
