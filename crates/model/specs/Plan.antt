@@ -1,5 +1,5 @@
 -- The planning tree (change request 11): entries with a lowest and a highest length. Its calls, all by id, on the plain row and on a tree, and
--- what is promised of every list of them. The theorem is theory's. Assumes nothing.
+-- what is promised of every list of them. The theorem is model_theory's. Assumes nothing.
 use mathlib.Core.Path.{_≡_}
 use mathlib.Core.Bool.{Bool, cond}
 use mathlib.Core.List.{List, [], _∷_}

@@ -1,5 +1,5 @@
 -- The call that prints a tree's sheet into a lent buffer (change request 2): its causes, what it writes on any words, and what is promised of it.
--- Nothing else is written: head and areas are only read. The theorems are theory's. Assumes nothing.
+-- Nothing else is written: head and areas are only read. The theorems are model_theory's. Assumes nothing.
 use mathlib.Core.Path.{_≡_}
 use mathlib.Core.Logic.{_≢_}
 use mathlib.Core.Bool.{cond, _&&_}

@@ -1,5 +1,5 @@
 -- What is promised of all calls together (document 01, demands 1 and 3): what a refused call leaves, and what every list of calls answers.
--- The theorems are theory's. Assumes nothing.
+-- The theorems are model_theory's. Assumes nothing.
 use mathlib.Core.Path.{_≡_}
 use mathlib.Core.Logic.{_≢_, _⊎_}
 use mathlib.Core.Bool.{Bool, true, false, cond}

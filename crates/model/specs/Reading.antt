@@ -1,5 +1,5 @@
 -- The reading copy (document 02, CR 12): a tree of one length per slot, the effect length, and what is promised of it beside the full tree.
--- The theorem is theory's. Assumes nothing.
+-- The theorem is model_theory's. Assumes nothing.
 use mathlib.Core.Path.{_≡_}
 use mathlib.Core.Logic.{_≢_, _⊎_}
 use mathlib.Core.List.{List, [], _∷_, map}

@@ -1,5 +1,5 @@
 -- What is promised of seats (document 02, CR 10): what a refused call leaves, what every list of seated calls answers, by ids and on cursors, and what
--- audit says. The theorems are theory's. Assumes nothing.
+-- audit says. The theorems are model_theory's. Assumes nothing.
 use mathlib.Core.Path.{_≡_}
 use mathlib.Core.Logic.{_≢_}
 use mathlib.Core.Bool.{Bool, true, false}

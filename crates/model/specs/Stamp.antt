@@ -1,5 +1,5 @@
 -- Cursors across a reset (document 02, CR 8): how many entries a list of calls makes, and what is promised of the stamp that counts them.
--- The theorems are theory's. Assumes nothing.
+-- The theorems are model_theory's. Assumes nothing.
 use mathlib.Core.Path.{_≡_}
 use mathlib.Core.Bool.{cond, false}
 use mathlib.Core.List.{List, [], _∷_, _++_}
