@@ -50,10 +50,11 @@ fields = set()
 for path, text in texts.items():
     if not path.endswith(".antt"):
         continue
-    in_record = False
+    in_record, margin = False, 0
     for line in text.split("\n"):
-        if line and not line.startswith(" "):
-            in_record = re.match(r"(pub |abbrev )*(record|data)\b", line) is not None
+        indent = len(line) - len(line.lstrip())
+        if line.strip() and (indent <= margin or not in_record):
+            in_record, margin = re.match(r"\s*(pub |abbrev )*(record|data)\b", line) is not None, indent
         found = DECLARED.match(line)
         if not found:
             continue
@@ -62,8 +63,8 @@ for path, text in texts.items():
             labels[path].add(name)
             continue
         declared[name].add(module_of(path))
-        if found[1] and (in_record or re.match(r"\s+pub record", line) is None):
-            fields.add(name) if in_record else None
+        if in_record and indent > margin:
+            fields.add(name)
 
 groups = collections.defaultdict(set)
 for name in declared:

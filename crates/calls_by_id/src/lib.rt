@@ -2,6 +2,8 @@
 // with no requires: `look`, `iterate`, `read`, and `target`, where an insertion by id goes. For a tree with one to three lengths an entry: `any`
 // (locate, next, len) and, for a tree by ids alone, whose library has each of them once, `change` (insert, split, set) and `order` (rank, next, compare).
 // Stands on model and tree, and in its own layer on calls_read, calls_size, calls_insert and calls_split.
+#![tactic(auto)]
+
 pub mod answer;
 pub mod any;
 pub mod change;

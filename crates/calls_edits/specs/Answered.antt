@@ -170,11 +170,11 @@ module _ (file area : List ℕ) (a b : ℕ) where
       let ks : List ℕ = beyond file a b in
       record {
         list = beyond file a b;
-        exactly = exactly file f.file-good.records a b f.first f.second;
+        exactly = exactly file f.file_good.records a b f.first f.second;
         count = e;
         front = ap (λ (k : ℕ). take k (put_at 0 (beyond file a b) area)) e ∙ in_front (beyond file a b);
         rest = ap (λ (k : ℕ). drop k (put_at 0 (beyond file a b) area)) e ∙ (behind (beyond file a b) ∙ ap (λ (k : ℕ). drop k area) (sym e));
-        long = length_put 0 (beyond file a b) area (omega (arith, beyond_short, f.wide, f.file-good.few));
+        long = length_put 0 (beyond file a b) area (omega (arith, beyond_short, f.wide, f.file_good.few));
       }
 
   -- the call by its two cases

@@ -2,6 +2,8 @@
 // `print` is equated with its definition in model's specs/Print.antt, refusals first: in `any` for a tree with one to three lengths an
 // entry, in `print` for the full tree, with no requires.
 // Stands on model and tree.
+#![tactic(auto)]
+
 pub mod any;
 pub mod line;
 pub mod print;

@@ -113,7 +113,7 @@ module _ (views : ℕ) (h : Head) (ls xs hs lm xm hm order : List ℕ) (last : �
     node_aim = record { leaves = lm; beside = xm }
 
     pub aim_leaves : LeavesGoal g h.leaves leaf_aim ls hs
-    aim_leaves = leaves_goal views h ls xs hs lm xm hm w.sound w.agrees w.shaped w.leaf-long w.home-long
+    aim_leaves = leaves_goal views h ls xs hs lm xm hm w.sound w.agrees w.shaped w.leaf_long w.home_long
 
     -- slots in use of a leaf are trusted
     slot_trusted : (k i : ℕ) → k < h.leaves → i < len_of g leaf_aim k → WordsRight ls lm (slot_at g k i) g.stride
@@ -132,20 +132,20 @@ module _ (views : ℕ) (h : Head) (ls xs hs lm xm hm order : List ℕ) (last : �
           all_slots g k (len_of g leaf_aim k) l₁ lm (aim_leaves.most k l) (λ i q. kept_same dl.near.leaves (slot_at g k i) g.stride (slot_trusted k i l q)) (dl.empty k l)
 
       pub aim_nodes : NodesGoal g order last h.inners node_aim l₁ xs
-      aim_nodes = nodes_goal views h ls xs hs lm xm hm l₁ order last w.sound w.agrees w.shaped (w.leaf-long ∙ sym dl.near.leaves.long) w.inner-long w.reached leaf_ready
+      aim_nodes = nodes_goal views h ls xs hs lm xm hm l₁ order last w.sound w.agrees w.shaped (w.leaf_long ∙ sym dl.near.leaves.long) w.inner_long w.reached leaf_ready
 
       homes_are : h₁ ≡ hm
-      homes_are = ext_get_or 0 h₁ hm (dl.near.beside.long ∙ sym w.home-long) (λ i v. go i (ltb i h.entries) refl)
+      homes_are = ext_get_or 0 h₁ hm (dl.near.beside.long ∙ sym w.home_long) (λ i v. go i (ltb i h.entries) refl)
         where
           one : (id : ℕ) → Stored s R 0 w.sound id → get_or h₁ id 0 ≡ get_or hm id 0
           one id r =
               let q : r.at.i < len_of g leaf_aim r.k = omega (arith, r.at.below, len_at g r.k lm refl) in
-              let e : id_in g lm r.k r.at.i ≡ id = sym (child_word g r.k r.at.i lm w.shaped (omega (arith, aim_leaves.most r.k r.used-leaf))) ∙ r.at.is in
-              subst (λ (x : ℕ). get_or h₁ x 0 ≡ get_or hm x 0) e (dl.homes r.k r.at.i r.used-leaf q)
+              let e : id_in g lm r.k r.at.i ≡ id = sym (child_word g r.k r.at.i lm w.shaped (omega (arith, aim_leaves.most r.k r.used_leaf))) ∙ r.at.is in
+              subst (λ (x : ℕ). get_or h₁ x 0 ≡ get_or hm x 0) e (dl.homes r.k r.at.i r.used_leaf q)
 
           go : (i : ℕ) (b : Bool) → ltb i h.entries ≡ b → get_or h₁ i 0 ≡ get_or hm i 0
           go i true q = one i (stored s R 0 w.sound i (ltb-true i h.entries q))
-          go i false q = dl.near.beside.kept i (sym (w.home-else i (ltb-false i h.entries q)))
+          go i false q = dl.near.beside.kept i (sym (w.home_else i (ltb-false i h.entries q)))
 
       module _ (b c : ℕ) (l₂ x₁ x₂ : List ℕ) (f : NodesDone g order last h.inners node_aim 0 l₁ xs b l₂ x₁) (p : PutRight xm x₁ c x₂ (root * g.size + 1) 2) where
         abbrev r : QueueReached kids root h.levels h.inners h.leaves last order
@@ -159,7 +159,7 @@ module _ (views : ℕ) (h : Head) (ls xs hs lm xm hm order : List ℕ) (last : �
 
         -- the nodes of a level of the tree aimed at are those of the queue
         level_same : (d : ℕ) → d ≤ h.levels → level_in kids root d ≡ level s R d
-        level_same d l = same_level views h ls xs hs lm xm hm l₁ order last w.sound w.agrees w.shaped (w.leaf-long ∙ sym dl.near.leaves.long) w.inner-long w.reached leaf_ready d l
+        level_same d l = same_level views h ls xs hs lm xm hm l₁ order last w.sound w.agrees w.shaped (w.leaf_long ∙ sym dl.near.leaves.long) w.inner_long w.reached leaf_ready d l
 
         -- where a node stands in the queue
         record QueuePlace (k : ℕ) (low high : ℕ) : Type 0 where
@@ -263,17 +263,17 @@ module _ (views : ℕ) (h : Head) (ls xs hs lm xm hm order : List ℕ) (last : �
 
         leaves_are : l₂ ≡ lm
         leaves_are =
-            area_is g l₂ lm h.leaves (f.near.leaves.long ∙ dl.near.leaves.long ∙ sym w.leaf-long)
+            area_is g l₂ lm h.leaves (f.near.leaves.long ∙ dl.near.leaves.long ∙ sym w.leaf_long)
             (λ k l. node_words g l₂ lm k w.shaped (f.near.leaves.kept (k * g.size) (dl.near.leaves.kept (k * g.size) (aim_leaves.lens k l))) (linked_leaf k l)
             (kept_same f.near.leaves (k * g.size + 3) (g.fan * g.stride) (leaf_ready k l)))
-            (λ q y. f.near.leaves.kept q (dl.near.leaves.kept q (sym (w.leaf-else q y))))
+            (λ q y. f.near.leaves.kept q (dl.near.leaves.kept q (sym (w.leaf_else q y))))
 
         inners_are : x₂ ≡ xm
         inners_are =
-            area_is g x₂ xm h.inners (p.nearer.kept.long ∙ f.near.beside.long ∙ sym w.inner-long)
+            area_is g x₂ xm h.inners (p.nearer.kept.long ∙ f.near.beside.long ∙ sym w.inner_long)
             (λ k l. node_words g x₂ xm k w.shaped (p.nearer.kept.kept (k * g.size)
             (f.near.beside.kept (k * g.size) (sym (len_at g k xs refl) ∙ sym (w.agrees.inner_len k l) ∙ len_at g k xm refl))) (linked_inner k l) (slots_inner k l))
-            (λ q y. p.nearer.kept.kept q (f.near.beside.kept q (sym (w.inner-else q y))))
+            (λ q y. p.nearer.kept.kept q (f.near.beside.kept q (sym (w.inner_else q y))))
 
         pub all_done : (state (no_finger h) l₂ x₂ h₁ ≡ R) × (a + b + c ≡ changes t R)
         unfolding changes

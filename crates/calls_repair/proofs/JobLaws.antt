@@ -124,7 +124,7 @@ module _ (views : ℕ) (h : Head) (ls xs hs order : List ℕ) (last : ℕ) where
     all_mended a b c l₁ h₁ l₂ x₁ x₂ p q e =
         let d = p (record { leaves = lm; beside = hm }) (aim_leaves views h ls xs hs lm xm hm order last w) in
         let f = q (record { leaves = lm; beside = xm }) (aim_nodes views h ls xs hs lm xm hm order last w a l₁ h₁ d) in
-        let r = all_done views h ls xs hs lm xm hm order last w a l₁ h₁ d b c l₂ x₁ x₂ f (root_put c x₁ x₂ (f.near.beside.long ∙ sym w.inner-long) e) in
+        let r = all_done views h ls xs hs lm xm hm order last w a l₁ h₁ d b c l₂ x₁ x₂ f (root_put c x₁ x₂ (f.near.beside.long ∙ sym w.inner_long) e) in
         record { tree = r.0 ∙ tree_is; count = r.1 ∙ ap (changes t) tree_is }
 
 -- the same by the shape that the code has

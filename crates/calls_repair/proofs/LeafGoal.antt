@@ -48,7 +48,7 @@ module _ (views : ℕ) (h : Head) (ls xs hs lm xm hm : List ℕ) where
     len_is k = len_at g k lm refl
 
     most : (k : ℕ) → k < h.leaves → len k ≤ h.fan
-    most k l = omega (arith, len_is k, (w.leaf-filled k l).high)
+    most k l = omega (arith, len_is k, (w.leaf_filled k l).high)
 
     row : (k i : ℕ) → k < h.leaves → i < len k → get_or (leaf_in s t k).slots i [] ≡ get_or (leaf_in s R k).slots i []
     row k i l q =
@@ -65,7 +65,7 @@ module _ (views : ℕ) (h : Head) (ls xs hs lm xm hm : List ℕ) where
     id_below k i l q =
         let x : List ℕ = get_or (leaf_in s R k).slots i [] in
         let e : get_or (used (leaf_in s R k)) i [] ≡ x = get_or-take (leaf_in s R k).len (leaf_in s R k).slots i [] (omega (arith, len_is k)) in
-        let n : i < length (used (leaf_in s R k)) = omega (arith, used_length g k lm (w.leaf-filled k l).high, len_is k) in
+        let n : i < length (used (leaf_in s R k)) = omega (arith, used_length g k lm (w.leaf_filled k l).high, len_is k) in
         let a : In x (used (leaf_in s R k)) = subst (λ (y : List ℕ). In y (used (leaf_in s R k))) e (in_at (used (leaf_in s R k)) i n) in
         let b : In x (slots_in s R (leaves_reached s R)) = in_flat (λ j. used (leaf_in s R j)) (leaf_level s R 0 w k l) a in
         subst (λ (y : ℕ). y < h.entries) (id_is k i l q) (all_in (λ j. j < h.entries) (in_map child b) w.ids.below)

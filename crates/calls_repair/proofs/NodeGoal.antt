@@ -181,7 +181,7 @@ module _ (views : ℕ) (h : Head) (ls xs hs lm xm hm l₁ order : List ℕ) (las
       len_is j = len_at g (node j) xm refl
 
       most : (j : ℕ) → j < n → len j ≤ h.fan
-      most j l = omega (arith, len_is j, (w.inner-filled (node j) (used_node j l)).high)
+      most j l = omega (arith, len_is j, (w.inner_filled (node j) (used_node j l)).high)
 
       child_is : (j i : ℕ) → j < n → i < len j → child (get_or (inner_in s R (node j)).slots i []) ≡ child_in g goal (node j) i
       child_is j i l q = child_word g (node j) i xm sh (omega (arith, most j l))

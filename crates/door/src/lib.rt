@@ -1,6 +1,8 @@
 // The door: records in, answer records out, on a tree of its own made anew in each call.
 // Its output is equated with the plain row's answers.
 // Stands on model and list.
+#![tactic(auto)]
+
 ghost use Rattle.std.specs.Prelude.{◌≡◌};
 ghost use Rattle.door.specs.Door.{door_answer, door_on};
 

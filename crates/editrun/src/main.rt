@@ -1,6 +1,8 @@
 // Reads a file of edits from standard input and prints, a number a line, the edits that the first argument rests on and the second doesn't.
 // What it can't do it says on standard error, and prints nothing: an argument that is no edit's number, a refusal's number, a read that fails. A write that
 // fails it says too, and may have printed a part.
+#![tactic(auto)]
+
 ghost use Rattle.std.specs.Prelude.{◌≡◌, List, ℕ, ◌*◌, ◌<◌, ◌≤◌, length, take};
 ghost use Rattle.list_stream.specs.Text.{put};
 ghost use Rattle.editrun.specs.Asked.{word, asked};

@@ -2,6 +2,8 @@
 // tree given, `made` on one made anew. A step is equated with the tree's in model's specs/ById.antt, a run with its steps, and on a tree that
 // represents a row with the row's answers.
 // Stands on model and calls, and in its own layer on list_records.
+#![tactic(auto)]
+
 pub mod answer;
 pub mod find;
 pub mod made;

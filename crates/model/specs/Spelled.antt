@@ -48,6 +48,7 @@ said (compare i j) h = refl
 said (lengths i) h = refl
 said count h = refl
 said first h = refl
+said malformed h = elim h [ ]
 
 both : (a b : Bool) → (a && b) ≡ true → (a ≡ true) × (b ≡ true)
 both true b e = (refl, e)

@@ -314,8 +314,8 @@ module _ (g : Shape) where
   half_within level k m i new a x h l full hi o =
       by_test (λ (z : Grown). WithinLens m a z.areas) (eqb x.number 0) _ _
       (λ _. by_test (λ (z : Linked). WithinLens m a z.areas) (ltb i (half g.fan)) _ _
-      (λ e. after k _ (λ j q n. other j n) (link_longer level k i new x.areas o.roomy (omega arith) (omega (arith, ltb-true i (half g.fan) e, o.low-least)) (omega (arith, o.low-most, o.roomy.slots))))
-      (λ e. after m _ (λ j q n z. omega arith) (link_longer level m (i - half g.fan) new x.areas o.roomy l (omega (arith, ltb-false i (half g.fan) e, o.high-least)) (omega (arith, o.high-most, o.roomy.slots)))))
+      (λ e. after k _ (λ j q n. other j n) (link_longer level k i new x.areas o.roomy (omega arith) (omega (arith, ltb-true i (half g.fan) e, o.low_least)) (omega (arith, o.low_most, o.roomy.slots))))
+      (λ e. after m _ (λ j q n z. omega arith) (link_longer level m (i - half g.fan) new x.areas o.roomy l (omega (arith, ltb-false i (half g.fan) e, o.high_least)) (omega (arith, o.high_most, o.roomy.slots)))))
       (λ _. record { roomy = o.roomy; least = λ j q n. o.least j q (other j n) n; most = λ j q n. o.most j q (other j n) n })
     where
       other : (j : ℕ) → len_of g j a < g.fan → j ≡ k → ⊥

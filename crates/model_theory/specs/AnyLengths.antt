@@ -153,8 +153,8 @@ module _ (g : Shape) where
   half_spans level k m i new a x h l hi s o =
       by_test (λ (z : Grown). Spans a z.number z.areas) (eqb x.number 0) _ _
       (λ _. by_test (λ (z : Linked). Spans a z.number z.areas) (ltb i (half g.fan)) _ _
-      (λ e. further a _ x.areas _ _ s (link_spans level k i new x.areas o.roomy (omega arith) (omega (arith, ltb-true i (half g.fan) e, o.low-least)) (omega (arith, o.low-most, o.roomy.slots))))
-      (λ e. further a _ x.areas _ _ s (link_spans level m (i - half g.fan) new x.areas o.roomy l (omega (arith, ltb-false i (half g.fan) e, o.high-least)) (omega (arith, o.high-most, o.roomy.slots)))))
+      (λ e. further a _ x.areas _ _ s (link_spans level k i new x.areas o.roomy (omega arith) (omega (arith, ltb-true i (half g.fan) e, o.low_least)) (omega (arith, o.low_most, o.roomy.slots))))
+      (λ e. further a _ x.areas _ _ s (link_spans level m (i - half g.fan) new x.areas o.roomy l (omega (arith, ltb-false i (half g.fan) e, o.high_least)) (omega (arith, o.high_most, o.roomy.slots)))))
       (λ _. s)
 
   add_spans : (n : ℕ) → Spanning (above_of g n) → (t : Top) (level p after new : ℕ) (a : Areas) → Roomy g a → t.inners ≤ g.nodes

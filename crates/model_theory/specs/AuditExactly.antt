@@ -73,7 +73,7 @@ module _ (K : Kind) (t : State) (s : Sound K t) where
   held_of : (k : ℕ) (n : Node) → n.parent < t.head.inners → (n.at < length (T.body.inner.slots n.parent)) × ((get_or (T.body.inner.slots n.parent) n.at no_slot).child ≡ k) → HeldBy K t k n
   held_of k n lp h =
       let sz = size_is (stride K) t.head.fan (inner_in (stride K) t n.parent) (nt.inner_tidy n.parent lp) in
-      record { parent = lp; at = (let z = h.0 in omega arith); most = (w.inner-filled n.parent lp).high; child = slot_back n.parent n.at lp h.0 ∙ h.1 }
+      record { parent = lp; at = (let z = h.0 in omega arith); most = (w.inner_filled n.parent lp).high; child = slot_back n.parent n.at lp h.0 ∙ h.1 }
 
   -- children by the equation between levels
   kids_of_law : (N : ℕ → Node) (n k : ℕ) → k < t.head.inners → Kids (total (area_from N)) (area_from N) n T.body.inner k → (i : ℕ) → i < (inner_in (stride K) t k).len → ChildBy K t N n k i (get_or (inner_in (stride K) t k).slots i [])
@@ -90,7 +90,7 @@ module _ (K : Kind) (t : State) (s : Sound K t) where
       record {
         some = (let s : check.depth T k ≡ suc (dep T.body.inner 16 (inner_in (stride K) t k).parent) = dep_step T.body.inner 16 k (λ e. let z = b.few in omega arith) in omega arith);
         deep = (let z = ck.deep k lk in omega arith);
-        filled = record { low = (w.inner-filled k lk).low; high = (w.inner-filled k lk).high; unused = (w.inner-filled k lk).unused };
+        filled = record { low = (w.inner_filled k lk).low; high = (w.inner_filled k lk).high; unused = (w.inner_filled k lk).unused };
         root = λ e. (ap (λ (j : ℕ). (inner_in (stride K) t j).parent) e ∙ ck.root_parent, ap (λ (j : ℕ). (inner_in (stride K) t j).at) e ∙ ck.root_place);
         held = λ ne. held_of k (inner_in (stride K) t k) (ck.parent k lk ne) (ck.held k lk ne);
         kids = λ i li. pick i li (ℕ_discrete (depth_of K t k) t.head.levels);
@@ -107,7 +107,7 @@ module _ (K : Kind) (t : State) (s : Sound K t) where
       let n : Node = leaf_in (stride K) t k in
       let td : Tidy (stride K) t.head.fan n = nt.leaf_tidy k lk in
       record {
-        filled = record { low = (w.leaf-filled k lk).low; high = (w.leaf-filled k lk).high; unused = (w.leaf-filled k lk).unused };
+        filled = record { low = (w.leaf_filled k lk).low; high = (w.leaf_filled k lk).high; unused = (w.leaf_filled k lk).unused };
         held = held_of k n (ck.leaf_parent k lk) (ck.leaf_held k lk);
         deep = depth_is n.parent (ck.leaf_parent k lk) ∙ ck.leaf_deep k lk;
         entries = λ i li.

@@ -107,7 +107,7 @@ module _ (K : Kind) (t : State) (w : Coherent K t) where
   -- nor is its leaf overfull
   pub fresh_at : (k j : ℕ) (cs : List Cause) → k < t.head.leaves → j < (leaf_in (stride K) t k).len → refusal (at_cursor K t (cursor_at t.head.stamp k j) ++ cs) ≡ refusal cs
   unfolding refusal
-  fresh_at k j cs lk lj = fresh k j (overfull K t (cursor_at t.head.stamp k j) ∷ cs) lk lj ∙ rw (le-ltb t.head.fan (leaf_in (stride K) t k).len (w.leaf-filled k lk).high)
+  fresh_at k j cs lk lj = fresh k j (overfull K t (cursor_at t.head.stamp k j) ∷ cs) lk lj ∙ rw (le-ltb t.head.fan (leaf_in (stride K) t k).len (w.leaf_filled k lk).high)
 
   pub known : (i : ℕ) (cs : List Cause) → i < t.head.entries → refusal (no_such_id t i ∷ cs) ≡ refusal cs
   unfolding refusal
@@ -142,7 +142,7 @@ module _ (K : Kind) (t : State) (w : Coherent K t) where
       let lm : length (slots_of n) ≡ length (used n) = length-map (used n) slot_of in
       let z : 0 + j ≡ j = omega arith in
       passed (opening K t ++ no_such_id t i ∷ []) standing.Refused _ (opens (no_such_id t i ∷ []) ∙ known i [] lt)
-      ∙ rw (lt-ltb k t.head.leaves o.0, le-leb n.len t.head.fan (w.leaf-filled k o.0).high, index_lift i 0 (used n) (let y = o.1 in omega arith), z)
+      ∙ rw (lt-ltb k t.head.leaves o.0, le-leb n.len t.head.fan (w.leaf_filled k o.0).high, index_lift i 0 (used n) (let y = o.1 in omega arith), z)
 
   pub entry_found : (i : ℕ) → i < t.head.entries → EntryFound i
   entry_found i lt =

@@ -87,9 +87,9 @@ module _ (K : Kind) (t : State) (w : Coherent K t) where
 
       go : (c : ℕ) → c ≡ cond (ltb len n) len n → ((m : ℕ) → met_in m (leaf_head B) ≡ take m (slots_in (stride K) t B)) → met_in n (leaf.At (leaf_no k)) ≡ take n (used (leaf_in (stride K) t k) ++ slots_in (stride K) t B)
       go c e ih =
-          met_leaf _ _ _ _ (leaf_no k) len refl (w.leaf-filled k lk).high n c some e
+          met_leaf _ _ _ _ (leaf_no k) len refl (w.leaf_filled k lk).high n c some e
           ∙ ap (λ (ys : List (List ℕ)). take c (leaf_in (stride K) t k).slots ++ ys) (ap (met_in (n - c)) (next_leaf (stride K) t (neat_of (stride K) t K.effect w) (body_of (stride K) t K.effect w) A k B o) ∙ ih (n - c))
-          ∙ front n len c (leaf_in (stride K) t k).slots (slots_in (stride K) t B) (let z = slots_are (shape_in (stride K) t) k t.leaves in let y = (w.leaf-filled k lk).high in omega arith) e
+          ∙ front n len c (leaf_in (stride K) t k).slots (slots_in (stride K) t B) (let z = slots_are (shape_in (stride K) t) k t.leaves in let y = (w.leaf_filled k lk).high in omega arith) e
 
   -- from the first leaf on: all slots in use, in order
   first_leaf : first_down (shape_in (stride K) t) t.head.levels t.head.root.0 t.inners ≡ leaf_head (order (tree_of (stride K) t))

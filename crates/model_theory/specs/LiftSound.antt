@@ -155,12 +155,12 @@ module _ (s : ℕ) (t : State) (e : ℕ) (w : CoherentAt s t e) where
 
   leaf_least : (k : ℕ) → k < t.head.leaves → 2 ≤ t.head.leaves → half t.head.fan ≤ length (slots_of (leaf_in s t k))
   leaf_least k lt h =
-      let a : cond (eqb t.head.leaves 1) 1 (half t.head.fan) ≤ (leaf_in s t k).len = (w.leaf-filled k lt).low in
+      let a : cond (eqb t.head.leaves 1) 1 (half t.head.fan) ≤ (leaf_in s t k).len = (w.leaf_filled k lt).low in
       let b : half t.head.fan ≤ (leaf_in s t k).len = rw (ne_eqb t.head.leaves 1 (λ q. omega arith)) at a in
       omega (arith, size_is s t.head.fan (leaf_in s t k) ((neat_of s t e w).leaf_tidy k lt))
 
   leaf_one : (k : ℕ) → k < t.head.leaves → 1 ≤ length (slots_of (leaf_in s t k))
-  leaf_one k lt = go (eqb t.head.leaves 1) (w.leaf-filled k lt).low
+  leaf_one k lt = go (eqb t.head.leaves 1) (w.leaf_filled k lt).low
     where
       go : (b : Bool) → cond b 1 (half t.head.fan) ≤ (leaf_in s t k).len → 1 ≤ length (slots_of (leaf_in s t k))
       go true h = omega (arith, size_is s t.head.fan (leaf_in s t k) ((neat_of s t e w).leaf_tidy k lt))
@@ -180,15 +180,15 @@ module _ (s : ℕ) (t : State) (e : ℕ) (w : CoherentAt s t e) where
   root_size : (m : ℕ) → m ≤ cond (eqb t.head.levels 1) 1 2 → m ≤ length (slots_of (inner_in s t t.head.root.0))
   root_size m h =
       let r : ℕ = t.head.root.0 in
-      let a : least_inner s t r ≤ (inner_in s t r).len = (w.inner-filled r root_in).low in
+      let a : least_inner s t r ≤ (inner_in s t r).len = (w.inner_filled r root_in).low in
       let b : cond (eqb t.head.levels 1) 1 2 ≤ (inner_in s t r).len = rw (eq-eqb r r refl) at a in
       omega (arith, inner_size r root_in)
 
   fit : Fit 1 t.head.fan (half t.head.fan) (tree_of s t).body
   fit = record {
-    most = λ k lt. omega (arith, inner_size k lt, (w.inner-filled k lt).high);
+    most = λ k lt. omega (arith, inner_size k lt, (w.inner_filled k lt).high);
     least = λ k lt ne.
-        (let a : least_inner s t k ≤ (inner_in s t k).len = (w.inner-filled k lt).low in
+        (let a : least_inner s t k ≤ (inner_in s t k).len = (w.inner_filled k lt).low in
         let b : half t.head.fan ≤ (inner_in s t k).len = rw (ne_eqb k t.head.root.0 ne) at a in
         omega (arith, inner_size k lt));
     two = root_size 1 (one (eqb t.head.levels 1));
@@ -214,7 +214,7 @@ module _ (s : ℕ) (t : State) (e : ℕ) (w : CoherentAt s t e) where
     leaf_all = leaf_all;
     inner_in_law = inner_in_law;
     inner_all = λ k lt a. once_in t.head.inners (inners_reached s t) w.inners_once k lt (above_inners s t (λ m. m ≢ k) a);
-    leaf_most = λ k lt. omega (arith, size_is s t.head.fan (leaf_in s t k) ((neat_of s t e w).leaf_tidy k lt), (w.leaf-filled k lt).high);
+    leaf_most = λ k lt. omega (arith, size_is s t.head.fan (leaf_in s t k) ((neat_of s t e w).leaf_tidy k lt), (w.leaf_filled k lt).high);
     leaf_least = leaf_least;
     leaf_one = leaf_one;
     fit = fit;

@@ -139,7 +139,7 @@ module _ (K : Kind) (t : State) (w : Coherent K t) (v x : ℕ) (lt : x < sum_by 
       size = len_used (stride K) t.head.fan (leaf_in (stride K) t f.leaf) ((neat_of (stride K) t K.effect w).leaf_tidy f.leaf r.leaf)
 
       high : (leaf_in (stride K) t f.leaf).len ≤ t.head.fan
-      high = (w.leaf-filled f.leaf r.leaf).high
+      high = (w.leaf_filled f.leaf r.leaf).high
 
       fits : f.slot < length (used (leaf_in (stride K) t f.leaf))
       fits = let a = r.slot in let b = size in omega arith

@@ -62,8 +62,8 @@ module _ (s e : ℕ) (t : State) where
     levels_least = w.levels_least;
     inners_once = w.inners_once;
     leaves_once = w.leaves_once;
-    leaf_lens = λ k g. ((w.leaf-filled k g).low, (w.leaf-filled k g).high);
-    inner_lens = λ k g. ((w.inner-filled k g).low, (w.inner-filled k g).high);
+    leaf_lens = λ k g. ((w.leaf_filled k g).low, (w.leaf_filled k g).high);
+    inner_lens = λ k g. ((w.inner_filled k g).low, (w.inner_filled k g).high);
     ids = w.ids;
     totals = w.totals;
   }

@@ -244,13 +244,13 @@ module _ (s e : ℕ) (h : Head) (fa fb : Held) (la xa ha lb xb hb : List ℕ) wh
               let u : used (inner_in s B k) ≡ used (inner_in s A k) = sums_same (h.levels - suc d) d (omega arith) k r.inner in
               node_same (inner_in s B k) (inner_in s A k) lens (up d l r.inner).0 (up d l r.inner).1
               (slots_same s h.fan (inner_in s A k).len (inner_in s B k).slots (inner_in s A k).slots (inner_formed_b k g).count (inner_formed_a k g).count
-              (ap (λ (m : ℕ). take m (inner_in s B k).slots) (sym lens) ∙ u) (λ i q m. (wb.inner-filled k g).unused i (omega (arith, lens)) m) (wa.inner-filled k g).unused)
+              (ap (λ (m : ℕ). take m (inner_in s B k).slots) (sym lens) ∙ u) (λ i q m. (wb.inner_filled k g).unused i (omega (arith, lens)) m) (wa.inner_filled k g).unused)
 
       pub leaf_same : (k : ℕ) → k < h.leaves → leaf_in s B k ≡ leaf_in s A k
       leaf_same k g =
           node_same (leaf_in s B k) (leaf_in s A k) lens up.0 up.1
           (slots_same s h.fan (leaf_in s A k).len (leaf_in s B k).slots (leaf_in s A k).slots (leaf_formed_b k g).count (leaf_formed_a k g).count
-          (ap (λ (m : ℕ). take m (leaf_in s B k).slots) (sym lens) ∙ lu k g) (λ i q m. (wb.leaf-filled k g).unused i (omega (arith, lens)) m) (wa.leaf-filled k g).unused)
+          (ap (λ (m : ℕ). take m (leaf_in s B k).slots) (sym lens) ∙ lu k g) (λ i q m. (wb.leaf_filled k g).unused i (omega (arith, lens)) m) (wa.leaf_filled k g).unused)
         where
           lens : (leaf_in s B k).len ≡ (leaf_in s A k).len
           lens = ll k g
@@ -272,11 +272,11 @@ module _ (s e : ℕ) (h : Head) (fa fb : Held) (la xa ha lb xb hb : List ℕ) wh
           go r =
               let k : ℕ = r.k in
               let i : ℕ = r.at.i in
-              let l : leaf_in s B k ≡ leaf_in s A k = leaf_same k r.used-leaf in
-              let i-b : i < (leaf_in s B k).len = omega (arith, ll k r.used-leaf, r.at.below) in
+              let l : leaf_in s B k ≡ leaf_in s A k = leaf_same k r.used_leaf in
+              let i-b : i < (leaf_in s B k).len = omega (arith, ll k r.used_leaf, r.at.below) in
               let c-b : child (get_or (leaf_in s B k).slots i []) ≡ id = ap (λ (n : Node). child (get_or n.slots i [])) l ∙ r.at.is in
-              let a : get_or ha id 0 ≡ k = subst (λ (c : ℕ). get_or ha c 0 ≡ k) r.at.is (wa.homes k i r.used-leaf r.at.below) in
-              let b : get_or hb id 0 ≡ k = subst (λ (c : ℕ). get_or hb c 0 ≡ k) c-b (wb.homes k i r.used-leaf i-b) in
+              let a : get_or ha id 0 ≡ k = subst (λ (c : ℕ). get_or ha c 0 ≡ k) r.at.is (wa.homes k i r.used_leaf r.at.below) in
+              let b : get_or hb id 0 ≡ k = subst (λ (c : ℕ). get_or hb c 0 ≡ k) c-b (wb.homes k i r.used_leaf i-b) in
               b ∙ sym a
 
 -- the theorem ---------------------------------------------------------------------------------------------------------------------------------

@@ -94,7 +94,7 @@ module _ (K : Kind) (ok : K.effect < K.views) where
     unfolding refusal
     lone_passes t w m e =
         let one_leaf : 0 < t.head.leaves = (let z = w.1 in omega arith) in
-        let filled = (w.0.leaf-filled 0 one_leaf).low in
+        let filled = (w.0.leaf_filled 0 one_leaf).low in
         subst (λ (n : ℕ). refusal (stale K t (cursor_at n 0 0)) ≡ 0) e (fresh K t w.0 0 0 [] one_leaf (rw w.1 at filled))
 
     module _ (s : State) (r : Row) (h : Represents K s r) (small : s.head.stamp < 2 ^ 64) where

@@ -58,7 +58,7 @@ module _ (s ε : ℕ) (t : State) (w : CoherentAt s t ε) (v : ℕ) where
           omega (arith, (body_of s t ε w).totals u, sum_slots u (used (leaf_in s t k)))
 
   leaf_ok : (k : ℕ) → k < t.head.leaves → (ltb k t.head.leaves && leb (leaf_in s t k).len t.head.fan) ≡ true
-  leaf_ok k lk = rw (lt-ltb k t.head.leaves lk, le-leb (leaf_in s t k).len t.head.fan (w.leaf-filled k lk).high)
+  leaf_ok k lk = rw (lt-ltb k t.head.leaves lk, le-leb (leaf_in s t k).len t.head.fan (w.leaf_filled k lk).high)
 
   used_size : (k : ℕ) → length (slots_of (leaf_in s t k)) ≡ length (used (leaf_in s t k))
   used_size k = length-map (used (leaf_in s t k)) slot_of
@@ -109,11 +109,11 @@ module _ (s ε : ℕ) (t : State) (w : CoherentAt s t ε) (v : ℕ) where
               inl (record {
                 finger = finger f.view f.leaf f.start f.effect q.slot (x - f.start - q.offset) q.within_effect f.prepare q.within_prepare;
                 offset = q.offset;
-                is = rw (eq-eqb f.view v e, le-leb f.start x (omega arith), lt-ltb f.leaf t.head.leaves r.leaf_in_law, le-leb (leaf_in s t f.leaf).len t.head.fan (w.leaf-filled f.leaf r.leaf_in_law).high, lt-ltb f.slot (leaf_in s t f.leaf).len (omega (arith, r.slot_in_law, sz))) q.is;
+                is = rw (eq-eqb f.view v e, le-leb f.start x (omega arith), lt-ltb f.leaf t.head.leaves r.leaf_in_law, le-leb (leaf_in s t f.leaf).len t.head.fan (w.leaf_filled f.leaf r.leaf_in_law).high, lt-ltb f.slot (leaf_in s t f.leaf).len (omega (arith, r.slot_in_law, sz))) q.is;
                 view = e;
                 looked = hit e (omega arith) q;
               })
-          walk (no le) = inr (rw (eq-eqb f.view v e, le-leb f.start x (omega arith), lt-ltb f.leaf t.head.leaves r.leaf_in_law, le-leb (leaf_in s t f.leaf).len t.head.fan (w.leaf-filled f.leaf r.leaf_in_law).high, lt-ltb f.slot (leaf_in s t f.leaf).len (omega (arith, r.slot_in_law, sz)))
+          walk (no le) = inr (rw (eq-eqb f.view v e, le-leb f.start x (omega arith), lt-ltb f.leaf t.head.leaves r.leaf_in_law, le-leb (leaf_in s t f.leaf).len t.head.fan (w.leaf_filled f.leaf r.leaf_in_law).high, lt-ltb f.slot (leaf_in s t f.leaf).len (omega (arith, r.slot_in_law, sz)))
               (walk_miss v ε (used (leaf_in s t f.leaf)) (leaf_small v f.leaf r.leaf_in_law) (leaf_small ε f.leaf r.leaf_in_law) (leaf_small 0 f.leaf r.leaf_in_law) f (x - f.start) fits (wi e) ew pw (omega arith)))
 
   pub served_by_is : (h : Held) → tree.Right ε (tree_of s t) h → (x : ℕ) → Got s ε t v x (served_by v ε (shape_in s t) h t.head.leaves x t.leaves) ⊎ (served_by v ε (shape_in s t) h t.head.leaves x t.leaves ≡ search.Nothing)

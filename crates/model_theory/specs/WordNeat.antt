@@ -46,9 +46,9 @@ neat_of s t e w = record {
   leaf_count = w.leaf_count;
   inner_count = w.inner_count;
   leaf_tidy = λ k lt. tidy_filled s t.head.fan (leaf_in s t k) (formed_at (shape_in s t) k t.leaves refl (fits (shape_in s t) k t.leaves (let z = w.leaf_count in omega arith) w.leaf_area))
-      (w.leaf-filled k lt).high (w.leaf-filled k lt).unused;
+      (w.leaf_filled k lt).high (w.leaf_filled k lt).unused;
   inner_tidy = λ k lt. tidy_filled s t.head.fan (inner_in s t k) (formed_at (shape_in s t) k t.inners refl (fits (shape_in s t) k t.inners (let z = w.inner_count in omega arith) w.inner_area))
-      (w.inner-filled k lt).high (w.inner-filled k lt).unused;
+      (w.inner_filled k lt).high (w.inner_filled k lt).unused;
   view = seen t.head.finger w.finger;
 }
   where

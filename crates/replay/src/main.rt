@@ -1,5 +1,7 @@
 // Replays lists of records from standard input, one after another, and prints a line for each answer.
 // Each list begins with two records of kind 0, whose words are fan, limit and prepare, then effect, the number of records and line ends.
+#![tactic(auto)]
+
 use calls_make::begin::new;
 use libc::{STDIN_FILENO, STDOUT_FILENO};
 use list_records::fields::read;

@@ -1,5 +1,7 @@
 // Reads records from standard input and prints a line for each answer, from the door's tree.
 // A block is read as it comes, so that a record may be cut anywhere; what isn't whole yet is kept for the next.
+#![tactic(auto)]
+
 ghost use Rattle.std.specs.Prelude.{◌≡◌, ◌+◌, ◌*◌, ◌/◌, ◌<◌, ◌≤◌, length};
 ghost use Rattle.model.specs.Kind.{base};
 ghost use Rattle.model.specs.State.{state};

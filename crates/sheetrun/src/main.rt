@@ -1,5 +1,7 @@
 // Reads records from standard input, plays them on the door's tree, and prints the sheet of the state that they leave.
 // A block is read as it comes, so that a record may be cut anywhere; what isn't whole yet is kept for the next.
+#![tactic(auto)]
+
 ghost use Rattle.std.specs.Prelude.{◌≡◌, List, ◌+◌, ◌*◌, ◌<◌, ◌≤◌, length, take};
 ghost use Rattle.model.specs.Kind.{base};
 ghost use Rattle.model.specs.Row.{Call};

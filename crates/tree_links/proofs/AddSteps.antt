@@ -116,8 +116,8 @@ pub halves : (g : Shape) (n : ℕ) (t : Top) (level k i : ℕ) (ls xs : List ℕ
     → (i < g.fan / 2 → NodeRoom g k i r.areas.inners) × (g.fan / 2 ≤ i → NodeRoom g t.inners (i - g.fan / 2) r.areas.inners)
 halves g n t level k i ls xs r f hk hm hi e =
     rw e (
-      (λ l. record { place = omega (arith, l, o.low-least); space = omega (arith, o.low-most, f.shaped.slots) }),
-      (λ l. record { place = omega (arith, l, hi, o.high-least); space = omega (arith, o.high-most, f.shaped.slots) }),
+      (λ l. record { place = omega (arith, l, o.low_least); space = omega (arith, o.low_most, f.shaped.slots) }),
+      (λ l. record { place = omega (arith, l, hi, o.high_least); space = omega (arith, o.high_most, f.shaped.slots) }),
     )
   where
     roomy : Roomy g (areas ls xs)

@@ -211,10 +211,10 @@ add_child_link_requires t c κs =
     rw shape-for.ensures (o.fits, o.node, o.fresh, o.room)
 
 add_child_same_length_7 : (t : ℕ) → add-child-lts.Need-same-length-7 (add_child_calls t) (add_child_at t) add-child.Post
-add_child_same_length_7 t c = c.before.before.before.before.link.auto.0 ∙ (ready t c.before.before.before.before.before.before.before).same-leaves
+add_child_same_length_7 t c = c.before.before.before.before.link.auto.0 ∙ (ready t c.before.before.before.before.before.before.before).same_leaves
 
 add_child_same_length_8 : (t : ℕ) → add-child-lts.Need-same-length-8 (add_child_calls t) (add_child_at t) add-child.Post
-add_child_same_length_8 t c = c.before.before.before.before.link.auto.1.0 ∙ (ready t c.before.before.before.before.before.before.before).same-inners
+add_child_same_length_8 t c = c.before.before.before.before.link.auto.1.0 ∙ (ready t c.before.before.before.before.before.before.before).same_inners
 
 add_child_returns_4 : (t : ℕ) → add-child-lts.Need-returns-4 (add_child_calls t) (add_child_at t) add-child.Post
 add_child_returns_4 t c =
