@@ -32,6 +32,7 @@ in_right (y ∷ l) i = later (in_right l i)
 -- an element of a part stands in the whole
 pub in_flat : {A B : Type 0} (f : A → List B) {p : A} {ps : List A} {x : B} → In p ps → In x (f p) → In x (flat_map f ps)
 unfolding flat_map
+in_flat f {ps = []} j i = elim j [ ]
 in_flat f {ps = p ∷ ps} here i = in_left (flat_map f ps) i
 in_flat f {ps = q ∷ ps} (later j) i = in_right (f q) (in_flat f j i)
 

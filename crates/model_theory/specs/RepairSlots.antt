@@ -35,6 +35,7 @@ sum_in f g (x ∷ l) e = ap₂ (λ (m : ℕ) (n : ℕ). m + n) (e x here) (sum_i
 
 one_in : {A : Type 0} (f : A → ℕ) {x : A} (l : List A) → In x l → f x ≤ sum_by f l
 unfolding sum_by
+one_in f [] i = elim i [ ]
 one_in f (x ∷ l) here = omega arith
 one_in f (y ∷ l) (later i) = omega (arith, one_in f l i)
 
@@ -188,6 +189,7 @@ pub record PlaceIn (c : ℕ) (l : List ℕ) : Type 0 where
   pub is : get_or l at 0 ≡ c
 
 pub found : {c : ℕ} (l : List ℕ) → In c l → PlaceIn c l
+found [] i = elim i [ ]
 found (c ∷ l) here = record { at = 0; within = omega arith; is = refl }
 found (x ∷ l) (later i) = let r = found l i in record { at = suc r.at; within = omega (arith, r.within); is = r.is }
 

@@ -198,7 +198,7 @@ insert_out h s t t' A a B sn P st io cp = go (find_parent t (get h s) s.inner A 
           st' = P ∷ st;
           links = subst (λ (rt : ℕ). Links t' (get h s') s'.inner rt (A ++ a ∷ sn.child ∷ B) (P ∷ st)) (sym (at_root h s p (suc i) (sn ∷ r.S₂))) (insert_links t t' (get h s) (get h s') s.inner s'.inner s.root A a B P st sa sn io.links r io.fresh io.ta io.tb r.child lessens io.snl io.sum
               (λ k. ins_own h s p i r.S₁ sa sn r.S₂ k) (upd_same s₁.inner.slots p (r.S₁ ++ sa ∷ sn ∷ r.S₂)) so os.0 os.1 apt);
-          below = rw (at_next h s p (suc i) (sn ∷ r.S₂)) io.below;
+          below = subst (λ (n : ℕ). All (All (λ m. m < n)) (P ∷ st)) (sym (at_next h s p (suc i) (sn ∷ r.S₂))) io.below;
           grew = rw (at_next h s p (suc i) (sn ∷ r.S₂)) (omega arith);
           deep = rw (at_levels h s p (suc i) (sn ∷ r.S₂)) refl;
           higher = rw (at_levels h s p (suc i) (sn ∷ r.S₂)) (omega arith);

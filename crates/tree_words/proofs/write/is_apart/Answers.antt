@@ -1,0 +1,10 @@
+-- Two words differ exactly where the test of their being equal fails.
+use native.Mathlib.Omega.{arith}
+use borrow.Author.Tests.{eq-eqb, ne_eqb}
+use Rattle.tree_words.proofs.write.is_apart.Goals as goal
+
+pub returns-then-a-b : goal.returns-then-a-b
+returns-then-a-b c = (rw (eq-eqb _ _ c.if-a-b.true), omega arith)
+
+pub returns : goal.returns
+returns-then-a-b c = (rw (ne_eqb _ _ c.if-a-b.false), omega arith)
