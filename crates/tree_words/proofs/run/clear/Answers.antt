@@ -53,18 +53,18 @@ loop-i-preserved c =
       omega (arith, one_more l.i s.args.stride),
       simp length-set l.invariant.2,
       child_turn s.args.stride s.args.p s.args.n _ s.args.ws.now
-          s.requires.0 c.zero.ensures s.requires.1 c.zero.auto.0 l.i l.w _ c.loop-i-test.true l.invariant.1
+          s.requires.0 c.zero.ensures s.requires.1 c.zero.auto.ws l.i l.w _ c.loop-i-test.true l.invariant.1
           l.invariant.2 l.invariant.3,
     )
 
 pub shape_of-ws : goal.shape_of-ws
 shape_of-ws c =
     let zero = c.zero in
-    c.loop-i.invariant.2 ∙ zero.auto.0
+    c.loop-i.invariant.2 ∙ zero.auto.ws
 
 pub returns : goal.returns
 returns c =
     let s = c.before.before.before.before.before.before.before in
     let e : c.loop-i.i ≡ s.args.n = omega arith in
     rw e at c.loop-i.invariant.3 ∙ clear_all s.args.stride s.args.p s.args.n _ s.args.ws.now s.requires.0 c.zero.ensures
-    s.requires.1 c.zero.auto.0
+    s.requires.1 c.zero.auto.ws

@@ -49,7 +49,7 @@ loop-w-preserved c = (
   omega arith,
   reach c.args.p c.args.q c.args.s c.loop-w.w (omega arith) (omega arith) (omega arith) (omega arith) (omega arith) (omega arith),
   omega arith,
-  c.four_up.auto.0 ∙ c.loop-w.invariant.3,
+  c.four_up.auto.ws ∙ c.loop-w.invariant.3,
   gap_turn _ _ _ _ _ _ _ (omega arith) (omega arith) (omega arith) c.loop-w.invariant.4 c.four_up.ensures,
 )
 

@@ -7,4 +7,4 @@ pub returns-then-a-b : goal.returns-then-a-b
 returns-then-a-b c = (rw (eq-eqb _ _ c.if-a-b.true), omega arith)
 
 pub returns : goal.returns
-returns-then-a-b c = (rw (ne_eqb _ _ c.if-a-b.false), omega arith)
+returns c = (rw (ne_eqb _ _ c.if-a-b.false), omega arith)

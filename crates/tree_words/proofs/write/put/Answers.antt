@@ -22,9 +22,6 @@ offset_bounds-ws-p c = omega arith
 pub bounds-ws-p : goal.bounds-ws-p
 bounds-ws-p c = omega (arith, c.loop-i.invariant.0.as_long)
 
-pub is_apart-count-requires : goal.is_apart-count-requires
-is_apart-count-requires c = tt
-
 pub overflow_add-count : goal.overflow_add-count
 overflow_add-count c = record { fits = omega (arith, c.is_apart-count.ensures.1, c.loop-i.invariant.1) }
 
