@@ -3,21 +3,21 @@ use model::head::Head;
 use model::number::EntryId;
 
 // locate: the entry, the offset into it, and its effect position.
-#[derive(Drop)]
+#[derive(Clone, Copy)]
 pub enum Looked {
     At(EntryId, u32, u32, u32),
     Refused(u32),
 }
 
 // next.
-#[derive(Drop)]
+#[derive(Clone, Copy)]
 pub enum Following {
     Entry(EntryId),
     Nothing,
     Refused(u32),
 }
 
-#[derive(Drop)]
+#[derive(Clone, Copy)]
 pub struct LookedReply {
     pub head: Head,
     pub answer: Looked,

@@ -30,7 +30,7 @@ use tree_place::size::way_sum;
 use tree_walk::down::last_down;
 
 // 0 or 9, and the slot before which an entry comes.
-#[derive(Drop)]
+#[derive(Clone, Copy)]
 pub struct Aim {
     pub number: u32,
     pub leaf: LeafNo,

@@ -2,21 +2,21 @@
 use model::answer::Named;
 use model::head::Head;
 
-#[derive(Drop)]
+#[derive(Clone, Copy)]
 pub struct Bounds {
     pub lowest: u32,
     pub highest: u32,
 }
 
 // lengths.
-#[derive(Drop)]
+#[derive(Clone, Copy)]
 pub enum Ranged {
     Are(Bounds),
     Refused(u32),
 }
 
 // first_at, last_at: the entry, and the head with the finger that the lookup kept.
-#[derive(Drop)]
+#[derive(Clone, Copy)]
 pub struct NamedReply {
     pub head: Head,
     pub answer: Named,

@@ -16,7 +16,7 @@ use tree_area::word::{at_of, child_of, len_of, length_of, parent_of};
 use tree_walk::down::{first_down, next_up};
 
 // The place behind some lines, and the positions of the entry after them.
-#[derive(Drop)]
+#[derive(Clone, Copy)]
 struct Lines {
     at: usize,
     p: u32,

@@ -10,7 +10,7 @@ use model::shape::Shape;
 use tree_area::word::{child_of, len_of};
 
 // Whether every node so far could be noted, and how many were.
-#[derive(Drop)]
+#[derive(Clone, Copy)]
 pub struct QueueCount {
     pub ok: bool,
     pub count: usize,
@@ -108,7 +108,7 @@ pub fn level(
 }
 
 // Whether every inner node could be noted, where the last level starts in the queue, and how many were noted.
-#[derive(Drop)]
+#[derive(Clone, Copy)]
 pub struct Levels {
     pub ok: bool,
     pub start: usize,

@@ -15,7 +15,7 @@ use list_stream::line::field;
 use model::answer::Number;
 
 // An argument: an edit's number, or none.
-#[derive(Drop)]
+#[derive(Clone, Copy)]
 enum Argument {
     Edit(u32),
     Malformed,
@@ -75,7 +75,7 @@ fn fold(have: usize) -> usize
 }
 
 // Whether the input goes on, and how many bytes the block holds then.
-#[derive(Drop)]
+#[derive(Clone, Copy)]
 enum Input {
     More(usize),
     End,
@@ -115,7 +115,7 @@ fn list_lines(area: &[u32], n: usize, out: &mut [u8]) -> usize
 }
 
 // What there is to show: so many bytes of text, or a refusal.
-#[derive(Drop)]
+#[derive(Clone, Copy)]
 enum Shown {
     Text(usize),
     Refused(u32),

@@ -4,7 +4,7 @@ ghost use Rattle.model.specs.Record.{encode};
 ghost use Rattle.list_records.specs.Said.{filled};
 
 // An answer's number and three values, those it lacks as 0.
-#[derive(Drop)]
+#[derive(Clone, Copy)]
 pub struct Answer {
     pub number: u32,
     pub x: u32,

@@ -8,7 +8,7 @@ use model::length::{Lengths, View};
 use model::number::EntryId;
 
 // The calls of a list; Resize is update, and set_lengths where no position is asked for; Malformed stands for a record with a field outside its values.
-#[derive(Drop)]
+#[derive(Clone, Copy)]
 pub enum Call {
     Reset(Lengths),
     Insert(EntryId, Lengths),

@@ -4,7 +4,7 @@ ghost use Rattle.model.specs.Record.{word_at, fields_of};
 ghost use Rattle.list_records.specs.Said.{plain_fields};
 
 // Kind, view or flag, line ends in the two bytes behind it, and a, b, c.
-#[derive(Drop)]
+#[derive(Clone, Copy)]
 pub struct Fields {
     pub kind: u32,
     pub flag: u32,

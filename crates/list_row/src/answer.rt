@@ -16,7 +16,7 @@ use model::head::Head;
 use model::number::NONE;
 
 // The head after a record, and its answer.
-#[derive(Drop)]
+#[derive(Clone, Copy)]
 pub struct Step {
     pub head: Head,
     pub answer: Answer,

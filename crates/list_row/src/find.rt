@@ -11,7 +11,7 @@ use model::head::{Cursor, Head};
 use model::number::{EntryId, LeafNo, NONE};
 
 // How many ids a call names, and which.
-#[derive(Drop)]
+#[derive(Clone, Copy)]
 pub struct Ids {
     pub count: u32,
     pub first: u32,
@@ -19,7 +19,7 @@ pub struct Ids {
 }
 
 // The cursors of the last two entries looked for.
-#[derive(Drop)]
+#[derive(Clone, Copy)]
 pub enum FoundCursors {
     At(Cursor, Cursor),
     Refused(u32),

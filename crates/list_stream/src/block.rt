@@ -13,7 +13,7 @@ use list_row::step::step;
 use model::head::Head;
 
 // The head after some records, and the place behind their text.
-#[derive(Drop)]
+#[derive(Clone, Copy)]
 pub struct Played {
     pub head: Head,
     pub end: usize,
@@ -74,7 +74,7 @@ pub fn show(
 }
 
 // The head after a block, the place behind its text, and how many bytes are kept at the block's start.
-#[derive(Drop)]
+#[derive(Clone, Copy)]
 pub struct Fed {
     pub head: Head,
     pub end: usize,

@@ -6,7 +6,7 @@ ghost use Rattle.model.specs.Kind.{base, too_many_lines};
 use crate::number::NONE;
 
 // What a length or a position is measured in: the characters of either version, or visible line ends.
-#[derive(Drop)]
+#[derive(Clone, Copy)]
 pub enum View {
     Prepare,
     Effect,
@@ -27,7 +27,7 @@ impl View {
 }
 
 // A length in each view.
-#[derive(Drop)]
+#[derive(Clone, Copy)]
 pub struct Lengths {
     pub prepare: u32,
     pub effect: u32,
@@ -54,7 +54,7 @@ impl Lengths {
 }
 
 // A child and its lengths: an entry in a leaf, a node and its totals in an inner node.
-#[derive(Drop)]
+#[derive(Clone, Copy)]
 pub struct Slot {
     pub child: u32,
     pub prepare_len: u32,

@@ -1,7 +1,7 @@
 // The seats of a tree (document 02, CR 10).
 
 // Whether a tree has seats; then the shares of seats 0 to 7, and how many entries are charged to each.
-#[derive(Drop)]
+#[derive(Clone, Copy)]
 pub struct Seats {
     pub seated: bool,
     pub shares: [u32; 8],
@@ -9,7 +9,7 @@ pub struct Seats {
 }
 
 // The seat that an insert or a split names, or none.
-#[derive(Drop)]
+#[derive(Clone, Copy)]
 pub enum Seat {
     Nobody,
     Number(u32),

@@ -3,7 +3,7 @@ ghost use Rattle.std.specs.Prelude.{◌≡◌, ◌≤◌};
 ghost use Rattle.model.specs.State.{shape_for};
 
 // Words of a slot, slots of a node, words of a node, nodes that the leaf area and the inner area each hold.
-#[derive(Drop)]
+#[derive(Clone, Copy)]
 pub struct Shape {
     pub stride: usize,
     pub fan: usize,
@@ -27,7 +27,7 @@ pub fn shape_for(views: usize, fan: usize, nodes: usize) -> Shape
 
 // The kind of a tree: how many lengths a slot has, the view in which calls answer positions, and whether the first length is a lowest
 // and the second a highest one.
-#[derive(Drop)]
+#[derive(Clone, Copy)]
 pub struct Kind {
     pub views: usize,
     pub effect: usize,
@@ -35,21 +35,21 @@ pub struct Kind {
 }
 
 // The slot that holds a position: slot, offset into it, and the effect and the prepare lengths before it.
-#[derive(Drop)]
+#[derive(Clone, Copy)]
 pub enum Found {
     At(usize, u32, u64, u64),
     Nothing,
 }
 
 // The slot that holds a child.
-#[derive(Drop)]
+#[derive(Clone, Copy)]
 pub enum Place {
     Slot(usize),
     Missing,
 }
 
 // The same, and how many slots were read to know it.
-#[derive(Drop)]
+#[derive(Clone, Copy)]
 pub struct Scan {
     pub place: Place,
     pub read: usize,

@@ -10,7 +10,7 @@ use model::head::Head;
 use model::length::Lengths;
 
 // Whether the list goes on.
-#[derive(Drop)]
+#[derive(Clone, Copy)]
 enum Input {
     More(Head),
     Over,

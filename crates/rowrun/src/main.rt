@@ -18,7 +18,7 @@ use list_stream::rest::tail;
 use model::head::Head;
 
 // Whether the input goes on: with the head, and how many bytes are kept at the block's start.
-#[derive(Drop)]
+#[derive(Clone, Copy)]
 enum Input {
     More(Head, usize),
     Over,

@@ -21,7 +21,7 @@ use model::answer::Number;
 use model::head::Head;
 
 // The head after a block, and how many bytes are kept at the block's start.
-#[derive(Drop)]
+#[derive(Clone, Copy)]
 struct Left {
     head: Head,
     kept: usize,
@@ -59,7 +59,7 @@ fn play(
 }
 
 // Whether the input goes on: with the head, and how many bytes are kept at the block's start.
-#[derive(Drop)]
+#[derive(Clone, Copy)]
 enum Input {
     More(Head, usize),
     End,

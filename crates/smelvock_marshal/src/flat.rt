@@ -6,7 +6,7 @@
 // The answers: document 01's number, 0 where the call was done, then its values, zeros where it was refused.
 // len, is_empty, id, entry_to_char_index, cmp, audit, resize, print, edits_difference. Those without a value answer the number alone.
 #[repr(C)]
-#[derive(Drop)]
+#[derive(Clone, Copy)]
 pub struct FlatNumber {
     pub number: u32,
     pub value: u32,
@@ -14,7 +14,7 @@ pub struct FlatNumber {
 
 // lengths.
 #[repr(C)]
-#[derive(Drop)]
+#[derive(Clone, Copy)]
 pub struct FlatMeasured {
     pub number: u32,
     pub prepare: u32,
@@ -24,7 +24,7 @@ pub struct FlatMeasured {
 
 // A cursor in an answer.
 #[repr(C)]
-#[derive(Drop)]
+#[derive(Clone, Copy)]
 pub struct FlatCursor {
     pub leaf: u32,
     pub slot: u32,
@@ -33,7 +33,7 @@ pub struct FlatCursor {
 
 // first, next, cursor; after the last entry the leaf is 4,294,967,295.
 #[repr(C)]
-#[derive(Drop)]
+#[derive(Clone, Copy)]
 pub struct FlatStanding {
     pub number: u32,
     pub at: FlatCursor,
@@ -41,7 +41,7 @@ pub struct FlatStanding {
 
 // locate.
 #[repr(C)]
-#[derive(Drop)]
+#[derive(Clone, Copy)]
 pub struct FlatLocated {
     pub number: u32,
     pub at: FlatCursor,
@@ -53,7 +53,7 @@ pub struct FlatLocated {
 
 // insert.
 #[repr(C)]
-#[derive(Drop)]
+#[derive(Clone, Copy)]
 pub struct FlatInserted {
     pub number: u32,
     pub id: u32,
@@ -62,7 +62,7 @@ pub struct FlatInserted {
 
 // split_entry: the new id, then both entries' cursors in order.
 #[repr(C)]
-#[derive(Drop)]
+#[derive(Clone, Copy)]
 pub struct FlatDivided {
     pub number: u32,
     pub id: u32,

@@ -2,7 +2,7 @@
 
 // lengths: document 01's number, 0 where the call was done, then the lowest and the highest length, zeros where it was refused.
 #[repr(C)]
-#[derive(Drop)]
+#[derive(Clone, Copy)]
 pub struct FlatBounds {
     pub number: u32,
     pub lowest: u32,

@@ -2,7 +2,7 @@
 
 // lookup: document 01's number, 0 where the call was done, then the entry, the offset into it and its position, zeros where it was refused.
 #[repr(C)]
-#[derive(Drop)]
+#[derive(Clone, Copy)]
 pub struct FlatLooked {
     pub number: u32,
     pub id: u32,

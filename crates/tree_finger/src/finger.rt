@@ -13,7 +13,7 @@ use model::way::{Search, Searched};
 use tree_area::word::{find_in, len_of, length_of};
 
 // A slot of a leaf and what stands before it in the leaf.
-#[derive(Drop)]
+#[derive(Clone, Copy)]
 pub struct Stand {
     pub slot: usize,
     pub within: u32,

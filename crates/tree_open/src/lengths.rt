@@ -182,7 +182,7 @@ fn small(g: Shape, new: &[u32; 4]) -> bool
 }
 
 // The lengths of all slots in use of a node, view by view, with 0 for a view that there isn't.
-#[derive(Drop)]
+#[derive(Clone, Copy)]
 pub struct Totals {
     pub first: u64,
     pub second: u64,

@@ -16,7 +16,7 @@ use model::shape::{Shape, shape_for};
 use tree_area::word::len_of;
 
 // The sizes of a tree, or the number of a refusal.
-#[derive(Drop)]
+#[derive(Clone, Copy)]
 pub enum Opened {
     Good(Shape),
     Refused(u32),

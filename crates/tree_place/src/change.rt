@@ -8,7 +8,7 @@ use model::number::{LeafNo, NodeNo};
 use tree_finger::finger::changing;
 
 // 0 or 9, the head then, and the slot at which the change happens.
-#[derive(Drop)]
+#[derive(Clone, Copy)]
 pub struct HeadChange {
     pub number: u32,
     pub head: Head,
@@ -17,7 +17,7 @@ pub struct HeadChange {
 }
 
 // The leaves in use and the slot at which an entry comes.
-#[derive(Drop)]
+#[derive(Clone, Copy)]
 pub struct Room {
     pub leaves: u32,
     pub leaf: LeafNo,

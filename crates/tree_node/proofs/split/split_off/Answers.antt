@@ -1,0 +1,106 @@
+-- `tree_node::split::split_off`: the upper slots are copied into node j, which keeps those alone, and node k keeps the lower ones.
+use Rattle.std.proofs.Common.{◌≡◌, suc, ◌+◌, ◌-◌, ◌*◌, ◌/◌, ◌≤◌, length, ◌∙◌, arith, length-set}
+use Rattle.model_laws.specs.Lists.{rows_between, row_end}
+use Rattle.tree_node.proofs.SplitLaws.{split_off_area}
+use Rattle.tree_node.proofs.split.split_off.Goals as goal
+
+-- node k ends where node j begins or before, node j lies in the area, and the halves are all slots
+room : (c : goal.After-shape_for-g) → (c.args.k * c.shape_for-g.result.size + c.shape_for-g.result.size ≤ c.args.j * c.shape_for-g.result.size) × (c.args.j * c.shape_for-g.result.size + c.shape_for-g.result.size ≤ length c.args.area.now) × (3 + c.args.fan / 2 * c.shape_for-g.result.stride + (c.args.fan - c.args.fan / 2) * c.shape_for-g.result.stride ≡ c.shape_for-g.result.size)
+room c =
+    let a = c.args in
+    rw c.shape_for-g.ensures
+    (row_end a.k a.j (3 + a.fan * suc a.views) c.requires.1, c.requires.2, omega (arith, rows_between (a.fan / 2) a.fan (suc a.views) (omega arith)))
+
+pub shape_for-g-requires : goal.shape_for-g-requires
+shape_for-g-requires c = (omega (arith, c.requires.0.narrow), c.requires.0.few)
+
+pub overflow_mul-a : goal.overflow_mul-a
+overflow_mul-a c = omega (arith, room c)
+
+pub overflow_add-from : goal.overflow_add-from
+overflow_add-from c = omega (arith, room c)
+
+pub overflow_mul-from : goal.overflow_mul-from
+overflow_mul-from c = omega (arith, room c)
+
+pub overflow_add-from-2 : goal.overflow_add-from-2
+overflow_add-from-2 c = omega (arith, room c)
+
+pub overflow_add-parent : goal.overflow_add-parent
+overflow_add-parent c = omega (arith, room c)
+
+pub offset_bounds-area-a : goal.offset_bounds-area-a
+offset_bounds-area-a c = omega (arith, room c)
+
+pub bounds-area-a : goal.bounds-area-a
+bounds-area-a c = omega (arith, room c.before)
+
+pub overflow_add-a : goal.overflow_add-a
+overflow_add-a c = omega (arith, room c.before.before)
+
+pub overflow_mul-j : goal.overflow_mul-j
+overflow_mul-j c = omega (arith, room c.before.before)
+
+pub overflow_add-j : goal.overflow_add-j
+overflow_add-j c = omega (arith, room c.before.before)
+
+pub overflow_sub-j : goal.overflow_sub-j
+overflow_sub-j c = omega (arith, room c.before.before)
+
+pub shift-requires : goal.shift-requires
+shift-requires c = omega (arith, room c.before.before)
+
+pub overflow_sub-fan : goal.overflow_sub-fan
+overflow_sub-fan c = omega arith
+
+pub keep_in-requires : goal.keep_in-requires
+keep_in-requires c =
+    let shape-for = c.shape_for-g in
+    let pre = c.requires in
+    let before = c.before.before.before.before.before.before in
+    let shift = c.shift in
+    (rw shape-for.ensures pre.0, omega (arith, room before, shift.auto.0), rw shape-for.ensures (omega arith))
+
+pub overflow_sub-fan-2 : goal.overflow_sub-fan-2
+overflow_sub-fan-2 c = omega arith
+
+pub clear-requires : goal.clear-requires
+clear-requires c =
+    let shape-for = c.shape_for-g in
+    let before = c.before.before.before.before.before.before.before.before.before.before in
+    let keep-in = c.keep_in in
+    let shift = c.shift in
+    (rw shape-for.ensures (omega arith), omega (arith, room before, keep-in.auto.0, shift.auto.0))
+
+pub overflow_cast-area : goal.overflow_cast-area
+overflow_cast-area c =
+    let pre = c.requires in
+    omega (arith, pre.0.few)
+
+pub offset_bounds-area-a-2 : goal.offset_bounds-area-a-2
+offset_bounds-area-a-2 c =
+    let before = c.before.before.before.before.before.before.before.before.before.before.before.before.before in
+    omega (arith, room before)
+
+pub bounds-area-a-2 : goal.bounds-area-a-2
+bounds-area-a-2 c =
+    let before = c.before.before.before.before.before.before.before.before.before.before.before.before.before in
+    let keep-in = c.keep_in in
+    let shift = c.shift in
+    omega (arith, room before, c.clear.auto.0, keep-in.auto.0, shift.auto.0)
+
+pub shape_of-area : goal.shape_of-area
+shape_of-area c =
+    let keep-in = c.keep_in in
+    let shift = c.shift in
+    simp length-set (c.clear.auto.ws ∙ keep-in.auto.ws ∙ shift.auto.ws)
+
+pub returns : goal.returns
+returns c =
+    let s = c.before.before.before.before.before.before.before.before.before.before.before.before.before.before.before in
+    let shape-for = c.shape_for-g in
+    let shift = c.shift in
+    let keep-in = c.keep_in in
+    split_off_area s.args.views s.args.fan s.args.nodes s.args.k s.args.j _ s.args.area.now _ _ _ shape-for.ensures s.requires.1
+    (room c.before.before.before.before.before.before.before.before.before.before.before.before.before).1 (keep-in.auto.0 ∙ shift.auto.0) shift.ensures
+    keep-in.ensures c.clear.ensures

@@ -1,0 +1,37 @@
+-- `tree_node::write::split_child`: the lengths of x are taken from slot i, and the node so changed is read again when x is put in.
+use Rattle.std.proofs.Common.{◌≡◌, ℕ, ◌+◌, ◌≤◌, Bool, cond, ◌∙◌, ⊎_elim, arith}
+use Rattle.tree_node.specs.Shaped.{whole}
+use Rattle.tree_node.proofs.WriteLaws.{lengths_first, split_taken}
+use Rattle.tree_node.proofs.write.split_child.Goals as goal
+
+-- the place where x is put
+abbrev Put : Bool → ℕ → ℕ → Type 0
+Put before i step = (step ≤ 1) × (i + step ≡ cond before i (i + 1))
+
+place : (c : goal.Joined-before) → Put c.args.before c.args.i c.if-before.step
+place c = ⊎_elim (λ w. (omega arith, rw w.0.taken (omega arith))) (λ w. (omega arith, rw w.0.left (omega arith))) c.if-before.branch
+
+pub take_lengths-requires : goal.take_lengths-requires
+take_lengths-requires c = (c.requires.0, c.requires.1, omega (arith, c.requires.2, c.requires.3), c.requires.4)
+
+pub overflow_add-i : goal.overflow_add-i
+overflow_add-i c =
+    let pre = c.requires in
+    omega (arith, place c.before.before, pre.0, pre.2, pre.3)
+
+pub insert-requires : goal.insert-requires
+insert-requires c =
+    let s = c.before.before.before.before.before.before.before.before in
+    let k = lengths_first _ _ _ _ _ _ c.take_lengths.ensures in
+    (s.requires.0, c.take_lengths.auto.0 ∙ s.requires.1, omega (arith, k, place c.before.before, s.requires.2), omega (arith, k, s.requires.3), s.requires.4)
+
+pub shape_of-node : goal.shape_of-node
+shape_of-node c =
+    let take-lengths = c.take_lengths in
+    c.insert.auto.0 ∙ take-lengths.auto.0
+
+pub returns : goal.returns
+returns c =
+    let s = c.before.before.before.before.before.before.before.before.before.before.before in
+    c.insert.ensures ∙ rw (place c.before.before.before.before.before).1
+    (split_taken s.args.g.stride s.args.g.fan s.args.before s.args.i s.args.x.now s.args.node.now _ (whole _ _ s.requires.0 s.requires.1) s.requires.4 s.requires.0.columns s.requires.0.narrow (omega (arith, s.requires.2, s.requires.3)) c.take_lengths.ensures)
