@@ -3,10 +3,11 @@ use Rattle.std.proofs.Common.{ℕ, ◌+◌, ◌-◌, ◌<◌, length, sym, refl,
 use Rattle.model_laws.specs.Lists.{rows_le, one_more, in_row}
 use Rattle.model_laws.specs.Nodes.{used_slots}
 use Rattle.model_laws.specs.Read.{find_here, find_on, find_none}
+use Rattle.tree_node.proofs.read.find.Goals.{In-loop-k}
 use Rattle.tree_node.proofs.read.find.Goals as goal
 
 -- the words of a turn lie in the node
-turn : (c : goal.In-loop-k) (v : ℕ) → v + 1 < c.args.g.stride → c.loop-k.p + v < length c.args.node.now
+turn : (c : In-loop-k) (v : ℕ) → v + 1 < c.args.g.stride → c.loop-k.p + v < length c.args.node.now
 turn c v h =
     let a = c.args in
     omega (arith, c.requires.0, in_row c.loop-k.k a.g.fan a.g.stride (v + 1) (omega arith) h)
@@ -19,57 +20,47 @@ overflow_cast-len c = omega (arith, c.shared_slice_known-2-1.given 0)
 
 pub overflow_mul-p : goal.overflow_mul-p
 overflow_mul-p c =
-    let s = c.before.before in
-    omega (arith, s.requires.0, rows_le s.args.from s.args.g.fan s.args.g.stride (omega arith))
+    omega (arith, c.requires.0, rows_le c.args.from c.args.g.fan c.args.g.stride (omega arith))
 
 pub overflow_add-p : goal.overflow_add-p
 overflow_add-p c =
-    let s = c.before.before in
-    omega (arith, s.requires.0, rows_le s.args.from s.args.g.fan s.args.g.stride (omega arith))
+    omega (arith, c.requires.0, rows_le c.args.from c.args.g.fan c.args.g.stride (omega arith))
 
 pub overflow_add-p-2 : goal.overflow_add-p-2
 overflow_add-p-2 c =
-    let s = c.before.before in
-    omega (arith, s.requires.0, rows_le s.args.from s.args.g.fan s.args.g.stride (omega arith))
+    omega (arith, c.requires.0, rows_le c.args.from c.args.g.fan c.args.g.stride (omega arith))
 
 pub loop-k-init : goal.loop-k-init
 loop-k-init c = (omega arith, omega arith, refl, omega arith, omega arith, refl)
 
 pub overflow_add-here : goal.overflow_add-here
 overflow_add-here c =
-    let s = c.before.before.before.before in
-    omega (arith, turn (c) s.args.view s.requires.2)
+    omega (arith, turn (goal.at.overflow_add-here c).In-loop-k c.args.view c.requires.2)
 
 pub offset_bounds-node-p : goal.offset_bounds-node-p
 offset_bounds-node-p c =
-    let s = c.before.before.before.before in
-    omega (arith, turn (c) s.args.view s.requires.2)
+    omega (arith, turn (goal.at.offset_bounds-node-p c).In-loop-k c.args.view c.requires.2)
 
 pub bounds-node-p : goal.bounds-node-p
 bounds-node-p c =
-    let s = c.before.before.before.before.before in
-    turn c.before s.args.view s.requires.2
+    turn (goal.at.bounds-node-p c).In-loop-k c.args.view c.requires.2
 
 pub returns-then-rest-here : goal.returns-then-rest-here
 returns-then-rest-here c =
-    let s = c.before.before.before.before.before.before in
-    rw (used_slots _ _ _ s.requires.4) (sym (find_here _ _ _ _ _ _ _ _ _ _ _ s.requires.2 s.requires.3 c.loop-k.invariant.2 c.loop-k-test.true
+    rw (used_slots _ _ _ c.requires.4) (sym (find_here _ _ _ _ _ _ _ _ _ _ _ c.requires.2 c.requires.3 c.loop-k.invariant.2 c.loop-k-test.true
     c.if-rest-here.true) ∙ c.loop-k.invariant.5)
 
 pub overflow_add-p-in-loop-k : goal.overflow_add-p-in-loop-k
 overflow_add-p-in-loop-k c =
-    let s = c.before.before.before.before.before.before in
-    omega (arith, turn c.before.before s.args.effect s.requires.3)
+    omega (arith, turn (goal.at.overflow_add-p-in-loop-k c).In-loop-k c.args.effect c.requires.3)
 
 pub offset_bounds-node-p-in-loop-k : goal.offset_bounds-node-p-in-loop-k
 offset_bounds-node-p-in-loop-k c =
-    let s = c.before.before.before.before.before.before in
-    omega (arith, turn c.before.before s.args.effect s.requires.3)
+    omega (arith, turn (goal.at.offset_bounds-node-p-in-loop-k c).In-loop-k c.args.effect c.requires.3)
 
 pub bounds-node-p-in-loop-k : goal.bounds-node-p-in-loop-k
 bounds-node-p-in-loop-k c =
-    let s = c.before.before.before.before.before.before.before in
-    turn c.before.before.before s.args.effect s.requires.3
+    turn (goal.at.bounds-node-p-in-loop-k c).In-loop-k c.args.effect c.requires.3
 
 pub overflow_add-before : goal.overflow_add-before
 overflow_add-before c =
@@ -79,13 +70,11 @@ overflow_add-before c =
 
 pub offset_bounds-node-p-in-loop-k-2 : goal.offset_bounds-node-p-in-loop-k-2
 offset_bounds-node-p-in-loop-k-2 c =
-    let s = c.before.before.before.before.before.before.before.before in
-    omega (arith, turn c.before.before.before.before 0 (omega (arith, s.requires.3)))
+    omega (arith, turn (goal.at.offset_bounds-node-p-in-loop-k-2 c).In-loop-k 0 (omega (arith, c.requires.3)))
 
 pub bounds-node-p-in-loop-k-2 : goal.bounds-node-p-in-loop-k-2
 bounds-node-p-in-loop-k-2 c =
-    let s = c.before.before.before.before.before.before.before.before.before in
-    omega (arith, turn c.before.before.before.before.before 0 (omega (arith, s.requires.3)))
+    omega (arith, turn (goal.at.bounds-node-p-in-loop-k-2 c).In-loop-k 0 (omega (arith, c.requires.3)))
 
 pub overflow_add-prior : goal.overflow_add-prior
 overflow_add-prior c =
@@ -94,8 +83,7 @@ overflow_add-prior c =
 
 pub overflow_add-p-in-loop-k-2 : goal.overflow_add-p-in-loop-k-2
 overflow_add-p-in-loop-k-2 c =
-    let s = c.before.before.before.before.before.before.before.before.before.before in
-    omega (arith, turn c.before.before.before.before.before.before s.args.effect s.requires.3)
+    omega (arith, turn (goal.at.overflow_add-p-in-loop-k-2 c).In-loop-k c.args.effect c.requires.3)
 
 pub overflow_add-k : goal.overflow_add-k
 overflow_add-k c = omega arith
@@ -105,14 +93,13 @@ loop-k-smaller c = omega arith
 
 pub loop-k-preserved : goal.loop-k-preserved
 loop-k-preserved c =
-    let s = c.before.before.before.before.before.before.before.before.before.before in
     let l = c.loop-k in (
       omega arith,
       omega arith,
-      omega (arith, one_more l.k s.args.g.stride),
-      omega (arith, c.shared_slice_known-in-loop-k-2-1.given (l.p + s.args.effect)),
+      omega (arith, one_more l.k c.args.g.stride),
+      omega (arith, c.shared_slice_known-in-loop-k-2-1.given (l.p + c.args.effect)),
       omega (arith, c.shared_slice_known-in-loop-k-3-1.given l.p),
-      rw (c.wide-before.ensures, c.wide-prior.ensures) (sym (find_on _ _ _ _ _ _ _ _ _ _ _ s.requires.2 s.requires.3 l.invariant.2 c.loop-k-test.true c.if-rest-here.false)) ∙ l.invariant.5,
+      rw (c.wide-before.ensures, c.wide-prior.ensures) (sym (find_on _ _ _ _ _ _ _ _ _ _ _ c.requires.2 c.requires.3 l.invariant.2 c.loop-k-test.true c.if-rest-here.false)) ∙ l.invariant.5,
     )
 
 pub returns : goal.returns

@@ -5,6 +5,7 @@ use Rattle.model.specs.declared.shape.Found.TheVariants.{At}
 use Rattle.model_laws.specs.Lists.{one_more, in_row}
 use Rattle.model_laws.specs.Nodes.{used_slots}
 use Rattle.model_laws.specs.Read.{find_here, find_on, find_none}
+use Rattle.tree_node.proofs.read.find_prepare.Goals.{In-loop-k}
 use Rattle.tree_node.proofs.read.find_prepare.Goals as goal
 
 -- a slot passed: here is its prepare length
@@ -22,7 +23,7 @@ module _ (s n e k q i rest a b : ℕ) (ws : List ℕ) (he : e + 1 < s) (hq : q �
   held h = find_here s n 3 0 e k rest a (b + (i - rest)) q ws (omega arith) he hq hk (omega (arith, first))
 
 -- the words of a turn lie in the node
-turn : (c : goal.In-loop-k) (v : ℕ) → v + 1 < c.args.g.stride → c.loop-k.p + v < length c.args.node.now
+turn : (c : In-loop-k) (v : ℕ) → v + 1 < c.args.g.stride → c.loop-k.p + v < length c.args.node.now
 turn c v h =
     let a = c.args in
     omega (arith, c.requires.0, in_row c.loop-k.k a.g.fan a.g.stride (v + 1) (omega arith) h)
@@ -45,13 +46,11 @@ loop-k-init c =
 
 pub offset_bounds-node-p : goal.offset_bounds-node-p
 offset_bounds-node-p c =
-    let s = c.before.before.before.before in
-    omega (arith, turn c 0 (omega (arith, s.requires.2)))
+    omega (arith, turn (goal.at.offset_bounds-node-p c).In-loop-k 0 (omega (arith, c.requires.2)))
 
 pub bounds-node-p : goal.bounds-node-p
 bounds-node-p c =
-    let s = c.before.before.before.before.before in
-    omega (arith, turn c.before 0 (omega (arith, s.requires.2)))
+    omega (arith, turn (goal.at.bounds-node-p c).In-loop-k 0 (omega (arith, c.requires.2)))
 
 pub overflow_sub-index : goal.overflow_sub-index
 overflow_sub-index c = omega arith
@@ -61,25 +60,21 @@ overflow_add-result c = omega (arith, c.ranges)
 
 pub returns-then-rest-here : goal.returns-then-rest-here
 returns-then-rest-here c =
-    let s = c.before.before.before.before.before.before.before in
     let l = c.loop-k in
-    rw (used_slots _ _ _ s.requires.3, c.wide.ensures)
-    (sym (held _ _ _ _ _ s.args.index _ _ s.args.prepares _ s.requires.2 l.invariant.2 c.loop-k-test.true l.invariant.1 c.if-rest-here.true) ∙ l.invariant.4)
+    rw (used_slots _ _ _ c.requires.3, c.wide.ensures)
+    (sym (held _ _ _ _ _ c.args.index _ _ c.args.prepares _ c.requires.2 l.invariant.2 c.loop-k-test.true l.invariant.1 c.if-rest-here.true) ∙ l.invariant.4)
 
 pub overflow_add-p : goal.overflow_add-p
 overflow_add-p c =
-    let s = c.before.before.before.before.before.before in
-    omega (arith, turn c.before.before s.args.effect s.requires.2)
+    omega (arith, turn (goal.at.overflow_add-p c).In-loop-k c.args.effect c.requires.2)
 
 pub offset_bounds-node-p-in-loop-k : goal.offset_bounds-node-p-in-loop-k
 offset_bounds-node-p-in-loop-k c =
-    let s = c.before.before.before.before.before.before in
-    omega (arith, turn c.before.before s.args.effect s.requires.2)
+    omega (arith, turn (goal.at.offset_bounds-node-p-in-loop-k c).In-loop-k c.args.effect c.requires.2)
 
 pub bounds-node-p-in-loop-k : goal.bounds-node-p-in-loop-k
 bounds-node-p-in-loop-k c =
-    let s = c.before.before.before.before.before.before.before in
-    turn c.before.before.before s.args.effect s.requires.2
+    turn (goal.at.bounds-node-p-in-loop-k c).In-loop-k c.args.effect c.requires.2
 
 pub overflow_add-sum : goal.overflow_add-sum
 overflow_add-sum c =
@@ -89,8 +84,7 @@ overflow_add-sum c =
 
 pub overflow_add-p-in-loop-k : goal.overflow_add-p-in-loop-k
 overflow_add-p-in-loop-k c =
-    let s = c.before.before.before.before.before.before.before.before in
-    omega (arith, turn c.before.before.before.before s.args.effect s.requires.2)
+    omega (arith, turn (goal.at.overflow_add-p-in-loop-k c).In-loop-k c.args.effect c.requires.2)
 
 pub overflow_add-k : goal.overflow_add-k
 overflow_add-k c = omega arith
@@ -100,14 +94,13 @@ loop-k-smaller c = omega arith
 
 pub loop-k-preserved : goal.loop-k-preserved
 loop-k-preserved c =
-    let s = c.before.before.before.before.before.before.before.before in
     let l = c.loop-k in (
       omega arith,
       omega arith,
-      omega (arith, one_more l.k s.args.g.stride),
-      omega (arith, c.shared_slice_known-in-loop-k-2-1.given (l.p + s.args.effect)),
+      omega (arith, one_more l.k c.args.g.stride),
+      omega (arith, c.shared_slice_known-in-loop-k-2-1.given (l.p + c.args.effect)),
       rw c.wide-sum.ensures
-          (sym (passed _ _ _ _ _ s.args.index _ _ s.args.prepares _ s.requires.2 l.invariant.2 c.loop-k-test.true l.invariant.1 c.if-rest-here.false) ∙ l.invariant.4),
+          (sym (passed _ _ _ _ _ c.args.index _ _ c.args.prepares _ c.requires.2 l.invariant.2 c.loop-k-test.true l.invariant.1 c.if-rest-here.false) ∙ l.invariant.4),
     )
 
 pub returns : goal.returns

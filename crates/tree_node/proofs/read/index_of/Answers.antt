@@ -7,6 +7,7 @@ use Rattle.model.specs.declared.shape.Scan.{Scan}
 use Rattle.model_laws.specs.Lists.{one_more, in_row}
 use Rattle.model_laws.specs.Nodes.{used_slots}
 use Rattle.model_laws.specs.Read.{index_here, index_on, index_none}
+use Rattle.tree_node.proofs.read.index_of.Goals.{In-loop-read}
 use Rattle.tree_node.proofs.read.index_of.Goals as goal
 
 -- the two answers, where k slots were read before the last one, and where all n were
@@ -17,7 +18,7 @@ none : (n r : ℕ) (p : Place) → r ≡ n → p ≡ Missing → ◌≡◌ {A = 
 none n r p e q = rw (q, e)
 
 -- the word of a turn lies in the node
-turn : (c : goal.In-loop-read) → c.loop-read.p < length c.args.node.now
+turn : (c : In-loop-read) → c.loop-read.p < length c.args.node.now
 turn c =
     let a = c.args in
     omega (arith, c.requires.0, in_row c.loop-read.read a.g.fan a.g.stride 0 (omega arith) (omega (arith, c.requires.0)))
@@ -32,10 +33,10 @@ pub loop-read-init : goal.loop-read-init
 loop-read-init c = (omega arith, omega (arith, zero-mul c.args.g.stride), refl)
 
 pub offset_bounds-node-p : goal.offset_bounds-node-p
-offset_bounds-node-p c = omega (arith, turn (c))
+offset_bounds-node-p c = omega (arith, turn (goal.at.offset_bounds-node-p c).In-loop-read)
 
 pub bounds-node-p : goal.bounds-node-p
-bounds-node-p c = turn c.before
+bounds-node-p c = turn (goal.at.bounds-node-p c).In-loop-read
 
 pub overflow_add-read : goal.overflow_add-read
 overflow_add-read c = omega arith
@@ -45,25 +46,22 @@ overflow_sub-result c = omega arith
 
 pub returns-then-here-child : goal.returns-then-here-child
 returns-then-here-child c =
-    let s = c.before.before.before.before.before in
     let l = c.loop-read in
-    hit _ l.read _ _ refl (rw (used_slots _ _ _ s.requires.2) (sym l.invariant.2 ∙ index_here _ _ _ _ _ _ _ (omega (arith, s.requires.0)) l.invariant.1 c.loop-read-test.true c.if-here-child.true))
+    hit _ l.read _ _ refl (rw (used_slots _ _ _ c.requires.2) (sym l.invariant.2 ∙ index_here _ _ _ _ _ _ _ (omega (arith, c.requires.0)) l.invariant.1 c.loop-read-test.true c.if-here-child.true))
 
 pub overflow_add-p : goal.overflow_add-p
 overflow_add-p c =
     let pre = c.requires in
-    omega (arith, turn c.before.before, pre.0)
+    omega (arith, turn (goal.at.overflow_add-p c).In-loop-read, pre.0)
 
 pub loop-read-smaller : goal.loop-read-smaller
 loop-read-smaller c = omega arith
 
 pub loop-read-preserved : goal.loop-read-preserved
 loop-read-preserved c =
-    let s = c.before.before.before.before.before in
     let l = c.loop-read in
-    (omega arith, omega (arith, one_more l.read s.args.g.stride), sym (index_on _ _ _ _ _ _ _ (omega (arith, s.requires.0)) l.invariant.1 c.loop-read-test.true c.if-here-child.false) ∙ l.invariant.2)
+    (omega arith, omega (arith, one_more l.read c.args.g.stride), sym (index_on _ _ _ _ _ _ _ (omega (arith, c.requires.0)) l.invariant.1 c.loop-read-test.true c.if-here-child.false) ∙ l.invariant.2)
 
 pub returns : goal.returns
 returns c =
-    let s = c.before.before.before in
-    none _ _ _ (omega arith) (rw (used_slots _ _ _ s.requires.2) (sym c.loop-read.invariant.2 ∙ index_none _ _ _ _ _ _ c.loop-read-test.false))
+    none _ _ _ (omega arith) (rw (used_slots _ _ _ c.requires.2) (sym c.loop-read.invariant.2 ∙ index_none _ _ _ _ _ _ c.loop-read-test.false))

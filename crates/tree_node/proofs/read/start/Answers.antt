@@ -4,10 +4,11 @@ use Rattle.model.specs.Node.{node_of}
 use Rattle.model_laws.specs.Lists.{one_more, in_row}
 use Rattle.model_laws.specs.Slots.{slots_take}
 use Rattle.model_laws.specs.Read.{total_none, total_more}
+use Rattle.tree_node.proofs.read.start.Goals.{In-loop-k}
 use Rattle.tree_node.proofs.read.start.Goals as goal
 
 -- the word of a turn lies in the node
-turn : (c : goal.In-loop-k) → 3 + c.loop-k.k * c.args.g.stride + (c.args.view + 1) < length c.args.node.now
+turn : (c : In-loop-k) → 3 + c.loop-k.k * c.args.g.stride + (c.args.view + 1) < length c.args.node.now
 turn c =
     let pre = c.requires in
     let args = c.args in
@@ -23,10 +24,10 @@ pub loop-k-init : goal.loop-k-init
 loop-k-init c = (omega arith, omega (arith, zero-mul c.args.g.stride), omega arith, sym (total_none _ _ _ _))
 
 pub offset_bounds-node-p : goal.offset_bounds-node-p
-offset_bounds-node-p c = omega (arith, turn c)
+offset_bounds-node-p c = omega (arith, turn (goal.at.offset_bounds-node-p c).In-loop-k)
 
 pub bounds-node-p : goal.bounds-node-p
-bounds-node-p c = omega (arith, turn c.before)
+bounds-node-p c = omega (arith, turn (goal.at.bounds-node-p c).In-loop-k)
 
 pub overflow_add-sum : goal.overflow_add-sum
 overflow_add-sum c =
@@ -34,7 +35,7 @@ overflow_add-sum c =
     omega (arith, c.shared_slice_known-in-loop-k-1.given the-loop.p)
 
 pub overflow_add-p-in-loop-k : goal.overflow_add-p-in-loop-k
-overflow_add-p-in-loop-k c = omega (arith, turn c.before.before)
+overflow_add-p-in-loop-k c = omega (arith, turn (goal.at.overflow_add-p-in-loop-k c).In-loop-k)
 
 pub overflow_add-k : goal.overflow_add-k
 overflow_add-k c = omega arith
@@ -44,18 +45,16 @@ loop-k-smaller c = omega arith
 
 pub loop-k-preserved : goal.loop-k-preserved
 loop-k-preserved c =
-    let s = c.before.before.before.before.before in
     let l = c.loop-k in (
       omega arith,
-      omega (arith, one_more l.k s.args.g.stride),
+      omega (arith, one_more l.k c.args.g.stride),
       omega (arith, c.shared_slice_known-in-loop-k-1.given l.p),
-      total_more _ _ _ _ _ _ _ _ s.requires.2
+      total_more _ _ _ _ _ _ _ _ c.requires.2
           l.invariant.1 l.invariant.3 c.wide-sum.ensures,
     )
 
 pub returns : goal.returns
 unfolding node_of
 returns c =
-    let s = c.before.before.before in
-    let e : c.loop-k.k ≡ s.args.i = omega arith in
-    (rw (slots_take _ _ _ 3 s.args.node.now s.requires.3, ← e) c.loop-k.invariant.3, omega (arith, s.requires.0))
+    let e : c.loop-k.k ≡ c.args.i = omega arith in
+    (rw (slots_take _ _ _ 3 c.args.node.now c.requires.3, ← e) c.loop-k.invariant.3, omega (arith, c.requires.0))

@@ -4,10 +4,11 @@ use Rattle.model.specs.Node.{node_of}
 use Rattle.model_laws.specs.Lists.{one_more, in_row}
 use Rattle.model_laws.specs.Slots.{slots_take}
 use Rattle.model_laws.specs.Read.{low_none, low_more}
+use Rattle.tree_node.proofs.read.start_low.Goals.{In-loop-k}
 use Rattle.tree_node.proofs.read.start_low.Goals as goal
 
 -- the word of a turn lies in the node
-turn : (c : goal.In-loop-k) → 3 + c.loop-k.k * c.args.g.stride + (c.args.view + 1) < length c.args.node.now
+turn : (c : In-loop-k) → 3 + c.loop-k.k * c.args.g.stride + (c.args.view + 1) < length c.args.node.now
 turn c =
     let pre = c.requires in
     let args = c.args in
@@ -23,13 +24,13 @@ pub loop-k-init : goal.loop-k-init
 loop-k-init c = (omega arith, omega (arith, zero-mul c.args.g.stride), low_none _ _ _ _)
 
 pub offset_bounds-node-p : goal.offset_bounds-node-p
-offset_bounds-node-p c = omega (arith, turn c)
+offset_bounds-node-p c = omega (arith, turn (goal.at.offset_bounds-node-p c).In-loop-k)
 
 pub bounds-node-p : goal.bounds-node-p
-bounds-node-p c = omega (arith, turn c.before)
+bounds-node-p c = omega (arith, turn (goal.at.bounds-node-p c).In-loop-k)
 
 pub overflow_add-p-in-loop-k : goal.overflow_add-p-in-loop-k
-overflow_add-p-in-loop-k c = omega (arith, turn c.before.before)
+overflow_add-p-in-loop-k c = omega (arith, turn (goal.at.overflow_add-p-in-loop-k c).In-loop-k)
 
 pub overflow_add-k : goal.overflow_add-k
 overflow_add-k c = omega arith
@@ -39,13 +40,11 @@ loop-k-smaller c = omega arith
 
 pub loop-k-preserved : goal.loop-k-preserved
 loop-k-preserved c =
-    let s = c.before.before.before.before.before in
     let l = c.loop-k in
-    (omega arith, omega (arith, one_more l.k s.args.g.stride), c.wrapping_add_u32-sum.ensures ∙ low_more _ _ _ _ _ _ _ _ s.requires.2 l.invariant.1 l.invariant.2 refl)
+    (omega arith, omega (arith, one_more l.k c.args.g.stride), c.wrapping_add_u32-sum.ensures.value ∙ low_more _ _ _ _ _ _ _ _ c.requires.2 l.invariant.1 l.invariant.2 refl)
 
 pub returns : goal.returns
 unfolding node_of
 returns c =
-    let s = c.before.before.before in
-    let e : c.loop-k.k ≡ s.args.i = omega arith in
-    rw (slots_take _ _ _ 3 s.args.node.now s.requires.3, ← e) c.loop-k.invariant.2
+    let e : c.loop-k.k ≡ c.args.i = omega arith in
+    rw (slots_take _ _ _ 3 c.args.node.now c.requires.3, ← e) c.loop-k.invariant.2

@@ -15,10 +15,15 @@ offset_bounds-area-a c = omega (arith, c.requires.1)
 pub slice_bounds-keep-count : goal.slice_bounds-keep-count
 slice_bounds-keep-count c = omega arith
 
+pub slice_bounds-keep-start : goal.slice_bounds-keep-start
+slice_bounds-keep-start c = omega arith
+
+pub slice_bounds-keep-end : goal.slice_bounds-keep-end
+slice_bounds-keep-end c = omega (arith, c.requires.1)
+
 pub keep-requires : goal.keep-requires
 keep-requires c = (c.requires.0, rw lent (length_part _ _ _ c.requires.1), c.requires.2)
 
 pub returns : goal.returns
 returns c =
-    let s = c.before.before.before.before.before in
-    lent_back (s.args.k * s.args.g.size) _ _ c.keep.new.node s.requires.1 c.keep.auto.node ∙ rw (c.keep.ensures, lent)
+    lent_back (c.args.k * c.args.g.size) _ _ c.keep.new.0 c.requires.1 c.keep.auto.0 ∙ rw (c.keep.ensures, lent)

@@ -7,10 +7,11 @@ use Rattle.model_laws.specs.Words.{put_next}
 use Rattle.model_laws.specs.Changes.{new_node_law}
 use Rattle.tree_node.proofs.WriteLaws.{front_length}
 use Rattle.tree_node.specs.Shaped.{whole, slots_in_law}
+use Rattle.tree_node.proofs.split.new_two.Goals.{Start}
 use Rattle.tree_node.proofs.split.new_two.Goals as goal
 
 -- two slots lie in the node
-room : (c : goal.Start) → 3 + 2 * c.args.g.stride ≤ length c.args.node.now
+room : (c : Start) → 3 + 2 * c.args.g.stride ≤ length c.args.node.now
 room c = slots_in_law c.args.g _ c.requires.0 c.requires.1 2 (omega (arith, c.requires.0))
 
 -- two slots written one after the other
@@ -18,7 +19,7 @@ both : (s : ℕ) (x y ws one two : List ℕ) → length x ≡ s → 3 + s + leng
 both s x y ws one two e h p q = rw (flat_two, q, p) (put_next 3 (3 + s) x y ws (omega arith) h)
 
 pub put_slot-requires : goal.put_slot-requires
-put_slot-requires c = (c.requires.0, omega (arith, room c.before.before), c.requires.2)
+put_slot-requires c = (c.requires.0, omega (arith, room (goal.at.put_slot-requires c).Start), c.requires.2)
 
 pub overflow_add-stride : goal.overflow_add-stride
 overflow_add-stride c =
@@ -28,30 +29,28 @@ overflow_add-stride c =
 pub put_slot-requires-2 : goal.put_slot-requires-2
 put_slot-requires-2 c =
     let pre = c.requires in
-    let before = c.before.before.before.before.before.before in
     let put-slot = c.put_slot in
-    (pre.0, omega (arith, room before, put-slot.auto.0), pre.3)
+    (pre.0, omega (arith, room (goal.at.put_slot-requires-2 c).Start, put-slot.auto.0), pre.3)
 
 pub keep-requires : goal.keep-requires
 keep-requires c =
     let pre = c.requires in
     let put-slot2 = c.put_slot-2 in
     let put-slot = c.put_slot in
-    (pre.0, put-slot2.auto.node ∙ put-slot.auto.node ∙ pre.1, omega (arith, pre.0))
+    (pre.0, put-slot2.auto.0 ∙ put-slot.auto.0 ∙ pre.1, omega (arith, pre.0))
 
 pub shape_of-node : goal.shape_of-node
 shape_of-node c =
     let put-slot2 = c.put_slot-2 in
     let put-slot = c.put_slot in
-    c.keep.auto.node ∙ put-slot2.auto.node ∙ put-slot.auto.node
+    c.keep.auto.0 ∙ put-slot2.auto.0 ∙ put-slot.auto.0
 
 pub returns : goal.returns
 unfolding All
 returns c =
-    let s = c.before.before.before.before.before.before.before.before.before.before.before.before.before in
-    let n = s.args.g.stride in
-    let lx : length (take n s.args.x.now) ≡ n = front_length n s.args.x.now (omega (arith, s.requires.0, s.requires.2)) in
-    let ly : length (take n s.args.y.now) ≡ n = front_length n s.args.y.now (omega (arith, s.requires.0, s.requires.3)) in
-    let e = both _ _ _ _ _ _ lx (omega (arith, room s, ly)) c.put_slot.ensures c.put_slot-2.ensures in
+    let n = c.args.g.stride in
+    let lx : length (take n c.args.x.now) ≡ n = front_length n c.args.x.now (omega (arith, c.requires.0, c.requires.2)) in
+    let ly : length (take n c.args.y.now) ≡ n = front_length n c.args.y.now (omega (arith, c.requires.0, c.requires.3)) in
+    let e = both _ _ _ _ _ _ lx (omega (arith, room (goal.at.returns c).Start, ly)) c.put_slot.ensures c.put_slot-2.ensures in
     c.keep.ensures ∙ ap words_of
-    (new_node_law _ _ _ (take n s.args.x.now ∷ take n s.args.y.now ∷ []) _ _ (whole _ _ s.requires.0 s.requires.1) (lx, (ly, tt)) (omega (arith, s.requires.0)) e)
+    (new_node_law _ _ _ (take n c.args.x.now ∷ take n c.args.y.now ∷ []) _ _ (whole _ _ c.requires.0 c.requires.1) (lx, (ly, tt)) (omega (arith, c.requires.0)) e)

@@ -1,10 +1,11 @@
 -- `tree_node::write::put_slot`: two words are written, the third and the fourth where a slot has them.
 use Rattle.std.proofs.Common.{◌≡◌, length, refl, ap, ◌∙◌, ⊎_elim, arith, length-set}
 use Rattle.tree_node.proofs.WriteLaws.{slot_put}
+use Rattle.tree_node.proofs.write.put_slot.Goals.{Joined-stride-gt2}
 use Rattle.tree_node.proofs.write.put_slot.Goals as goal
 
 -- the words are as many after the first guard
-same : (c : goal.Joined-stride-gt2) → length c.if-stride-gt2.node ≡ length c.args.node.now
+same : (c : Joined-stride-gt2) → length c.if-stride-gt2.node ≡ length c.args.node.now
 same c = ⊎_elim (λ w. ap length w.2 ∙ simp length-set refl) (λ w. ap length w.1 ∙ simp length-set refl) c.if-stride-gt2.branch
 
 pub bounds-node-p-2 : goal.bounds-node-p-2
@@ -18,26 +19,24 @@ bounds-node-p-then-stride-gt2 c =
 pub bounds-node-p-then-stride-gt3 : goal.bounds-node-p-then-stride-gt3
 bounds-node-p-then-stride-gt3 c =
     let pre = c.requires in
-    omega (arith, same c.before.before, pre.1, c.if-stride-gt3.true)
+    omega (arith, same (goal.at.bounds-node-p-then-stride-gt3 c).Joined-stride-gt2, pre.1, c.if-stride-gt3.true)
 
 pub shape_of-node-then-stride-gt3 : goal.shape_of-node-then-stride-gt3
-shape_of-node-then-stride-gt3 c = simp length-set (same c.before.before)
+shape_of-node-then-stride-gt3 c = simp length-set (same (goal.at.shape_of-node-then-stride-gt3 c).Joined-stride-gt2)
 
 pub returns-then-stride-gt3 : goal.returns-then-stride-gt3
 returns-then-stride-gt3 c =
-    let s = c.before.before.before.before.before in
     let came = c.if-stride-gt2.branch in
-    slot_put s.args.g.stride s.args.p s.args.x.now s.args.node.now c.if-stride-gt2.node _ s.requires.2 s.requires.0.columns s.requires.0.narrow s.requires.1
+    slot_put c.args.g.stride c.args.p c.args.x.now c.args.node.now c.if-stride-gt2.node _ c.requires.2 c.requires.0.columns c.requires.0.narrow c.requires.1
     (λ h. ⊎_elim (λ w. w.2) (λ w. absurd (omega (arith, w.0.left, h))) came) (λ h. ⊎_elim (λ w. absurd (omega (arith, w.0.taken, h))) (λ w. w.1) came)
     (λ _. refl) (λ h. absurd (omega (arith, c.if-stride-gt3.true, h)))
 
 pub shape_of-node-else-stride-gt3 : goal.shape_of-node-else-stride-gt3
-shape_of-node-else-stride-gt3 c = same c.before
+shape_of-node-else-stride-gt3 c = same (goal.at.shape_of-node-else-stride-gt3 c).Joined-stride-gt2
 
 pub returns-else-stride-gt3 : goal.returns-else-stride-gt3
 returns-else-stride-gt3 c =
-    let s = c.before.before.before.before in
     let came = c.if-stride-gt2.branch in
-    slot_put s.args.g.stride s.args.p s.args.x.now s.args.node.now c.if-stride-gt2.node _ s.requires.2 s.requires.0.columns s.requires.0.narrow s.requires.1
+    slot_put c.args.g.stride c.args.p c.args.x.now c.args.node.now c.if-stride-gt2.node _ c.requires.2 c.requires.0.columns c.requires.0.narrow c.requires.1
     (λ h. ⊎_elim (λ w. w.2) (λ w. absurd (omega (arith, w.0.left, h))) came) (λ h. ⊎_elim (λ w. absurd (omega (arith, w.0.taken, h))) (λ w. w.1) came)
     (λ h. absurd (omega (arith, c.if-stride-gt3.false, h))) (λ _. refl)

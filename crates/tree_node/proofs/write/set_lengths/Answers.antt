@@ -2,73 +2,69 @@
 use Rattle.std.proofs.Common.{◌≡◌, ◌+◌, ◌*◌, ◌≤◌, length, refl, ap, ◌∙◌, ⊎_elim, arith, length-set}
 use Rattle.tree_node.specs.Shaped.{whole, slot_in_law}
 use Rattle.tree_node.proofs.WriteLaws.{lengths_put}
+use Rattle.tree_node.proofs.write.set_lengths.Goals.{Joined-stride-gt2, Start}
 use Rattle.tree_node.proofs.write.set_lengths.Goals as goal
 
 -- slot i lies in the node, and has two words or more
-slot : (c : goal.Start) → (3 + c.args.i * c.args.g.stride + c.args.g.stride ≤ length c.args.node.now) × (2 ≤ c.args.g.stride)
+slot : (c : Start) → (3 + c.args.i * c.args.g.stride + c.args.g.stride ≤ length c.args.node.now) × (2 ≤ c.args.g.stride)
 slot c = (slot_in_law c.args.g _ c.requires.0 c.requires.1 c.args.i c.requires.2, c.requires.0.columns)
 
 -- the words are as many after the first guard
-same : (c : goal.Joined-stride-gt2) → length c.if-stride-gt2.node ≡ length c.args.node.now
+same : (c : Joined-stride-gt2) → length c.if-stride-gt2.node ≡ length c.args.node.now
 same c = ⊎_elim (λ w. ap length w.2 ∙ simp length-set refl) (λ w. ap length w.1 ∙ simp length-set refl) c.if-stride-gt2.branch
 
 pub overflow_mul-p : goal.overflow_mul-p
-overflow_mul-p c = omega (arith, slot c)
+overflow_mul-p c = omega (arith, slot (goal.at.overflow_mul-p c).Start)
 
 pub overflow_add-p : goal.overflow_add-p
-overflow_add-p c = omega (arith, slot c)
+overflow_add-p c = omega (arith, slot (goal.at.overflow_add-p c).Start)
 
 pub overflow_add-node : goal.overflow_add-node
-overflow_add-node c = omega (arith, slot c.before)
+overflow_add-node c = omega (arith, slot (goal.at.overflow_add-node c).Start)
 
 pub offset_bounds-node-p : goal.offset_bounds-node-p
-offset_bounds-node-p c = omega (arith, slot c.before)
+offset_bounds-node-p c = omega (arith, slot (goal.at.offset_bounds-node-p c).Start)
 
 pub bounds-node-p : goal.bounds-node-p
-bounds-node-p c = omega (arith, slot c.before)
+bounds-node-p c = omega (arith, slot (goal.at.bounds-node-p c).Start)
 
 pub overflow_add-node-then-stride-gt2 : goal.overflow_add-node-then-stride-gt2
-overflow_add-node-then-stride-gt2 c = omega (arith, slot c.before.before.before, c.if-stride-gt2.true)
+overflow_add-node-then-stride-gt2 c = omega (arith, slot (goal.at.overflow_add-node-then-stride-gt2 c).Start, c.if-stride-gt2.true)
 
 pub offset_bounds-node-p-then-stride-gt2 : goal.offset_bounds-node-p-then-stride-gt2
-offset_bounds-node-p-then-stride-gt2 c = omega (arith, slot c.before.before.before, c.if-stride-gt2.true)
+offset_bounds-node-p-then-stride-gt2 c = omega (arith, slot (goal.at.offset_bounds-node-p-then-stride-gt2 c).Start, c.if-stride-gt2.true)
 
 pub bounds-node-p-then-stride-gt2 : goal.bounds-node-p-then-stride-gt2
-bounds-node-p-then-stride-gt2 c = simp length-set (omega (arith, slot c.before.before.before, c.if-stride-gt2.true))
+bounds-node-p-then-stride-gt2 c = simp length-set (omega (arith, slot (goal.at.bounds-node-p-then-stride-gt2 c).Start, c.if-stride-gt2.true))
 
 pub overflow_add-node-then-stride-gt3 : goal.overflow_add-node-then-stride-gt3
 overflow_add-node-then-stride-gt3 c =
-    let before = c.before.before.before.before in
-    omega (arith, slot before, c.if-stride-gt3.true)
+    omega (arith, slot (goal.at.overflow_add-node-then-stride-gt3 c).Start, c.if-stride-gt3.true)
 
 pub offset_bounds-node-p-then-stride-gt3 : goal.offset_bounds-node-p-then-stride-gt3
 offset_bounds-node-p-then-stride-gt3 c =
-    let before = c.before.before.before.before in
-    omega (arith, slot before, c.if-stride-gt3.true)
+    omega (arith, slot (goal.at.offset_bounds-node-p-then-stride-gt3 c).Start, c.if-stride-gt3.true)
 
 pub bounds-node-p-then-stride-gt3 : goal.bounds-node-p-then-stride-gt3
 bounds-node-p-then-stride-gt3 c =
-    let before = c.before.before.before.before in
-    omega (arith, same c.before.before, slot before, c.if-stride-gt3.true)
+    omega (arith, same (goal.at.bounds-node-p-then-stride-gt3 c).Joined-stride-gt2, slot (goal.at.bounds-node-p-then-stride-gt3 c).Start, c.if-stride-gt3.true)
 
 pub shape_of-node-then-stride-gt3 : goal.shape_of-node-then-stride-gt3
-shape_of-node-then-stride-gt3 c = simp length-set (same c.before.before)
+shape_of-node-then-stride-gt3 c = simp length-set (same (goal.at.shape_of-node-then-stride-gt3 c).Joined-stride-gt2)
 
 pub returns-then-stride-gt3 : goal.returns-then-stride-gt3
 returns-then-stride-gt3 c =
-    let s = c.before.before.before.before in
     let came = c.if-stride-gt2.branch in
-    lengths_put s.args.g.stride s.args.g.fan s.args.i s.args.x.now s.args.node.now c.if-stride-gt2.node _ (whole _ _ s.requires.0 s.requires.1) s.requires.2 s.requires.3 s.requires.0.columns s.requires.0.narrow
+    lengths_put c.args.g.stride c.args.g.fan c.args.i c.args.x.now c.args.node.now c.if-stride-gt2.node _ (whole _ _ c.requires.0 c.requires.1) c.requires.2 c.requires.3 c.requires.0.columns c.requires.0.narrow
     (λ h. ⊎_elim (λ w. w.2) (λ w. absurd (omega (arith, w.0.left, h))) came) (λ h. ⊎_elim (λ w. absurd (omega (arith, w.0.taken, h))) (λ w. w.1) came)
     (λ _. refl) (λ h. absurd (omega (arith, c.if-stride-gt3.true, h)))
 
 pub shape_of-node-else-stride-gt3 : goal.shape_of-node-else-stride-gt3
-shape_of-node-else-stride-gt3 c = same c.before
+shape_of-node-else-stride-gt3 c = same (goal.at.shape_of-node-else-stride-gt3 c).Joined-stride-gt2
 
 pub returns-else-stride-gt3 : goal.returns-else-stride-gt3
 returns-else-stride-gt3 c =
-    let s = c.before.before.before in
     let came = c.if-stride-gt2.branch in
-    lengths_put s.args.g.stride s.args.g.fan s.args.i s.args.x.now s.args.node.now c.if-stride-gt2.node _ (whole _ _ s.requires.0 s.requires.1) s.requires.2 s.requires.3 s.requires.0.columns s.requires.0.narrow
+    lengths_put c.args.g.stride c.args.g.fan c.args.i c.args.x.now c.args.node.now c.if-stride-gt2.node _ (whole _ _ c.requires.0 c.requires.1) c.requires.2 c.requires.3 c.requires.0.columns c.requires.0.narrow
     (λ h. ⊎_elim (λ w. w.2) (λ w. absurd (omega (arith, w.0.left, h))) came) (λ h. ⊎_elim (λ w. absurd (omega (arith, w.0.taken, h))) (λ w. w.1) came)
     (λ h. absurd (omega (arith, c.if-stride-gt3.false, h))) (λ _. refl)

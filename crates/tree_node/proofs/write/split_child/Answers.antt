@@ -2,13 +2,14 @@
 use Rattle.std.proofs.Common.{◌≡◌, ℕ, ◌+◌, ◌≤◌, Bool, cond, ◌∙◌, ⊎_elim, arith}
 use Rattle.tree_node.specs.Shaped.{whole}
 use Rattle.tree_node.proofs.WriteLaws.{lengths_first, split_taken}
+use Rattle.tree_node.proofs.write.split_child.Goals.{Joined-before}
 use Rattle.tree_node.proofs.write.split_child.Goals as goal
 
 -- the place where x is put
 abbrev Put : Bool → ℕ → ℕ → Type 0
 Put before i step = (step ≤ 1) × (i + step ≡ cond before i (i + 1))
 
-place : (c : goal.Joined-before) → Put c.args.before c.args.i c.if-before.step
+place : (c : Joined-before) → Put c.args.before c.args.i c.if-before.step
 place c = ⊎_elim (λ w. (omega arith, rw w.0.taken (omega arith))) (λ w. (omega arith, rw w.0.left (omega arith))) c.if-before.branch
 
 pub take_lengths-requires : goal.take_lengths-requires
@@ -17,13 +18,12 @@ take_lengths-requires c = (c.requires.0, c.requires.1, omega (arith, c.requires.
 pub overflow_add-i : goal.overflow_add-i
 overflow_add-i c =
     let pre = c.requires in
-    omega (arith, place c.before.before, pre.0, pre.2, pre.3)
+    omega (arith, place (goal.at.overflow_add-i c).Joined-before, pre.0, pre.2, pre.3)
 
 pub insert-requires : goal.insert-requires
 insert-requires c =
-    let s = c.before.before.before.before.before.before.before.before in
     let k = lengths_first _ _ _ _ _ _ c.take_lengths.ensures in
-    (s.requires.0, c.take_lengths.auto.0 ∙ s.requires.1, omega (arith, k, place c.before.before, s.requires.2), omega (arith, k, s.requires.3), s.requires.4)
+    (c.requires.0, c.take_lengths.auto.0 ∙ c.requires.1, omega (arith, k, place (goal.at.insert-requires c).Joined-before, c.requires.2), omega (arith, k, c.requires.3), c.requires.4)
 
 pub shape_of-node : goal.shape_of-node
 shape_of-node c =
@@ -32,6 +32,5 @@ shape_of-node c =
 
 pub returns : goal.returns
 returns c =
-    let s = c.before.before.before.before.before.before.before.before.before.before.before in
-    c.insert.ensures ∙ rw (place c.before.before.before.before.before).1
-    (split_taken s.args.g.stride s.args.g.fan s.args.before s.args.i s.args.x.now s.args.node.now _ (whole _ _ s.requires.0 s.requires.1) s.requires.4 s.requires.0.columns s.requires.0.narrow (omega (arith, s.requires.2, s.requires.3)) c.take_lengths.ensures)
+    c.insert.ensures ∙ rw (place (goal.at.returns c).Joined-before).1
+    (split_taken c.args.g.stride c.args.g.fan c.args.before c.args.i c.args.x.now c.args.node.now _ (whole _ _ c.requires.0 c.requires.1) c.requires.4 c.requires.0.columns c.requires.0.narrow (omega (arith, c.requires.2, c.requires.3)) c.take_lengths.ensures)

@@ -3,128 +3,123 @@ use Rattle.std.proofs.Common.{◌≡◌, ℕ, ◌+◌, ◌-◌, ◌*◌, ◌^◌
 use Rattle.model.specs.Node.{minus, wrap}
 use Rattle.tree_node.specs.Shaped.{whole, slot_in_law}
 use Rattle.tree_node.proofs.WriteLaws.{four_words, lengths_changed}
+use Rattle.tree_node.proofs.write.take_lengths.Goals.{Joined-stride-gt2, Start}
 use Rattle.tree_node.proofs.write.take_lengths.Goals as goal
 
 -- slot i lies in the node, and has two words or more
-slot : (c : goal.Start) → (3 + c.args.i * c.args.g.stride + c.args.g.stride ≤ length c.args.node.now) × (2 ≤ c.args.g.stride)
+slot : (c : Start) → (3 + c.args.i * c.args.g.stride + c.args.g.stride ≤ length c.args.node.now) × (2 ≤ c.args.g.stride)
 slot c = (slot_in_law c.args.g _ c.requires.0 c.requires.1 c.args.i c.requires.2, c.requires.0.columns)
 
 -- the words are as many after the first guard
-same : (c : goal.Joined-stride-gt2) → length c.if-stride-gt2.node ≡ length c.args.node.now
+same : (c : Joined-stride-gt2) → length c.if-stride-gt2.node ≡ length c.args.node.now
 same c = ⊎_elim (λ w. ap length w.4 ∙ simp length-set refl) (λ w. ap length w.1 ∙ simp length-set refl) c.if-stride-gt2.branch
 
 pub overflow_mul-p : goal.overflow_mul-p
-overflow_mul-p c = omega (arith, slot c.before)
+overflow_mul-p c = omega (arith, slot (goal.at.overflow_mul-p c).Start)
 
 pub overflow_add-p : goal.overflow_add-p
-overflow_add-p c = omega (arith, slot c.before)
+overflow_add-p c = omega (arith, slot (goal.at.overflow_add-p c).Start)
 
 pub overflow_add-p-2 : goal.overflow_add-p-2
-overflow_add-p-2 c = omega (arith, slot c.before)
+overflow_add-p-2 c = omega (arith, slot (goal.at.overflow_add-p-2 c).Start)
 
 pub offset_bounds-node-p : goal.offset_bounds-node-p
-offset_bounds-node-p c = omega (arith, slot c.before)
+offset_bounds-node-p c = omega (arith, slot (goal.at.offset_bounds-node-p c).Start)
+
+pub bounds-node-p : goal.bounds-node-p
+bounds-node-p c = omega (arith, slot (goal.at.bounds-node-p c).Start)
 
 pub overflow_add-node : goal.overflow_add-node
 overflow_add-node c =
-    let before = c.before.before.before.before in
-    omega (arith, slot before)
+    omega (arith, slot (goal.at.overflow_add-node c).Start)
 
 pub offset_bounds-node-p-2 : goal.offset_bounds-node-p-2
 offset_bounds-node-p-2 c =
-    let before = c.before.before.before.before in
-    omega (arith, slot before)
+    omega (arith, slot (goal.at.offset_bounds-node-p-2 c).Start)
 
 pub bounds-node-p-2 : goal.bounds-node-p-2
 bounds-node-p-2 c =
-    let before = c.before.before.before.before in
-    omega (arith, slot before)
+    omega (arith, slot (goal.at.bounds-node-p-2 c).Start)
 
 pub overflow_add-p-then-stride-gt2 : goal.overflow_add-p-then-stride-gt2
 overflow_add-p-then-stride-gt2 c =
-    let before = c.before.before.before.before.before in
-    omega (arith, slot before, c.if-stride-gt2.true)
+    omega (arith, slot (goal.at.overflow_add-p-then-stride-gt2 c).Start, c.if-stride-gt2.true)
 
 pub offset_bounds-node-p-then-stride-gt2 : goal.offset_bounds-node-p-then-stride-gt2
 offset_bounds-node-p-then-stride-gt2 c =
-    let before = c.before.before.before.before.before in
-    omega (arith, slot before, c.if-stride-gt2.true)
+    omega (arith, slot (goal.at.offset_bounds-node-p-then-stride-gt2 c).Start, c.if-stride-gt2.true)
+
+pub bounds-node-p-then-stride-gt2 : goal.bounds-node-p-then-stride-gt2
+bounds-node-p-then-stride-gt2 c =
+    simp length-set (omega (arith, slot (goal.at.bounds-node-p-then-stride-gt2 c).Start, c.if-stride-gt2.true))
 
 pub overflow_add-node-then-stride-gt2 : goal.overflow_add-node-then-stride-gt2
 overflow_add-node-then-stride-gt2 c =
-    let before = c.before.before.before.before.before.before.before.before in
     let if1 = c.if-stride-gt2 in
-    omega (arith, slot before, if1.true)
+    omega (arith, slot (goal.at.overflow_add-node-then-stride-gt2 c).Start, if1.true)
 
 pub offset_bounds-node-p-then-stride-gt2-2 : goal.offset_bounds-node-p-then-stride-gt2-2
 offset_bounds-node-p-then-stride-gt2-2 c =
-    let before = c.before.before.before.before.before.before.before.before in
     let if1 = c.if-stride-gt2 in
-    omega (arith, slot before, if1.true)
+    omega (arith, slot (goal.at.offset_bounds-node-p-then-stride-gt2-2 c).Start, if1.true)
 
 pub bounds-node-p-then-stride-gt2-2 : goal.bounds-node-p-then-stride-gt2-2
 bounds-node-p-then-stride-gt2-2 c =
-    let before = c.before.before.before.before.before.before.before.before in
     let if1 = c.if-stride-gt2 in
-    simp length-set (omega (arith, slot before, if1.true))
+    simp length-set (omega (arith, slot (goal.at.bounds-node-p-then-stride-gt2-2 c).Start, if1.true))
 
 pub overflow_add-p-then-stride-gt3 : goal.overflow_add-p-then-stride-gt3
 overflow_add-p-then-stride-gt3 c =
-    let before = c.before.before.before.before.before.before in
-    omega (arith, slot before, c.if-stride-gt3.true)
+    omega (arith, slot (goal.at.overflow_add-p-then-stride-gt3 c).Start, c.if-stride-gt3.true)
 
 pub offset_bounds-node-p-then-stride-gt3 : goal.offset_bounds-node-p-then-stride-gt3
 offset_bounds-node-p-then-stride-gt3 c =
-    let before = c.before.before.before.before.before.before in
-    omega (arith, slot before, c.if-stride-gt3.true)
+    omega (arith, slot (goal.at.offset_bounds-node-p-then-stride-gt3 c).Start, c.if-stride-gt3.true)
+
+pub bounds-node-p-then-stride-gt3 : goal.bounds-node-p-then-stride-gt3
+bounds-node-p-then-stride-gt3 c =
+    omega (arith, same (goal.at.bounds-node-p-then-stride-gt3 c).Joined-stride-gt2, slot (goal.at.bounds-node-p-then-stride-gt3 c).Start, c.if-stride-gt3.true)
 
 pub overflow_add-node-then-stride-gt3 : goal.overflow_add-node-then-stride-gt3
 overflow_add-node-then-stride-gt3 c =
-    let before = c.before.before.before.before.before.before.before.before.before in
     let if2 = c.if-stride-gt3 in
-    omega (arith, slot before, if2.true)
+    omega (arith, slot (goal.at.overflow_add-node-then-stride-gt3 c).Start, if2.true)
 
 pub offset_bounds-node-p-then-stride-gt3-2 : goal.offset_bounds-node-p-then-stride-gt3-2
 offset_bounds-node-p-then-stride-gt3-2 c =
-    let before = c.before.before.before.before.before.before.before.before.before in
     let if2 = c.if-stride-gt3 in
-    omega (arith, slot before, if2.true)
+    omega (arith, slot (goal.at.offset_bounds-node-p-then-stride-gt3-2 c).Start, if2.true)
 
 pub bounds-node-p-then-stride-gt3-2 : goal.bounds-node-p-then-stride-gt3-2
 bounds-node-p-then-stride-gt3-2 c =
-    let before = c.before.before.before.before in
-    let the-before = c.before.before.before.before.before.before.before.before.before in
     let if2 = c.if-stride-gt3 in
-    omega (arith, same before, slot the-before, if2.true)
+    omega (arith, same (goal.at.bounds-node-p-then-stride-gt3-2 c).Joined-stride-gt2, slot (goal.at.bounds-node-p-then-stride-gt3-2 c).Start, if2.true)
 
 pub shape_of-node-then-stride-gt3 : goal.shape_of-node-then-stride-gt3
 shape_of-node-then-stride-gt3 c =
-    let before = c.before.before.before.before in
-    simp length-set (same before)
+    simp length-set (same (goal.at.shape_of-node-then-stride-gt3 c).Joined-stride-gt2)
 
 pub returns-then-stride-gt3 : goal.returns-then-stride-gt3
 unfolding minus
 returns-then-stride-gt3 c =
-    let s = c.before.before.before.before.before.before.before.before.before in
-    let p : ℕ = 3 + s.args.i * s.args.g.stride in
-    let one : List ℕ = set s.args.node.now (p + 1) c.less.result in
+    let p : ℕ = 3 + c.args.i * c.args.g.stride in
+    let one : List ℕ = set c.args.node.now (p + 1) c.less.result in
     let came = c.if-stride-gt2.branch in
-    lengths_changed (λ x y. wrap (x + (2 ^ 32 - y))) s.args.g.stride s.args.g.fan s.args.i _ _ _ c.less.result (drop 1 s.args.x.now) s.args.node.now c.if-stride-gt2.node _
-    (whole _ _ s.requires.0 s.requires.1) s.requires.2 (ap (drop 1) (four_words s.args.x.now s.requires.3)) s.requires.0.columns s.requires.0.narrow c.less.ensures
+    lengths_changed (λ x y. wrap (x + (2 ^ 32 - y))) c.args.g.stride c.args.g.fan c.args.i _ _ _ c.less.result (drop 1 c.args.x.now) c.args.node.now c.if-stride-gt2.node _
+    (whole _ _ c.requires.0 c.requires.1) c.requires.2 (ap (drop 1) (four_words c.args.x.now c.requires.3)) c.requires.0.columns c.requires.0.narrow c.less.ensures
     (λ h. ⊎_elim (λ w. w.4 ∙ ap (set one (p + 2)) w.3.ensures) (λ w. absurd (omega (arith, w.0.left, h))) came) (λ h. ⊎_elim (λ w. absurd (omega (arith, w.0.taken, h))) (λ w. w.1) came)
     (λ _. ap (set c.if-stride-gt2.node (p + 3)) c.less-then-stride-gt3.ensures) (λ h. absurd (omega (arith, c.if-stride-gt3.true, h)))
 
 pub shape_of-node-else-stride-gt3 : goal.shape_of-node-else-stride-gt3
-shape_of-node-else-stride-gt3 c = same c.before
+shape_of-node-else-stride-gt3 c = same (goal.at.shape_of-node-else-stride-gt3 c).Joined-stride-gt2
 
 pub returns-else-stride-gt3 : goal.returns-else-stride-gt3
 unfolding minus
 returns-else-stride-gt3 c =
-    let s = c.before.before.before.before.before.before in
-    let p : ℕ = 3 + s.args.i * s.args.g.stride in
-    let one : List ℕ = set s.args.node.now (p + 1) c.less.result in
+    let p : ℕ = 3 + c.args.i * c.args.g.stride in
+    let one : List ℕ = set c.args.node.now (p + 1) c.less.result in
     let came = c.if-stride-gt2.branch in
-    lengths_changed (λ x y. wrap (x + (2 ^ 32 - y))) s.args.g.stride s.args.g.fan s.args.i _ _ _ c.less.result (drop 1 s.args.x.now) s.args.node.now c.if-stride-gt2.node _
-    (whole _ _ s.requires.0 s.requires.1) s.requires.2 (ap (drop 1) (four_words s.args.x.now s.requires.3)) s.requires.0.columns s.requires.0.narrow c.less.ensures
+    lengths_changed (λ x y. wrap (x + (2 ^ 32 - y))) c.args.g.stride c.args.g.fan c.args.i _ _ _ c.less.result (drop 1 c.args.x.now) c.args.node.now c.if-stride-gt2.node _
+    (whole _ _ c.requires.0 c.requires.1) c.requires.2 (ap (drop 1) (four_words c.args.x.now c.requires.3)) c.requires.0.columns c.requires.0.narrow c.less.ensures
     (λ h. ⊎_elim (λ w. w.4 ∙ ap (set one (p + 2)) w.3.ensures) (λ w. absurd (omega (arith, w.0.left, h))) came) (λ h. ⊎_elim (λ w. absurd (omega (arith, w.0.taken, h))) (λ w. w.1) came)
     (λ h. absurd (omega (arith, c.if-stride-gt3.false, h))) (λ _. refl)

@@ -1,0 +1,13 @@
+-- `calls_audit::nodes::is_empty_from`: the test of the slots from here on is the test of all.
+use Prim.Native.Nat.{◌-◌}
+use mathlib.Core.Path.{◌≡◌}
+use Rattle.model.specs.Kind.{stride}
+use Rattle.model.specs.Audit.{every}
+use Rattle.model.specs.declared.shape.Kind.{Kind}
+use Rattle.calls_audit.proofs.nodes.is_empty_from.Given as goal
+
+abbrev pub invariant-loop-i : goal.invariant-loop-i
+invariant-loop-i l = (K : Kind) → l.g.stride ≡ stride K → every (empty_at K l.g l.k l.area) l.i (l.fan - l.i) ≡ every (empty_at K l.g l.k l.area) l.len (l.fan - l.len)
+
+abbrev pub decreases-loop-i : goal.decreases-loop-i
+decreases-loop-i l = l.fan - l.i

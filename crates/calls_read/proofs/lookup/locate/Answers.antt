@@ -1,0 +1,10 @@
+-- `calls_read::lookup::locate`: the lookup on a tree of any kind, with three lengths an entry and the effect as view 1.
+use Rattle.std.proofs.Common.{arith}
+use Rattle.tree_open.proofs.ReadyLaws.{view_few}
+use Rattle.calls_read.proofs.lookup.locate.Goals as goal
+
+pub locate-requires : goal.locate-requires
+locate-requires c = (omega arith, omega arith, omega arith, rw c.number.ensures (view_few c.args.view))
+
+pub returns : goal.returns
+returns c = (rw c.number.ensures at c.locate.ensures.0, c.locate.ensures.1)

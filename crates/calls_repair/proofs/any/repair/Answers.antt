@@ -1,0 +1,39 @@
+-- Where fan, limit and areas are good the tree is tested and mended, else their cause is answered.
+use Rattle.model.specs.State.{state}
+use Rattle.calls_repair.proofs.AnswerLaws.{call_stops, opens, call_goes}
+use Rattle.calls_repair.proofs.any.repair.Goals as goal
+
+pub open_areas-requires : goal.open_areas-requires
+open_areas-requires c =
+    let pre = c.requires in
+    (pre.0, pre.1)
+
+pub with_queue-requires : goal.with_queue-requires
+with_queue-requires c =
+    let args = c.args in
+    let pre = c.requires in
+    let open-areas = c.open_areas in
+    let g = c.g-1 in
+    opens args.views args.effect args.ordered (pre.0, pre.1)
+    (state args.head args.leaves.now args.inners.now args.homes.now)
+    (open-areas.ensures args.effect) g.given.1
+
+pub returns-in-Refused : goal.returns-in-Refused
+returns-in-Refused c =
+    let args = c.args in
+    let pre = c.requires in
+    let open-areas = c.open_areas in
+    call_stops args.views args.effect args.ordered (pre.0, pre.1)
+    (state args.head args.leaves.now args.inners.now args.homes.now)
+    (open-areas.ensures args.effect) args.fair c.n-1.given.1
+
+pub returns-in-Good : goal.returns-in-Good
+returns-in-Good c =
+    let args = c.args in
+    let pre = c.requires in
+    let open-areas = c.open_areas in
+    let g = c.g-1 in
+    let with-queue = c.with_queue in
+    call_goes args.views args.effect args.ordered (pre.0, pre.1)
+    (state args.head args.leaves.now args.inners.now args.homes.now)
+    (open-areas.ensures args.effect) args.fair g.given.1 with-queue.ensures

@@ -1,0 +1,9 @@
+-- `list_row::answer::named`: each case has its number and values.
+
+use Rattle.list_row.proofs.answer.named.Goals as goal
+
+pub returns-in-Entry : goal.returns-in-Entry
+returns-in-Entry c = rw c.answer-1.given.1 c.done.ensures
+
+pub returns-in-Refused : goal.returns-in-Refused
+returns-in-Refused c = rw c.answer-in-Refused-1.given.1 c.refuse.ensures

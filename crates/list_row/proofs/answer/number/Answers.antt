@@ -1,0 +1,9 @@
+-- `list_row::answer::number`: each case has its number and values.
+
+use Rattle.list_row.proofs.answer.number.Goals as goal
+
+pub returns-in-Is : goal.returns-in-Is
+returns-in-Is c = rw c.answer-1.given.1 c.done.ensures
+
+pub returns-in-Refused : goal.returns-in-Refused
+returns-in-Refused c = rw c.answer-in-Refused-1.given.1 c.refuse.ensures

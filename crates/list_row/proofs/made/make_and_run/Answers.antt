@@ -1,0 +1,26 @@
+-- `list_row::made::make_and_run`: the tree that make leaves stands for the row that it begins, so the run on it answers as that row does.
+use Prim.Native.Nat.{ℕ}
+use native.Mathlib.Omega.{arith}
+use Rattle.list_row.proofs.MadeLaws.{three_words, make_refused, make_done}
+use Rattle.list_row.proofs.made.make_and_run.Goals as goal
+
+pub returns-in-Done : goal.returns-in-Done
+returns-in-Done c =
+    let args = c.args in
+    let good = c.well-formed in
+    let bytes = c.shared_slice_known-1 in
+    let new = c.new-made in
+    let words = three_words args.lengths.prepare args.lengths.effect args.lengths.lines (omega (arith, good)) (omega (arith, good)) (omega (arith, good)) in
+    make_done _ _ _ args.leaves.now args.inners.now args.homes.now words args.records.now args.out.now (λ (i : ℕ). omega (arith, bytes.given i)) _ _
+    new.ensures c.enum_told-1.given.1 _
+    c.run.ensures.0
+
+pub returns-in-Refused : goal.returns-in-Refused
+returns-in-Refused c =
+    let args = c.args in
+    let good = c.well-formed in
+    let bytes = c.shared_slice_known-1 in
+    let new = c.new-made in
+    let words = three_words args.lengths.prepare args.lengths.effect args.lengths.lines (omega (arith, good)) (omega (arith, good)) (omega (arith, good)) in
+    make_refused _ _ _ args.leaves.now args.inners.now args.homes.now words args.records.now args.out.now (λ (i : ℕ). omega (arith, bytes.given i)) _ _
+    new.ensures _ c.answer-1.given.1

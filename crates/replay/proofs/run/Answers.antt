@@ -1,0 +1,12 @@
+-- `replay::run`: the areas stay as long as they are; each turn uses one up.
+use mathlib.Core.Path.{refl, ◌∙◌}
+use Rattle.replay.proofs.run.Goals as goal
+
+pub loop-turns-init : goal.loop-turns-init
+loop-turns-init c = (refl, refl, refl)
+
+pub loop-turns-preserved : goal.loop-turns-preserved
+loop-turns-preserved c =
+    let list = c.list in
+    let the-loop = c.loop-turns in
+    (list.auto.0 ∙ the-loop.invariant.0, list.auto.1.0 ∙ the-loop.invariant.1, list.auto.1.1.0 ∙ the-loop.invariant.2)

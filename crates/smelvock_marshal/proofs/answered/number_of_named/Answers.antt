@@ -1,0 +1,12 @@
+-- `smelvock_marshal::answered::number_of_named`: one case of the answer at a time.
+use mathlib.Core.Path.{sym, ap, ◌∙◌}
+use Rattle.model.specs.Answer.{named_answer}
+use Rattle.model.specs.declared.answer.Named.{Named}
+use Rattle.smelvock_marshal.specs.Flat.{number_of}
+use Rattle.smelvock_marshal.proofs.answered.number_of_named.Goals as goal
+
+pub returns-in-Entry : goal.returns-in-Entry
+returns-in-Entry c = ap (λ (x : Named). number_of (named_answer x)) (sym c.a-1.given.1)
+
+pub returns-in-Refused : goal.returns-in-Refused
+returns-in-Refused c = c.refused_number.ensures ∙ ap (λ (x : Named). number_of (named_answer x)) (sym c.a-in-Refused-1.given.1)

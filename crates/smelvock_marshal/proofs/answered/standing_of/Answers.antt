@@ -1,0 +1,13 @@
+-- `smelvock_marshal::answered::standing_of`: one case of the answer at a time.
+use mathlib.Core.Path.{sym, ap, ◌∙◌}
+use Rattle.model.specs.Answer.{standing_answer}
+use Rattle.model.specs.declared.answer.Standing.{Standing}
+use Rattle.smelvock_marshal.specs.Flat.{standing_of}
+use Rattle.smelvock_marshal.proofs.AnswerLaws.{standing}
+use Rattle.smelvock_marshal.proofs.answered.standing_of.Goals as goal
+
+pub returns-in-At : goal.returns-in-At
+returns-in-At c = ap (standing 0) c.cursor_of.ensures ∙ ap (λ (x : Standing). standing_of (standing_answer x)) (sym c.a-1.given.1)
+
+pub returns-in-Refused : goal.returns-in-Refused
+returns-in-Refused c = c.refused_standing.ensures ∙ ap (λ (x : Standing). standing_of (standing_answer x)) (sym c.a-in-Refused-1.given.1)

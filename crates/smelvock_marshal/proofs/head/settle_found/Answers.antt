@@ -1,0 +1,22 @@
+-- `smelvock_marshal::head::settle_found`: the finger alone can differ, and is written where the number is 0.
+use Rattle.smelvock_marshal.proofs.HeadLaws.{put_fingered, after_done, after_refused}
+use Rattle.smelvock_marshal.proofs.head.settle_found.Goals as goal
+
+pub put_found-requires : goal.put_found-requires
+put_found-requires c =
+    let pre = c.requires in
+    (pre.0, pre.3)
+
+pub shape_of-head : goal.shape_of-head
+shape_of-head c = c.put_found.auto.0
+
+pub returns-then-number-eq0 : goal.returns-then-number-eq0
+returns-then-number-eq0 c =
+    let args = c.args in
+    let pre = c.requires in
+    let if1 = c.if-number-eq0 in
+    after_done args.number args.h args.head.now _ if1.true
+    (put_fingered args.h args.head.now _ pre.0 pre.1 (pre.2 if1.true) c.put_found.ensures)
+
+pub returns-else-number-eq0 : goal.returns-else-number-eq0
+returns-else-number-eq0 c = after_refused c.args.number c.args.h c.args.head.now c.if-number-eq0.false

@@ -1,0 +1,44 @@
+-- `smelvock_planning::change::smelvock_plan_insert`: 10 where the head is bad, else what the call answers in words, and its head where it was done.
+use mathlib.Core.Path.{refl, sym, ap, ◌∙◌}
+use mathlib.Core.List.{[], ◌∷◌}
+use Rattle.model.specs.State.{state}
+use Rattle.model.specs.Plan as plan
+use Rattle.model.specs.Plan.{tree_plan}
+use Rattle.model.specs.declared.head.Head.{Head}
+use Rattle.smelvock_marshal.specs.Flat.{head_after, inserted_of}
+use Rattle.smelvock_marshal.specs.Lent.{given}
+use Rattle.smelvock_marshal.specs.declared.flat.FlatInserted.{FlatInserted}
+use Rattle.smelvock_marshal.proofs.HeadLaws.{good_head}
+use Rattle.smelvock_marshal.proofs.LentLaws.{left_refused, left_settled}
+use Rattle.smelvock_planning.specs.Calls as flat
+use Rattle.smelvock_planning.proofs.change.smelvock_plan_insert.Goals as goal
+
+pub returns-then-bad_head : goal.returns-then-bad_head
+unfolding flat.insert
+returns-then-bad_head c =
+    let a = c.args in
+    let g = given a.head.now a.leaves.now a.inners.now a.homes.now in
+    left_refused inserted_of head_after _ g _ _ (sym c.bad_head.ensures ∙ c.if-bad_head.true) c.refused_inserted.ensures
+
+pub head_from-requires : goal.head_from-requires
+head_from-requires c = good_head _ (sym c.bad_head.ensures ∙ c.if-bad_head.false)
+
+pub settle-requires : goal.settle-requires
+settle-requires c =
+    let bad-head = c.bad_head in
+    let if1 = c.if-bad_head in
+    good_head _ (sym bad-head.ensures ∙ if1.false)
+
+pub returns : goal.returns
+unfolding flat.insert
+returns c =
+    let a = c.args in
+    let bad-head = c.bad_head in
+    let if1 = c.if-bad_head in
+    let inserted-of = c.inserted_of-a in
+    let head-from = c.head_from in
+    let g = given a.head.now a.leaves.now a.inners.now a.homes.now in
+    left_settled inserted_of (λ (q : FlatInserted). q.number) (λ x. refl) _ g _ _ _ _ _ _ _ _
+    (sym bad-head.ensures ∙ if1.false) inserted-of.ensures c.settle.ensures
+    (c.insert-r.ensures
+    ∙ ap (λ (h : Head). tree_plan (state h a.leaves.now a.inners.now a.homes.now) (plan.insert a.id (a.lowest ∷ a.highest ∷ []))) head-from.ensures.0)

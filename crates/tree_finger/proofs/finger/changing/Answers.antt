@@ -1,0 +1,23 @@
+-- `tree_finger::finger::changing`: each case is the definition's.
+use Rattle.std.proofs.Common.{sym}
+use Rattle.model_laws.specs.Locate.{changing_gone, changing_back, changing_kept}
+use Rattle.tree_finger.proofs.finger.changing.Goals as goal
+
+pub returns-in-Absent : goal.returns-in-Absent
+returns-in-Absent c = rw c.enum_told-1.given.1
+
+pub returns-then-slot-f : goal.returns-then-slot-f
+returns-then-slot-f c =
+    let held = c.held-1 in
+    let if1 = c.if-f-leaf in
+    rw (held.given.1, c.rewound.ensures) (sym (changing_back _ _ held.given.0.0 if1.true c.if-slot-f.true))
+
+pub returns-else-slot-f : goal.returns-else-slot-f
+returns-else-slot-f c =
+    let held = c.held-1 in
+    rw held.given.1 (sym (changing_kept _ _ held.given.0.0 c.if-f-leaf.true c.if-slot-f.false))
+
+pub returns-else-f-leaf : goal.returns-else-f-leaf
+returns-else-f-leaf c =
+    let held = c.held-1 in
+    rw held.given.1 (sym (changing_gone _ _ held.given.0.0 c.if-f-leaf.false))

@@ -1,0 +1,13 @@
+-- `tree_finger::finger::served_by`: the definition's two cases.
+
+use Rattle.tree_finger.proofs.finger.served_by.Goals as goal
+
+pub served-requires : goal.served-requires
+served-requires c =
+    (c.requires.0, c.requires.1, c.requires.2, c.requires.3)
+
+pub returns-in-Absent : goal.returns-in-Absent
+returns-in-Absent c = rw c.enum_told-1.given.1
+
+pub returns-in-At : goal.returns-in-At
+returns-in-At c = rw c.held-1.given.1 c.served.ensures

@@ -1,0 +1,79 @@
+-- `tree_finger::finger::walked`: each answer is the definition's at the slot to which the finger goes back.
+use Rattle.std.proofs.Common.{◌-◌, ◌<◌, ◌≤◌, sym, ap, ◌∙◌, arith}
+use Rattle.model.specs.Node.{used}
+use Rattle.model.specs.State.{node_at}
+use Rattle.model_laws.specs.Find.{used_ranged}
+use Rattle.model_laws.specs.Examined.{walk_counted}
+use Rattle.model_laws.specs.Locate.{back_slot, walked_broken, walked_miss, walked_found}
+use Rattle.tree_finger.proofs.finger.walked.Goals.{After-back-b, In-At}
+use Rattle.tree_finger.proofs.finger.walked.Goals as goal
+
+-- the finger goes back to a slot in use
+from : (c : After-back-b) → c.back-b.result.slot < (node_at c.args.g c.args.f.leaf c.args.leaves.now).len
+from c =
+    let a = c.args in
+    omega (
+      arith,
+      ap (λ s. s.slot) c.back-b.ensures,
+      back_slot a.view a.effect (used (node_at a.g a.f.leaf a.leaves.now)) a.index a.f.slot a.f.within
+          a.f.effect_within a.f.prepare_within,
+      c.requires.5,
+    )
+
+-- what was found lies in the leaf, and no more than the index is left
+found : (c : In-At) → (c.found-1.given.0.0 < c.args.g.fan) × (c.found-1.given.0.1.0 ≤ c.args.index)
+found c =
+    let b = c.back-b.result in
+    let f = from c.before.before.before.before.before.before.before in
+    let e = sym c.find_in-found.ensures.finds ∙ c.found-1.given.1 in
+    let r = used_ranged c.args.g _ _ c.args.f.leaf b.slot (c.args.index - b.within) _ _ c.args.leaves.now c.requires.4 (omega arith) in
+    (omega (arith, f, c.requires.4, r.slot _ _ _ _ e), omega (arith, r.offset _ _ _ _ e))
+
+pub back-b-requires : goal.back-b-requires
+back-b-requires c = (c.requires.0, c.requires.1, c.requires.2, c.requires.3, c.requires.4, c.requires.5)
+
+pub returns-then-index-within : goal.returns-then-index-within
+returns-then-index-within c =
+    let args = c.args in
+    let back = c.back-b in
+    walk_counted args.f args.len _ _ (walked_broken _ _ args.f _ _ _ _ _ _ back.ensures c.if-index-within.true)
+
+pub find_in-found-requires : goal.find_in-found-requires
+find_in-found-requires c =
+    (c.requires.0, c.requires.3, c.requires.1, c.requires.2, c.requires.4, omega (arith, from (goal.at.find_in-found-requires c).After-back-b), omega (arith, c.back-b.type-inv), omega (arith, c.back-b.type-inv))
+
+pub returns-in_default : goal.returns-in_default
+returns-in_default c =
+    let args = c.args in
+    let back = c.back-b in
+    let if1 = c.if-index-within in
+    walk_counted args.f args.len _ _ (walked_miss _ _ args.f _ _ _ _ _ _ back.ensures if1.false (sym c.find_in-found.ensures.finds ∙ c.enum_told-1.given.1))
+
+pub overflow_cast-at : goal.overflow_cast-at
+overflow_cast-at c =
+    let pre = c.requires in
+    omega (arith, found (goal.at.overflow_cast-at c).In-At, pre.0.shaped)
+
+pub overflow_sub-finger : goal.overflow_sub-finger
+overflow_sub-finger c = omega (arith, found (goal.at.overflow_sub-finger c).In-At)
+
+pub overflow_cast-finger : goal.overflow_cast-finger
+overflow_cast-finger c = omega arith
+
+pub overflow_cast-finger-2 : goal.overflow_cast-finger-2
+overflow_cast-finger-2 c = omega arith
+
+pub span-requires : goal.span-requires
+span-requires c =
+    let pre = c.requires in
+    (omega (arith, pre.4, pre.5, pre.0.shaped), omega (arith, found (goal.at.span-requires c).In-At, pre.0.shaped))
+
+pub returns : goal.returns
+returns c =
+    let args = c.args in
+    let back = c.back-b in
+    let if1 = c.if-index-within in
+    let find-in = c.find_in-found in
+    rw c.span.ensures
+    (walk_counted args.f args.len _ _
+    (walked_found _ _ args.f _ _ _ _ _ _ back.ensures _ _ _ _ if1.false (sym find-in.ensures.finds ∙ c.found-1.given.1)))

@@ -1,0 +1,21 @@
+-- `tree_open::open::open`: the areas are tested first, then the head's counts.
+use Rattle.model.specs.Kind.{kind}
+use Rattle.tree_open.proofs.OpenLaws.{open_refused, open_astray, open_good}
+use Rattle.tree_open.proofs.open.open.Goals as goal
+
+pub returns-then-astray : goal.returns-then-astray
+returns-then-astray c effect =
+    let open-areas = c.open_areas in
+    let g = c.g-1 in
+    open_astray (kind _ effect) _ _ (open-areas.ensures effect) _ g.given.1 _ c.astray.ensures c.if-astray.true
+
+pub returns-in-Refused : goal.returns-in-Refused
+returns-in-Refused c effect =
+    let open-areas = c.open_areas in
+    open_refused (kind _ effect) _ _ (open-areas.ensures effect) _ c.n-1.given.1
+
+pub returns-else-astray : goal.returns-else-astray
+returns-else-astray c effect =
+    let open-areas = c.open_areas in
+    let g = c.g-1 in
+    open_good (kind _ effect) _ _ (open-areas.ensures effect) _ g.given.1 _ c.astray.ensures c.if-astray.false

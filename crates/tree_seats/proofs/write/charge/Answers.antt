@@ -1,0 +1,22 @@
+-- `tree_seats::write::charge`: nobody or one of eight is charged.
+use Rattle.std.proofs.Common.{ℕ, List, get_or, refl, ap, ◌∙◌}
+use Rattle.tree_seats.specs.Words.{seats_from}
+use Rattle.tree_seats.proofs.RuleLaws.{good_number}
+use Rattle.tree_seats.proofs.WriteLaws.{flag_kept, one_charged, charged_nobody, charged_number}
+use Rattle.tree_seats.proofs.write.charge.Goals as goal
+
+pub one_more-requires : goal.one_more-requires
+one_more-requires c = (c.requires.0, good_number c.args.seats.now c.args.seat _ c.requires.1 c.seat-1.given.1)
+
+pub returns-in-Nobody : goal.returns-in-Nobody
+returns-in-Nobody c = (charged_nobody _ c.args.seat c.enum_told-1.given.1, refl)
+
+pub returns-in-Number : goal.returns-in-Number
+returns-in-Number c =
+    let a = c.args in
+    let seat = c.seat-1.given.1 in
+    let i = good_number a.seats.now a.seat _ c.requires.1 seat in
+    let words = c.one_more.ensures in (
+      charged_number _ a.seat _ seat _ (ap seats_from words ∙ one_charged a.seats.now _ i),
+      ap (λ (w : List ℕ). get_or w 0 0) words ∙ flag_kept a.seats.now _ i _,
+    )
