@@ -15,7 +15,7 @@ list_lines-requires c =
     let difference = c.difference in
     let pre = c.requires in
     let args = c.args in
-    lines_fit args.block.now args.have args.area.now args.first args.second _ _ difference.ensures _ c.n-1.given.1 pre.1 args.out.now pre.2
+    lines_fit args.block.now args.have args.area.now args.first args.second _ _ difference.ensures _ c.in-Is.is pre.1 args.out.now pre.2
 
 pub returns-in-Is : goal.returns-in-Is
 returns-in-Is c =
@@ -26,4 +26,4 @@ returns-in-Is c =
 pub returns-in-Refused : goal.returns-in-Refused
 returns-in-Refused c =
     let difference = c.difference in
-    λ input held. is_refused _ _ _ _ _ _ _ difference.ensures input held _ c.n-in-Refused-1.given.1
+    λ input held. is_refused _ _ _ _ _ _ _ difference.ensures input held _ c.in-Refused.is

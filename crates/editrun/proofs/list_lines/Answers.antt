@@ -32,9 +32,9 @@ loop-i-preserved c =
     let the-loop = c.loop-i in
     let args = c.args in (
       omega arith,
-      omega (arith, the-loop.invariant.1, field_short the-loop.out c.field-end.new.0 the-loop.end c.field-end.result (get_or args.area.now the-loop.i 0) 10 c.field-end.ensures),
-      c.field-end.auto.0 ∙ the-loop.invariant.2,
-      line_more args.area.now args.out.now the-loop.out c.field-end.new.0 the-loop.i the-loop.end c.field-end.result (omega arith) the-loop.invariant.3 c.field-end.ensures,
+      omega (arith, the-loop.invariant.1, field_short the-loop.out c.field-end.new.out the-loop.end c.field-end.result (get_or args.area.now the-loop.i 0) 10 c.field-end.ensures),
+      c.field-end.auto.out ∙ the-loop.invariant.2,
+      line_more args.area.now args.out.now the-loop.out c.field-end.new.out the-loop.i the-loop.end c.field-end.result (omega arith) the-loop.invariant.3 c.field-end.ensures,
     )
 
 pub shape_of-out : goal.shape_of-out

@@ -24,4 +24,4 @@ pub loop-turns-preserved : goal.loop-turns-preserved
 loop-turns-preserved c =
     let turn = c.turn in
     let the-loop = c.loop-turns in
-    (turn.auto.0 ∙ the-loop.invariant.0, the-loop.invariant.1, the-loop.invariant.2, turn.auto.0 ∙ the-loop.invariant.3, the-loop.invariant.4, the-loop.invariant.5, turned_more _ _ _ _ turn.ensures _ c.next-1.given.1 the-loop.invariant.6)
+    (turn.auto.block ∙ the-loop.invariant.0, the-loop.invariant.1, the-loop.invariant.2, turn.auto.block ∙ the-loop.invariant.3, the-loop.invariant.4, the-loop.invariant.5, turned_more _ _ _ _ turn.ensures _ c.in-More.is the-loop.invariant.6)

@@ -8,10 +8,10 @@ pub slice_bounds-write_all-end : goal.slice_bounds-write_all-end
 slice_bounds-write_all-end c =
     let answer = c.answer in
     let pre = c.requires in
-    shown_in _ _ _ _ _ _ _ _ answer.ensures pre.0 _ c.end-1.given.1
+    shown_in _ _ _ _ _ _ _ _ answer.ensures pre.0 _ c.in-Text.is
 
 pub slice_bounds-write_all-end-in-Text : goal.slice_bounds-write_all-end-in-Text
 slice_bounds-write_all-end-in-Text c =
     let answer = c.answer in
     let pre = c.requires in
-    sym (length-take-le _ _ (shown_in _ _ _ _ _ _ _ _ answer.ensures pre.0 _ c.end-1.given.1))
+    sym (length-take-le _ _ (shown_in _ _ _ _ _ _ _ _ answer.ensures pre.0 _ c.in-Text.is))

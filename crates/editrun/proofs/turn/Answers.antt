@@ -16,7 +16,7 @@ returns-then-n-eq0 c =
     let pre = c.requires in
     let read = c.read-got in
     let back = c.block-1 in
-    (take_put args.kept (length args.block.now - args.kept) args.block.now read.new.1.0 (omega (arith, pre)), omega (arith, back.given.1, pre))
+    (take_put args.kept (length args.block.now - args.kept) args.block.now read.new.buf.0 (omega (arith, pre)), omega (arith, back.given.1, pre))
 
 pub returns : goal.returns
 returns c =
@@ -25,8 +25,8 @@ returns c =
     let read = c.read-got in
     let back = c.block-1 in
     let count = c.count-n in
-    let given = put_mid args.kept (length args.block.now - args.kept) args.block.now read.new.1.0 in
-    let same = take_put args.kept (length args.block.now - args.kept) args.block.now read.new.1.0 (omega (arith, pre)) in (
+    let given = put_mid args.kept (length args.block.now - args.kept) args.block.now read.new.buf.0 in
+    let same = take_put args.kept (length args.block.now - args.kept) args.block.now read.new.buf.0 (omega (arith, pre)) in (
       count.result,
       omega (arith, c.if-n-eq0.false),
       λ input held. subst (λ (k : ℕ). InputHeld (input ++ part args.kept count.result given) given k) (sym c.fold.ensures)

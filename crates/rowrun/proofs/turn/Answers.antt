@@ -14,19 +14,19 @@ pub shape_of-block-then-not-write_all : goal.shape_of-block-then-not-write_all
 shape_of-block-then-not-write_all c =
     let answer = c.answer-fed in
     let back = c.block-1 in
-    answer.auto.1.1.1.1.0 ∙ back.given.1
+    answer.auto.leaves.1.1.1.0 ∙ back.given.1
 
 pub shape_of-block-then-n-eq0 : goal.shape_of-block-then-n-eq0
 shape_of-block-then-n-eq0 c =
     let answer = c.answer-fed in
     let back = c.block-1 in
-    answer.auto.1.1.1.1.0 ∙ back.given.1
+    answer.auto.leaves.1.1.1.0 ∙ back.given.1
 
 pub shape_of-block : goal.shape_of-block
 shape_of-block c =
     let answer = c.answer-fed in
     let back = c.block-1 in
-    answer.auto.1.1.1.1.0 ∙ back.given.1
+    answer.auto.leaves.1.1.1.0 ∙ back.given.1
 
 pub returns : goal.returns
 returns c =
@@ -36,12 +36,12 @@ returns c =
     let back = c.block-1 in
     let count = c.count-n in
     let answer = c.answer-fed in
-    let given = put_mid args.kept (length args.block.now - args.kept) args.block.now read.new.1.0 in (
+    let given = put_mid args.kept (length args.block.now - args.kept) args.block.now read.new.buf.0 in (
       given,
       count.result,
       answer.result.end,
       omega (arith, c.if-n-eq0.false),
       within args.kept count.result given (omega (arith, back.given.1, pre)) count.ensures.0.0,
-      take_put args.kept (length args.block.now - args.kept) args.block.now read.new.1.0 (omega (arith, pre)),
+      take_put args.kept (length args.block.now - args.kept) args.block.now read.new.buf.0 (omega (arith, pre)),
       answer.ensures.0,
     )

@@ -20,15 +20,15 @@ pub loop-turns-preserved : goal.loop-turns-preserved
 loop-turns-preserved c =
     let turn = c.turn in
     let the-loop = c.loop-turns in (
-      turn.auto.1.0 ∙ the-loop.invariant.0,
-      turn.auto.1.1.0 ∙ the-loop.invariant.1,
-      turn.auto.1.1.1.0 ∙ the-loop.invariant.2,
-      turn.auto.1.1.1.1.0 ∙ the-loop.invariant.3,
-      turn.auto.1.1.1.1.1.1.0 ∙ the-loop.invariant.4,
+      turn.auto.leaves.0 ∙ the-loop.invariant.0,
+      turn.auto.leaves.1.0 ∙ the-loop.invariant.1,
+      turn.auto.leaves.1.1.0 ∙ the-loop.invariant.2,
+      turn.auto.leaves.1.1.1.0 ∙ the-loop.invariant.3,
+      turn.auto.leaves.1.1.1.1.1.0 ∙ the-loop.invariant.4,
       the-loop.invariant.5,
-      turn.auto.1.1.1.1.0 ∙ the-loop.invariant.6,
-      turn.auto.1.1.1.1.1.1.0 ∙ the-loop.invariant.7,
+      turn.auto.leaves.1.1.1.0 ∙ the-loop.invariant.6,
+      turn.auto.leaves.1.1.1.1.1.0 ∙ the-loop.invariant.7,
       the-loop.invariant.8,
-      kept_of _ _ _ _ _ _ _ _ turn.ensures _ _ c.next-1.given.1,
-      more_row _ _ _ _ _ _ _ _ turn.ensures the-loop.invariant.10 _ _ c.next-1.given.1,
+      kept_of _ _ _ _ _ _ _ _ turn.ensures _ _ c.in-More.is,
+      more_row _ _ _ _ _ _ _ _ turn.ensures the-loop.invariant.10 _ _ c.in-More.is,
     )

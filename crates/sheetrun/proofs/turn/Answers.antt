@@ -13,11 +13,11 @@ returns c =
     let read = c.read-got in
     let back = c.block-1 in
     let count = c.count-n in
-    let given = put_mid args.kept (length args.block.now - args.kept) args.block.now read.new.1.0 in (
+    let given = put_mid args.kept (length args.block.now - args.kept) args.block.now read.new.buf.0 in (
       given,
       count.result,
       omega (arith, c.if-n-eq0.false),
       within args.kept count.result given (omega (arith, back.given.1, pre)) count.ensures.0.0,
-      take_put args.kept (length args.block.now - args.kept) args.block.now read.new.1.0 (omega (arith, pre)),
+      take_put args.kept (length args.block.now - args.kept) args.block.now read.new.buf.0 (omega (arith, pre)),
       c.play-left.ensures,
     )

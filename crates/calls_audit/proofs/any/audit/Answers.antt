@@ -15,7 +15,7 @@ is_sound-requires c =
     let a = c.args in
     let pre = c.requires in
     let open-areas = c.open_areas in
-    let r = room (kind_of a.views a.effect a.ordered) (pre.0, pre.1) a.head.fan a.head.limit a.leaves.now a.inners.now a.homes.now _ (open-areas.ensures a.effect) _ c.g-1.given.1 in (
+    let r = room (kind_of a.views a.effect a.ordered) (pre.0, pre.1) a.head.fan a.head.limit a.leaves.now a.inners.now a.homes.now _ (open-areas.ensures a.effect) _ c.in-Good.is in (
       record { shaped = r.shaped; room = r.leaf_area },
       record { shaped = r.shaped; room = r.inner_area },
       view_wide _ a.views a.head.fan a.head.limit a.effect r.same pre.2,
@@ -33,7 +33,7 @@ pub returns-in-Refused : goal.returns-in-Refused
 returns-in-Refused c =
     let a = c.args in
     let open-areas = c.open_areas in
-    audit_refused (kind_of a.views a.effect a.ordered) (state a.head a.leaves.now a.inners.now a.homes.now) _ (open-areas.ensures a.effect) _ c.n-1.given.1
+    audit_refused (kind_of a.views a.effect a.ordered) (state a.head a.leaves.now a.inners.now a.homes.now) _ (open-areas.ensures a.effect) _ c.in-Refused.is
 
 pub returns-else-is_sound : goal.returns-else-is_sound
 returns-else-is_sound c =

@@ -4,7 +4,6 @@ use mathlib.Core.Path.{sym, ◌∙◌}
 use mathlib.Core.List.{[]}
 use native.Mathlib.Omega.{arith}
 use native.Mathlib.Nat.{lt_of_lt_of_le}
-use borrow.Author.Tests.{not-true, not-false}
 use Rattle.model.specs.State.{state}
 use Rattle.model.specs.Audit.{is_inner}
 use Rattle.calls_audit.proofs.Every.{every_all, every_stop, every_on, every_end}
@@ -23,7 +22,7 @@ returns-then-not-is_inner c K e =
     let args = c.args in
     let the-loop = c.loop-k in
     sym (every_stop (is_inner K (state args.head args.leaves.now args.inners.now [])) _ _ c.loop-k-test.true
-    (sym (c.is_inner.ensures K e) ∙ not-true _ c.if-not-is_inner.true)) ∙ the-loop.invariant K e
+    (sym (c.is_inner.ensures K e) ∙ c.if-not-is_inner.true)) ∙ the-loop.invariant K e
 
 pub overflow_add-k : goal.overflow_add-k
 overflow_add-k c = omega arith
@@ -36,7 +35,7 @@ loop-k-preserved c K e =
     let args = c.args in
     let the-loop = c.loop-k in
     sym (every_on (is_inner K (state args.head args.leaves.now args.inners.now [])) _ _ c.loop-k-test.true
-    (sym (c.is_inner.ensures K e) ∙ not-false _ c.if-not-is_inner.false)) ∙ the-loop.invariant K e
+    (sym (c.is_inner.ensures K e) ∙ c.if-not-is_inner.false)) ∙ the-loop.invariant K e
 
 pub returns : goal.returns
 returns c K e =

@@ -33,7 +33,7 @@ pub returns-then-slot-len_of : goal.returns-then-slot-len_of
 returns-then-slot-len_of c views ordered e =
     let a = c.args in
     let if1 = c.if-view-stride in
-    finger_slot (kind_of views a.effect ordered) a.head a.leaves.now a.inners.now [] a.f _ e if1.false c.if-leaf-head.false _ c.len_of_lem.ensures c.if-slot-len_of.true
+    finger_slot (kind_of views a.effect ordered) a.head a.leaves.now a.inners.now [] a.f _ e if1.false c.if-leaf-head.false _ c.len_of.ensures c.if-slot-len_of.true
 
 pub is_part-requires : goal.is_part-requires
 is_part-requires c =
@@ -47,7 +47,7 @@ returns-then-not-is_part c views ordered e =
     let a = c.args in
     let if1 = c.if-view-stride in
     let if2 = c.if-leaf-head in
-    let len_of_lem = c.len_of_lem in
+    let len_of_lem = c.len_of in
     finger_own (kind_of views a.effect ordered) a.head a.leaves.now a.inners.now [] a.f _ e if1.false if2.false _ len_of_lem.ensures c.if-slot-len_of.false _
     c.is_part.ensures c.if-not-is_part.true
 
@@ -63,7 +63,7 @@ returns c views ordered e =
     let a = c.args in
     let if1 = c.if-view-stride in
     let if2 = c.if-leaf-head in
-    let len_of_lem = c.len_of_lem in
+    let len_of_lem = c.len_of in
     let if3 = c.if-slot-len_of in
     finger_last (kind_of views a.effect ordered) a.head a.leaves.now a.inners.now [] a.f _ e if1.false if2.false _ len_of_lem.ensures if3.false _
     c.is_part.ensures c.if-not-is_part.false _ c.is_beside.ensures

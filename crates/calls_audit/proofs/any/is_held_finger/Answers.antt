@@ -14,9 +14,9 @@ is_finger-requires c =
 pub returns-in-Absent : goal.returns-in-Absent
 returns-in-Absent c views ordered e =
     let a = c.args in
-    ap (is_held_finger (kind_of views a.effect ordered) (state a.head a.leaves.now a.inners.now [])) (sym c.enum_told-1.given.1)
+    ap (is_held_finger (kind_of views a.effect ordered) (state a.head a.leaves.now a.inners.now [])) (sym c.in-Absent.is)
 
 pub returns-in-At : goal.returns-in-At
 returns-in-At c views ordered e =
     let a = c.args in
-    c.is_finger.ensures views ordered e ∙ ap (is_held_finger (kind_of views a.effect ordered) (state a.head a.leaves.now a.inners.now [])) (sym c.held-1.given.1)
+    c.is_finger.ensures views ordered e ∙ ap (is_held_finger (kind_of views a.effect ordered) (state a.head a.leaves.now a.inners.now [])) (sym c.in-At.is)

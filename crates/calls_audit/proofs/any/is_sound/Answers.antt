@@ -15,7 +15,7 @@ pub every_inner-requires : goal.every_inner-requires
 every_inner-requires c =
     let args = c.args in
     let pre = c.requires in
-    let good = sym c.counts.ensures ∙ not-false _ c.if-not-counts.false in
+    let good = sym c.counts.ensures ∙ c.if-not-counts.false in
     (known args.head args.g good _ _ pre.0 pre.1, omega arith)
 
 pub returns-then-not-every_inner : goal.returns-then-not-every_inner
@@ -30,7 +30,7 @@ every_leaf-requires c =
     let args = c.args in
     let pre = c.requires in
     let counts = c.counts in
-    let good = sym counts.ensures ∙ not-false _ c.if-not-counts.false in
+    let good = sym counts.ensures ∙ c.if-not-counts.false in
     (known args.head args.g good _ _ pre.0 pre.1, few_entries args.head args.g good _ pre.3, omega arith)
 
 pub returns-then-not-every_leaf : goal.returns-then-not-every_leaf

@@ -6,4 +6,4 @@ use Rattle.calls_audit.proofs.any.is_sum.Goals as goal
 pub returns-in-Is : goal.returns-in-Is
 returns-in-Is c =
     let args = c.args in
-    ap (is_sum args.n) (sym c.s-1.given.1)
+    ap (is_sum args.n) (sym c.in-Is.is)

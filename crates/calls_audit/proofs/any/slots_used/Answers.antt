@@ -29,7 +29,7 @@ pub loop-k-preserved : goal.loop-k-preserved
 loop-k-preserved c =
     let args = c.args in (
       omega (arith, c.loop-k.invariant.0),
-      rw c.len_of_lem.ensures
+      rw c.len_of.ensures
           (omega (arith, c.loop-k.invariant.1, sum_on (λ j. (node_at args.g j args.leaves.now).len) c.loop-k.k args.count c.loop-k-test.true)),
     )
 

@@ -3,7 +3,6 @@ use Prim.Native.Nat.{◌-◌}
 use mathlib.Core.Path.{sym, ◌∙◌}
 use native.Mathlib.Omega.{arith}
 use native.Mathlib.Nat.{lt_of_lt_of_le}
-use borrow.Author.Tests.{not-true, not-false}
 use Rattle.calls_audit.specs.Links.{entry_by}
 use Rattle.calls_audit.proofs.Every.{every_all, every_stop, every_on, every_end}
 use Rattle.calls_audit.proofs.entry.are_entries.Goals as goal
@@ -22,7 +21,7 @@ returns-then-not-is_entry c =
     let args = c.args in
     let the-loop = c.loop-i in
     sym (every_stop (entry_by args.g args.ordered args.entries args.leaves.now args.homes.now args.k.0) _ _ c.loop-i-test.true
-    (sym c.is_entry.ensures ∙ not-true _ c.if-not-is_entry.true)) ∙ the-loop.invariant
+    (sym c.is_entry.ensures ∙ c.if-not-is_entry.true)) ∙ the-loop.invariant
 
 pub overflow_add-i : goal.overflow_add-i
 overflow_add-i c = omega arith
@@ -35,7 +34,7 @@ loop-i-preserved c =
     let args = c.args in
     let the-loop = c.loop-i in
     sym (every_on (entry_by args.g args.ordered args.entries args.leaves.now args.homes.now args.k.0) _ _ c.loop-i-test.true
-    (sym c.is_entry.ensures ∙ not-false _ c.if-not-is_entry.false)) ∙ the-loop.invariant
+    (sym c.is_entry.ensures ∙ c.if-not-is_entry.false)) ∙ the-loop.invariant
 
 pub returns : goal.returns
 returns c =

@@ -39,7 +39,7 @@ returns-then-not-is_held c K e o =
     let if1 = c.if-not-is_filled in
     let parent_of = c.parent_of-parent in
     leaf_unheld K args.head args.leaves.now args.inners.now args.homes.now _ e _ _ (least-leaf.ensures (stride K)) _ (is-filled.ensures.0 K e) if1.false _ _
-    parent_of.ensures c.at_of-at.ensures _ c.is_held_lem.ensures c.if-not-is_held.true
+    parent_of.ensures c.at_of-at.ensures _ c.is_held.ensures c.if-not-is_held.true
 
 pub depth-requires : goal.depth-requires
 depth-requires c =
@@ -54,7 +54,7 @@ returns-then-depth-levels c K e o =
     let if1 = c.if-not-is_filled in
     let parent_of = c.parent_of-parent in
     let at_of = c.at_of-at in
-    let is_held_lem = c.is_held_lem in
+    let is_held_lem = c.is_held in
     leaf_uneven K args.head args.leaves.now args.inners.now args.homes.now _ e _ _ (least-leaf.ensures (stride K)) _ (is-filled.ensures.0 K e) if1.false _ _
     parent_of.ensures at_of.ensures _ is_held_lem.ensures c.if-not-is_held.false _ c.depth.ensures c.if-depth-levels.true
 
@@ -71,7 +71,7 @@ are_entries-requires c =
       pre.0.leaf_area,
       pre.1,
       lt_of_lt_of_le pre.2 pre.0.leaves,
-      rw c.len_of_lem.ensures (is-filled.ensures.1 (not-false _ if1.false)),
+      rw c.len_of-len.ensures (is-filled.ensures.1 (not-false _ if1.false)),
     )
 
 pub returns : goal.returns
@@ -82,8 +82,8 @@ returns c K e o =
     let if1 = c.if-not-is_filled in
     let parent_of = c.parent_of-parent in
     let at_of = c.at_of-at in
-    let is_held_lem = c.is_held_lem in
+    let is_held_lem = c.is_held in
     let if2 = c.if-not-is_held in
     let depth = c.depth in
     leaf_last K args.head args.leaves.now args.inners.now args.homes.now _ e _ _ (least-leaf.ensures (stride K)) _ (is-filled.ensures.0 K e) if1.false _ _
-    parent_of.ensures at_of.ensures _ is_held_lem.ensures if2.false _ depth.ensures c.if-depth-levels.false _ c.len_of_lem.ensures _ o _ c.are_entries.ensures
+    parent_of.ensures at_of.ensures _ is_held_lem.ensures if2.false _ depth.ensures c.if-depth-levels.false _ c.len_of-len.ensures _ o _ c.are_entries.ensures

@@ -3,7 +3,6 @@ use Prim.Native.Nat.{◌-◌}
 use mathlib.Core.Path.{sym, ◌∙◌}
 use native.Mathlib.Omega.{arith}
 use native.Mathlib.Nat.{lt_of_lt_of_le}
-use borrow.Author.Tests.{not-true, not-false}
 use Rattle.calls_audit.specs.Links.{child_by}
 use Rattle.calls_audit.proofs.Every.{every_all, every_stop, every_on, every_end}
 use Rattle.calls_audit.proofs.link.are_children.Goals as goal
@@ -22,7 +21,7 @@ returns-then-not-is_child c =
     let args = c.args in
     let the-loop = c.loop-i in
     sym (every_stop (child_by args.g args.used args.low.now args.inners.now args.k.0) _ _ c.loop-i-test.true
-    (sym c.is_child.ensures ∙ not-true _ c.if-not-is_child.true)) ∙ the-loop.invariant
+    (sym c.is_child.ensures ∙ c.if-not-is_child.true)) ∙ the-loop.invariant
 
 pub overflow_add-i : goal.overflow_add-i
 overflow_add-i c = omega arith
@@ -35,7 +34,7 @@ loop-i-preserved c =
     let args = c.args in
     let the-loop = c.loop-i in
     sym (every_on (child_by args.g args.used args.low.now args.inners.now args.k.0) _ _ c.loop-i-test.true
-    (sym c.is_child.ensures ∙ not-false _ c.if-not-is_child.false)) ∙ the-loop.invariant
+    (sym c.is_child.ensures ∙ c.if-not-is_child.false)) ∙ the-loop.invariant
 
 pub returns : goal.returns
 returns c =

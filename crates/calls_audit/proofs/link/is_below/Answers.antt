@@ -12,7 +12,7 @@ returns-then-k-head c =
     let args = c.args in
     let parent_of = c.parent_of-parent in
     let at_of = c.at_of-at in
-    below_other args.g args.head _ _ _ _ parent_of.ensures at_of.ensures c.if-k-head.true _ c.is_held_lem.ensures
+    below_other args.g args.head _ _ _ _ parent_of.ensures at_of.ensures c.if-k-head.true _ c.is_held.ensures
 
 pub returns-then-parent-empty : goal.returns-then-parent-empty
 returns-then-parent-empty c =

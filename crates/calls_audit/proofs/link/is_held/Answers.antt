@@ -12,13 +12,13 @@ len_of-len-requires c = (c.requires.0, lt_of_lt_of_le c.if-p-used.false c.requir
 pub returns-then-at-len : goal.returns-then-at-len
 returns-then-at-len c =
     let args = c.args in
-    held_past args.g _ _ _ _ _ c.if-p-used.false _ c.len_of_lem.ensures c.if-at-len.true
+    held_past args.g _ _ _ _ _ c.if-p-used.false _ c.len_of-len.ensures c.if-at-len.true
 
 pub returns-then-len-fan : goal.returns-then-len-fan
 returns-then-len-fan c =
     let args = c.args in
     let if1 = c.if-p-used in
-    held_over args.g _ _ _ _ _ if1.false _ c.len_of_lem.ensures c.if-at-len.false c.if-len-fan.true
+    held_over args.g _ _ _ _ _ if1.false _ c.len_of-len.ensures c.if-at-len.false c.if-len-fan.true
 
 pub child_of-requires : goal.child_of-requires
 child_of-requires c =
@@ -30,5 +30,5 @@ pub returns : goal.returns
 returns c =
     let args = c.args in
     let if1 = c.if-p-used in
-    let len_of_lem = c.len_of_lem in
+    let len_of_lem = c.len_of-len in
     held_last args.g _ _ _ _ _ if1.false _ len_of_lem.ensures c.if-at-len.false c.if-len-fan.false _ c.child_of.ensures

@@ -63,7 +63,7 @@ are_children-requires c =
       pre.0.leaf_area,
       pre.0.leaves,
       lt_of_lt_of_le pre.1 pre.0.inners,
-      rw c.len_of_lem.ensures (is-filled.ensures.1 (not-false _ if3.false)),
+      rw c.len_of-len.ensures (is-filled.ensures.1 (not-false _ if3.false)),
     )
 
 pub returns-then-d-levels-2 : goal.returns-then-d-levels-2
@@ -78,7 +78,7 @@ returns-then-d-levels-2 c K e =
     let is_below = c.is_below in
     let if4 = c.if-not-is_below in
     inner_lowest K args.head args.leaves.now args.inners.now [] _ e _ _ depth.ensures if1.false if2.false _ (least-inner.ensures (stride K)) _
-    (is-filled.ensures.0 K e) if3.false _ is_below.ensures if4.false _ c.len_of_lem.ensures _ c.if-d-levels-2.true c.are_children.ensures
+    (is-filled.ensures.0 K e) if3.false _ is_below.ensures if4.false _ c.len_of-len.ensures _ c.if-d-levels-2.true c.are_children.ensures
 
 pub are_children-requires-2 : goal.are_children-requires-2
 are_children-requires-2 c =
@@ -89,7 +89,7 @@ are_children-requires-2 c =
       pre.0.inner_area,
       pre.0.inners,
       lt_of_lt_of_le pre.1 pre.0.inners,
-      rw c.len_of_lem.ensures (is-filled.ensures.1 (not-false _ if3.false)),
+      rw c.len_of-len.ensures (is-filled.ensures.1 (not-false _ if3.false)),
     )
 
 pub returns : goal.returns
@@ -104,4 +104,4 @@ returns c K e =
     let is_below = c.is_below in
     let if4 = c.if-not-is_below in
     inner_higher K args.head args.leaves.now args.inners.now [] _ e _ _ depth.ensures if1.false if2.false _ (least-inner.ensures (stride K)) _
-    (is-filled.ensures.0 K e) if3.false _ is_below.ensures if4.false _ c.len_of_lem.ensures _ c.if-d-levels-2.false c.are_children-2.ensures
+    (is-filled.ensures.0 K e) if3.false _ is_below.ensures if4.false _ c.len_of-len.ensures _ c.if-d-levels-2.false c.are_children-2.ensures

@@ -5,7 +5,6 @@ use mathlib.Core.Bool.{Bool}
 use mathlib.Core.List.{List, []}
 use native.Mathlib.Omega.{arith}
 use lib.ListN.{get_or}
-use borrow.Author.Tests.{not-true, not-false}
 use Rattle.model.specs.State.{node_at}
 use Rattle.model.specs.Audit.{is_empty_slot}
 use Rattle.model.specs.declared.shape.Kind.{Kind}
@@ -30,7 +29,7 @@ returns-then-not-is_empty_slot c K e =
     let args = c.args in
     let the-loop = c.loop-i in
     sym (every_stop (empty_at K args.g args.k args.area.now) _ _ c.loop-i-test.true
-    (sym (c.is_empty_slot.ensures K e) ∙ not-true _ c.if-not-is_empty_slot.true)) ∙ the-loop.invariant K e
+    (sym (c.is_empty_slot.ensures K e) ∙ c.if-not-is_empty_slot.true)) ∙ the-loop.invariant K e
 
 pub overflow_add-i : goal.overflow_add-i
 overflow_add-i c =
@@ -45,7 +44,7 @@ loop-i-preserved c K e =
     let args = c.args in
     let the-loop = c.loop-i in
     sym (every_on (empty_at K args.g args.k args.area.now) _ _ c.loop-i-test.true
-    (sym (c.is_empty_slot.ensures K e) ∙ not-false _ c.if-not-is_empty_slot.false)) ∙ the-loop.invariant K e
+    (sym (c.is_empty_slot.ensures K e) ∙ c.if-not-is_empty_slot.false)) ∙ the-loop.invariant K e
 
 pub returns : goal.returns
 returns c K e =

@@ -11,14 +11,14 @@ abbrev entry : Start → State
 entry a = state a.args.head a.args.leaves.now a.args.inners.now a.args.homes.now
 
 pub returns-then-is_fair : goal.returns-then-is_fair
-returns-then-is_fair c = audit_fair (entry (goal.at.returns-then-is_fair c).Start) (seats_from c.args.seats.now) _ c.audit.ensures c.enum_told-1.given.1 _ c.is_fair.ensures true c.if-is_fair.true
+returns-then-is_fair c = audit_fair (entry (goal.at.returns-then-is_fair c).Start) (seats_from c.args.seats.now) _ c.audit.ensures c.in-Yes.is _ c.is_fair.ensures true c.if-is_fair.true
 
 pub returns-else-is_fair : goal.returns-else-is_fair
 returns-else-is_fair c =
-    audit_fair (entry (goal.at.returns-else-is_fair c).Start) (seats_from c.args.seats.now) _ c.audit.ensures c.enum_told-1.given.1 _ c.is_fair.ensures false c.if-is_fair.false
+    audit_fair (entry (goal.at.returns-else-is_fair c).Start) (seats_from c.args.seats.now) _ c.audit.ensures c.in-Yes.is _ c.is_fair.ensures false c.if-is_fair.false
 
 pub returns-in-No : goal.returns-in-No
-returns-in-No c = audit_no (entry (goal.at.returns-in-No c).Start) (seats_from c.args.seats.now) _ c.audit.ensures c.enum_told-in-No-1.given.1
+returns-in-No c = audit_no (entry (goal.at.returns-in-No c).Start) (seats_from c.args.seats.now) _ c.audit.ensures c.in-No.is
 
 pub returns-in-Refused : goal.returns-in-Refused
-returns-in-Refused c = audit_none (entry (goal.at.returns-in-Refused c).Start) (seats_from c.args.seats.now) _ c.audit.ensures _ c.n-1.given.1
+returns-in-Refused c = audit_none (entry (goal.at.returns-in-Refused c).Start) (seats_from c.args.seats.now) _ c.audit.ensures _ c.in-Refused.is

@@ -8,10 +8,10 @@ pub returns-in-Refused : goal.returns-in-Refused
 returns-in-Refused c effect =
     let args = c.args in
     let open-areas = c.open_areas in
-    count_refused (kind args.views effect) (state args.head args.leaves.now args.inners.now args.homes.now) _ (open-areas.ensures effect) _ c.n-1.given.1
+    count_refused (kind args.views effect) (state args.head args.leaves.now args.inners.now args.homes.now) _ (open-areas.ensures effect) _ c.in-Refused.is
 
 pub returns-in-Good : goal.returns-in-Good
 returns-in-Good c effect =
     let args = c.args in
     let open-areas = c.open_areas in
-    count_good (kind args.views effect) (state args.head args.leaves.now args.inners.now args.homes.now) _ (open-areas.ensures effect) _ c.enum_told-1.given.1 _ c.len.ensures
+    count_good (kind args.views effect) (state args.head args.leaves.now args.inners.now args.homes.now) _ (open-areas.ensures effect) _ c.in-Good.is _ c.len.ensures

@@ -7,7 +7,7 @@ pub returns-in-Refused : goal.returns-in-Refused
 returns-in-Refused c =
     let args = c.args in
     let the-locate = c.locate-r in
-    lookup_refused (kind args.views args.effect) _ _ args.view _ _ _ the-locate.ensures.0 _ c.answer-1.given.1
+    lookup_refused (kind args.views args.effect) _ _ args.view _ _ _ the-locate.ensures.0 _ c.in-Refused.is
 
 pub returns-in-Refused-id : goal.returns-in-Refused-id
 returns-in-Refused-id c =
@@ -15,7 +15,7 @@ returns-in-Refused-id c =
     let the-locate = c.locate-r in
     let answer2 = c.answer-in-At-1 in
     let id = c.id in
-    lookup_at (kind args.views args.effect) _ _ args.view _ _ _ the-locate.ensures.0 _ _ _ _ answer2.given.1 _ _ (id.ensures args.effect) c.n-1.given.1
+    lookup_at (kind args.views args.effect) _ _ args.view _ _ _ the-locate.ensures.0 _ _ _ _ answer2.given.1 _ _ (id.ensures args.effect) c.in-Refused-id.is
 
 pub returns-in-Entry : goal.returns-in-Entry
 returns-in-Entry c =
@@ -23,4 +23,4 @@ returns-in-Entry c =
     let the-locate = c.locate-r in
     let answer2 = c.answer-in-At-1 in
     let id = c.id in
-    lookup_at (kind args.views args.effect) _ _ args.view _ _ _ the-locate.ensures.0 _ _ _ _ answer2.given.1 _ _ (id.ensures args.effect) c.i-1.given.1
+    lookup_at (kind args.views args.effect) _ _ args.view _ _ _ the-locate.ensures.0 _ _ _ _ answer2.given.1 _ _ (id.ensures args.effect) c.in-Entry.is

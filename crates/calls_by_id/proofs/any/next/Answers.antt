@@ -3,21 +3,21 @@ use Rattle.calls_by_id.proofs.ReadLaws.{next_refused, next_none, next_at}
 use Rattle.calls_by_id.proofs.any.next.Goals as goal
 
 pub returns-in-Refused : goal.returns-in-Refused
-returns-in-Refused c effect = next_refused _ _ _ _ (c.next.ensures effect) _ c.n-1.given.1
+returns-in-Refused c effect = next_refused _ _ _ _ (c.next.ensures effect) _ c.in-Refused.is
 
 pub returns-in-Nothing : goal.returns-in-Nothing
-returns-in-Nothing c effect = next_none _ _ _ _ (c.next.ensures effect) c.enum_told-1.given.1
+returns-in-Nothing c effect = next_none _ _ _ _ (c.next.ensures effect) c.in-Nothing.is
 
 pub returns-in-Refused-id : goal.returns-in-Refused-id
 returns-in-Refused-id c effect =
     let the-next = c.next in
     let the-c = c.c-1 in
     let id = c.id in
-    next_at _ _ _ _ (the-next.ensures effect) _ the-c.given.1 _ _ (id.ensures effect) c.n-in-Refused-id-1.given.1
+    next_at _ _ _ _ (the-next.ensures effect) _ the-c.given.1 _ _ (id.ensures effect) c.in-Refused-id.is
 
 pub returns-in-Entry : goal.returns-in-Entry
 returns-in-Entry c effect =
     let the-next = c.next in
     let the-c = c.c-1 in
     let id = c.id in
-    next_at _ _ _ _ (the-next.ensures effect) _ the-c.given.1 _ _ (id.ensures effect) c.i-1.given.1
+    next_at _ _ _ _ (the-next.ensures effect) _ the-c.given.1 _ _ (id.ensures effect) c.in-Entry.is

@@ -35,24 +35,24 @@ shape_of-homes-in-Refused c = refl
 pub returns-in-Refused : goal.returns-in-Refused
 returns-in-Refused c =
     let l = lengths_in c.args.views c.args.x.now in
-    insert_stops (kind_of c.args.views c.args.effect c.args.ordered) (entry (goal.at.returns-in-Refused c).Start) _ _ l (place_ordered c.args.views c.args.effect c.args.ordered (entry (goal.at.returns-in-Refused c).Start) c.args.id.0 _ (c.place.ensures c.args.effect)) _ c.n-1.given.1
+    insert_stops (kind_of c.args.views c.args.effect c.args.ordered) (entry (goal.at.returns-in-Refused c).Start) _ _ l (place_ordered c.args.views c.args.effect c.args.ordered (entry (goal.at.returns-in-Refused c).Start) c.args.id.0 _ (c.place.ensures c.args.effect)) _ c.in-Refused.is
 
 pub shape_of-leaves-in-At : goal.shape_of-leaves-in-At
 shape_of-leaves-in-At c =
     let the-insert = c.insert in
-    the-insert.auto.1.1.1.1.1.0
+    the-insert.auto.effect.1.1.1.1.0
 
 pub shape_of-inners-in-At : goal.shape_of-inners-in-At
 shape_of-inners-in-At c =
     let the-insert = c.insert in
-    the-insert.auto.1.1.1.1.1.1.0
+    the-insert.auto.effect.1.1.1.1.1.0
 
 pub shape_of-homes-in-At : goal.shape_of-homes-in-At
 shape_of-homes-in-At c =
     let the-insert = c.insert in
-    the-insert.auto.1.1.1.1.1.1.1.0
+    the-insert.auto.effect.1.1.1.1.1.1.0
 
 pub returns-in-At : goal.returns-in-At
 returns-in-At c =
     let l = lengths_in c.args.views c.args.x.now in
-    insert_goes (kind_of c.args.views c.args.effect c.args.ordered) (entry (goal.at.returns-in-At c).Start) _ _ l (place_ordered c.args.views c.args.effect c.args.ordered (entry (goal.at.returns-in-At c).Start) c.args.id.0 _ (c.place.ensures c.args.effect)) _ c.c-1.given.1 _ c.target-to.ensures _ _ (c.insert.ensures (full (entry (goal.at.returns-in-At c).Start) ∷ []) (sym c.without-room.ensures.0))
+    insert_goes (kind_of c.args.views c.args.effect c.args.ordered) (entry (goal.at.returns-in-At c).Start) _ _ l (place_ordered c.args.views c.args.effect c.args.ordered (entry (goal.at.returns-in-At c).Start) c.args.id.0 _ (c.place.ensures c.args.effect)) _ c.in-At.is _ c.target-to.ensures _ _ (c.insert.ensures (full (entry (goal.at.returns-in-At c).Start) ∷ []) (sym c.without-room.ensures.0))

@@ -28,9 +28,9 @@ shape_of-inners-in-Refused c = refl
 pub returns-in-Refused : goal.returns-in-Refused
 returns-in-Refused c =
     let l = lengths_in c.args.views c.args.new.now in
-    set_stops (kind_of c.args.views c.args.effect c.args.ordered) (entry (goal.at.returns-in-Refused c).Start) _ _ (cursor_ordered _ c.args.effect c.args.ordered _ _ _ (c.cursor.ensures c.args.effect)) l _ c.n-1.given.1
+    set_stops (kind_of c.args.views c.args.effect c.args.ordered) (entry (goal.at.returns-in-Refused c).Start) _ _ (cursor_ordered _ c.args.effect c.args.ordered _ _ _ (c.cursor.ensures c.args.effect)) l _ c.in-Refused.is
 
 pub returns-in-At : goal.returns-in-At
 returns-in-At c =
     let l = lengths_in c.args.views c.args.new.now in
-    set_goes (kind_of c.args.views c.args.effect c.args.ordered) (entry (goal.at.returns-in-At c).Start) _ _ (cursor_ordered _ c.args.effect c.args.ordered _ _ _ (c.cursor.ensures c.args.effect)) l _ c.c-1.given.1 _ _ c.resize-r.ensures _ c.unnumbered.ensures
+    set_goes (kind_of c.args.views c.args.effect c.args.ordered) (entry (goal.at.returns-in-At c).Start) _ _ (cursor_ordered _ c.args.effect c.args.ordered _ _ _ (c.cursor.ensures c.args.effect)) l _ c.in-At.is _ _ c.resize-r.ensures _ c.unnumbered.ensures

@@ -35,24 +35,24 @@ shape_of-homes-in-Refused c = refl
 pub returns-in-Refused : goal.returns-in-Refused
 returns-in-Refused c effect =
     let l = lengths_in c.args.views c.args.x.now in
-    split_stops (kind_of c.args.views effect c.args.ordered) (entry (goal.at.returns-in-Refused c).Start) _ _ (cursor_ordered _ effect c.args.ordered _ _ _ (c.cursor.ensures effect)) c.args.before l _ c.n-1.given.1
+    split_stops (kind_of c.args.views effect c.args.ordered) (entry (goal.at.returns-in-Refused c).Start) _ _ (cursor_ordered _ effect c.args.ordered _ _ _ (c.cursor.ensures effect)) c.args.before l _ c.in-Refused.is
 
 pub shape_of-leaves-in-At : goal.shape_of-leaves-in-At
 shape_of-leaves-in-At c =
     let the-split-entry = c.split_entry in
-    the-split-entry.auto.1.1.1.1.0
+    the-split-entry.auto.ordered.1.1.1.0
 
 pub shape_of-inners-in-At : goal.shape_of-inners-in-At
 shape_of-inners-in-At c =
     let the-split-entry = c.split_entry in
-    the-split-entry.auto.1.1.1.1.1.0
+    the-split-entry.auto.ordered.1.1.1.1.0
 
 pub shape_of-homes-in-At : goal.shape_of-homes-in-At
 shape_of-homes-in-At c =
     let the-split-entry = c.split_entry in
-    the-split-entry.auto.1.1.1.1.1.1.0
+    the-split-entry.auto.ordered.1.1.1.1.1.0
 
 pub returns-in-At : goal.returns-in-At
 returns-in-At c effect =
     let l = lengths_in c.args.views c.args.x.now in
-    split_goes (kind_of c.args.views effect c.args.ordered) (entry (goal.at.returns-in-At c).Start) _ _ (cursor_ordered _ effect c.args.ordered _ _ _ (c.cursor.ensures effect)) c.args.before l _ c.c-1.given.1 _ _ (c.split_entry.ensures effect (full (entry (goal.at.returns-in-At c).Start) ∷ []) (sym c.without-room.ensures.0))
+    split_goes (kind_of c.args.views effect c.args.ordered) (entry (goal.at.returns-in-At c).Start) _ _ (cursor_ordered _ effect c.args.ordered _ _ _ (c.cursor.ensures effect)) c.args.before l _ c.in-At.is _ _ (c.split_entry.ensures effect (full (entry (goal.at.returns-in-At c).Start) ∷ []) (sym c.without-room.ensures.0))

@@ -5,9 +5,9 @@ use Rattle.calls_by_id.proofs.iterate.first.Goals as goal
 pub returns-in-Refused : goal.returns-in-Refused
 returns-in-Refused c =
     let the-first = c.first in
-    first_stops _ _ the-first.ensures _ c.n-1.given.1
+    first_stops _ _ the-first.ensures _ c.in-Refused.is
 
 pub returns-in-At : goal.returns-in-At
 returns-in-At c =
     let the-first = c.first in
-    first_goes _ _ the-first.ensures _ c.c-1.given.1 _ c.id.ensures
+    first_goes _ _ the-first.ensures _ c.in-At.is _ c.id.ensures

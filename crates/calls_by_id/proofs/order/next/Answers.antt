@@ -3,7 +3,7 @@ use Rattle.calls_by_id.proofs.PlaceLaws.{next_stops, next_goes}
 use Rattle.calls_by_id.proofs.order.next.Goals as goal
 
 pub returns-in-Refused : goal.returns-in-Refused
-returns-in-Refused c effect = next_stops _ _ _ _ (c.cursor.ensures effect) _ c.n-1.given.1
+returns-in-Refused c effect = next_stops _ _ _ _ (c.cursor.ensures effect) _ c.in-Refused.is
 
 pub returns-in-At : goal.returns-in-At
-returns-in-At c effect = next_goes _ _ _ _ (c.cursor.ensures effect) _ c.c-1.given.1 _ (c.next.ensures effect)
+returns-in-At c effect = next_goes _ _ _ _ (c.cursor.ensures effect) _ c.in-At.is _ (c.next.ensures effect)

@@ -14,10 +14,10 @@ pub list-requires : goal.list-requires
 list-requires c =
     let check = c.check in
     let if2 = c.if-area-lt512 in
-    (sym check.ensures ∙ c.enum_told-1.given.1, omega (arith, if2.false))
+    (sym check.ensures ∙ c.in-Done.is, omega (arith, if2.false))
 
 pub returns-in-Refused : goal.returns-in-Refused
 returns-in-Refused c =
     let if2 = c.if-area-lt512 in
     let check = c.check in
-    sym ((differs _ _ _ _).same (omega (arith, if2.false)) _ (sym check.ensures ∙ c.n-1.given.1))
+    sym ((differs _ _ _ _).same (omega (arith, if2.false)) _ (sym check.ensures ∙ c.in-Refused.is))

@@ -29,7 +29,7 @@ pub loop-left-preserved : goal.loop-left-preserved
 loop-left-preserved c =
     let the-loop = c.loop-left in
     let is-listed = c.is_listed-yes in
-    (omega arith, omega (arith, placed_count _ _ _ _ _ _ c.put-count.ensures), c.put-count.auto.0 ∙ the-loop.invariant.2, write_turn _ _ _ _ _ _ _ _ _ (omega arith) the-loop.invariant.0 the-loop.invariant.1 (omega (arith, the-loop.invariant.2)) is-listed.ensures c.put-count.ensures the-loop.invariant.3)
+    (omega arith, omega (arith, placed_count _ _ _ _ _ _ c.put-count.ensures), c.put-count.auto.area ∙ the-loop.invariant.2, write_turn _ _ _ _ _ _ _ _ _ (omega arith) the-loop.invariant.0 the-loop.invariant.1 (omega (arith, the-loop.invariant.2)) is-listed.ensures c.put-count.ensures the-loop.invariant.3)
 
 pub overflow_cast-result : goal.overflow_cast-result
 overflow_cast-result c = record { fits = omega arith }

@@ -19,8 +19,8 @@ aim_end-requires c =
 
 pub returns-in-Before : goal.returns-in-Before
 returns-in-Before c =
-    λ K hs e. aim_before K (entry (goal.at.returns-in-Before c).Start hs) c.args.before _ c.before-1.given.1
+    λ K hs e. aim_before K (entry (goal.at.returns-in-Before c).Start hs) c.args.before _ c.in-Before.is
 
 pub returns-in-End : goal.returns-in-End
 returns-in-End c =
-    λ K hs e. c.aim_end.ensures K hs e ∙ ap (aimed K (entry (goal.at.returns-in-End c).Start hs)) (sym c.enum_told-1.given.1)
+    λ K hs e. c.aim_end.ensures K hs e ∙ ap (aimed K (entry (goal.at.returns-in-End c).Start hs)) (sym c.in-End.is)

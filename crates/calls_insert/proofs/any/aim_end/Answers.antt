@@ -21,14 +21,14 @@ returns-then-head-k c =
 
 pub len_of-len-requires : goal.len_of-len-requires
 len_of-len-requires c =
-    let d = c.last_down in (c.requires.0, last_in c.args.g _ _ _ _ _ d.ensures c.k-1.given.1)
+    let d = c.last_down in (c.requires.0, last_in c.args.g _ _ _ _ _ d.ensures c.in-At.is)
 
 pub returns-then-g-len : goal.returns-then-g-len
 returns-then-g-len c =
     let d = c.last_down in
     let k = c.k-1 in
     let one = c.if-head-k in
-    let len = c.len_of_lem in
+    let len = c.len_of-len in
     λ K hs e. end_over K (entry (goal.at.returns-then-g-len c).Start hs) c.args.g e _ d.ensures _ k.given.1 one.false _ len.ensures c.if-g-len.true
 
 pub returns-else-g-len : goal.returns-else-g-len
@@ -36,15 +36,15 @@ returns-else-g-len c =
     let d = c.last_down in
     let k = c.k-1 in
     let one = c.if-head-k in
-    let len = c.len_of_lem in
+    let len = c.len_of-len in
     λ K hs e. end_slot K (entry (goal.at.returns-else-g-len c).Start hs) c.args.g e _ d.ensures _ k.given.1 one.false _ len.ensures c.if-g-len.false
 
 pub returns-in-Nothing : goal.returns-in-Nothing
 returns-in-Nothing c =
     let d = c.last_down in
-    λ K hs e. end_nothing K (entry (goal.at.returns-in-Nothing c).Start hs) c.args.g e _ d.ensures c.enum_told-1.given.1
+    λ K hs e. end_nothing K (entry (goal.at.returns-in-Nothing c).Start hs) c.args.g e _ d.ensures c.in-Nothing.is
 
 pub returns-in-Broken : goal.returns-in-Broken
 returns-in-Broken c =
     let d = c.last_down in
-    λ K hs e. end_broken K (entry (goal.at.returns-in-Broken c).Start hs) c.args.g e _ d.ensures c.enum_told-in-Broken-1.given.1
+    λ K hs e. end_broken K (entry (goal.at.returns-in-Broken c).Start hs) c.args.g e _ d.ensures c.in-Broken.is

@@ -51,17 +51,17 @@ place-r-requires c =
 pub shape_of-leaves-then-r-ne0 : goal.shape_of-leaves-then-r-ne0
 shape_of-leaves-then-r-ne0 c =
     let place = c.place-r in
-    place.auto.1.1.0
+    place.auto.head.1.0
 
 pub shape_of-inners-then-r-ne0 : goal.shape_of-inners-then-r-ne0
 shape_of-inners-then-r-ne0 c =
     let place = c.place-r in
-    place.auto.1.1.1.0
+    place.auto.head.1.1.0
 
 pub shape_of-homes-then-r-ne0 : goal.shape_of-homes-then-r-ne0
 shape_of-homes-then-r-ne0 c =
     let place = c.place-r in
-    place.auto.1.1.1.1.0
+    place.auto.head.1.1.1.0
 
 pub returns-then-r-ne0 : goal.returns-then-r-ne0
 returns-then-r-ne0 c =
@@ -76,24 +76,24 @@ way_sum-requires c =
     let to = c.aim_at-to in
     let w = aiming (goal.at.way_sum-requires c).Start _ to.ensures c.if-to-ne0.false in
     let p = c.place-r in
-    let v = way_in (kind_of (goal.at.way_sum-requires c).Start) (entry (goal.at.way_sum-requires c).Start) c.args.before c.args.g _ c.args.x.now w _ _ _ _ _ _ _ p.ensures c.if-r-ne0.false c.requires.0 _ _ p.auto.1.1.0 p.auto.1.1.1.0 in
+    let v = way_in (kind_of (goal.at.way_sum-requires c).Start) (entry (goal.at.way_sum-requires c).Start) c.args.before c.args.g _ c.args.x.now w _ _ _ _ _ _ _ p.ensures c.if-r-ne0.false c.requires.0 _ _ p.auto.head.1.0 p.auto.head.1.1.0 in
     (v.0, v.1, c.requires.2, v.2, v.3, v.4)
 
 pub shape_of-leaves-in-Is : goal.shape_of-leaves-in-Is
 shape_of-leaves-in-Is c =
     let place = c.place-r in
-    place.auto.1.1.0
+    place.auto.head.1.0
 
 pub shape_of-inners-in-Is : goal.shape_of-inners-in-Is
 shape_of-inners-in-Is c =
     let way-sum = c.way_sum in
     let place = c.place-r in
-    way-sum.auto.1.0 ∙ place.auto.1.1.1.0
+    way-sum.auto.inners.0 ∙ place.auto.head.1.1.0
 
 pub shape_of-homes-in-Is : goal.shape_of-homes-in-Is
 shape_of-homes-in-Is c =
     let place = c.place-r in
-    place.auto.1.1.1.1.0
+    place.auto.head.1.1.1.0
 
 pub returns-in-Is : goal.returns-in-Is
 returns-in-Is c =
@@ -102,23 +102,23 @@ returns-in-Is c =
     let p = c.place-r in
     let two = c.if-r-ne0 in
     let up = c.way_sum in
-    put_whole (kind_of (goal.at.returns-in-Is c).Start) (entry (goal.at.returns-in-Is c).Start) c.args.before c.args.g _ c.args.x.now w _ _ _ _ _ _ _ p.ensures two.false c.requires.0.same c.requires.5 _ _ up.ensures _ c.n-1.given.1
+    put_whole (kind_of (goal.at.returns-in-Is c).Start) (entry (goal.at.returns-in-Is c).Start) c.args.before c.args.g _ c.args.x.now w _ _ _ _ _ _ _ p.ensures two.false c.requires.0.same c.requires.5 _ _ up.ensures _ c.in-Is.is
 
 pub shape_of-leaves-in-Broken : goal.shape_of-leaves-in-Broken
 shape_of-leaves-in-Broken c =
     let place = c.place-r in
-    place.auto.1.1.0
+    place.auto.head.1.0
 
 pub shape_of-inners-in-Broken : goal.shape_of-inners-in-Broken
 shape_of-inners-in-Broken c =
     let way-sum = c.way_sum in
     let place = c.place-r in
-    way-sum.auto.1.0 ∙ place.auto.1.1.1.0
+    way-sum.auto.inners.0 ∙ place.auto.head.1.1.0
 
 pub shape_of-homes-in-Broken : goal.shape_of-homes-in-Broken
 shape_of-homes-in-Broken c =
     let place = c.place-r in
-    place.auto.1.1.1.1.0
+    place.auto.head.1.1.1.0
 
 pub returns-in-Broken : goal.returns-in-Broken
 returns-in-Broken c =
@@ -128,4 +128,4 @@ returns-in-Broken c =
     let two = c.if-r-ne0 in
     let up = c.way_sum in
     refused_is _ _ _ c.refused-in-Broken.ensures
-    ∙ put_broken (kind_of (goal.at.returns-in-Broken c).Start) (entry (goal.at.returns-in-Broken c).Start) c.args.before c.args.g _ c.args.x.now w _ _ _ _ _ _ _ p.ensures two.false c.requires.0.same c.requires.5 _ _ up.ensures c.enum_told-1.given.1
+    ∙ put_broken (kind_of (goal.at.returns-in-Broken c).Start) (entry (goal.at.returns-in-Broken c).Start) c.args.before c.args.g _ c.args.x.now w _ _ _ _ _ _ _ p.ensures two.false c.requires.0.same c.requires.5 _ _ up.ensures c.in-Broken.is

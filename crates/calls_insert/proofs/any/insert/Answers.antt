@@ -29,7 +29,7 @@ enter-requires c =
     let l = lengths_in c.args.views c.args.x.now in
     let want : List Cause = cause c.args.room true ∷ [] in
     let opened = o.ensures e want (one_cause c.args.room) in
-    let good = c.g-1.given.1 in
+    let good = c.in-Good.is in
     let r = insert_ready (kind_of c.args.views e c.args.ordered) (c.requires.0, c.requires.1) (entry (goal.at.enter-requires c).Start) want c.args.before l _ _ opened good in
     let some = insert_room (kind_of c.args.views e c.args.ordered) (c.requires.0, c.requires.1) (entry (goal.at.enter-requires c).Start) want c.args.before l _ _ opened good in
     (ready_plain c.args.views e c.args.ordered (entry (goal.at.enter-requires c).Start) _ r.0, aimed_plain c.args.views e c.args.ordered (entry (goal.at.enter-requires c).Start) c.args.before r.1, c.requires.2, c.requires.5 (sym (one_cause c.args.room) ∙ some), c.requires.3, c.requires.4)
@@ -48,26 +48,26 @@ returns-in-Refused c =
     let o = c.open_insert in
     let e = c.args.effect in
     let l = lengths_in c.args.views c.args.x.now in
-    λ causes room. refused_is _ _ _ c.refused.ensures ∙ insert_refused (kind_of c.args.views e c.args.ordered) causes (entry (goal.at.returns-in-Refused c).Start) c.args.before l _ (o.ensures e causes room) _ c.n-1.given.1
+    λ causes room. refused_is _ _ _ c.refused.ensures ∙ insert_refused (kind_of c.args.views e c.args.ordered) causes (entry (goal.at.returns-in-Refused c).Start) c.args.before l _ (o.ensures e causes room) _ c.in-Refused.is
 
 pub shape_of-leaves-in-Good : goal.shape_of-leaves-in-Good
 shape_of-leaves-in-Good c =
     let enter = c.enter in
-    enter.auto.1.1.1.0
+    enter.auto.effect.1.1.0
 
 pub shape_of-inners-in-Good : goal.shape_of-inners-in-Good
 shape_of-inners-in-Good c =
     let enter = c.enter in
-    enter.auto.1.1.1.1.0
+    enter.auto.effect.1.1.1.0
 
 pub shape_of-homes-in-Good : goal.shape_of-homes-in-Good
 shape_of-homes-in-Good c =
     let enter = c.enter in
-    enter.auto.1.1.1.1.1.0
+    enter.auto.effect.1.1.1.1.0
 
 pub returns-in-Good : goal.returns-in-Good
 returns-in-Good c =
     let o = c.open_insert in
     let e = c.args.effect in
     let l = lengths_in c.args.views c.args.x.now in
-    λ causes room. insert_done (kind_of c.args.views e c.args.ordered) causes (entry (goal.at.returns-in-Good c).Start) c.args.before l _ (o.ensures e causes room) _ c.g-1.given.1 _ (c.enter.ensures ∙ inserted_ordered c.args.views e c.args.ordered _ (entry (goal.at.returns-in-Good c).Start) c.args.before l)
+    λ causes room. insert_done (kind_of c.args.views e c.args.ordered) causes (entry (goal.at.returns-in-Good c).Start) c.args.before l _ (o.ensures e causes room) _ c.in-Good.is _ (c.enter.ensures ∙ inserted_ordered c.args.views e c.args.ordered _ (entry (goal.at.returns-in-Good c).Start) c.args.before l)

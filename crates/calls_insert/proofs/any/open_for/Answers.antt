@@ -15,8 +15,8 @@ open-requires c =
 
 pub returns-in-Before : goal.returns-in-Before
 returns-in-Before c =
-    λ effect. open_before (kind c.args.views effect) _ c.args.before _ _ c.before-1.given.1 (c.open_at.ensures effect)
+    λ effect. open_before (kind c.args.views effect) _ c.args.before _ _ c.in-Before.is (c.open_at.ensures effect)
 
 pub returns-in-End : goal.returns-in-End
 returns-in-End c =
-    λ effect. open_end (kind c.args.views effect) _ c.args.before _ c.enum_told-1.given.1 (c.«open».ensures effect)
+    λ effect. open_end (kind c.args.views effect) _ c.args.before _ c.in-End.is (c.«open».ensures effect)

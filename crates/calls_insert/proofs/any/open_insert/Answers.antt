@@ -34,12 +34,12 @@ returns-then-crossed c =
     let few = c.if-too_many_lines.false in
     let o = c.open_for in
     let l = lengths_in c.args.views c.args.x.now in
-    λ effect causes room. insert_crossed (kind_of c.args.views effect c.args.ordered) (c.requires.0, c.requires.1) (entry (goal.at.returns-then-crossed c).Start) causes c.args.before l _ (m.ensures effect) few _ (front_ordered c.args.views effect c.args.ordered (entry (goal.at.returns-then-crossed c).Start) c.args.before _ (o.ensures effect)) _ c.g-1.given.1 _ c.crossed.ensures c.if-crossed.true
+    λ effect causes room. insert_crossed (kind_of c.args.views effect c.args.ordered) (c.requires.0, c.requires.1) (entry (goal.at.returns-then-crossed c).Start) causes c.args.before l _ (m.ensures effect) few _ (front_ordered c.args.views effect c.args.ordered (entry (goal.at.returns-then-crossed c).Start) c.args.before _ (o.ensures effect)) _ c.in-Good.is _ c.crossed.ensures c.if-crossed.true
 
 pub past-requires : goal.past-requires
 past-requires c =
     let o = c.open_for in
-    let h = front_ready (kind c.args.views 0) (c.requires.0, c.requires.1) (entry (goal.at.past-requires c).Start) c.args.before _ _ (o.ensures 0) c.g-1.given.1 in
+    let h = front_ready (kind c.args.views 0) (c.requires.0, c.requires.1) (entry (goal.at.past-requires c).Start) c.args.before _ _ (o.ensures 0) c.in-Good.is in
     let i = root_in (entry (goal.at.past-requires c).Start) _ h in
     (i.0, i.1, refl, c.requires.2)
 
@@ -49,7 +49,7 @@ returns-then-past c =
     let few = c.if-too_many_lines.false in
     let o = c.open_for in
     let l = lengths_in c.args.views c.args.x.now in
-    λ effect causes room. insert_past (kind_of c.args.views effect c.args.ordered) (c.requires.0, c.requires.1) (entry (goal.at.returns-then-past c).Start) causes c.args.before l _ (m.ensures effect) few _ (front_ordered c.args.views effect c.args.ordered (entry (goal.at.returns-then-past c).Start) c.args.before _ (o.ensures effect)) _ c.g-1.given.1 _ c.crossed.ensures c.if-crossed.false _ c.past.ensures c.if-past.true
+    λ effect causes room. insert_past (kind_of c.args.views effect c.args.ordered) (c.requires.0, c.requires.1) (entry (goal.at.returns-then-past c).Start) causes c.args.before l _ (m.ensures effect) few _ (front_ordered c.args.views effect c.args.ordered (entry (goal.at.returns-then-past c).Start) c.args.before _ (o.ensures effect)) _ c.in-Good.is _ c.crossed.ensures c.if-crossed.false _ c.past.ensures c.if-past.true
 
 pub returns-then-room-ne0 : goal.returns-then-room-ne0
 returns-then-room-ne0 c =
@@ -57,7 +57,7 @@ returns-then-room-ne0 c =
     let few = c.if-too_many_lines.false in
     let o = c.open_for in
     let l = lengths_in c.args.views c.args.x.now in
-    λ effect causes room. insert_full (kind_of c.args.views effect c.args.ordered) (c.requires.0, c.requires.1) (entry (goal.at.returns-then-room-ne0 c).Start) causes c.args.before l _ (m.ensures effect) few _ (front_ordered c.args.views effect c.args.ordered (entry (goal.at.returns-then-room-ne0 c).Start) c.args.before _ (o.ensures effect)) _ c.g-1.given.1 _ c.crossed.ensures c.if-crossed.false _ c.past.ensures c.if-past.false _ room c.if-room-ne0.true
+    λ effect causes room. insert_full (kind_of c.args.views effect c.args.ordered) (c.requires.0, c.requires.1) (entry (goal.at.returns-then-room-ne0 c).Start) causes c.args.before l _ (m.ensures effect) few _ (front_ordered c.args.views effect c.args.ordered (entry (goal.at.returns-then-room-ne0 c).Start) c.args.before _ (o.ensures effect)) _ c.in-Good.is _ c.crossed.ensures c.if-crossed.false _ c.past.ensures c.if-past.false _ room c.if-room-ne0.true
 
 pub returns-in-Refused : goal.returns-in-Refused
 returns-in-Refused c =
@@ -65,7 +65,7 @@ returns-in-Refused c =
     let few = c.if-too_many_lines.false in
     let o = c.open_for in
     let l = lengths_in c.args.views c.args.x.now in
-    λ effect causes room. insert_stop (kind_of c.args.views effect c.args.ordered) (c.requires.0, c.requires.1) (entry (goal.at.returns-in-Refused c).Start) causes c.args.before l _ (m.ensures effect) few _ (front_ordered c.args.views effect c.args.ordered (entry (goal.at.returns-in-Refused c).Start) c.args.before _ (o.ensures effect)) _ c.n-1.given.1
+    λ effect causes room. insert_stop (kind_of c.args.views effect c.args.ordered) (c.requires.0, c.requires.1) (entry (goal.at.returns-in-Refused c).Start) causes c.args.before l _ (m.ensures effect) few _ (front_ordered c.args.views effect c.args.ordered (entry (goal.at.returns-in-Refused c).Start) c.args.before _ (o.ensures effect)) _ c.in-Refused.is
 
 pub returns-else-room-ne0 : goal.returns-else-room-ne0
 returns-else-room-ne0 c =
@@ -73,4 +73,4 @@ returns-else-room-ne0 c =
     let few = c.if-too_many_lines.false in
     let o = c.open_for in
     let l = lengths_in c.args.views c.args.x.now in
-    λ effect causes room. insert_good (kind_of c.args.views effect c.args.ordered) (c.requires.0, c.requires.1) (entry (goal.at.returns-else-room-ne0 c).Start) causes c.args.before l _ (m.ensures effect) few _ (front_ordered c.args.views effect c.args.ordered (entry (goal.at.returns-else-room-ne0 c).Start) c.args.before _ (o.ensures effect)) _ c.g-1.given.1 _ c.crossed.ensures c.if-crossed.false _ c.past.ensures c.if-past.false _ room c.if-room-ne0.false
+    λ effect causes room. insert_good (kind_of c.args.views effect c.args.ordered) (c.requires.0, c.requires.1) (entry (goal.at.returns-else-room-ne0 c).Start) causes c.args.before l _ (m.ensures effect) few _ (front_ordered c.args.views effect c.args.ordered (entry (goal.at.returns-else-room-ne0 c).Start) c.args.before _ (o.ensures effect)) _ c.in-Good.is _ c.crossed.ensures c.if-crossed.false _ c.past.ensures c.if-past.false _ room c.if-room-ne0.false

@@ -21,10 +21,10 @@ bounds-homes-0 c =
 pub shape_of-leaves : goal.shape_of-leaves
 shape_of-leaves c =
     let write-first = c.write_first in
-    write-first.auto.0
+    write-first.auto.area
 
 pub shape_of-inners : goal.shape_of-inners
-shape_of-inners c = c.write_first-2.auto.0
+shape_of-inners c = c.write_first-2.auto.area
 
 pub shape_of-homes : goal.shape_of-homes
 shape_of-homes c = simp length-set

@@ -18,7 +18,7 @@ begin-requires c =
     let pre = c.requires in
     let more : List Cause = cause args.high true ∷ [] in
     let o = c.open_new.ensures 0 more (one_cause args.high) in
-    let good = c.g-1.given.1 in
+    let good = c.in-Good.is in
     let r = new_room (kind_of args.views 0 args.ordered) more args.fan args.limit (lengths_in args.views args.x.now) args.leaves.now args.inners.now args.homes.now _ o (pre.0, pre.1) _ good in
     (r.shaped, r.leaves, r.inners, r.homes, pre.2, pre.3)
 
@@ -35,29 +35,29 @@ pub returns-in-Refused : goal.returns-in-Refused
 returns-in-Refused c effect more high =
     let args = c.args in
     let o = c.open_new.ensures effect more high in
-    make_refused (kind_of args.views effect args.ordered) more args.fan args.limit (lengths_in args.views args.x.now) args.leaves.now args.inners.now args.homes.now _ o _ c.n-1.given.1
+    make_refused (kind_of args.views effect args.ordered) more args.fan args.limit (lengths_in args.views args.x.now) args.leaves.now args.inners.now args.homes.now _ o _ c.in-Refused.is
 
 pub shape_of-leaves-in-Good : goal.shape_of-leaves-in-Good
 shape_of-leaves-in-Good c =
     let the-begin = c.begin in
-    the-begin.auto.1.1.1.1.1.0
+    the-begin.auto.limit.1.1.1.1.0
 
 pub shape_of-inners-in-Good : goal.shape_of-inners-in-Good
 shape_of-inners-in-Good c =
     let the-begin = c.begin in
-    the-begin.auto.1.1.1.1.1.1.0
+    the-begin.auto.limit.1.1.1.1.1.0
 
 pub shape_of-homes-in-Good : goal.shape_of-homes-in-Good
 shape_of-homes-in-Good c =
     let the-begin = c.begin in
-    the-begin.auto.1.1.1.1.1.1.1.0
+    the-begin.auto.limit.1.1.1.1.1.1.0
 
 pub returns-in-Good : goal.returns-in-Good
 returns-in-Good c effect more high =
     let args = c.args in
     let pre = c.requires in
     let o = c.open_new.ensures effect more high in
-    let good = c.g-1.given.1 in
+    let good = c.in-Good.is in
     let the-begin = c.begin in
     let r = new_room (kind_of args.views effect args.ordered) more args.fan args.limit (lengths_in args.views args.x.now) args.leaves.now args.inners.now args.homes.now _ o (pre.0, pre.1) _ good in
     make_good (kind_of args.views effect args.ordered) more args.fan args.limit (lengths_in args.views args.x.now) args.leaves.now args.inners.now args.homes.now _ o _ good _ (the-begin.ensures (kind_of args.views effect args.ordered) r.same)

@@ -23,18 +23,18 @@ returns-then-crossed c effect =
     let a = c.args in
     let m = c.too_many_lines in
     let o = c.open_areas in
-    make_crossed (kind_of a.views effect a.ordered) a.fan a.limit (lengths_in a.views a.x.now) a.leaves.now a.inners.now a.homes.now _ (m.ensures effect) c.if-too_many_lines.false _ (o.ensures effect) _ c.g-1.given.1 _ c.crossed.ensures c.if-crossed.true
+    make_crossed (kind_of a.views effect a.ordered) a.fan a.limit (lengths_in a.views a.x.now) a.leaves.now a.inners.now a.homes.now _ (m.ensures effect) c.if-too_many_lines.false _ (o.ensures effect) _ c.in-Good.is _ c.crossed.ensures c.if-crossed.true
 
 pub returns-in-Refused : goal.returns-in-Refused
 returns-in-Refused c effect =
     let a = c.args in
     let m = c.too_many_lines in
     let o = c.open_areas in
-    make_closed (kind_of a.views effect a.ordered) a.fan a.limit (lengths_in a.views a.x.now) a.leaves.now a.inners.now a.homes.now _ (m.ensures effect) c.if-too_many_lines.false _ (o.ensures effect) _ c.n-1.given.1
+    make_closed (kind_of a.views effect a.ordered) a.fan a.limit (lengths_in a.views a.x.now) a.leaves.now a.inners.now a.homes.now _ (m.ensures effect) c.if-too_many_lines.false _ (o.ensures effect) _ c.in-Refused.is
 
 pub returns-else-crossed : goal.returns-else-crossed
 returns-else-crossed c effect =
     let a = c.args in
     let m = c.too_many_lines in
     let o = c.open_areas in
-    make_opened (kind_of a.views effect a.ordered) a.fan a.limit (lengths_in a.views a.x.now) a.leaves.now a.inners.now a.homes.now _ (m.ensures effect) c.if-too_many_lines.false _ (o.ensures effect) _ c.g-1.given.1 _ c.crossed.ensures c.if-crossed.false
+    make_opened (kind_of a.views effect a.ordered) a.fan a.limit (lengths_in a.views a.x.now) a.leaves.now a.inners.now a.homes.now _ (m.ensures effect) c.if-too_many_lines.false _ (o.ensures effect) _ c.in-Good.is _ c.crossed.ensures c.if-crossed.false

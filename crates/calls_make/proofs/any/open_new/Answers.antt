@@ -10,14 +10,14 @@ open_make-requires c = c.requires
 pub returns-then-high-ne0 : goal.returns-then-high-ne0
 returns-then-high-ne0 c effect more room =
     let a = c.args in
-    new_high (kind_of a.views effect a.ordered) a.fan a.limit (lengths_in a.views a.x.now) a.leaves.now a.inners.now a.homes.now _ (c.open_make.ensures effect) more _ c.g-1.given.1 _ room c.if-high-ne0.true
+    new_high (kind_of a.views effect a.ordered) a.fan a.limit (lengths_in a.views a.x.now) a.leaves.now a.inners.now a.homes.now _ (c.open_make.ensures effect) more _ c.in-Good.is _ room c.if-high-ne0.true
 
 pub returns-in-Refused : goal.returns-in-Refused
 returns-in-Refused c effect more room =
     let a = c.args in
-    new_stop (kind_of a.views effect a.ordered) a.fan a.limit (lengths_in a.views a.x.now) a.leaves.now a.inners.now a.homes.now _ (c.open_make.ensures effect) more _ c.n-1.given.1
+    new_stop (kind_of a.views effect a.ordered) a.fan a.limit (lengths_in a.views a.x.now) a.leaves.now a.inners.now a.homes.now _ (c.open_make.ensures effect) more _ c.in-Refused.is
 
 pub returns-else-high-ne0 : goal.returns-else-high-ne0
 returns-else-high-ne0 c effect more room =
     let a = c.args in
-    new_good (kind_of a.views effect a.ordered) a.fan a.limit (lengths_in a.views a.x.now) a.leaves.now a.inners.now a.homes.now _ (c.open_make.ensures effect) more _ c.g-1.given.1 _ room c.if-high-ne0.false
+    new_good (kind_of a.views effect a.ordered) a.fan a.limit (lengths_in a.views a.x.now) a.leaves.now a.inners.now a.homes.now _ (c.open_make.ensures effect) more _ c.in-Good.is _ room c.if-high-ne0.false

@@ -16,7 +16,7 @@ begin-requires c =
     let args = c.args in
     let pre = c.requires in
     let o = c.open_make.ensures 0 in
-    let good = c.g-1.given.1 in
+    let good = c.in-Good.is in
     let r = make_room_law (kind_of args.views 0 args.ordered) (pre.0, pre.1) args.head.fan args.head.limit (lengths_in args.views args.x.now) args.leaves.now args.inners.now args.homes.now _ o _ good in
     (r.shaped, r.leaves, r.inners, r.homes, pre.2, pre.3)
 
@@ -33,29 +33,29 @@ pub returns-in-Refused : goal.returns-in-Refused
 returns-in-Refused c effect =
     let args = c.args in
     let o = c.open_make.ensures effect in
-    reset_refused (kind_of args.views effect args.ordered) (state args.head args.leaves.now args.inners.now args.homes.now) (lengths_in args.views args.x.now) _ o _ c.n-1.given.1
+    reset_refused (kind_of args.views effect args.ordered) (state args.head args.leaves.now args.inners.now args.homes.now) (lengths_in args.views args.x.now) _ o _ c.in-Refused.is
 
 pub shape_of-leaves-in-Good : goal.shape_of-leaves-in-Good
 shape_of-leaves-in-Good c =
     let the-begin = c.begin in
-    the-begin.auto.1.1.1.1.1.0
+    the-begin.auto.limit.1.1.1.1.0
 
 pub shape_of-inners-in-Good : goal.shape_of-inners-in-Good
 shape_of-inners-in-Good c =
     let the-begin = c.begin in
-    the-begin.auto.1.1.1.1.1.1.0
+    the-begin.auto.limit.1.1.1.1.1.0
 
 pub shape_of-homes-in-Good : goal.shape_of-homes-in-Good
 shape_of-homes-in-Good c =
     let the-begin = c.begin in
-    the-begin.auto.1.1.1.1.1.1.1.0
+    the-begin.auto.limit.1.1.1.1.1.1.0
 
 pub returns-in-Good : goal.returns-in-Good
 returns-in-Good c effect =
     let args = c.args in
     let pre = c.requires in
     let o = c.open_make.ensures effect in
-    let good = c.g-1.given.1 in
+    let good = c.in-Good.is in
     let next = c.wrapping_add_u64-stamp.ensures.value in
     let the-begin = c.begin in
     let r = make_room_law (kind_of args.views effect args.ordered) (pre.0, pre.1) args.head.fan args.head.limit (lengths_in args.views args.x.now) args.leaves.now args.inners.now args.homes.now _ o _ good in

@@ -8,4 +8,4 @@ returns c =
     let args = c.args in
     let pre = c.requires in
     let new-one = c.new_one in
-    first_node args.g args.area.now new-one.new.0 pre.1 new-one.auto.0 ∙ rw new-one.ensures
+    first_node args.g args.area.now new-one.new.node pre.1 new-one.auto.node ∙ rw new-one.ensures

@@ -9,11 +9,11 @@ pub returns-in-Done : goal.returns-in-Done
 returns-in-Done c =
     let a = c.args in
     let words = c.clear.ensures in (
-      reset_done _ a.answer _ c.enum_told-1.given.1 (ap seats_from words ∙ seats_cleared a.seats.now c.requires),
+      reset_done _ a.answer _ c.in-Done.is (ap seats_from words ∙ seats_cleared a.seats.now c.requires),
       ap (λ (w : List ℕ). get_or w 0 0) words ∙ flag_cleared a.seats.now c.requires,
     )
 
 pub returns-in-Refused : goal.returns-in-Refused
 returns-in-Refused c =
     let args = c.args in
-    (reset_kept _ args.answer _ c.answer-1.given.1, refl)
+    (reset_kept _ args.answer _ c.in-Refused.is, refl)

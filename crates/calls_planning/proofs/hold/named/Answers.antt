@@ -4,7 +4,7 @@ use Rattle.calls_planning.specs.Bounds.{named_of}
 use Rattle.calls_planning.proofs.hold.named.Goals as goal
 
 pub returns-in-At : goal.returns-in-At
-returns-in-At c = ap named_of (sym c.answer-1.given.1)
+returns-in-At c = ap named_of (sym c.in-At.is)
 
 pub returns-in-Refused : goal.returns-in-Refused
-returns-in-Refused c = ap named_of (sym c.answer-in-Refused-1.given.1)
+returns-in-Refused c = ap named_of (sym c.in-Refused.is)

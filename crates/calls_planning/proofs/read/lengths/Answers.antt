@@ -7,7 +7,7 @@ pub cursor-requires : goal.cursor-requires
 cursor-requires c = (omega arith, omega arith)
 
 pub returns-in-Refused : goal.returns-in-Refused
-returns-in-Refused c = lengths_stops _ _ _ (c.cursor.ensures 1) _ c.n-1.given.1
+returns-in-Refused c = lengths_stops _ _ _ (c.cursor.ensures 1) _ c.in-Refused.is
 
 pub returns-in-At : goal.returns-in-At
-returns-in-At c = lengths_goes _ _ _ (c.cursor.ensures 1) _ c.c-1.given.1 _ c.lengths_of.ensures
+returns-in-At c = lengths_goes _ _ _ (c.cursor.ensures 1) _ c.in-At.is _ c.lengths_of.ensures

@@ -25,7 +25,7 @@ pub returns-in-Refused : goal.returns-in-Refused
 returns-in-Refused c effect =
     let args = c.args in
     let open-areas = c.open_areas in
-    areas_refused (kind args.views effect) _ _ _ (open-areas.ensures effect) _ c.n-1.given.1
+    areas_refused (kind args.views effect) _ _ _ (open-areas.ensures effect) _ c.in-Refused.is
 
 pub returns-else-astray : goal.returns-else-astray
 returns-else-astray c effect =

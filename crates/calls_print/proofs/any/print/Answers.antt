@@ -14,7 +14,7 @@ entry_lines-requires c =
     let args = c.args in
     let pre = c.requires in
     let open-print = c.open_print in
-    room (kind args.views args.effect) _ args.page.now _ (open-print.ensures args.effect) (pre.0, pre.1) _ c.g-1.given.1 pre.2
+    room (kind args.views args.effect) _ args.page.now _ (open-print.ensures args.effect) (pre.0, pre.1) _ c.in-Good.is pre.2
 
 pub returns-then-not-entry_lines : goal.returns-then-not-entry_lines
 returns-then-not-entry_lines c =
@@ -48,7 +48,7 @@ blank_lines-requires c =
     let open-print = c.open_print in
     let g = c.g-1 in
     let entry-lines = c.entry_lines in
-    omega (arith, (filled (kind args.views args.effect) _ args.page.now _ (open-print.ensures args.effect) (pre.0, pre.1) _ g.given.1 _ c.pages_for-pages.ensures).2, entry-lines.auto.1.1.1.1.1.1.1.0)
+    omega (arith, (filled (kind args.views args.effect) _ args.page.now _ (open-print.ensures args.effect) (pre.0, pre.1) _ g.given.1 _ c.pages_for-pages.ensures).2, entry-lines.auto.inners.1.1.1.1.1.1.0)
 
 pub overflow_cast-result : goal.overflow_cast-result
 overflow_cast-result c =
@@ -63,7 +63,7 @@ pub returns-in-Refused : goal.returns-in-Refused
 returns-in-Refused c =
     let args = c.args in
     let open-print = c.open_print in
-    print_refused (kind args.views args.effect) _ _ _ (open-print.ensures args.effect) _ c.n-1.given.1
+    print_refused (kind args.views args.effect) _ _ _ (open-print.ensures args.effect) _ c.in-Refused.is
 
 pub returns-else-not-entry_lines : goal.returns-else-not-entry_lines
 returns-else-not-entry_lines c =

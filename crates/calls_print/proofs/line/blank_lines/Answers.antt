@@ -24,7 +24,7 @@ pub loop-left-preserved : goal.loop-left-preserved
 loop-left-preserved c =
     let the-loop = c.loop-left in
     let loop-test = c.loop-left-test in (
-      c.blank_line.auto.0 ∙ the-loop.invariant.0,
+      c.blank_line.auto.page ∙ the-loop.invariant.0,
       omega (arith, the-loop.invariant.1),
       one_line _ _ _ _ _ loop-test.true (omega (arith, the-loop.invariant.0, the-loop.invariant.1)) c.blank_line.ensures the-loop.invariant.2,
     )

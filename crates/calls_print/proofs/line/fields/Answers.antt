@@ -30,7 +30,7 @@ pub bounds-page-p : goal.bounds-page-p
 bounds-page-p c =
     let the-loop = c.loop-i in
     let pre = c.requires in
-    omega (arith, the-loop.invariant.1, the-loop.invariant.2, pre.1, c.column.auto.0)
+    omega (arith, the-loop.invariant.1, the-loop.invariant.2, pre.1, c.column.auto.page)
 
 pub overflow_add-p : goal.overflow_add-p
 overflow_add-p c =
@@ -51,8 +51,8 @@ loop-i-preserved c =
     let pre = c.requires in (
       omega arith,
       omega (arith, the-loop.invariant.1),
-      length-set c.column.new.0 _ _ ∙ c.column.auto.0 ∙ the-loop.invariant.2,
-      one_field the-loop.p the-loop.i args.numbers.now the-loop.page c.column.new.0 _ (omega (arith, pre.0)) (omega (arith, the-loop.invariant.1, the-loop.invariant.2, pre.0, pre.1)) c.column.ensures the-loop.invariant.3,
+      length-set c.column.new.page _ _ ∙ c.column.auto.page ∙ the-loop.invariant.2,
+      one_field the-loop.p the-loop.i args.numbers.now the-loop.page c.column.new.page _ (omega (arith, pre.0)) (omega (arith, the-loop.invariant.1, the-loop.invariant.2, pre.0, pre.1)) c.column.ensures the-loop.invariant.3,
     )
 
 pub shape_of-page : goal.shape_of-page

@@ -19,7 +19,7 @@ pub len_of-len-requires : goal.len_of-len-requires
 len_of-len-requires c =
     let pre = c.requires in
     let the-loop = c.loop-left in
-    (pre.0, leaf_in_law _ _ _ the-loop.invariant.0 c.leaf-1.given.1)
+    (pre.0, leaf_in_law _ _ _ the-loop.invariant.0 c.in-At.is)
 
 pub shape_of-page-then-len-eq0 : goal.shape_of-page-then-len-eq0
 shape_of-page-then-len-eq0 c =
@@ -32,7 +32,7 @@ returns-then-len-eq0 c =
     let the-loop = c.loop-left in
     let leaf = c.leaf-1 in
     let loop-test = c.loop-left-test in
-    stopped _ _ _ _ _ _ _ _ pre.4 _ _ _ the-loop.invariant.1 (rw leaf.given.1 (met_empty _ _ _ _ _ _ c.len_of_lem.ensures _ c.if-len-eq0.true)) loop-test.true
+    stopped _ _ _ _ _ _ _ _ pre.4 _ _ _ the-loop.invariant.1 (rw leaf.given.1 (met_empty _ _ _ _ _ _ c.len_of-len.ensures _ c.if-len-eq0.true)) loop-test.true
 
 pub shape_of-page-then-fan-len : goal.shape_of-page-then-fan-len
 shape_of-page-then-fan-len c =
@@ -45,14 +45,14 @@ returns-then-fan-len c =
     let the-loop = c.loop-left in
     let leaf = c.leaf-1 in
     let loop-test = c.loop-left-test in
-    stopped _ _ _ _ _ _ _ _ pre.4 _ _ _ the-loop.invariant.1 (rw leaf.given.1 (met_over _ _ _ _ _ _ c.len_of_lem.ensures _ c.if-fan-len.true)) loop-test.true
+    stopped _ _ _ _ _ _ _ _ pre.4 _ _ _ the-loop.invariant.1 (rw leaf.given.1 (met_over _ _ _ _ _ _ c.len_of-len.ensures _ c.if-fan-len.true)) loop-test.true
 
 pub leaf_lines-lines-requires : goal.leaf_lines-lines-requires
 leaf_lines-lines-requires c =
     let pre = c.requires in
     let the-loop = c.loop-left in
     let leaf = c.leaf-1 in
-    let len_of_lem = c.len_of_lem in (
+    let len_of_lem = c.len_of-len in (
       pre.0,
       pre.2,
       leaf_in_law _ _ _ the-loop.invariant.0 leaf.given.1,
@@ -62,7 +62,7 @@ leaf_lines-lines-requires c =
 
 pub overflow_sub-left : goal.overflow_sub-left
 overflow_sub-left c =
-    let len_of_lem = c.len_of_lem in
+    let len_of_lem = c.len_of-len in
     let the-loop = c.loop-left in
     let least = c.least-n in
     omega (arith, (least_in len_of_lem.result the-loop.left least.result least.ensures).1)
@@ -88,7 +88,7 @@ next_up-leaf-requires c =
 
 pub loop-left-smaller : goal.loop-left-smaller
 loop-left-smaller c =
-    let len_of_lem = c.len_of_lem in
+    let len_of_lem = c.len_of-len in
     let the-loop = c.loop-left in
     let least = c.least-n in
     let if1 = c.if-len-eq0 in
@@ -101,13 +101,13 @@ loop-left-preserved c =
     let pre = c.requires in
     let the-loop = c.loop-left in
     let leaf = c.leaf-1 in
-    let len_of_lem = c.len_of_lem in
+    let len_of_lem = c.len_of-len in
     let if1 = c.if-len-eq0 in
     let if2 = c.if-fan-len in
     let least = c.least-n in
     let leaf-lines = c.leaf_lines-lines in (
       subst (Within args.g) (sym c.next_up-leaf.ensures) (next_within _ _ _ _ _ _),
-      onward _ _ _ _ _ _ _ _ pre.4 _ _ _ the-loop.invariant.1 _ leaf.given.1 _ len_of_lem.ensures if1.false if2.false _ least.ensures _ leaf-lines.ensures leaf-lines.auto.1.1.1.1.1.0
+      onward _ _ _ _ _ _ _ _ pre.4 _ _ _ the-loop.invariant.1 _ leaf.given.1 _ len_of_lem.ensures if1.false if2.false _ least.ensures _ leaf-lines.ensures leaf-lines.auto.g.1.1.1.1.0
           _ _ c.parent_of-parent.ensures c.at_of-place.ensures _ c.next_up-leaf.ensures,
     )
 
@@ -120,7 +120,7 @@ pub returns-in-Nothing : goal.returns-in-Nothing
 returns-in-Nothing c =
     let pre = c.requires in
     let the-loop = c.loop-left in
-    stopped _ _ _ _ _ _ _ _ pre.4 _ _ _ the-loop.invariant.1 (met_nothing _ _ _ _ _ _ _ c.enum_told-1.given.1) c.loop-left-test.true
+    stopped _ _ _ _ _ _ _ _ pre.4 _ _ _ the-loop.invariant.1 (met_nothing _ _ _ _ _ _ _ c.in-Nothing.is) c.loop-left-test.true
 
 pub shape_of-page-in-Broken : goal.shape_of-page-in-Broken
 shape_of-page-in-Broken c =
@@ -131,7 +131,7 @@ pub returns-in-Broken : goal.returns-in-Broken
 returns-in-Broken c =
     let pre = c.requires in
     let the-loop = c.loop-left in
-    stopped _ _ _ _ _ _ _ _ pre.4 _ _ _ the-loop.invariant.1 (met_broken _ _ _ _ _ _ _ c.enum_told-in-Broken-1.given.1) c.loop-left-test.true
+    stopped _ _ _ _ _ _ _ _ pre.4 _ _ _ the-loop.invariant.1 (met_broken _ _ _ _ _ _ _ c.in-Broken.is) c.loop-left-test.true
 
 pub shape_of-page : goal.shape_of-page
 shape_of-page c = c.loop-left.invariant.1.long

@@ -53,7 +53,7 @@ loop-i-preserved c =
     let length-of2 = c.length_of-effect in (
       omega arith,
       omega (arith, the-loop.invariant.1),
-      line.auto.0 ∙ the-loop.invariant.2,
+      line.auto.page ∙ the-loop.invariant.2,
       one_slot args.view args.n the-loop.i _ _ _ _ _ _ _ _ (node_at args.g args.k.0 args.leaves.now).slots _ _ _ loop-test.true (omega (arith, slots_are args.g args.k.0 args.leaves.now, pre.3))
           child_of.ensures length-of.ensures length-of2.ensures line.ensures c.wrapping_add_u32-p.ensures.value c.wrapping_add_u32-q.ensures.value the-loop.invariant.3,
     )

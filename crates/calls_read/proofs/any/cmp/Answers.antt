@@ -13,7 +13,7 @@ pub fault-n-requires : goal.fault-n-requires
 fault-n-requires c =
     let args = c.args in
     let pre = c.requires in
-    let h = ready (kind args.views 0) pre _ _ _ (c.before.before.before.«open».ensures 0) c.g-1.given.1 in
+    let h = ready (kind args.views 0) pre _ _ _ (c.before.before.before.«open».ensures 0) c.in-Good.is in
     (leaf_area _ _ h, h.leaves)
 
 pub returns-then-n-ne0 : goal.returns-then-n-ne0
@@ -69,7 +69,7 @@ pub returns-in-Refused : goal.returns-in-Refused
 returns-in-Refused c =
     let args = c.args in
     let pre = c.requires in
-    λ effect. cmp_refused (kind args.views effect) pre _ args.a args.b _ (c.before.before.before.«open».ensures effect) _ c.n-1.given.1
+    λ effect. cmp_refused (kind args.views effect) pre _ args.a args.b _ (c.before.before.before.«open».ensures effect) _ c.in-Refused.is
 
 pub returns-else-a-b : goal.returns-else-a-b
 returns-else-a-b c =

@@ -12,7 +12,7 @@ open-requires c =
 
 pub returns-then-entries-i : goal.returns-then-entries-i
 returns-then-entries-i c effect =
-    cursor_past (kind _ effect) _ _ _ (c.«open».ensures effect) _ c.g-1.given.1 c.if-entries-i.true
+    cursor_past (kind _ effect) _ _ _ (c.«open».ensures effect) _ c.in-Good.is c.if-entries-i.true
 
 pub bounds-homes-i : goal.bounds-homes-i
 bounds-homes-i c =
@@ -35,7 +35,7 @@ cursor_in-requires c =
     (leaf_area _ _ h, lt_of_lt_of_le c.if-k-head.false h.leaves)
 
 pub returns-in-Refused : goal.returns-in-Refused
-returns-in-Refused c effect = cursor_refused (kind _ effect) _ _ _ (c.before.before.before.«open».ensures effect) _ c.n-1.given.1
+returns-in-Refused c effect = cursor_refused (kind _ effect) _ _ _ (c.before.before.before.«open».ensures effect) _ c.in-Refused.is
 
 pub returns-else-k-head : goal.returns-else-k-head
 returns-else-k-head c effect =

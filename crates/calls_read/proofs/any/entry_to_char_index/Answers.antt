@@ -16,7 +16,7 @@ start_in-before-requires c =
     let args = c.args in
     let pre = c.requires in
     let open_at = c.open_at in
-    let h = cursor_ready (kind args.views 0) (pre.0, pre.1) _ args.at _ _ (open_at.ensures 0) c.g-1.given.1 in let i = slot_in_law _ args.at _ h in
+    let h = cursor_ready (kind args.views 0) (pre.0, pre.1) _ args.at _ _ (open_at.ensures 0) c.in-Good.is in let i = slot_in_law _ args.at _ h in
     (i.0, i.1, view_in _ _ _ h.ready pre.2, omega (arith, i.2))
 
 pub parent_of-parent-requires : goal.parent_of-parent-requires
@@ -24,7 +24,7 @@ parent_of-parent-requires c =
     let args = c.args in
     let pre = c.requires in
     let open_at = c.open_at in
-    let i = slot_in_law _ args.at _ (cursor_ready (kind args.views 0) (pre.0, pre.1) _ args.at _ _ (open_at.ensures 0) c.g-1.given.1) in (i.0, i.1)
+    let i = slot_in_law _ args.at _ (cursor_ready (kind args.views 0) (pre.0, pre.1) _ args.at _ _ (open_at.ensures 0) c.in-Good.is) in (i.0, i.1)
 
 pub at_of-place-requires : goal.at_of-place-requires
 at_of-place-requires c =
@@ -47,7 +47,7 @@ pub returns-in-Refused : goal.returns-in-Refused
 returns-in-Refused c =
     let args = c.args in
     let open_at = c.open_at in
-    λ effect. rank_refused (kind args.views effect) _ args.at _ (open_at.ensures effect) args.view _ c.n-1.given.1
+    λ effect. rank_refused (kind args.views effect) _ args.at _ (open_at.ensures effect) args.view _ c.in-Refused.is
 
 pub returns-in-Is : goal.returns-in-Is
 returns-in-Is c =
@@ -59,7 +59,7 @@ returns-in-Is c =
     let at_of = c.at_of-place in
     let rank_up = c.rank_up in
     λ effect. rank_good (kind args.views effect) _ args.at _ (open_at.ensures effect) _ g.given.1 args.view _ _ _ _ _ start-in.ensures.0 parent_of.ensures
-    at_of.ensures rank_up.ensures c.n-in-Is-1.given.1
+    at_of.ensures rank_up.ensures c.in-Is.is
 
 pub returns-in-Broken : goal.returns-in-Broken
 returns-in-Broken c =
@@ -70,4 +70,4 @@ returns-in-Broken c =
     let parent_of = c.parent_of-parent in
     let at_of = c.at_of-place in
     λ effect. rank_good (kind args.views effect) _ args.at _ (open_at.ensures effect) _ g.given.1 args.view _ _ _ _ _ start-in.ensures.0 parent_of.ensures
-    at_of.ensures c.rank_up.ensures c.enum_told-1.given.1
+    at_of.ensures c.rank_up.ensures c.in-Broken.is

@@ -12,13 +12,13 @@ open_at-requires c =
 pub child_of-id-requires : goal.child_of-id-requires
 child_of-id-requires c =
     let open_at = c.open_at in
-    slot_in_law _ c.args.at _ (cursor_ready (kind _ 0) c.requires _ c.args.at _ _ (open_at.ensures 0) c.g-1.given.1)
+    slot_in_law _ c.args.at _ (cursor_ready (kind _ 0) c.requires _ c.args.at _ _ (open_at.ensures 0) c.in-Good.is)
 
 pub returns-in-Refused : goal.returns-in-Refused
 returns-in-Refused c effect =
     let args = c.args in
     let open_at = c.open_at in
-    id_refused (kind _ effect) _ args.at _ (open_at.ensures effect) _ c.n-1.given.1
+    id_refused (kind _ effect) _ args.at _ (open_at.ensures effect) _ c.in-Refused.is
 
 pub returns-in-Good : goal.returns-in-Good
 returns-in-Good c effect =

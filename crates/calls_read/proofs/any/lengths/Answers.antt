@@ -15,7 +15,7 @@ pub lengths_at-requires : goal.lengths_at-requires
 lengths_at-requires c =
     let args = c.args in
     let pre = c.requires in
-    let i = slot_in_law _ args.at _ (cursor_ready (kind _ 0) (pre.0, pre.1) _ args.at _ _ (c.open_at.ensures 0) c.g-1.given.1) in
+    let i = slot_in_law _ args.at _ (cursor_ready (kind _ 0) (pre.0, pre.1) _ args.at _ _ (c.open_at.ensures 0) c.in-Good.is) in
     (i.0, i.1, i.2, pre.2)
 
 pub returns-in-Refused : goal.returns-in-Refused
@@ -23,7 +23,7 @@ returns-in-Refused c =
     let args = c.args in
     let pre = c.requires in
     let o = c.open_at.ensures in (
-      (λ effect. lengths_refused (kind _ effect) _ args.at _ (o effect) _ c.n-1.given.1 (lengths_in args.views args.x.now)),
+      (λ effect. lengths_refused (kind _ effect) _ args.at _ (o effect) _ c.in-Refused.is (lengths_in args.views args.x.now)),
       pre.2,
     )
 
@@ -32,8 +32,8 @@ returns-in-Good c =
     let args = c.args in
     let pre = c.requires in
     let o = c.open_at.ensures in
-    let good = c.g-1.given.1 in
-    let x = c.lengths_at.new.1.1.1.1.0 in (
+    let good = c.in-Good.is in
+    let x = c.lengths_at.new.g.1.1.1.0 in (
       (λ effect. let h = cursor_ready (kind args.views effect) (pre.0, pre.1) _ args.at _ _ (o effect) good in
           lengths_good (kind args.views effect) _ args.at _ (o effect) _ good args.views x (views_are _ _ h.ready) c.lengths_at.ensures.0),
       c.lengths_at.ensures.1,

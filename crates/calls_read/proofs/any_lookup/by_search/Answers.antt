@@ -9,14 +9,14 @@ pub returns-in-At : goal.returns-in-At
 returns-in-At c =
     let args = c.args in
     rw c.wrapping_add_u32-both.ensures.value at c.hit.ensures
-    ∙ ap (λ (q : Search). search_of args.head q (wrap (args.vain + args.r.examined))) (sym c.found-1.given.1)
+    ∙ ap (λ (q : Search). search_of args.head q (wrap (args.vain + args.r.examined))) (sym c.in-At.is)
 
 pub returns-in-Nothing : goal.returns-in-Nothing
 returns-in-Nothing c =
     let args = c.args in
-    c.refused.ensures ∙ ap (λ (q : Search). search_of args.head q (wrap (args.vain + args.r.examined))) (sym c.enum_told-1.given.1)
+    c.refused.ensures ∙ ap (λ (q : Search). search_of args.head q (wrap (args.vain + args.r.examined))) (sym c.in-Nothing.is)
 
 pub returns-in-Broken : goal.returns-in-Broken
 returns-in-Broken c =
     let args = c.args in
-    c.refused-in-Broken.ensures ∙ ap (λ (q : Search). search_of args.head q (wrap (args.vain + args.r.examined))) (sym c.enum_told-in-Broken-1.given.1)
+    c.refused-in-Broken.ensures ∙ ap (λ (q : Search). search_of args.head q (wrap (args.vain + args.r.examined))) (sym c.in-Broken.is)

@@ -13,7 +13,7 @@ pub served_by-by_finger-requires : goal.served_by-by_finger-requires
 served_by-by_finger-requires c =
     let args = c.args in
     let pre = c.requires in
-    let h = ready (kind args.views args.effect) (pre.0, pre.1) _ _ _ (c.before.before.before.«open».ensures args.effect) c.g-1.given.1 in
+    let h = ready (kind args.views args.effect) (pre.0, pre.1) _ _ _ (c.before.before.before.«open».ensures args.effect) c.in-Good.is in
     (leaf_area _ _ h, view_in _ _ _ h pre.3, view_in _ _ _ h pre.2, h.leaves)
 
 pub from_root-found-requires : goal.from_root-found-requires
@@ -27,7 +27,7 @@ from_root-found-requires c =
 pub returns-in-Refused : goal.returns-in-Refused
 returns-in-Refused c =
     let args = c.args in
-    locate_refused _ (kind args.views args.effect) args.view _ _ (c.before.before.before.before.«open».ensures args.effect) _ c.n-1.given.1 _ c.refused.ensures
+    locate_refused _ (kind args.views args.effect) args.view _ _ (c.before.before.before.before.«open».ensures args.effect) _ c.in-Refused.is _ c.refused.ensures
 
 pub returns-in-At : goal.returns-in-At
 returns-in-At c =
@@ -35,7 +35,7 @@ returns-in-At c =
     let g = c.g-1 in
     let served-by = c.served_by-by_finger in
     locate_hit _ (kind args.views args.effect) args.view _ _ (c.«open».ensures args.effect) _ g.given.1 _ served-by.ensures _ _
-    c.found-1.given.1 _ c.hit.ensures
+    c.in-At.is _ c.hit.ensures
 
 pub returns-in-Nothing : goal.returns-in-Nothing
 returns-in-Nothing c =
@@ -51,4 +51,4 @@ returns-in-Broken c =
     let args = c.args in
     let g = c.g-1 in
     locate_broken _ (kind args.views args.effect) args.view _ _ (c.before.before.before.before.before.before.before.«open».ensures args.effect) _ g.given.1 _
-    c.served_by-by_finger.ensures c.enum_told-in-Broken-1.given.1 _ c.refused-in-Broken.ensures
+    c.served_by-by_finger.ensures c.in-Broken.is _ c.refused-in-Broken.ensures

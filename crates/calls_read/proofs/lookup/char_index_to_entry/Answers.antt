@@ -8,10 +8,10 @@ pub returns-in-At : goal.returns-in-At
 returns-in-At c =
     let args = c.args in
     let locate = c.locate-r in
-    less_positions_law _ base (view_number args.view) _ locate.result locate.ensures.0 _ c.answer-1.given.1
+    less_positions_law _ base (view_number args.view) _ locate.result locate.ensures.0 _ c.in-At.is
 
 pub returns-in-Refused : goal.returns-in-Refused
 returns-in-Refused c =
     let args = c.args in
     let locate = c.locate-r in
-    less_positions_law _ base (view_number args.view) _ locate.result locate.ensures.0 _ c.answer-in-Refused-1.given.1
+    less_positions_law _ base (view_number args.view) _ locate.result locate.ensures.0 _ c.in-Refused.is

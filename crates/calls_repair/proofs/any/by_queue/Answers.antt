@@ -1,6 +1,6 @@
 -- 21 where a test fails; else the tree is one that the writer may be handed, and what it leaves is the answer.
 use native.Mathlib.Omega.{arith}
-use borrow.Author.Tests.{not-true, not-false}
+use borrow.Author.Tests.{not-false}
 use Rattle.calls_repair.proofs.AnswerLaws.{not_fit, not_fair, is_mended, leaf_room, inner_room, job_of, job_done}
 use Rattle.calls_repair.proofs.any.by_queue.Goals as goal
 
@@ -13,14 +13,14 @@ pub returns-then-not-fit : goal.returns-then-not-fit
 returns-then-not-fit c =
     let args = c.args in
     let is-fit = c.is_fit-fit in
-    λ effect w. not_fit _ _ args.fair (is-fit.ensures.0 w.views effect args.homes.now w.same) (not-true _ c.if-not-fit.true)
+    λ effect w. not_fit _ _ args.fair (is-fit.ensures.0 w.views effect args.homes.now w.same) (c.if-not-fit.true)
 
 pub returns-then-not-fair : goal.returns-then-not-fair
 returns-then-not-fair c =
     let args = c.args in
     let is-fit = c.is_fit-fit in
-    λ effect w. not_fair _ _ args.fair (is-fit.ensures.0 w.views effect args.homes.now w.same) (not-false _ c.if-not-fit.false)
-    (not-true _ c.if-not-fair.true)
+    λ effect w. not_fair _ _ args.fair (is-fit.ensures.0 w.views effect args.homes.now w.same) (c.if-not-fit.false)
+    (c.if-not-fair.true)
 
 pub mend-n-requires : goal.mend-n-requires
 mend-n-requires c =

@@ -25,7 +25,7 @@ returns-in-Refused c =
     let open-areas = c.open_areas in
     call_stops args.views args.effect args.ordered (pre.0, pre.1)
     (state args.head args.leaves.now args.inners.now args.homes.now)
-    (open-areas.ensures args.effect) args.fair c.n-1.given.1
+    (open-areas.ensures args.effect) args.fair c.in-Refused.is
 
 pub returns-in-Good : goal.returns-in-Good
 returns-in-Good c =

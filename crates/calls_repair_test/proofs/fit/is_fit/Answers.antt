@@ -2,7 +2,7 @@
 use mathlib.Core.Path.{refl, ◌∙◌}
 use mathlib.Core.Bool.{false}
 use native.Mathlib.Omega.{arith}
-use borrow.Author.Tests.{not-true, not-false}
+use borrow.Author.Tests.{not-false}
 use Rattle.model.specs.Kind.{kind_of}
 use Rattle.calls_repair_test.specs.Queue.{kids_of}
 use Rattle.calls_repair_test.proofs.LevelLaws.{never}
@@ -13,7 +13,7 @@ pub returns-then-not-counts : goal.returns-then-not-counts
 returns-then-not-counts c =
     let args = c.args in (
       λ views effect hs e. fit_1 views effect args.ordered args.head args.leaves.now args.inners.now hs _ e _ c.counts.ensures
-          (not-true _ c.if-not-counts.true),
+          (c.if-not-counts.true),
       λ q. never false refl q,
     )
 
@@ -21,14 +21,14 @@ pub every_inner-requires : goal.every_inner-requires
 every_inner-requires c =
     let pre = c.requires in
     let args = c.args in
-    (pre.1, (counted args.head args.g _ c.counts.ensures (not-false _ c.if-not-counts.false)).inners)
+    (pre.1, (counted args.head args.g _ c.counts.ensures (c.if-not-counts.false)).inners)
 
 pub returns-then-not-every_inner : goal.returns-then-not-every_inner
 returns-then-not-every_inner c =
     let args = c.args in
     let counts = c.counts in (
       λ views effect hs e. fit_2 views effect args.ordered args.head args.leaves.now args.inners.now hs _ e _ counts.ensures
-          (not-false _ c.if-not-counts.false) _ (c.every_inner.ensures (kind_of views effect args.ordered) e) (not-true _ c.if-not-every_inner.true),
+          (c.if-not-counts.false) _ (c.every_inner.ensures (kind_of views effect args.ordered) e) (c.if-not-every_inner.true),
       λ q. never false refl q,
     )
 
@@ -37,7 +37,7 @@ every_leaf-requires c =
     let pre = c.requires in
     let args = c.args in
     let counts = c.counts in
-    (pre.0, (counted args.head args.g _ counts.ensures (not-false _ c.if-not-counts.false)).leaves, fan_is pre.2.views args.head args.g pre.2.same)
+    (pre.0, (counted args.head args.g _ counts.ensures (c.if-not-counts.false)).leaves, fan_is pre.2.views args.head args.g pre.2.same)
 
 pub returns-then-not-every_leaf : goal.returns-then-not-every_leaf
 returns-then-not-every_leaf c =
@@ -46,8 +46,8 @@ returns-then-not-every_leaf c =
     let if1 = c.if-not-counts in
     let every-inner = c.every_inner in (
       λ views effect hs e. fit_3 views effect args.ordered args.head args.leaves.now args.inners.now hs _ e _ counts.ensures (not-false _ if1.false) _
-          (every-inner.ensures (kind_of views effect args.ordered) e) (not-false _ c.if-not-every_inner.false) _ (c.every_leaf.ensures views effect e)
-          (not-true _ c.if-not-every_leaf.true),
+          (every-inner.ensures (kind_of views effect args.ordered) e) (c.if-not-every_inner.false) _ (c.every_leaf.ensures views effect e)
+          (c.if-not-every_leaf.true),
       λ q. never false refl q,
     )
 
@@ -85,7 +85,7 @@ returns-then-not-met c =
     let reach = c.reach-met in (
       λ views effect hs e. fit_4 views effect args.ordered args.head args.leaves.now args.inners.now hs _ e _ counts.ensures (not-false _ if1.false) _
           (every-inner.ensures (kind_of views effect args.ordered) e) (not-false _ if2.false) _ (every-leaf.ensures views effect e) (not-false _ if3.false) _ reach.ensures.0
-          (not-true _ c.if-not-met.true),
+          (c.if-not-met.true),
       λ q. never false refl q,
     )
 
@@ -99,11 +99,11 @@ totals-ok-requires c =
     let w = counted args.head args.g _ counts.ensures (not-false _ if1.false) in (
       pre.0,
       omega arith,
-      (reach.ensures.1 (not-false _ c.if-not-met.false)).long,
+      (reach.ensures.1 (c.if-not-met.false)).long,
       omega (arith, w.inners, w.leaves, pre.2.nodes),
       listed
           (kids_of args.g args.inners.now) args.head.root.0 args.head.levels args.head.inners args.head.leaves _ args.g.nodes _
-          (reach.ensures.1 (not-false _ c.if-not-met.false)) w.leaves,
+          (reach.ensures.1 (c.if-not-met.false)) w.leaves,
     )
 
 pub returns : goal.returns
@@ -118,7 +118,7 @@ returns c =
     let reach = c.reach-met in (
       λ views effect hs e. fit_5 views effect args.ordered args.head args.leaves.now args.inners.now hs _ e _ counts.ensures (not-false _ if1.false) _
           (every-inner.ensures (kind_of views effect args.ordered) e) (not-false _ if2.false) _ (every-leaf.ensures views effect e) (not-false _ if3.false) _ reach.ensures.0
-          (not-false _ c.if-not-met.false) _ (c.totals-ok.ensures ∙ totals_are views effect args.ordered args.head args.leaves.now args.inners.now hs _ e _ _ _ _
-          (reach.ensures.1 (not-false _ c.if-not-met.false))),
-      λ q. reach.ensures.1 (not-false _ c.if-not-met.false),
+          (c.if-not-met.false) _ (c.totals-ok.ensures ∙ totals_are views effect args.ordered args.head args.leaves.now args.inners.now hs _ e _ _ _ _
+          (reach.ensures.1 (c.if-not-met.false))),
+      λ q. reach.ensures.1 (c.if-not-met.false),
     )

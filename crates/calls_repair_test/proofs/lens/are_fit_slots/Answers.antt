@@ -3,7 +3,6 @@ use mathlib.Core.Path.{sym, ◌∙◌}
 use Prim.Native.Nat.{◌-◌}
 use native.Mathlib.Omega.{arith}
 use native.Mathlib.Nat.{lt_of_lt_of_le}
-use borrow.Author.Tests.{not-true, not-false}
 use Rattle.calls_audit.proofs.Every.{every_all, every_stop, every_on, every_end}
 use Rattle.calls_repair_test.proofs.LensLaws.{fits_at}
 use Rattle.calls_repair_test.proofs.lens.are_fit_slots.Goals as goal
@@ -21,7 +20,7 @@ returns-then-not-is_fit_slot c =
     let args = c.args in
     let the-loop = c.loop-i in
     sym (every_stop (fits_at args.g args.ordered args.k.0 args.leaves.now) _ _ c.loop-i-test.true
-    (sym c.is_fit_slot.ensures ∙ not-true _ c.if-not-is_fit_slot.true)) ∙ the-loop.invariant
+    (sym c.is_fit_slot.ensures ∙ c.if-not-is_fit_slot.true)) ∙ the-loop.invariant
 
 pub overflow_add-i : goal.overflow_add-i
 overflow_add-i c = omega arith
@@ -34,7 +33,7 @@ loop-i-preserved c =
     let args = c.args in
     let the-loop = c.loop-i in
     sym (every_on (fits_at args.g args.ordered args.k.0 args.leaves.now) _ _ c.loop-i-test.true
-    (sym c.is_fit_slot.ensures ∙ not-false _ c.if-not-is_fit_slot.false)) ∙ the-loop.invariant
+    (sym c.is_fit_slot.ensures ∙ c.if-not-is_fit_slot.false)) ∙ the-loop.invariant
 
 pub returns : goal.returns
 returns c =

@@ -4,7 +4,7 @@ use mathlib.Core.List.{[]}
 use Prim.Native.Nat.{◌-◌}
 use native.Mathlib.Omega.{arith}
 use native.Mathlib.Nat.{lt_of_lt_of_le}
-use borrow.Author.Tests.{not-true, not-false}
+use borrow.Author.Tests.{not-true}
 use Rattle.model.specs.Kind.{stride}
 use Rattle.model.specs.State.{state}
 use Rattle.model.specs.Mend.{is_fit_inner}
@@ -24,7 +24,7 @@ pub returns-then-not-is_long : goal.returns-then-not-is_long
 returns-then-not-is_long c K e =
     let args = c.args in
     let loop-test = c.loop-k-test in
-    let len_of_lem = c.len_of_lem in
+    let len_of_lem = c.len_of in
     let the-loop = c.loop-k in
     sym (every_stop (is_fit_inner K (state args.head [] args.inners.now [])) _ _ loop-test.true
     (sym (inner_by_law K args.head args.inners.now _ _ _ _ _ e len_of_lem.ensures (c.least_inner.ensures (stride K)) c.is_long.ensures) ∙ not-true _
@@ -40,11 +40,11 @@ pub loop-k-preserved : goal.loop-k-preserved
 loop-k-preserved c K e =
     let args = c.args in
     let loop-test = c.loop-k-test in
-    let len_of_lem = c.len_of_lem in
+    let len_of_lem = c.len_of in
     let the-loop = c.loop-k in
     sym (every_on (is_fit_inner K (state args.head [] args.inners.now [])) _ _ loop-test.true
     (sym (inner_by_law K args.head args.inners.now _ _ _ _ _ e len_of_lem.ensures (c.least_inner.ensures (stride K)) c.is_long.ensures)
-    ∙ not-false _ c.if-not-is_long.false)) ∙ the-loop.invariant K e
+    ∙ c.if-not-is_long.false)) ∙ the-loop.invariant K e
 
 pub returns : goal.returns
 returns c K e =

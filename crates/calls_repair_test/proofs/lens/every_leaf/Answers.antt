@@ -4,7 +4,6 @@ use mathlib.Core.List.{[]}
 use Prim.Native.Nat.{◌-◌}
 use native.Mathlib.Omega.{arith}
 use native.Mathlib.Nat.{lt_of_lt_of_le}
-use borrow.Author.Tests.{not-true, not-false}
 use Rattle.model.specs.Kind.{kind_of}
 use Rattle.model.specs.State.{state}
 use Rattle.model.specs.Mend.{is_fit_leaf}
@@ -24,7 +23,7 @@ returns-then-not-is_fit_leaf c views effect e =
     let args = c.args in
     let the-loop = c.loop-k in
     sym (every_stop (is_fit_leaf (kind_of views effect args.ordered) (state args.head args.leaves.now [] [])) _ _ c.loop-k-test.true
-    (sym (c.is_fit_leaf.ensures views effect e) ∙ not-true _ c.if-not-is_fit_leaf.true)) ∙ the-loop.invariant views effect e
+    (sym (c.is_fit_leaf.ensures views effect e) ∙ c.if-not-is_fit_leaf.true)) ∙ the-loop.invariant views effect e
 
 pub overflow_add-k : goal.overflow_add-k
 overflow_add-k c = omega arith
@@ -37,7 +36,7 @@ loop-k-preserved c views effect e =
     let args = c.args in
     let the-loop = c.loop-k in
     sym (every_on (is_fit_leaf (kind_of views effect args.ordered) (state args.head args.leaves.now [] [])) _ _ c.loop-k-test.true
-    (sym (c.is_fit_leaf.ensures views effect e) ∙ not-false _ c.if-not-is_fit_leaf.false)) ∙ the-loop.invariant views effect e
+    (sym (c.is_fit_leaf.ensures views effect e) ∙ c.if-not-is_fit_leaf.false)) ∙ the-loop.invariant views effect e
 
 pub returns : goal.returns
 returns c views effect e =

@@ -2,7 +2,7 @@
 use mathlib.Core.Path.{refl}
 use mathlib.Core.Bool.{false}
 use native.Mathlib.Omega.{arith}
-use borrow.Author.Tests.{not-true, not-false}
+use borrow.Author.Tests.{not-false}
 use Rattle.calls_repair_test.specs.Queue.{kids_of}
 use Rattle.calls_repair_test.proofs.LevelLaws.{never}
 use Rattle.calls_repair_test.proofs.ReachLaws.{stop_1, room_1, room_2, sorted_2, long_2, parents_2, stop_2, room_3, long_3, parents_3, end_3, reached_3}
@@ -35,7 +35,7 @@ returns-then-not-is_full c =
     let inner-levels = c.inner_levels-first in (
       stop_1 (kids_of args.g args.inners.now) (kids_of args.g args.leaves.now) args.root args.levels args.n args.m args.entries pre.2
           args.order.now args.upper.now args.lower.now args.named.now pre.4 pre.5 pre.6 pre.3 _ _ _ _ _ inner-levels.ensures.0
-          inner-levels.ensures.1 _ c.is_full.ensures (not-true _ c.if-not-is_full.true),
+          inner-levels.ensures.1 _ c.is_full.ensures (c.if-not-is_full.true),
       λ q. never false refl q,
     )
 
@@ -48,19 +48,19 @@ level-second-requires c =
       pre.0.area,
       room_2 (kids_of args.g args.inners.now) (kids_of args.g args.leaves.now) args.root args.levels args.n args.m args.entries pre.2
           args.order.now args.upper.now args.lower.now args.named.now pre.4 pre.5 pre.6 pre.3 _ _ _ _ _ inner-levels.ensures.0
-          inner-levels.ensures.1 _ is-full.ensures (not-false _ c.if-not-is_full.false),
+          inner-levels.ensures.1 _ is-full.ensures (c.if-not-is_full.false),
       sorted_2 (kids_of args.g args.inners.now)
           (kids_of args.g args.leaves.now) args.root args.levels args.n args.m args.entries pre.2 args.order.now args.upper.now args.lower.now
           args.named.now pre.4 pre.5 pre.6 pre.3 _ _ _ _ _ inner-levels.ensures.0 inner-levels.ensures.1 _ is-full.ensures
-          (not-false _ c.if-not-is_full.false),
+          (c.if-not-is_full.false),
       omega arith,
       long_2 (kids_of args.g args.inners.now) (kids_of args.g args.leaves.now) args.root args.levels
           args.n args.m args.entries pre.2 args.order.now args.upper.now args.lower.now args.named.now pre.4 pre.5 pre.6 pre.3 _ _ _ _ _
-          inner-levels.ensures.0 inner-levels.ensures.1 _ is-full.ensures (not-false _ c.if-not-is_full.false),
+          inner-levels.ensures.0 inner-levels.ensures.1 _ is-full.ensures (c.if-not-is_full.false),
       parents_2 (kids_of args.g args.inners.now)
           (kids_of args.g args.leaves.now) args.root args.levels args.n args.m args.entries pre.2 args.order.now args.upper.now args.lower.now
           args.named.now pre.4 pre.5 pre.6 pre.3 _ _ _ _ _ inner-levels.ensures.0 inner-levels.ensures.1 _ is-full.ensures
-          (not-false _ c.if-not-is_full.false) _ _ pre.0,
+          (c.if-not-is_full.false) _ _ pre.0,
     )
 
 pub returns-then-not-is_full-2 : goal.returns-then-not-is_full-2
@@ -73,7 +73,7 @@ returns-then-not-is_full-2 c =
     let level = c.level-second in (
       stop_2 (kids_of args.g args.inners.now) (kids_of args.g args.leaves.now) args.root args.levels args.n args.m args.entries pre.2
           args.order.now args.upper.now args.lower.now args.named.now pre.4 pre.5 pre.6 pre.3 _ _ _ _ _ inner-levels.ensures.0
-          inner-levels.ensures.1 _ is-full.ensures (not-false _ if1.false) _ _ _ _ level.ensures _ c.is_full-2.ensures (not-true _ c.if-not-is_full-2.true),
+          inner-levels.ensures.1 _ is-full.ensures (not-false _ if1.false) _ _ _ _ level.ensures _ c.is_full-2.ensures (c.if-not-is_full-2.true),
       λ q. never false refl q,
     )
 
@@ -89,16 +89,16 @@ level-third-requires c =
       pre.1.area,
       room_3 (kids_of args.g args.inners.now) (kids_of args.g args.leaves.now) args.root args.levels args.n args.m args.entries pre.2
           args.order.now args.upper.now args.lower.now args.named.now pre.4 pre.5 pre.6 pre.3 _ _ _ _ _ inner-levels.ensures.0
-          inner-levels.ensures.1 _ is-full.ensures (not-false _ if1.false) _ _ _ _ level.ensures _ is-full2.ensures (not-false _ c.if-not-is_full-2.false),
+          inner-levels.ensures.1 _ is-full.ensures (not-false _ if1.false) _ _ _ _ level.ensures _ is-full2.ensures (c.if-not-is_full-2.false),
       omega arith,
       omega arith,
       long_3 (kids_of args.g args.inners.now) (kids_of args.g args.leaves.now) args.root args.levels args.n args.m args.entries
           pre.2 args.order.now args.upper.now args.lower.now args.named.now pre.4 pre.5 pre.6 pre.3 _ _ _ _ _ inner-levels.ensures.0
-          inner-levels.ensures.1 _ is-full.ensures (not-false _ if1.false) _ _ _ _ level.ensures _ is-full2.ensures (not-false _ c.if-not-is_full-2.false),
+          inner-levels.ensures.1 _ is-full.ensures (not-false _ if1.false) _ _ _ _ level.ensures _ is-full2.ensures (c.if-not-is_full-2.false),
       parents_3
           (kids_of args.g args.inners.now) (kids_of args.g args.leaves.now) args.root args.levels args.n args.m args.entries pre.2 args.order.now
           args.upper.now args.lower.now args.named.now pre.4 pre.5 pre.6 pre.3 _ _ _ _ _ inner-levels.ensures.0 inner-levels.ensures.1 _
-          is-full.ensures (not-false _ if1.false) _ _ _ _ level.ensures _ is-full2.ensures (not-false _ c.if-not-is_full-2.false) _ _ pre.1,
+          is-full.ensures (not-false _ if1.false) _ _ _ _ level.ensures _ is-full2.ensures (c.if-not-is_full-2.false) _ _ pre.1,
     )
 
 pub returns : goal.returns

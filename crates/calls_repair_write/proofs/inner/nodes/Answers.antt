@@ -48,10 +48,10 @@ node-count-requires c =
           (omega (arith, the-loop.invariant.0, loop-test.true)),
       len_most args.g args.order.now args.last args.n pre.5.goal _ _ pre.5.is the-loop.j
           (the-loop.j - 1) _ _ _ (the-loop.invariant.4 pre.5.goal pre.5.is) (omega (arith, loop-test.true)) (omega (arith, the-loop.invariant.0, loop-test.true)) _
-          (c.len_of_lem.ensures ∙ len_word args.g _ _ pre.1.shaped),
+          (c.len_of-len.ensures ∙ len_word args.g _ _ pre.1.shaped),
       slots_aimed args.g args.order.now args.last args.n pre.5.goal _ _ pre.5.is
           the-loop.j (the-loop.j - 1) _ _ _ (the-loop.invariant.4 pre.5.goal pre.5.is) (omega (arith, loop-test.true)) (omega (arith, the-loop.invariant.0, loop-test.true)) _
-          (c.len_of_lem.ensures ∙ len_word args.g _ _ pre.1.shaped ∙ len_now args.g args.order.now args.last args.n pre.5.goal _ _ pre.5.is
+          (c.len_of-len.ensures ∙ len_word args.g _ _ pre.1.shaped ∙ len_now args.g args.order.now args.last args.n pre.5.goal _ _ pre.5.is
           the-loop.j (the-loop.j - 1) _ _ _ (the-loop.invariant.4 pre.5.goal pre.5.is) (omega (arith, loop-test.true)) (omega (arith, the-loop.invariant.0, loop-test.true))),
     )
 
@@ -74,7 +74,7 @@ loop-j-preserved c =
     let loop-test = c.loop-j-test in
     let args = c.args in
     let pre = c.requires in
-    let len_of_lem = c.len_of_lem in (
+    let len_of_lem = c.len_of-len in (
       omega (arith, the-loop.invariant.0),
       omega (arith, node.ensures.0, the-loop.invariant.1, the-loop.invariant.0, loop-test.true),
       (nodes_on args.g args.order.now args.last

@@ -29,11 +29,11 @@ leaf-count-requires c =
       lt_of_lt_of_le loop-test.true pre.2,
       leaf_most args.g args.n pre.3.goal _ _ pre.3.is _ _ _ _
           (the-loop.invariant.4 pre.3.goal pre.3.is) loop-test.true _
-          (c.len_of_lem.ensures ∙ len_word args.g _ _ pre.0.shaped ∙ leaf_len_now args.g args.n pre.3.goal _ _ pre.3.is _ _ _ _
+          (c.len_of-len.ensures ∙ len_word args.g _ _ pre.0.shaped ∙ leaf_len_now args.g args.n pre.3.goal _ _ pre.3.is _ _ _ _
           (the-loop.invariant.4 pre.3.goal pre.3.is) loop-test.true),
       λ i l. id_below args.g args.n pre.3.goal _ _ pre.3.is _ _ _ _
           (the-loop.invariant.4 pre.3.goal pre.3.is) loop-test.true _ i
-          (c.len_of_lem.ensures ∙ len_word args.g _ _ pre.0.shaped ∙ leaf_len_now args.g args.n pre.3.goal _ _ pre.3.is _ _ _ _
+          (c.len_of-len.ensures ∙ len_word args.g _ _ pre.0.shaped ∙ leaf_len_now args.g args.n pre.3.goal _ _ pre.3.is _ _ _ _
           (the-loop.invariant.4 pre.3.goal pre.3.is) loop-test.true) l,
     )
 
@@ -62,7 +62,7 @@ loop-k-preserved c =
     let the-loop = c.loop-k in
     let args = c.args in
     let pre = c.requires in
-    let len_of_lem = c.len_of_lem in (
+    let len_of_lem = c.len_of-len in (
       omega (arith, loop-test.true),
       omega (arith, the-leaf.ensures.0, the-loop.invariant.1),
       (leaves_on args.g args.n pre.3.goal _ _ pre.3.is _ _ _ _

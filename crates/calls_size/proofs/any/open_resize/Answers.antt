@@ -33,17 +33,17 @@ returns-then-crossed c =
     let l = lengths_in views c.args.new.now in
     let m = c.too_many_lines in
     let o = c.open_at in
-    λ effect. let p = resize_crossed (kind_of views effect c.args.ordered) _ c.args.at l _ (m.ensures effect) c.if-too_many_lines.false _ (at_ordered views effect c.args.ordered _ _ c.args.at (o.ensures effect)) _ c.g-1.given.1 _ c.crossed.ensures c.if-crossed.true (lengths_in views c.args.old.now) in
+    λ effect. let p = resize_crossed (kind_of views effect c.args.ordered) _ c.args.at l _ (m.ensures effect) c.if-too_many_lines.false _ (at_ordered views effect c.args.ordered _ _ c.args.at (o.ensures effect)) _ c.in-Good.is _ c.crossed.ensures c.if-crossed.true (lengths_in views c.args.old.now) in
     (p.0, p.1, c.requires.2)
 
 pub lengths_at-requires : goal.lengths_at-requires
 lengths_at-requires c =
-    let h = cursor_ready (kind c.args.views 0) (c.requires.0, c.requires.1) _ c.args.at _ _ (c.open_at.ensures 0) c.g-1.given.1 in
+    let h = cursor_ready (kind c.args.views 0) (c.requires.0, c.requires.1) _ c.args.at _ _ (c.open_at.ensures 0) c.in-Good.is in
     let i = slot_in_law _ c.args.at _ h in (i.0, i.1, i.2, c.requires.2)
 
 pub past-requires : goal.past-requires
 past-requires c =
-    let h = cursor_ready (kind c.args.views 0) (c.requires.0, c.requires.1) _ c.args.at _ _ (c.open_at.ensures 0) c.g-1.given.1 in
+    let h = cursor_ready (kind c.args.views 0) (c.requires.0, c.requires.1) _ c.args.at _ _ (c.open_at.ensures 0) c.in-Good.is in
     let i = root_in _ _ h.ready in (i.0, i.1, c.lengths_at.ensures.1, c.requires.3)
 
 pub returns-then-past : goal.returns-then-past
@@ -55,7 +55,7 @@ returns-then-past c =
     let o = c.open_at in
     let r = c.crossed in
     let x = c.lengths_at in
-    λ effect. let p = resize_past (kind_of views effect c.args.ordered) _ at l _ (m.ensures effect) c.if-too_many_lines.false _ (at_ordered views effect c.args.ordered _ _ at (o.ensures effect)) _ c.g-1.given.1 _ r.ensures c.if-crossed.false x.new.1.1.1.1.0 x.ensures.0 _ c.past.ensures c.if-past.true in
+    λ effect. let p = resize_past (kind_of views effect c.args.ordered) _ at l _ (m.ensures effect) c.if-too_many_lines.false _ (at_ordered views effect c.args.ordered _ _ at (o.ensures effect)) _ c.in-Good.is _ r.ensures c.if-crossed.false x.new.g.1.1.1.0 x.ensures.0 _ c.past.ensures c.if-past.true in
     (p.0, p.1, x.ensures.1)
 
 pub returns-in-Refused : goal.returns-in-Refused
@@ -64,7 +64,7 @@ returns-in-Refused c =
     let m = c.too_many_lines in
     let l = lengths_in views c.args.new.now in
     let o = c.open_at in
-    λ effect. let p = resize_refused (kind_of views effect c.args.ordered) _ c.args.at l _ (m.ensures effect) c.if-too_many_lines.false _ (at_ordered views effect c.args.ordered _ _ c.args.at (o.ensures effect)) _ c.n-1.given.1 (lengths_in views c.args.old.now) in
+    λ effect. let p = resize_refused (kind_of views effect c.args.ordered) _ c.args.at l _ (m.ensures effect) c.if-too_many_lines.false _ (at_ordered views effect c.args.ordered _ _ c.args.at (o.ensures effect)) _ c.in-Refused.is (lengths_in views c.args.old.now) in
     (p.0, p.1, c.requires.2)
 
 pub returns-else-past : goal.returns-else-past
@@ -76,5 +76,5 @@ returns-else-past c =
     let o = c.open_at in
     let r = c.crossed in
     let x = c.lengths_at in
-    λ effect. let p = resize_good (kind_of views effect c.args.ordered) _ at l _ (m.ensures effect) c.if-too_many_lines.false _ (at_ordered views effect c.args.ordered _ _ at (o.ensures effect)) _ c.g-1.given.1 _ r.ensures c.if-crossed.false x.new.1.1.1.1.0 x.ensures.0 _ c.past.ensures c.if-past.false in
+    λ effect. let p = resize_good (kind_of views effect c.args.ordered) _ at l _ (m.ensures effect) c.if-too_many_lines.false _ (at_ordered views effect c.args.ordered _ _ at (o.ensures effect)) _ c.in-Good.is _ r.ensures c.if-crossed.false x.new.g.1.1.1.0 x.ensures.0 _ c.past.ensures c.if-past.false in
     (p.0, p.1, x.ensures.1)

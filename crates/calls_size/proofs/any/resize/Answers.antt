@@ -31,7 +31,7 @@ asked_way-requires c =
     let g = c.g-1 in
     let h = resize_ready (kind_of c.args.views 0 c.args.ordered) (c.requires.0, c.requires.1) _ c.args.at (lengths_in c.args.views c.args.new.now) _ _ (r.ensures 0).0 g.given.1 in
     let i = slot_in_law _ c.args.at _ h in
-    let w = climb_in _ c.args.at _ h _ c.replace-after.auto.1.0 in (w.0, w.1, c.requires.2, w.2, i.1, i.2, c.minus.ensures.1)
+    let w = climb_in _ c.args.at _ h _ c.replace-after.auto.leaves.0 in (w.0, w.1, c.requires.2, w.2, i.1, i.2, c.minus.ensures.1)
 
 pub shape_of-leaves-in-Refused : goal.shape_of-leaves-in-Refused
 shape_of-leaves-in-Refused c = refl
@@ -43,17 +43,17 @@ pub returns-in-Refused : goal.returns-in-Refused
 returns-in-Refused c =
     let args = c.args in
     let open-resize = c.open_resize in
-    size_refused (kind_of args.views args.effect args.ordered) _ args.at args.new.now args.summed _ (open-resize.ensures args.effect).0 _ c.n-1.given.1
+    size_refused (kind_of args.views args.effect args.ordered) _ args.at args.new.now args.summed _ (open-resize.ensures args.effect).0 _ c.in-Refused.is
 
 pub shape_of-leaves-in-Is : goal.shape_of-leaves-in-Is
 shape_of-leaves-in-Is c =
     let replace = c.replace-after in
-    replace.auto.1.0
+    replace.auto.leaves.0
 
 pub shape_of-inners-in-Is : goal.shape_of-inners-in-Is
 shape_of-inners-in-Is c =
     let asked-way = c.asked_way in
-    asked-way.auto.1.0
+    asked-way.auto.inners.0
 
 pub returns-in-Is : goal.returns-in-Is
 returns-in-Is c =
@@ -61,18 +61,18 @@ returns-in-Is c =
     let g = c.g-1 in
     let d = c.minus in
     let e = c.args.effect in
-    size_whole (kind_of c.args.views e c.args.ordered) _ c.args.at c.args.new.now c.args.summed _ (r.ensures e).0 _ g.given.1 _ _ _ r.new.1.1.1.1.1.1.1.0 d.new.1.1.1.0
-    (c.replace-after.ensures _ _) ((r.ensures e).1 _ g.given.1) d.ensures.0 _ c.asked_way.ensures _ c.n-in-Is-1.given.1
+    size_whole (kind_of c.args.views e c.args.ordered) _ c.args.at c.args.new.now c.args.summed _ (r.ensures e).0 _ g.given.1 _ _ _ r.new.ordered.1.1.1.1.1.1.0 d.new.new.1.1.0
+    (c.replace-after.ensures _ _) ((r.ensures e).1 _ g.given.1) d.ensures.0 _ c.asked_way.ensures _ c.in-Is.is
 
 pub shape_of-leaves-in-Broken : goal.shape_of-leaves-in-Broken
 shape_of-leaves-in-Broken c =
     let replace = c.replace-after in
-    replace.auto.1.0
+    replace.auto.leaves.0
 
 pub shape_of-inners-in-Broken : goal.shape_of-inners-in-Broken
 shape_of-inners-in-Broken c =
     let asked-way = c.asked_way in
-    asked-way.auto.1.0
+    asked-way.auto.inners.0
 
 pub returns-in-Broken : goal.returns-in-Broken
 returns-in-Broken c =
@@ -80,5 +80,5 @@ returns-in-Broken c =
     let g = c.g-1 in
     let d = c.minus in
     let e = c.args.effect in
-    size_broken (kind_of c.args.views e c.args.ordered) _ c.args.at c.args.new.now c.args.summed _ (r.ensures e).0 _ g.given.1 _ _ _ r.new.1.1.1.1.1.1.1.0 d.new.1.1.1.0
-    (c.replace-after.ensures _ _) ((r.ensures e).1 _ g.given.1) d.ensures.0 _ c.asked_way.ensures c.enum_told-1.given.1
+    size_broken (kind_of c.args.views e c.args.ordered) _ c.args.at c.args.new.now c.args.summed _ (r.ensures e).0 _ g.given.1 _ _ _ r.new.ordered.1.1.1.1.1.1.0 d.new.new.1.1.0
+    (c.replace-after.ensures _ _) ((r.ensures e).1 _ g.given.1) d.ensures.0 _ c.asked_way.ensures c.in-Broken.is

@@ -4,7 +4,7 @@ use Rattle.calls_size.specs.Size.{unnumbered}
 use Rattle.calls_size.proofs.size.unnumbered.Goals as goal
 
 pub returns-in-Is : goal.returns-in-Is
-returns-in-Is c = ap unnumbered (sym c.answer-1.given.1)
+returns-in-Is c = ap unnumbered (sym c.in-Is.is)
 
 pub returns-in-Refused : goal.returns-in-Refused
-returns-in-Refused c = ap unnumbered (sym c.answer-in-Refused-1.given.1)
+returns-in-Refused c = ap unnumbered (sym c.in-Refused.is)

@@ -23,13 +23,13 @@ open_at-requires c =
 pub lengths_at-requires : goal.lengths_at-requires
 lengths_at-requires c =
     let o = c.open_at in
-    let h = cursor_ready (kind c.args.views 0) (c.requires.0, c.requires.1) _ c.args.at _ _ (o.ensures 0) c.g-1.given.1 in
+    let h = cursor_ready (kind c.args.views 0) (c.requires.0, c.requires.1) _ c.args.at _ _ (o.ensures 0) c.in-Good.is in
     let i = slot_in_law _ c.args.at _ h in (i.0, i.1, i.2, refl)
 
 pub too_much-requires : goal.too_much-requires
 too_much-requires c =
     let o = c.open_at in
-    let h = cursor_ready (kind c.args.views 0) (c.requires.0, c.requires.1) _ c.args.at _ _ (o.ensures 0) c.g-1.given.1 in
+    let h = cursor_ready (kind c.args.views 0) (c.requires.0, c.requires.1) _ c.args.at _ _ (o.ensures 0) c.in-Good.is in
     (h.ready.shaped, c.requires.2, c.lengths_at.ensures.1)
 
 pub returns-then-too_much : goal.returns-then-too_much
@@ -37,12 +37,12 @@ returns-then-too_much c =
     let lines = c.too_many_lines in
     let few = c.if-too_many_lines.false in
     let o = c.open_at in
-    λ effect causes room. split_much (kind_of c.args.views effect c.args.ordered) causes _ c.args.at c.args.x.now _ (lines.ensures effect) few _ (at_ordered c.args.views effect c.args.ordered _ _ c.args.at (o.ensures effect)) _ c.g-1.given.1 c.lengths_at.new.1.1.1.1.0 c.lengths_at.ensures.0 _ c.too_much.ensures c.if-too_much.true
+    λ effect causes room. split_much (kind_of c.args.views effect c.args.ordered) causes _ c.args.at c.args.x.now _ (lines.ensures effect) few _ (at_ordered c.args.views effect c.args.ordered _ _ c.args.at (o.ensures effect)) _ c.in-Good.is c.lengths_at.new.g.1.1.1.0 c.lengths_at.ensures.0 _ c.too_much.ensures c.if-too_much.true
 
 pub hollow_part-requires : goal.hollow_part-requires
 hollow_part-requires c =
     let o = c.open_at in
-    let h = cursor_ready (kind c.args.views 0) (c.requires.0, c.requires.1) _ c.args.at _ _ (o.ensures 0) c.g-1.given.1 in
+    let h = cursor_ready (kind c.args.views 0) (c.requires.0, c.requires.1) _ c.args.at _ _ (o.ensures 0) c.in-Good.is in
     (h.ready.shaped, c.requires.2, c.lengths_at.ensures.1)
 
 pub returns-then-hollow_part : goal.returns-then-hollow_part
@@ -50,7 +50,7 @@ returns-then-hollow_part c =
     let lines = c.too_many_lines in
     let few = c.if-too_many_lines.false in
     let o = c.open_at in
-    λ effect causes room. split_hollow (kind_of c.args.views effect c.args.ordered) causes _ c.args.at c.args.x.now _ (lines.ensures effect) few _ (at_ordered c.args.views effect c.args.ordered _ _ c.args.at (o.ensures effect)) _ c.g-1.given.1 c.lengths_at.new.1.1.1.1.0 c.lengths_at.ensures.0 _ c.too_much.ensures c.if-too_much.false _ c.hollow_part.ensures c.if-hollow_part.true
+    λ effect causes room. split_hollow (kind_of c.args.views effect c.args.ordered) causes _ c.args.at c.args.x.now _ (lines.ensures effect) few _ (at_ordered c.args.views effect c.args.ordered _ _ c.args.at (o.ensures effect)) _ c.in-Good.is c.lengths_at.new.g.1.1.1.0 c.lengths_at.ensures.0 _ c.too_much.ensures c.if-too_much.false _ c.hollow_part.ensures c.if-hollow_part.true
 
 pub crossed_part-requires : goal.crossed_part-requires
 crossed_part-requires c =
@@ -62,7 +62,7 @@ returns-then-crossed_part c =
     let lines = c.too_many_lines in
     let few = c.if-too_many_lines.false in
     let o = c.open_at in
-    λ effect causes room. split_crossed (kind_of c.args.views effect c.args.ordered) causes _ c.args.at c.args.x.now _ (lines.ensures effect) few _ (at_ordered c.args.views effect c.args.ordered _ _ c.args.at (o.ensures effect)) _ c.g-1.given.1 c.lengths_at.new.1.1.1.1.0 c.lengths_at.ensures.0 _ c.too_much.ensures c.if-too_much.false _ c.hollow_part.ensures c.if-hollow_part.false _ c.crossed_part.ensures c.if-crossed_part.true
+    λ effect causes room. split_crossed (kind_of c.args.views effect c.args.ordered) causes _ c.args.at c.args.x.now _ (lines.ensures effect) few _ (at_ordered c.args.views effect c.args.ordered _ _ c.args.at (o.ensures effect)) _ c.in-Good.is c.lengths_at.new.g.1.1.1.0 c.lengths_at.ensures.0 _ c.too_much.ensures c.if-too_much.false _ c.hollow_part.ensures c.if-hollow_part.false _ c.crossed_part.ensures c.if-crossed_part.true
 
 pub returns-then-room-ne0 : goal.returns-then-room-ne0
 returns-then-room-ne0 c =
@@ -70,7 +70,7 @@ returns-then-room-ne0 c =
     let few = c.if-too_many_lines.false in
     let o = c.open_at in
     let y = c.lengths_at in
-    λ effect causes room. split_full_law (kind_of c.args.views effect c.args.ordered) causes _ c.args.at c.args.x.now _ (lines.ensures effect) few _ (at_ordered c.args.views effect c.args.ordered _ _ c.args.at (o.ensures effect)) _ c.g-1.given.1 y.new.1.1.1.1.0 y.ensures.0 _
+    λ effect causes room. split_full_law (kind_of c.args.views effect c.args.ordered) causes _ c.args.at c.args.x.now _ (lines.ensures effect) few _ (at_ordered c.args.views effect c.args.ordered _ _ c.args.at (o.ensures effect)) _ c.in-Good.is y.new.g.1.1.1.0 y.ensures.0 _
     c.too_much.ensures c.if-too_much.false _ c.hollow_part.ensures c.if-hollow_part.false _ c.crossed_part.ensures c.if-crossed_part.false _ room c.if-room-ne0.true
 
 pub returns-in-Refused : goal.returns-in-Refused
@@ -78,7 +78,7 @@ returns-in-Refused c =
     let lines = c.too_many_lines in
     let few = c.if-too_many_lines.false in
     let o = c.open_at in
-    λ effect causes room. split_refused (kind_of c.args.views effect c.args.ordered) causes _ c.args.at c.args.x.now _ (lines.ensures effect) few _ (at_ordered c.args.views effect c.args.ordered _ _ c.args.at (o.ensures effect)) _ c.n-1.given.1
+    λ effect causes room. split_refused (kind_of c.args.views effect c.args.ordered) causes _ c.args.at c.args.x.now _ (lines.ensures effect) few _ (at_ordered c.args.views effect c.args.ordered _ _ c.args.at (o.ensures effect)) _ c.in-Refused.is
 
 pub returns-else-room-ne0 : goal.returns-else-room-ne0
 returns-else-room-ne0 c =
@@ -86,5 +86,5 @@ returns-else-room-ne0 c =
     let few = c.if-too_many_lines.false in
     let o = c.open_at in
     let y = c.lengths_at in
-    λ effect causes room. split_good (kind_of c.args.views effect c.args.ordered) causes _ c.args.at c.args.x.now _ (lines.ensures effect) few _ (at_ordered c.args.views effect c.args.ordered _ _ c.args.at (o.ensures effect)) _ c.g-1.given.1 y.new.1.1.1.1.0 y.ensures.0 _
+    λ effect causes room. split_good (kind_of c.args.views effect c.args.ordered) causes _ c.args.at c.args.x.now _ (lines.ensures effect) few _ (at_ordered c.args.views effect c.args.ordered _ _ c.args.at (o.ensures effect)) _ c.in-Good.is y.new.g.1.1.1.0 y.ensures.0 _
     c.too_much.ensures c.if-too_much.false _ c.hollow_part.ensures c.if-hollow_part.false _ c.crossed_part.ensures c.if-crossed_part.false _ room c.if-room-ne0.false

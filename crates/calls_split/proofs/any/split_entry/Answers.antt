@@ -23,17 +23,17 @@ divide-r-requires c =
 pub shape_of-leaves-then-r-ne0 : goal.shape_of-leaves-then-r-ne0
 shape_of-leaves-then-r-ne0 c =
     let divide = c.divide-r in
-    divide.auto.1.1.0
+    divide.auto.head.1.0
 
 pub shape_of-inners-then-r-ne0 : goal.shape_of-inners-then-r-ne0
 shape_of-inners-then-r-ne0 c =
     let divide = c.divide-r in
-    divide.auto.1.1.1.0
+    divide.auto.head.1.1.0
 
 pub shape_of-homes-then-r-ne0 : goal.shape_of-homes-then-r-ne0
 shape_of-homes-then-r-ne0 c =
     let divide = c.divide-r in
-    divide.auto.1.1.1.1.0
+    divide.auto.head.1.1.1.0
 
 pub returns-then-r-ne0 : goal.returns-then-r-ne0
 returns-then-r-ne0 c =
@@ -62,22 +62,22 @@ shape_of-homes-in-Refused c = refl
 
 pub returns-in-Refused : goal.returns-in-Refused
 returns-in-Refused c =
-    λ effect causes room. entry_refused (kind_of c.args.views effect c.args.ordered) causes _ c.args.at (lengths_in c.args.views c.args.x.now) c.args.before _ (c.open_split.ensures effect causes room) _ c.n-1.given.1
+    λ effect causes room. entry_refused (kind_of c.args.views effect c.args.ordered) causes _ c.args.at (lengths_in c.args.views c.args.x.now) c.args.before _ (c.open_split.ensures effect causes room) _ c.in-Refused.is
 
 pub shape_of-leaves-else-r-ne0 : goal.shape_of-leaves-else-r-ne0
 shape_of-leaves-else-r-ne0 c =
     let divide = c.divide-r in
-    divide.auto.1.1.0
+    divide.auto.head.1.0
 
 pub shape_of-inners-else-r-ne0 : goal.shape_of-inners-else-r-ne0
 shape_of-inners-else-r-ne0 c =
     let divide = c.divide-r in
-    divide.auto.1.1.1.0
+    divide.auto.head.1.1.0
 
 pub shape_of-homes-else-r-ne0 : goal.shape_of-homes-else-r-ne0
 shape_of-homes-else-r-ne0 c =
     let divide = c.divide-r in
-    divide.auto.1.1.1.1.0
+    divide.auto.head.1.1.1.0
 
 pub returns-else-r-ne0 : goal.returns-else-r-ne0
 returns-else-r-ne0 c =

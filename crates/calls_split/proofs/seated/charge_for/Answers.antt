@@ -4,7 +4,7 @@ use Rattle.calls_split.proofs.SeatedLaws.{charged_at, charged_none}
 use Rattle.calls_split.proofs.seated.charge_for.Goals as goal
 
 pub returns-in-At : goal.returns-in-At
-returns-in-At c = (charged_at c.args.seat _ c.args.answer _ _ _ c.answer-1.given.1 _ c.charge.ensures.0, c.charge.ensures.1)
+returns-in-At c = (charged_at c.args.seat _ c.args.answer _ _ _ c.in-At.is _ c.charge.ensures.0, c.charge.ensures.1)
 
 pub returns-in-Refused : goal.returns-in-Refused
-returns-in-Refused c = (charged_none c.args.seat _ c.args.answer _ c.answer-in-Refused-1.given.1, refl)
+returns-in-Refused c = (charged_none c.args.seat _ c.args.answer _ c.in-Refused.is, refl)

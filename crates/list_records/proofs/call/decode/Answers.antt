@@ -8,37 +8,37 @@ pub returns-in-1 : goal.returns-in-1
 unfolding said
 returns-in-1 c =
     let args = c.args in
-    reset_kind (plain_fields args.f) _ _ c.in-1.keys1 c.only.ensures c.both-in-1.ensures
+    reset_kind (plain_fields args.f) _ _ c.in-1.is c.only.ensures c.both-in-1.ensures
 
 pub returns-in-2 : goal.returns-in-2
 unfolding said kinds
 returns-in-2 c =
     let args = c.args in
-    at_kind (plain_fields args.f) 2 c.in-1.keys2 _ c.only-in-2.ensures
+    at_kind (plain_fields args.f) 2 c.in-2.is _ c.only-in-2.ensures
 
 pub returns-in-3 : goal.returns-in-3
 unfolding said kinds
 returns-in-3 c =
     let args = c.args in
-    at_kind (plain_fields args.f) 3 c.in-1.keys3 _ c.only-in-3.ensures
+    at_kind (plain_fields args.f) 3 c.in-3.is _ c.only-in-3.ensures
 
 pub returns-in-4 : goal.returns-in-4
 unfolding said kinds
 returns-in-4 c =
     let args = c.args in
-    at_kind (plain_fields args.f) 4 c.in-1.keys4 _ c.only-in-4.ensures
+    at_kind (plain_fields args.f) 4 c.in-4.is _ c.only-in-4.ensures
 
 pub returns-in-5 : goal.returns-in-5
 unfolding said kinds
 returns-in-5 c =
     let args = c.args in
-    at_kind (plain_fields args.f) 5 c.in-1.keys5 _ c.only-in-5.ensures
+    at_kind (plain_fields args.f) 5 c.in-5.is _ c.only-in-5.ensures
 
 pub returns-in-6 : goal.returns-in-6
 unfolding said kinds
 returns-in-6 c =
     let args = c.args in
-    at_kind (plain_fields args.f) 6 c.in-1.keys6 _ c.only-in-6.ensures
+    at_kind (plain_fields args.f) 6 c.in-6.is _ c.only-in-6.ensures
 
 pub returns-in-7 : goal.returns-in-7
 unfolding said
@@ -47,7 +47,7 @@ returns-in-7 c =
     let both = c.both in
     let both2 = c.both-no_lengths in
     let view_of = c.view_of-view in
-    lookup_kind (plain_fields args.f) _ _ _ both.ensures _ both2.ensures _ view_of.ensures c.in-1.keys7 c.only-in-7.ensures c.both-in-7.ensures
+    lookup_kind (plain_fields args.f) _ _ _ both.ensures _ both2.ensures _ view_of.ensures c.in-7.is c.only-in-7.ensures c.both-in-7.ensures
 
 pub returns-in-8 : goal.returns-in-8
 unfolding said
@@ -56,7 +56,7 @@ returns-in-8 c =
     let both = c.both in
     let both2 = c.both-no_lengths in
     let view_of = c.view_of-view in
-    rank_kind (plain_fields args.f) _ _ _ both.ensures _ both2.ensures _ view_of.ensures c.in-1.keys8 c.only-in-8.ensures c.both-in-8.ensures
+    rank_kind (plain_fields args.f) _ _ _ both.ensures _ both2.ensures _ view_of.ensures c.in-8.is c.only-in-8.ensures c.both-in-8.ensures
 
 pub returns-in-9 : goal.returns-in-9
 unfolding said
@@ -64,7 +64,7 @@ returns-in-9 c =
     let args = c.args in
     let both = c.both in
     let both2 = c.both-no_lengths in
-    next_kind (plain_fields args.f) _ _ _ both.ensures _ both2.ensures c.in-1.keys9 c.only-in-9.ensures c.both-in-9.ensures
+    next_kind (plain_fields args.f) _ _ _ both.ensures _ both2.ensures c.in-9.is c.only-in-9.ensures c.both-in-9.ensures
 
 pub returns-in-10 : goal.returns-in-10
 unfolding said
@@ -79,7 +79,7 @@ returns-in-11 c =
     let args = c.args in
     let both = c.both in
     let both2 = c.both-no_lengths in
-    lengths_kind (plain_fields args.f) _ _ _ both.ensures _ both2.ensures c.in-1.keys11 c.only-in-11.ensures c.both-in-11.ensures
+    lengths_kind (plain_fields args.f) _ _ _ both.ensures _ both2.ensures c.in-11.is c.only-in-11.ensures c.both-in-11.ensures
 
 pub returns-in-12 : goal.returns-in-12
 unfolding said

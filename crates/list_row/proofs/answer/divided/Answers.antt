@@ -3,7 +3,7 @@
 use Rattle.list_row.proofs.answer.divided.Goals as goal
 
 pub returns-in-At : goal.returns-in-At
-returns-in-At c = rw c.answer-1.given.1 c.done.ensures
+returns-in-At c = rw c.in-At.is c.done.ensures
 
 pub returns-in-Refused : goal.returns-in-Refused
-returns-in-Refused c = rw c.answer-in-Refused-1.given.1 c.refuse.ensures
+returns-in-Refused c = rw c.in-Refused.is c.refuse.ensures

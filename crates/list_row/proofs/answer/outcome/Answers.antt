@@ -3,7 +3,7 @@
 use Rattle.list_row.proofs.answer.outcome.Goals as goal
 
 pub returns-in-Done : goal.returns-in-Done
-returns-in-Done c = rw c.enum_told-1.given.1 c.done.ensures
+returns-in-Done c = rw c.in-Done.is c.done.ensures
 
 pub returns-in-Refused : goal.returns-in-Refused
-returns-in-Refused c = rw c.answer-1.given.1 c.refuse.ensures
+returns-in-Refused c = rw c.in-Refused.is c.refuse.ensures

@@ -12,7 +12,7 @@ returns-in-Refused c =
     let cursor = c.cursor in
     let loop-test = c.loop-left-test in
     let the-loop = c.loop-left in
-    find_stops _ _ _ _ _ _ cursor.ensures _ loop-test.true _ c.n-1.given.1 ∙ the-loop.invariant
+    find_stops _ _ _ _ _ _ cursor.ensures _ loop-test.true _ c.in-Refused.is ∙ the-loop.invariant
 
 pub overflow_sub-left : goal.overflow_sub-left
 overflow_sub-left c = omega arith
@@ -25,7 +25,7 @@ loop-left-preserved c =
     let cursor = c.cursor in
     let loop-test = c.loop-left-test in
     let the-loop = c.loop-left in
-    find_goes _ _ _ _ _ _ cursor.ensures _ loop-test.true _ c.c-1.given.1 ∙ the-loop.invariant
+    find_goes _ _ _ _ _ _ cursor.ensures _ loop-test.true _ c.in-At.is ∙ the-loop.invariant
 
 pub returns : goal.returns
 returns c = find_end _ _ _ _ _ _ c.loop-left-test.false ∙ c.loop-left.invariant

@@ -7,22 +7,22 @@ use Rattle.list_row.proofs.FindLaws.{call_by, ids_resize}
 use Rattle.list_row.proofs.find.ids_of.Goals as goal
 
 pub returns-in-Insert : goal.returns-in-Insert
-returns-in-Insert c = call_by (λ (z : Call). ids_of (call_of z)) _ _ c.call-in-Insert-1.given.1 _ c.target_ids.ensures
+returns-in-Insert c = call_by (λ (z : Call). ids_of (call_of z)) _ _ c.in-Insert.is _ c.target_ids.ensures
 
 pub returns-in-Split : goal.returns-in-Split
-returns-in-Split c = call_by (λ (z : Call). ids_of (call_of z)) _ _ c.call-in-Split-1.given.1 _ c.one_id.ensures
+returns-in-Split c = call_by (λ (z : Call). ids_of (call_of z)) _ _ c.in-Split.is _ c.one_id.ensures
 
 pub returns-in-Resize : goal.returns-in-Resize
-returns-in-Resize c = ids_resize _ _ _ _ c.call-in-Resize-1.given.1 _ c.one_id-in-Resize.ensures
+returns-in-Resize c = ids_resize _ _ _ _ c.in-Resize.is _ c.one_id-in-Resize.ensures
 
 pub returns-in-Rank : goal.returns-in-Rank
-returns-in-Rank c = call_by (λ (z : Call). ids_of (call_of z)) _ _ c.call-in-Rank-1.given.1 _ c.one_id-in-Rank.ensures
+returns-in-Rank c = call_by (λ (z : Call). ids_of (call_of z)) _ _ c.in-Rank.is _ c.one_id-in-Rank.ensures
 
 pub returns-in-Next : goal.returns-in-Next
-returns-in-Next c = call_by (λ (z : Call). ids_of (call_of z)) _ _ c.call-in-Next-1.given.1 _ c.one_id-in-Next.ensures
+returns-in-Next c = call_by (λ (z : Call). ids_of (call_of z)) _ _ c.in-Next.is _ c.one_id-in-Next.ensures
 
 pub returns-in-Compare : goal.returns-in-Compare
-returns-in-Compare c = call_by (λ (z : Call). ids_of (call_of z)) _ _ c.call-in-Compare-1.given.1 _ refl
+returns-in-Compare c = call_by (λ (z : Call). ids_of (call_of z)) _ _ c.in-Compare.is _ refl
 
 pub returns-in-LengthsOf : goal.returns-in-LengthsOf
-returns-in-LengthsOf c = call_by (λ (z : Call). ids_of (call_of z)) _ _ c.call-in-LengthsOf-1.given.1 _ c.one_id-in-LengthsOf.ensures
+returns-in-LengthsOf c = call_by (λ (z : Call). ids_of (call_of z)) _ _ c.in-LengthsOf.is _ c.one_id-in-LengthsOf.ensures

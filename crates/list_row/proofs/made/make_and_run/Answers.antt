@@ -12,7 +12,7 @@ returns-in-Done c =
     let new = c.new-made in
     let words = three_words args.lengths.prepare args.lengths.effect args.lengths.lines (omega (arith, good)) (omega (arith, good)) (omega (arith, good)) in
     make_done _ _ _ args.leaves.now args.inners.now args.homes.now words args.records.now args.out.now (λ (i : ℕ). omega (arith, bytes.given i)) _ _
-    new.ensures c.enum_told-1.given.1 _
+    new.ensures c.in-Done.is _
     c.run.ensures.0
 
 pub returns-in-Refused : goal.returns-in-Refused
@@ -23,4 +23,4 @@ returns-in-Refused c =
     let new = c.new-made in
     let words = three_words args.lengths.prepare args.lengths.effect args.lengths.lines (omega (arith, good)) (omega (arith, good)) (omega (arith, good)) in
     make_refused _ _ _ args.leaves.now args.inners.now args.homes.now words args.records.now args.out.now (λ (i : ℕ). omega (arith, bytes.given i)) _ _
-    new.ensures _ c.answer-1.given.1
+    new.ensures _ c.in-Refused.is

@@ -63,4 +63,4 @@ returns-in-First c =
     by_call _ _ _ _ _ enum-told2.given.1 _ _ _ _ _ (first_at_law _ _ _ _ c.first.ensures) _ c.named.ensures
 
 pub returns-in-Malformed : goal.returns-in-Malformed
-returns-in-Malformed c = by_call _ _ _ _ _ c.enum_told-in-Malformed-1.given.1 _ _ _ _ _ (malformed_at _ _ _) _ c.refuse.ensures
+returns-in-Malformed c = by_call _ _ _ _ _ c.in-Malformed.is _ _ _ _ _ (malformed_at _ _ _) _ c.refuse.ensures

@@ -9,8 +9,8 @@ returns-then-is_overlong c =
 
 pub returns-in-Refused : goal.returns-in-Refused
 returns-in-Refused c =
-    step_refused _ _ (sym c.is_overlong.ensures ∙ c.if-is_overlong.false) _ c.ids_of.ensures _ c.find.ensures _ c.n-1.given.1 _ c.refuse-in-Refused.ensures
+    step_refused _ _ (sym c.is_overlong.ensures ∙ c.if-is_overlong.false) _ c.ids_of.ensures _ c.find.ensures _ c.in-Refused.is _ c.refuse-in-Refused.ensures
 
 pub returns-in-At : goal.returns-in-At
 returns-in-At c =
-    step_at _ _ (sym c.is_overlong.ensures ∙ c.if-is_overlong.false) _ c.ids_of.ensures _ c.find.ensures _ _ c.a-1.given.1 _ c.call_at.ensures
+    step_at _ _ (sym c.is_overlong.ensures ∙ c.if-is_overlong.false) _ c.ids_of.ensures _ c.find.ensures _ _ c.in-At.is _ c.call_at.ensures

@@ -35,16 +35,16 @@ loop-left-smaller c = omega arith
 
 pub loop-left-preserved : goal.loop-left-preserved
 loop-left-preserved c = (
-  c.show_record-played.auto.1.0
+  c.show_record-played.auto.leaves.0
       ∙ c.loop-left.invariant.0,
-  c.show_record-played.auto.1.1.0
+  c.show_record-played.auto.leaves.1.0
       ∙ c.loop-left.invariant.1,
-  c.show_record-played.auto.1.1.1.0
+  c.show_record-played.auto.leaves.1.1.0
       ∙ c.loop-left.invariant.2,
-  c.show_record-played.auto.1.1.1.1.1.0
+  c.show_record-played.auto.leaves.1.1.1.1.0
       ∙ c.loop-left.invariant.3,
   omega (arith, c.loop-left.invariant.4),
-  omega (arith, c.loop-left.invariant.5, c.show_record-played.auto.1.1.1.1.1.0, one_short _ _ _ c.loop-left.end c.show_record-played.result.end c.loop-left.out _ c.show_record-played.ensures),
+  omega (arith, c.loop-left.invariant.5, c.show_record-played.auto.leaves.1.1.1.1.0, one_short _ _ _ c.loop-left.end c.show_record-played.result.end c.loop-left.out _ c.show_record-played.ensures),
   turn _ _ _ c.args.block.now c.loop-left.out _ c.loop-left.at c.loop-left.left c.loop-left.end c.show_record-played.result.end c.loop-left.invariant.6 (omega arith) c.show_record-played.ensures,
 )
 

@@ -8,5 +8,5 @@ returns c =
     let args = c.args in
     let decode = c.decode-call in
     let read = c.read in
-    one_shown _ _ _ _ step.result.answer args.at c.line-end.result args.out.now c.line-end.new.0 step.ensures
+    one_shown _ _ _ _ step.result.answer args.at c.line-end.result args.out.now c.line-end.new.out step.ensures
     (said_decode _ _ _ decode.ensures read.ensures) c.line-end.ensures

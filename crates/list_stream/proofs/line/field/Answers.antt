@@ -11,10 +11,10 @@ bounds-out-next c =
     let pre = c.requires in
     omega (
       arith,
-      behind args.out.now c.decimal-next.new.0 args.at c.decimal-next.result (decimal args.n)
+      behind args.out.now c.decimal-next.new.out args.at c.decimal-next.result (decimal args.n)
           c.decimal-next.ensures,
       decimal_short args.n,
-      c.decimal-next.auto.0,
+      c.decimal-next.auto.out,
       pre,
     )
 
@@ -26,7 +26,7 @@ overflow_add-result c =
     record {
       fits = omega (
         arith,
-        behind args.out.now c.decimal-next.new.0 args.at c.decimal-next.result (decimal args.n)
+        behind args.out.now c.decimal-next.new.out args.at c.decimal-next.result (decimal args.n)
             c.decimal-next.ensures,
         decimal_short args.n,
         good.0.0,
@@ -37,4 +37,4 @@ overflow_add-result c =
 pub returns : goal.returns
 returns c =
     let args = c.args in
-    field_of args.out.now c.decimal-next.new.0 args.at c.decimal-next.result args.n args.behind c.decimal-next.ensures
+    field_of args.out.now c.decimal-next.new.out args.at c.decimal-next.result args.n args.behind c.decimal-next.ensures

@@ -9,4 +9,4 @@ pub returns : goal.returns
 returns c =
     let args = c.args in
     let if1 = c.if-stray-eq0 in
-    a_tail args.stray c.line.result args.out.now c.line.new.0 if1.false c.line.ensures
+    a_tail args.stray c.line.result args.out.now c.line.new.out if1.false c.line.ensures

@@ -41,7 +41,7 @@ settle_found-requires c =
     let cursor-from = c.cursor_from-at in
     let lengths-from = c.lengths_from-lengths in
     let resize = c.resize-r in
-    let is_held_lem = c.is_held_lem in
+    let is_held_lem = c.is_held-held in
     let good = sym bad-flag.ensures ∙ if1.false in
     let left = resize_left base (state head-from.result args.leaves.now args.inners.now args.homes.now) (eqb args.summed 1) cursor-from.result (list_of lengths-from.result) in (
       good_flag _ _ good,

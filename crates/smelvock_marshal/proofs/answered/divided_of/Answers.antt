@@ -12,4 +12,4 @@ returns-in-At c =
     ap₂ (parts 0 _) c.cursor_of.ensures c.cursor_of-in-At.ensures ∙ ap (λ (x : Divided). divided_of (divided_answer x)) (sym a.given.1)
 
 pub returns-in-Refused : goal.returns-in-Refused
-returns-in-Refused c = c.refused_divided.ensures ∙ ap (λ (x : Divided). divided_of (divided_answer x)) (sym c.a-in-Refused-1.given.1)
+returns-in-Refused c = c.refused_divided.ensures ∙ ap (λ (x : Divided). divided_of (divided_answer x)) (sym c.in-Refused.is)

@@ -6,7 +6,7 @@ use Rattle.smelvock_marshal.specs.Flat.{inserted_of}
 use Rattle.smelvock_marshal.proofs.answered.inserted_of.Goals as goal
 
 pub returns-in-At : goal.returns-in-At
-returns-in-At c = ap (λ (x : Inserted). inserted_of (inserted_answer x)) (sym c.a-1.given.1)
+returns-in-At c = ap (λ (x : Inserted). inserted_of (inserted_answer x)) (sym c.in-At.is)
 
 pub returns-in-Refused : goal.returns-in-Refused
-returns-in-Refused c = c.refused_inserted.ensures ∙ ap (λ (x : Inserted). inserted_of (inserted_answer x)) (sym c.a-in-Refused-1.given.1)
+returns-in-Refused c = c.refused_inserted.ensures ∙ ap (λ (x : Inserted). inserted_of (inserted_answer x)) (sym c.in-Refused.is)

@@ -6,7 +6,7 @@ use Rattle.smelvock_marshal.specs.Flat.{measured_of}
 use Rattle.smelvock_marshal.proofs.answered.measured_of.Goals as goal
 
 pub returns-in-Are : goal.returns-in-Are
-returns-in-Are c = ap (λ (x : Measured). measured_of (measured_answer x)) (sym c.a-1.given.1)
+returns-in-Are c = ap (λ (x : Measured). measured_of (measured_answer x)) (sym c.in-Are.is)
 
 pub returns-in-Refused : goal.returns-in-Refused
-returns-in-Refused c = c.refused_measured.ensures ∙ ap (λ (x : Measured). measured_of (measured_answer x)) (sym c.a-in-Refused-1.given.1)
+returns-in-Refused c = c.refused_measured.ensures ∙ ap (λ (x : Measured). measured_of (measured_answer x)) (sym c.in-Refused.is)

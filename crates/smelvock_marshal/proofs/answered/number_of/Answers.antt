@@ -6,7 +6,7 @@ use Rattle.smelvock_marshal.specs.Flat.{number_of}
 use Rattle.smelvock_marshal.proofs.answered.number_of.Goals as goal
 
 pub returns-in-Is : goal.returns-in-Is
-returns-in-Is c = ap (λ (x : Number). number_of (number_answer x)) (sym c.a-1.given.1)
+returns-in-Is c = ap (λ (x : Number). number_of (number_answer x)) (sym c.in-Is.is)
 
 pub returns-in-Refused : goal.returns-in-Refused
-returns-in-Refused c = c.refused_number.ensures ∙ ap (λ (x : Number). number_of (number_answer x)) (sym c.a-in-Refused-1.given.1)
+returns-in-Refused c = c.refused_number.ensures ∙ ap (λ (x : Number). number_of (number_answer x)) (sym c.in-Refused.is)

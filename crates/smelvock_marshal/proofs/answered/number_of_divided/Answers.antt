@@ -6,7 +6,7 @@ use Rattle.smelvock_marshal.specs.Flat.{number_of}
 use Rattle.smelvock_marshal.proofs.answered.number_of_divided.Goals as goal
 
 pub returns-in-At : goal.returns-in-At
-returns-in-At c = ap (λ (x : Divided). number_of (divided_id_answer x)) (sym c.a-1.given.1)
+returns-in-At c = ap (λ (x : Divided). number_of (divided_id_answer x)) (sym c.in-At.is)
 
 pub returns-in-Refused : goal.returns-in-Refused
-returns-in-Refused c = c.refused_number.ensures ∙ ap (λ (x : Divided). number_of (divided_id_answer x)) (sym c.a-in-Refused-1.given.1)
+returns-in-Refused c = c.refused_number.ensures ∙ ap (λ (x : Divided). number_of (divided_id_answer x)) (sym c.in-Refused.is)

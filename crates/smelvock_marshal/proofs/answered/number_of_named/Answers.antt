@@ -6,7 +6,7 @@ use Rattle.smelvock_marshal.specs.Flat.{number_of}
 use Rattle.smelvock_marshal.proofs.answered.number_of_named.Goals as goal
 
 pub returns-in-Entry : goal.returns-in-Entry
-returns-in-Entry c = ap (λ (x : Named). number_of (named_answer x)) (sym c.a-1.given.1)
+returns-in-Entry c = ap (λ (x : Named). number_of (named_answer x)) (sym c.in-Entry.is)
 
 pub returns-in-Refused : goal.returns-in-Refused
-returns-in-Refused c = c.refused_number.ensures ∙ ap (λ (x : Named). number_of (named_answer x)) (sym c.a-in-Refused-1.given.1)
+returns-in-Refused c = c.refused_number.ensures ∙ ap (λ (x : Named). number_of (named_answer x)) (sym c.in-Refused.is)

@@ -7,7 +7,7 @@ use Rattle.smelvock_marshal.proofs.AnswerLaws.{standing}
 use Rattle.smelvock_marshal.proofs.answered.standing_of.Goals as goal
 
 pub returns-in-At : goal.returns-in-At
-returns-in-At c = ap (standing 0) c.cursor_of.ensures ∙ ap (λ (x : Standing). standing_of (standing_answer x)) (sym c.a-1.given.1)
+returns-in-At c = ap (standing 0) c.cursor_of.ensures ∙ ap (λ (x : Standing). standing_of (standing_answer x)) (sym c.in-At.is)
 
 pub returns-in-Refused : goal.returns-in-Refused
-returns-in-Refused c = c.refused_standing.ensures ∙ ap (λ (x : Standing). standing_of (standing_answer x)) (sym c.a-in-Refused-1.given.1)
+returns-in-Refused c = c.refused_standing.ensures ∙ ap (λ (x : Standing). standing_of (standing_answer x)) (sym c.in-Refused.is)

@@ -4,4 +4,4 @@ use Rattle.smelvock_marshal.specs.Flat.{finger_of}
 use Rattle.smelvock_marshal.proofs.head.finger_of.Goals as goal
 
 pub returns-in-Absent : goal.returns-in-Absent
-returns-in-Absent c = ap finger_of (sym c.enum_told-1.given.1)
+returns-in-Absent c = ap finger_of (sym c.in-Absent.is)

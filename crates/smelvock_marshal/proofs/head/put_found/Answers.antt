@@ -1,5 +1,4 @@
 -- `smelvock_marshal::head::put_found`: the slot's words and the leaf's are all ten; where the finger stayed in its leaf, the latter stand there.
-use borrow.Author.Tests.{not-false}
 use mathlib.Core.Path.{◌∙◌}
 use Rattle.smelvock_marshal.proofs.HeadLaws.{leaf_written, slot_written}
 use Rattle.smelvock_marshal.proofs.head.put_found.Goals as goal
@@ -17,4 +16,4 @@ returns-else-not-stayed c =
     let present-of = c.present_of-present in
     let finger_of_law = c.finger_of-f in
     slot_written c.args.head.now c.args.finger _ _ c.requires.0 present-of.ensures finger_of_law.ensures _ c.put_slot.ensures
-    (c.requires.1 (not-false _ c.if-not-stayed.false))
+    (c.requires.1 (c.if-not-stayed.false))

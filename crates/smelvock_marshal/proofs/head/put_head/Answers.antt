@@ -19,7 +19,7 @@ put_finger-requires c =
     let put-counts = c.put_counts in
     let args = c.args in
     let pre = c.requires in
-    put-counts.auto.0 ∙ length-sets args.head.now 0 (_ ∷ _ ∷ []) ∙ pre
+    put-counts.auto.head ∙ length-sets args.head.now 0 (_ ∷ _ ∷ []) ∙ pre
 
 pub put_stamp-requires : goal.put_stamp-requires
 put_stamp-requires c =
@@ -27,14 +27,14 @@ put_stamp-requires c =
     let put-counts = c.put_counts in
     let args = c.args in
     let pre = c.requires in
-    put-finger.auto.0 ∙ put-counts.auto.0 ∙ length-sets args.head.now 0 (_ ∷ _ ∷ []) ∙ pre
+    put-finger.auto.head ∙ put-counts.auto.head ∙ length-sets args.head.now 0 (_ ∷ _ ∷ []) ∙ pre
 
 pub shape_of-head : goal.shape_of-head
 shape_of-head c =
     let put-finger = c.put_finger in
     let put-counts = c.put_counts in
     let args = c.args in
-    c.put_stamp.auto.0 ∙ put-finger.auto.0 ∙ put-counts.auto.0 ∙ length-sets args.head.now 0 (_ ∷ _ ∷ [])
+    c.put_stamp.auto.head ∙ put-finger.auto.head ∙ put-counts.auto.head ∙ length-sets args.head.now 0 (_ ∷ _ ∷ [])
 
 pub returns : goal.returns
 returns c =

@@ -7,7 +7,7 @@ pub clear_seats-requires : goal.clear_seats-requires
 clear_seats-requires c =
     let put-head = c.put_head in
     let pre = c.requires in
-    put-head.auto.0 ∙ pre
+    put-head.auto.head ∙ pre
 
 pub returns : goal.returns
 returns c =

@@ -8,7 +8,7 @@ put_finger-requires c =
     pre.0
 
 pub shape_of-head : goal.shape_of-head
-shape_of-head c = c.put_finger.auto.0
+shape_of-head c = c.put_finger.auto.head
 
 pub returns-then-number-eq0 : goal.returns-then-number-eq0
 returns-then-number-eq0 c =

@@ -8,7 +8,7 @@ put_found-requires c =
     (pre.0, pre.3)
 
 pub shape_of-head : goal.shape_of-head
-shape_of-head c = c.put_found.auto.0
+shape_of-head c = c.put_found.auto.head
 
 pub returns-then-number-eq0 : goal.returns-then-number-eq0
 returns-then-number-eq0 c =

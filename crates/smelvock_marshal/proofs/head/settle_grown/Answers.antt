@@ -12,20 +12,20 @@ pub put_finger-requires : goal.put_finger-requires
 put_finger-requires c =
     let put-counts = c.put_counts in
     let pre = c.requires in
-    put-counts.auto.0 ∙ pre.0
+    put-counts.auto.head ∙ pre.0
 
 pub put_stamp-requires : goal.put_stamp-requires
 put_stamp-requires c =
     let put-finger = c.put_finger in
     let put-counts = c.put_counts in
     let pre = c.requires in
-    put-finger.auto.0 ∙ put-counts.auto.0 ∙ pre.0
+    put-finger.auto.head ∙ put-counts.auto.head ∙ pre.0
 
 pub shape_of-head : goal.shape_of-head
 shape_of-head c =
     let put-finger = c.put_finger in
     let put-counts = c.put_counts in
-    c.put_stamp.auto.0 ∙ put-finger.auto.0 ∙ put-counts.auto.0
+    c.put_stamp.auto.head ∙ put-finger.auto.head ∙ put-counts.auto.head
 
 pub returns-then-number-eq0 : goal.returns-then-number-eq0
 returns-then-number-eq0 c =

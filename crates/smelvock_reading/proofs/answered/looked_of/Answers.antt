@@ -6,7 +6,7 @@ use Rattle.smelvock_reading.specs.Calls.{looked_of}
 use Rattle.smelvock_reading.proofs.answered.looked_of.Goals as goal
 
 pub returns-in-At : goal.returns-in-At
-returns-in-At c = ap (λ (x : Looked). looked_of (looked_answer x)) (sym c.a-1.given.1)
+returns-in-At c = ap (λ (x : Looked). looked_of (looked_answer x)) (sym c.in-At.is)
 
 pub returns-in-Refused : goal.returns-in-Refused
-returns-in-Refused c = c.refused_looked.ensures ∙ ap (λ (x : Looked). looked_of (looked_answer x)) (sym c.a-in-Refused-1.given.1)
+returns-in-Refused c = c.refused_looked.ensures ∙ ap (λ (x : Looked). looked_of (looked_answer x)) (sym c.in-Refused.is)

@@ -38,9 +38,9 @@ add_lengths-requires c =
 pub shape_of-area : goal.shape_of-area
 shape_of-area c =
     let args = c.args in
-    same args.g args.k args.area.now c.add_lengths.new.0 c.add_lengths.auto.0
+    same args.g args.k args.area.now c.add_lengths.new.node c.add_lengths.auto.node
 
 pub returns : goal.returns
 returns c =
-    lent_back (c.args.k * c.args.g.size) c.args.g.size c.args.area.now c.add_lengths.new.0
-    (inside (goal.at.returns c).Start) c.add_lengths.auto.0 ∙ rw (c.add_lengths.ensures, lent)
+    lent_back (c.args.k * c.args.g.size) c.args.g.size c.args.area.now c.add_lengths.new.node
+    (inside (goal.at.returns c).Start) c.add_lengths.auto.node ∙ rw (c.add_lengths.ensures, lent)

@@ -33,10 +33,10 @@ insert-requires c =
 pub shape_of-area : goal.shape_of-area
 shape_of-area c =
     let args = c.args in
-    same args.g args.k args.area.now c.insert.new.0 c.insert.auto.0
+    same args.g args.k args.area.now c.insert.new.node c.insert.auto.node
 
 pub returns : goal.returns
 returns c =
     let args = c.args in
     let pre = c.requires in
-    back args.k _ _ (inserted args.i (take args.g.stride args.x.now)) pre.0 pre.1 c.insert.auto.0 c.insert.ensures
+    back args.k _ _ (inserted args.i (take args.g.stride args.x.now)) pre.0 pre.1 c.insert.auto.node c.insert.ensures

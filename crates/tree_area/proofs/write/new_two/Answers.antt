@@ -33,10 +33,10 @@ new_two-requires c =
 pub shape_of-area : goal.shape_of-area
 shape_of-area c =
     let args = c.args in
-    same args.g args.k args.area.now c.new_two.new.0 c.new_two.auto.0
+    same args.g args.k args.area.now c.new_two.new.node c.new_two.auto.node
 
 pub returns : goal.returns
 returns c =
     let args = c.args in
     let pre = c.requires in
-    back args.k _ _ (λ m. new_node args.g.stride args.g.fan args.parent (take args.g.stride args.x.now ∷ take args.g.stride args.y.now ∷ [])) pre.0 pre.1 c.new_two.auto.0 c.new_two.ensures
+    back args.k _ _ (λ m. new_node args.g.stride args.g.fan args.parent (take args.g.stride args.x.now ∷ take args.g.stride args.y.now ∷ [])) pre.0 pre.1 c.new_two.auto.node c.new_two.ensures

@@ -33,10 +33,10 @@ set_lengths-requires c =
 pub shape_of-area : goal.shape_of-area
 shape_of-area c =
     let args = c.args in
-    same args.g args.k args.area.now c.set_lengths.new.0 c.set_lengths.auto.0
+    same args.g args.k args.area.now c.set_lengths.new.node c.set_lengths.auto.node
 
 pub returns : goal.returns
 returns c =
     let args = c.args in
     let pre = c.requires in
-    back args.k _ _ (with_lengths args.i (lengths_in (args.g.stride - 1) args.x.now)) pre.0 pre.1 c.set_lengths.auto.0 c.set_lengths.ensures
+    back args.k _ _ (with_lengths args.i (lengths_in (args.g.stride - 1) args.x.now)) pre.0 pre.1 c.set_lengths.auto.node c.set_lengths.ensures

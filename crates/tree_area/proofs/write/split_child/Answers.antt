@@ -33,10 +33,10 @@ split_child-requires c =
 pub shape_of-area : goal.shape_of-area
 shape_of-area c =
     let args = c.args in
-    same args.g args.k args.area.now c.split_child.new.0 c.split_child.auto.0
+    same args.g args.k args.area.now c.split_child.new.node c.split_child.auto.node
 
 pub returns : goal.returns
 returns c =
     let args = c.args in
     let pre = c.requires in
-    back args.k _ _ (child_split args.before args.i (take args.g.stride args.x.now)) pre.0 pre.1 c.split_child.auto.0 c.split_child.ensures
+    back args.k _ _ (child_split args.before args.i (take args.g.stride args.x.now)) pre.0 pre.1 c.split_child.auto.node c.split_child.ensures

@@ -4,7 +4,7 @@ use Rattle.model_laws.specs.Locate.{changing_gone, changing_back, changing_kept}
 use Rattle.tree_finger.proofs.finger.changing.Goals as goal
 
 pub returns-in-Absent : goal.returns-in-Absent
-returns-in-Absent c = rw c.enum_told-1.given.1
+returns-in-Absent c = rw c.in-Absent.is
 
 pub returns-then-slot-f : goal.returns-then-slot-f
 returns-then-slot-f c =

@@ -30,7 +30,7 @@ len_of-len-requires c =
     (pre.0, omega (arith, c.if-leaf-used.false, pre.3))
 
 pub overflow_cast-len : goal.overflow_cast-len
-overflow_cast-len c = omega (arith, c.len_of_lem.type-inv)
+overflow_cast-len c = omega (arith, c.len_of-len.type-inv)
 
 pub returns-then-len-fan : goal.returns-then-len-fan
 returns-then-len-fan c =
@@ -38,7 +38,7 @@ returns-then-len-fan c =
     let own = c.if-own-view.false in
     let past = c.if-index-start.false in
     served_counted a.view a.effect a.g a.f a.used a.index a.leaves.now own past _ refl search.Broken
-    (served_full a.view a.effect a.g a.f a.used a.index a.leaves.now own past c.if-leaf-used.false (omega (arith, c.len_of_lem.ensures, c.if-len-fan.true)))
+    (served_full a.view a.effect a.g a.f a.used a.index a.leaves.now own past c.if-leaf-used.false (omega (arith, c.len_of-len.ensures, c.if-len-fan.true)))
 
 pub returns-then-slot-len : goal.returns-then-slot-len
 returns-then-slot-len c =
@@ -47,7 +47,7 @@ returns-then-slot-len c =
     let past = c.if-index-start.false in
     served_counted a.view a.effect a.g a.f a.used a.index a.leaves.now own past _ refl search.Broken
     (served_past a.view a.effect a.g a.f a.used a.index a.leaves.now own past c.if-leaf-used.false
-    (omega (arith, c.len_of_lem.ensures, c.if-len-fan.false)) (omega (arith, c.len_of_lem.ensures, c.if-slot-len.true)))
+    (omega (arith, c.len_of-len.ensures, c.if-len-fan.false)) (omega (arith, c.len_of-len.ensures, c.if-slot-len.true)))
 
 pub walked-requires : goal.walked-requires
 walked-requires c =
@@ -56,9 +56,9 @@ walked-requires c =
       c.requires.1,
       c.requires.2,
       omega (arith, c.if-leaf-used.false, c.requires.3),
-      omega (arith, c.len_of_lem.ensures, c.if-len-fan.false),
-      omega (arith, c.len_of_lem.ensures, c.if-slot-len.false),
-      c.len_of_lem.ensures,
+      omega (arith, c.len_of-len.ensures, c.if-len-fan.false),
+      omega (arith, c.len_of-len.ensures, c.if-slot-len.false),
+      c.len_of-len.ensures,
     )
 
 pub returns : goal.returns
@@ -66,7 +66,7 @@ returns c =
     let a = c.args in
     let own = c.if-own-view.false in
     let past = c.if-index-start.false in
-    let len_of_lem = c.len_of_lem in
+    let len_of_lem = c.len_of-len in
     c.walked.ensures
     ∙ served_counted a.view a.effect a.g a.f a.used a.index a.leaves.now own past _ len_of_lem.ensures _
     (served_on a.view a.effect a.g a.f a.used a.index a.leaves.now own past c.if-leaf-used.false (omega (arith, len_of_lem.ensures, c.if-len-fan.false)) (omega (arith, len_of_lem.ensures, c.if-slot-len.false)))

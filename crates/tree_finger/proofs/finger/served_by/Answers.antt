@@ -7,7 +7,7 @@ served-requires c =
     (c.requires.0, c.requires.1, c.requires.2, c.requires.3)
 
 pub returns-in-Absent : goal.returns-in-Absent
-returns-in-Absent c = rw c.enum_told-1.given.1
+returns-in-Absent c = rw c.in-Absent.is
 
 pub returns-in-At : goal.returns-in-At
-returns-in-At c = rw c.held-1.given.1 c.served.ensures
+returns-in-At c = rw c.in-At.is c.served.ensures

@@ -21,11 +21,11 @@ from c =
     )
 
 -- what was found lies in the leaf, and no more than the index is left
-found : (c : In-At) → (c.found-1.given.0.0 < c.args.g.fan) × (c.found-1.given.0.1.0 ≤ c.args.index)
+found : (c : In-At) → (c.in-At.slot < c.args.g.fan) × (c.in-At.offset ≤ c.args.index)
 found c =
     let b = c.back-b.result in
     let f = from c.before.before.before.before.before.before.before in
-    let e = sym c.find_in-found.ensures.finds ∙ c.found-1.given.1 in
+    let e = sym c.find_in-found.ensures.finds ∙ c.in-At.is in
     let r = used_ranged c.args.g _ _ c.args.f.leaf b.slot (c.args.index - b.within) _ _ c.args.leaves.now c.requires.4 (omega arith) in
     (omega (arith, f, c.requires.4, r.slot _ _ _ _ e), omega (arith, r.offset _ _ _ _ e))
 
@@ -47,7 +47,7 @@ returns-in_default c =
     let args = c.args in
     let back = c.back-b in
     let if1 = c.if-index-within in
-    walk_counted args.f args.len _ _ (walked_miss _ _ args.f _ _ _ _ _ _ back.ensures if1.false (sym c.find_in-found.ensures.finds ∙ c.enum_told-1.given.1))
+    walk_counted args.f args.len _ _ (walked_miss _ _ args.f _ _ _ _ _ _ back.ensures if1.false (sym c.find_in-found.ensures.finds ∙ c.in_default.is))
 
 pub overflow_cast-at : goal.overflow_cast-at
 overflow_cast-at c =
@@ -76,4 +76,4 @@ returns c =
     let find-in = c.find_in-found in
     rw c.span.ensures
     (walk_counted args.f args.len _ _
-    (walked_found _ _ args.f _ _ _ _ _ _ back.ensures _ _ _ _ if1.false (sym find-in.ensures.finds ∙ c.found-1.given.1)))
+    (walked_found _ _ args.f _ _ _ _ _ _ back.ensures _ _ _ _ if1.false (sym find-in.ensures.finds ∙ c.in-At.is)))

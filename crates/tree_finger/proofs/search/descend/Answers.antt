@@ -1,7 +1,6 @@
 -- `tree_finger::search::descend`: the descent from here on is the descent asked for, and with what was passed counts the same; each turn goes down
 -- one level to the slot found.
 use Rattle.std.proofs.Common.{◌≡◌, ℕ, ◌+◌, ◌-◌, ◌*◌, ◌≤◌, true, cond, ltb, List, sym, ap, ◌∙◌, ap₂, arith, le-ltb, lt-ltb}
-use borrow.Author.Tests.{not-true, not-false}
 use Rattle.model.specs.Node.{used}
 use Rattle.model.specs.State.{node_at}
 use Rattle.model.specs.Climb.{leaf_no}
@@ -46,7 +45,7 @@ arrived v e g levels root index xs k x s p passed q f h =
 
 -- the node of a turn is in the area and says no more slots than it has
 turn : (c : Else-not-sized) → sized c.args.g c.loop-n.node c.args.inners.now ≡ true
-turn c = sym c.sized.ensures ∙ not-false _ c.if-not-sized.false
+turn c = sym c.sized.ensures ∙ c.if-not-sized.false
 
 pub loop-n-init : goal.loop-n-init
 loop-n-init c = (omega arith, omega arith, omega arith, rw (le-ltb c.args.levels c.args.levels (omega arith)), omega arith, λ ls. omega arith)
@@ -61,7 +60,7 @@ returns-then-not-sized c =
     let args = c.args in
     let the-loop = c.loop-n in
     lost _ _ args.g _ _ _ _ _
-    (sym (descend_broken _ _ args.g _ _ _ _ _ _ _ c.loop-n-test.true (sym c.sized.ensures ∙ not-true _ c.if-not-sized.true)) ∙ the-loop.invariant.3)
+    (sym (descend_broken _ _ args.g _ _ _ _ _ _ _ c.loop-n-test.true (sym c.sized.ensures ∙ c.if-not-sized.true)) ∙ the-loop.invariant.3)
     (λ l r a b q. broken_apart l r a b q)
 
 pub find_first_in-found-requires : goal.find_first_in-found-requires
@@ -74,7 +73,7 @@ returns-then-n-levels c =
     let l = c.loop-n in
     lost _ _ c.args.g _ _ _ _ _
     (sym (descend_miss _ _ c.args.g _ _ _ _ _ _ _ c.loop-n-test.true (turn (goal.at.returns-then-n-levels c).Else-not-sized)
-    (sym c.find_first_in-found.ensures.finds ∙ c.enum_told-1.given.1)
+    (sym c.find_first_in-found.ensures.finds ∙ c.in_default.is)
     ∙ rw (le-ltb l.n c.args.levels (omega (arith, c.if-n-levels.true)))) ∙ l.invariant.3) (λ l r a b q. nothing_apart l r a b q)
 
 pub returns-in_default : goal.returns-in_default
@@ -82,7 +81,7 @@ returns-in_default c =
     let l = c.loop-n in
     lost _ _ c.args.g _ _ _ _ _
     (sym (descend_miss _ _ c.args.g _ _ _ _ _ _ _ c.loop-n-test.true (turn (goal.at.returns-in_default c).Else-not-sized)
-    (sym c.find_first_in-found.ensures.finds ∙ c.enum_told-1.given.1)
+    (sym c.find_first_in-found.ensures.finds ∙ c.in_default.is)
     ∙ rw (lt-ltb l.n c.args.levels (omega (arith, c.if-n-levels.false)))) ∙ l.invariant.3) (λ l r a b q. broken_apart l r a b q)
 
 pub child_of-node-requires : goal.child_of-node-requires
@@ -92,7 +91,7 @@ child_of-node-requires c =
       t.0,
       omega (
         arith,
-        (used_ranged c.args.g _ _ _ 0 _ _ _ _ t.1 (omega arith)).slot _ _ _ _ (sym c.find_first_in-found.ensures.finds ∙ c.found-1.given.1),
+        (used_ranged c.args.g _ _ _ 0 _ _ _ _ t.1 (omega arith)).slot _ _ _ _ (sym c.find_first_in-found.ensures.finds ∙ c.in-At.is),
         t.1,
       ),
     )
@@ -107,7 +106,7 @@ overflow_add-passed c =
       c.requires.0.shaped,
       c.requires.3,
       l.invariant.4,
-      found_in c.args.view c.args.effect c.args.g l.node l.rest l.effects l.prepares c.args.inners.now _ _ _ _ (sym c.find_first_in-found.ensures.finds ∙ c.found-1.given.1),
+      found_in c.args.view c.args.effect c.args.g l.node l.rest l.effects l.prepares c.args.inners.now _ _ _ _ (sym c.find_first_in-found.ensures.finds ∙ c.in-At.is),
     )
 
 pub overflow_sub-n : goal.overflow_sub-n
@@ -121,8 +120,8 @@ loop-n-preserved c =
     let l = c.loop-n in
     let more = c.loop-n-test.true in
     let t = sized_in c.args.g _ _ (turn (goal.at.loop-n-preserved c).Else-not-sized) in
-    let found = sym c.find_first_in-found.ensures.finds ∙ c.found-1.given.1 in
-    let few = c.find_first_in-found.ensures.few _ _ _ _ c.found-1.given.1 in (
+    let found = sym c.find_first_in-found.ensures.finds ∙ c.in-At.is in
+    let few = c.find_first_in-found.ensures.few _ _ _ _ c.in-At.is in (
       omega arith,
       omega (arith, few.0),
       omega (arith, few.1),

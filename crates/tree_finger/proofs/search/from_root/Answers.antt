@@ -15,7 +15,7 @@ search_leaf-requires c =
       c.requires.2,
       c.requires.3,
       c.requires.5,
-      (descend_rests _ _ c.args.g _ _ _ _ _ _ _ (nothing_rests _)).rest _ _ _ _ (sym c.descend-way.ensures.is ∙ c.end-1.given.1),
+      (descend_rests _ _ c.args.g _ _ _ _ _ _ _ (nothing_rests _)).rest _ _ _ _ (sym c.descend-way.ensures.is ∙ c.in-At.is),
       omega (arith, c.descend-way.ensures.few, c.requires.4),
     )
 
@@ -23,14 +23,14 @@ pub returns-in-At : goal.returns-in-At
 unfolding from_root
 returns-in-At c =
     let descend = c.descend-way in
-    let way = c.end-1.given.1 in
+    let way = c.in-At.is in
     c.search_leaf.ensures
     ∙ root_counted _ _ _ _ _ _ (ap (leaf_of _ _ c.args.g _ _ _) (sym descend.ensures.is ∙ way)) (descend.ensures.counts _ _ _ _ way _)
 
 pub returns-in-Nothing : goal.returns-in-Nothing
 unfolding from_root
-returns-in-Nothing c = find_counted _ _ _ (ap (leaf_of _ _ c.args.g _ _ _) (sym c.descend-way.ensures.is ∙ c.enum_told-1.given.1))
+returns-in-Nothing c = find_counted _ _ _ (ap (leaf_of _ _ c.args.g _ _ _) (sym c.descend-way.ensures.is ∙ c.in-Nothing.is))
 
 pub returns-in-Broken : goal.returns-in-Broken
 unfolding from_root
-returns-in-Broken c = find_counted _ _ _ (ap (leaf_of _ _ c.args.g _ _ _) (sym c.descend-way.ensures.is ∙ c.enum_told-in-Broken-1.given.1))
+returns-in-Broken c = find_counted _ _ _ (ap (leaf_of _ _ c.args.g _ _ _) (sym c.descend-way.ensures.is ∙ c.in-Broken.is))

@@ -9,14 +9,14 @@ use Rattle.tree_finger.proofs.search.search_leaf.Goals as goal
 
 -- the leaf says no more slots than it has
 filled : (c : Else-len-fan) → (node_at c.args.g c.args.k.0 c.args.leaves.now).len ≤ c.args.g.fan
-filled c = omega (arith, c.len_of_lem.ensures, c.if-len-fan.false)
+filled c = omega (arith, c.len_of-len.ensures, c.if-len-fan.false)
 
 -- what was found lies in the leaf, and no more than the position is left
-found : (c : In-At) → (c.found-1.given.0.0 < c.args.g.fan) × (c.found-1.given.0.1.0 ≤ c.args.rest)
+found : (c : In-At) → (c.in-At.slot < c.args.g.fan) × (c.in-At.offset ≤ c.args.rest)
 found c =
     let a = c.args in
     let t = filled c.before.before.before.before in
-    let e = sym c.find_in-found.ensures.finds ∙ c.found-1.given.1 in
+    let e = sym c.find_in-found.ensures.finds ∙ c.in-At.is in
     let r = used_ranged a.g _ _ a.k.0 0 _ _ _ a.leaves.now t (omega arith) in
     (omega (arith, t, r.slot _ _ _ _ e), r.offset _ _ _ _ e)
 
@@ -27,12 +27,12 @@ pub len_of-len-requires : goal.len_of-len-requires
 len_of-len-requires c = (c.requires.0, omega (arith, c.if-leaf-used.false, c.requires.3))
 
 pub overflow_cast-len : goal.overflow_cast-len
-overflow_cast-len c = omega (arith, c.len_of_lem.type-inv)
+overflow_cast-len c = omega (arith, c.len_of-len.type-inv)
 
 pub returns-then-len-fan : goal.returns-then-len-fan
 returns-then-len-fan c =
     let args = c.args in
-    find_counted _ _ _ (leaf_full _ _ args.g _ _ _ _ _ _ _ c.if-leaf-used.false (omega (arith, c.len_of_lem.ensures, c.if-len-fan.true)))
+    find_counted _ _ _ (leaf_full _ _ args.g _ _ _ _ _ _ _ c.if-leaf-used.false (omega (arith, c.len_of-len.ensures, c.if-len-fan.true)))
 
 pub find_in-found-requires : goal.find_in-found-requires
 find_in-found-requires c =
@@ -41,7 +41,7 @@ find_in-found-requires c =
 pub returns-in_default : goal.returns-in_default
 returns-in_default c =
     find_counted _ _ _ (leaf_miss _ _ c.args.g _ _ _ _ _ _ _ c.if-leaf-used.false
-    (filled (goal.at.returns-in_default c).Else-len-fan) (sym c.find_in-found.ensures.finds ∙ c.enum_told-1.given.1))
+    (filled (goal.at.returns-in_default c).Else-len-fan) (sym c.find_in-found.ensures.finds ∙ c.in_default.is))
 
 pub overflow_cast-finger : goal.overflow_cast-finger
 overflow_cast-finger c =
@@ -91,4 +91,4 @@ overflow_add-result-2 c =
 pub returns : goal.returns
 returns c =
     leaf_counted _ _ c.args.g _ _ _ _ _ _ _ _ _ _ _ _
-    c.if-leaf-used.false (filled (goal.at.returns c).Else-len-fan) (sym c.find_in-found.ensures.finds ∙ c.found-1.given.1)
+    c.if-leaf-used.false (filled (goal.at.returns c).Else-len-fan) (sym c.find_in-found.ensures.finds ∙ c.in-At.is)

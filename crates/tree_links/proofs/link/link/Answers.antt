@@ -47,18 +47,18 @@ adopt_all-requires c =
     let split-child = c.split_child in
     let pre = c.requires in
     let word = c.word-len in
-    (rw split-child.auto.0 pre.0, pre.1, omega (arith, word.ensures, pre.3.space))
+    (rw split-child.auto.area pre.0, pre.1, omega (arith, word.ensures, pre.3.space))
 
 pub shape_of-leaves : goal.shape_of-leaves
 shape_of-leaves c =
     let adopt_all_law = c.adopt_all in
-    adopt_all_law.auto.0
+    adopt_all_law.auto.leaves
 
 pub shape_of-inners : goal.shape_of-inners
 shape_of-inners c =
     let adopt_all_law = c.adopt_all in
     let split-child = c.split_child in
-    adopt_all_law.auto.1.0 ∙ split-child.auto.0
+    adopt_all_law.auto.inners.0 ∙ split-child.auto.area
 
 pub returns : goal.returns
 returns c =

@@ -41,18 +41,18 @@ adopt_all-requires c =
     let shape-for = c.shape_for-g in
     let split_off = c.split_off in
     let pre = c.requires in
-    rw shape-for.ensures (rw split_off.auto.0 pre.0, pre.2, omega arith)
+    rw shape-for.ensures (rw split_off.auto.area pre.0, pre.2, omega arith)
 
 pub shape_of-leaves : goal.shape_of-leaves
 shape_of-leaves c =
     let adopt_all_law = c.adopt_all in
-    adopt_all_law.auto.0
+    adopt_all_law.auto.leaves
 
 pub shape_of-inners : goal.shape_of-inners
 shape_of-inners c =
     let adopt_all_law = c.adopt_all in
     let split_off = c.split_off in
-    adopt_all_law.auto.1.0 ∙ split_off.auto.0
+    adopt_all_law.auto.inners.0 ∙ split_off.auto.area
 
 pub returns : goal.returns
 returns c =

@@ -63,7 +63,7 @@ adopt_all-n-requires c =
     let new_two = c.new_two in
     let pre = c.requires in
     let if1 = c.if-used-nodes in
-    rw shape-for.ensures (rw new_two.auto.0 pre.0, if1.false, omega (arith, pre.0.shaped.slots))
+    rw shape-for.ensures (rw new_two.auto.area pre.0, if1.false, omega (arith, pre.0.shaped.slots))
 
 pub overflow_add-top : goal.overflow_add-top
 overflow_add-top c =
@@ -92,13 +92,13 @@ bounds-top-2-2 c = omega arith
 pub shape_of-leaves : goal.shape_of-leaves
 shape_of-leaves c =
     let adopt_all_law = c.adopt_all-n in
-    adopt_all_law.auto.0
+    adopt_all_law.auto.leaves
 
 pub shape_of-inners : goal.shape_of-inners
 shape_of-inners c =
     let adopt_all_law = c.adopt_all-n in
     let new_two = c.new_two in
-    adopt_all_law.auto.1.0 ∙ new_two.auto.0
+    adopt_all_law.auto.inners.0 ∙ new_two.auto.area
 
 pub returns : goal.returns
 returns c =

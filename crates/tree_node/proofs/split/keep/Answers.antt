@@ -28,18 +28,18 @@ overflow_cast-node c =
 
 pub bounds-node-0 : goal.bounds-node-0
 bounds-node-0 c =
-    omega (arith, room (goal.at.bounds-node-0 c).Start, c.clear.auto.0)
+    omega (arith, room (goal.at.bounds-node-0 c).Start, c.clear.auto.ws)
 
 pub bounds-node-1 : goal.bounds-node-1
 bounds-node-1 c =
-    simp length-set (omega (arith, room (goal.at.bounds-node-1 c).Start, c.clear.auto.0))
+    simp length-set (omega (arith, room (goal.at.bounds-node-1 c).Start, c.clear.auto.ws))
 
 pub bounds-node-2 : goal.bounds-node-2
 bounds-node-2 c =
-    simp length-set (omega (arith, room (goal.at.bounds-node-2 c).Start, c.clear.auto.0))
+    simp length-set (omega (arith, room (goal.at.bounds-node-2 c).Start, c.clear.auto.ws))
 
 pub shape_of-node : goal.shape_of-node
-shape_of-node c = simp length-set c.clear.auto.0
+shape_of-node c = simp length-set c.clear.auto.ws
 
 pub returns : goal.returns
 returns c =

@@ -26,4 +26,4 @@ keep-requires c = (c.requires.0, rw lent (length_part _ _ _ c.requires.1), c.req
 
 pub returns : goal.returns
 returns c =
-    lent_back (c.args.k * c.args.g.size) _ _ c.keep.new.0 c.requires.1 c.keep.auto.0 ∙ rw (c.keep.ensures, lent)
+    lent_back (c.args.k * c.args.g.size) _ _ c.keep.new.node c.requires.1 c.keep.auto.node ∙ rw (c.keep.ensures, lent)

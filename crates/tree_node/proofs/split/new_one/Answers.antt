@@ -20,12 +20,12 @@ pub keep-requires : goal.keep-requires
 keep-requires c =
     let pre = c.requires in
     let put-slot = c.put_slot in
-    (pre.0, put-slot.auto.0 ∙ pre.1, omega (arith, pre.0))
+    (pre.0, put-slot.auto.node ∙ pre.1, omega (arith, pre.0))
 
 pub shape_of-node : goal.shape_of-node
 shape_of-node c =
     let put-slot = c.put_slot in
-    c.keep.auto.0 ∙ put-slot.auto.0
+    c.keep.auto.node ∙ put-slot.auto.node
 
 pub returns : goal.returns
 unfolding All

@@ -30,20 +30,20 @@ pub put_slot-requires-2 : goal.put_slot-requires-2
 put_slot-requires-2 c =
     let pre = c.requires in
     let put-slot = c.put_slot in
-    (pre.0, omega (arith, room (goal.at.put_slot-requires-2 c).Start, put-slot.auto.0), pre.3)
+    (pre.0, omega (arith, room (goal.at.put_slot-requires-2 c).Start, put-slot.auto.node), pre.3)
 
 pub keep-requires : goal.keep-requires
 keep-requires c =
     let pre = c.requires in
     let put-slot2 = c.put_slot-2 in
     let put-slot = c.put_slot in
-    (pre.0, put-slot2.auto.0 ∙ put-slot.auto.0 ∙ pre.1, omega (arith, pre.0))
+    (pre.0, put-slot2.auto.node ∙ put-slot.auto.node ∙ pre.1, omega (arith, pre.0))
 
 pub shape_of-node : goal.shape_of-node
 shape_of-node c =
     let put-slot2 = c.put_slot-2 in
     let put-slot = c.put_slot in
-    c.keep.auto.0 ∙ put-slot2.auto.0 ∙ put-slot.auto.0
+    c.keep.auto.node ∙ put-slot2.auto.node ∙ put-slot.auto.node
 
 pub returns : goal.returns
 unfolding All

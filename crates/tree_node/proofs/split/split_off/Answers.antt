@@ -59,7 +59,7 @@ keep_in-requires c =
     let shape-for = c.shape_for-g in
     let pre = c.requires in
     let shift = c.shift in
-    (rw shape-for.ensures pre.0, omega (arith, room (goal.at.keep_in-requires c).After-shape_for-g, shift.auto.0), rw shape-for.ensures (omega arith))
+    (rw shape-for.ensures pre.0, omega (arith, room (goal.at.keep_in-requires c).After-shape_for-g, shift.auto.ws), rw shape-for.ensures (omega arith))
 
 pub overflow_sub-fan-2 : goal.overflow_sub-fan-2
 overflow_sub-fan-2 c = omega arith
@@ -69,7 +69,7 @@ clear-requires c =
     let shape-for = c.shape_for-g in
     let keep-in = c.keep_in in
     let shift = c.shift in
-    (rw shape-for.ensures (omega arith), omega (arith, room (goal.at.clear-requires c).After-shape_for-g, keep-in.auto.0, shift.auto.0))
+    (rw shape-for.ensures (omega arith), omega (arith, room (goal.at.clear-requires c).After-shape_for-g, keep-in.auto.area, shift.auto.ws))
 
 pub overflow_cast-area : goal.overflow_cast-area
 overflow_cast-area c =
@@ -84,13 +84,13 @@ pub bounds-area-a-2 : goal.bounds-area-a-2
 bounds-area-a-2 c =
     let keep-in = c.keep_in in
     let shift = c.shift in
-    omega (arith, room (goal.at.bounds-area-a-2 c).After-shape_for-g, c.clear.auto.0, keep-in.auto.0, shift.auto.0)
+    omega (arith, room (goal.at.bounds-area-a-2 c).After-shape_for-g, c.clear.auto.ws, keep-in.auto.area, shift.auto.ws)
 
 pub shape_of-area : goal.shape_of-area
 shape_of-area c =
     let keep-in = c.keep_in in
     let shift = c.shift in
-    simp length-set (c.clear.auto.0 ∙ keep-in.auto.0 ∙ shift.auto.0)
+    simp length-set (c.clear.auto.ws ∙ keep-in.auto.area ∙ shift.auto.ws)
 
 pub returns : goal.returns
 returns c =
@@ -98,5 +98,5 @@ returns c =
     let shift = c.shift in
     let keep-in = c.keep_in in
     split_off_area c.args.views c.args.fan c.args.nodes c.args.k c.args.j _ c.args.area.now _ _ _ shape-for.ensures c.requires.1
-    (room (goal.at.returns c).After-shape_for-g).1 (keep-in.auto.0 ∙ shift.auto.0) shift.ensures
+    (room (goal.at.returns c).After-shape_for-g).1 (keep-in.auto.area ∙ shift.auto.ws) shift.ensures
     keep-in.ensures c.clear.ensures

@@ -45,7 +45,7 @@ pub put_slot-requires : goal.put_slot-requires
 put_slot-requires c =
     let pre = c.requires in
     let open-gap = c.open_gap in
-    (pre.0, omega (arith, room (goal.at.put_slot-requires c).Start, open-gap.auto.0), pre.4)
+    (pre.0, omega (arith, room (goal.at.put_slot-requires c).Start, open-gap.auto.ws), pre.4)
 
 pub overflow_add-node : goal.overflow_add-node
 overflow_add-node c =
@@ -55,12 +55,12 @@ overflow_add-node c =
 pub bounds-node-0-2 : goal.bounds-node-0-2
 bounds-node-0-2 c =
     let open-gap = c.open_gap in
-    omega (arith, room (goal.at.bounds-node-0-2 c).Start, c.put_slot.auto.0, open-gap.auto.0)
+    omega (arith, room (goal.at.bounds-node-0-2 c).Start, c.put_slot.auto.node, open-gap.auto.ws)
 
 pub shape_of-node : goal.shape_of-node
 shape_of-node c =
     let open-gap = c.open_gap in
-    simp length-set (c.put_slot.auto.0 ∙ open-gap.auto.0)
+    simp length-set (c.put_slot.auto.node ∙ open-gap.auto.ws)
 
 pub returns : goal.returns
 returns c =

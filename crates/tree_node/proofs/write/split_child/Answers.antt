@@ -23,12 +23,12 @@ overflow_add-i c =
 pub insert-requires : goal.insert-requires
 insert-requires c =
     let k = lengths_first _ _ _ _ _ _ c.take_lengths.ensures in
-    (c.requires.0, c.take_lengths.auto.0 ∙ c.requires.1, omega (arith, k, place (goal.at.insert-requires c).Joined-before, c.requires.2), omega (arith, k, c.requires.3), c.requires.4)
+    (c.requires.0, c.take_lengths.auto.node ∙ c.requires.1, omega (arith, k, place (goal.at.insert-requires c).Joined-before, c.requires.2), omega (arith, k, c.requires.3), c.requires.4)
 
 pub shape_of-node : goal.shape_of-node
 shape_of-node c =
     let take-lengths = c.take_lengths in
-    c.insert.auto.0 ∙ take-lengths.auto.0
+    c.insert.auto.node ∙ take-lengths.auto.node
 
 pub returns : goal.returns
 returns c =

@@ -19,11 +19,11 @@ returns-then-c-len c K same =
     let args = c.args in
     let if1 = c.if-c-head in
     let if2 = c.if-k-head in
-    fault_slot K (state args.head args.leaves.now [] []) args.c _ _ same if1.false if2.false c.len_of_lem.ensures c.if-c-len.true
+    fault_slot K (state args.head args.leaves.now [] []) args.c _ _ same if1.false if2.false c.len_of-len.ensures c.if-c-len.true
 
 pub returns : goal.returns
 returns c K same =
     let args = c.args in
     let if1 = c.if-c-head in
     let if2 = c.if-k-head in
-    fault_none K (state args.head args.leaves.now [] []) args.c _ _ same if1.false if2.false c.len_of_lem.ensures c.if-c-len.false
+    fault_none K (state args.head args.leaves.now [] []) args.c _ _ same if1.false if2.false c.len_of-len.ensures c.if-c-len.false

@@ -12,7 +12,7 @@ returns-then-astray c effect =
 pub returns-in-Refused : goal.returns-in-Refused
 returns-in-Refused c effect =
     let open-areas = c.open_areas in
-    open_refused (kind _ effect) _ _ (open-areas.ensures effect) _ c.n-1.given.1
+    open_refused (kind _ effect) _ _ (open-areas.ensures effect) _ c.in-Refused.is
 
 pub returns-else-astray : goal.returns-else-astray
 returns-else-astray c effect =

@@ -6,7 +6,7 @@ use Rattle.tree_open.proofs.open.open_at.Goals as goal
 
 pub fault-n-requires : goal.fault-n-requires
 fault-n-requires c =
-    let h = ready (kind _ 0) c.requires _ _ _ (c.before.before.before.«open».ensures 0) c.g-1.given.1 in
+    let h = ready (kind _ 0) c.requires _ _ _ (c.before.before.before.«open».ensures 0) c.in-Good.is in
     (leaf_area _ _ h, h.leaves)
 
 pub returns-then-n-ne0 : goal.returns-then-n-ne0
@@ -27,12 +27,12 @@ returns-then-g-len_of c effect =
     let g = c.g-1 in
     let fault = c.fault-n in
     let if1 = c.if-n-ne0 in
-    at_overfull (kind _ effect) c.requires _ c.args.c _ (opened.ensures effect) _ g.given.1 _ (fault.ensures (kind _ effect)) if1.false _ c.len_of_lem.ensures
+    at_overfull (kind _ effect) c.requires _ c.args.c _ (opened.ensures effect) _ g.given.1 _ (fault.ensures (kind _ effect)) if1.false _ c.len_of.ensures
     c.if-g-len_of.true
 
 pub returns-in-Refused : goal.returns-in-Refused
 returns-in-Refused c effect =
-    at_refused (kind _ effect) c.requires _ c.args.c _ (c.before.before.before.«open».ensures effect) _ c.n-1.given.1
+    at_refused (kind _ effect) c.requires _ c.args.c _ (c.before.before.before.«open».ensures effect) _ c.in-Refused.is
 
 pub returns-else-g-len_of : goal.returns-else-g-len_of
 returns-else-g-len_of c effect =
@@ -40,5 +40,5 @@ returns-else-g-len_of c effect =
     let g = c.g-1 in
     let fault = c.fault-n in
     let if1 = c.if-n-ne0 in
-    at_good (kind _ effect) c.requires _ c.args.c _ (opened.ensures effect) _ g.given.1 _ (fault.ensures (kind _ effect)) if1.false _ c.len_of_lem.ensures
+    at_good (kind _ effect) c.requires _ c.args.c _ (opened.ensures effect) _ g.given.1 _ (fault.ensures (kind _ effect)) if1.false _ c.len_of.ensures
     c.if-g-len_of.false

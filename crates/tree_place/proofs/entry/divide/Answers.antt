@@ -1,6 +1,6 @@
 -- `tree_place::entry::divide`: a full leaf is split first; where that leaves room the slot takes its lengths from the one there and the home follows, and else the head stays.
 use Rattle.std.proofs.Common.{ℕ, List, ◌∷◌, sym, refl, ap, ◌∙◌, ⊎_elim, arith, length-set}
-use borrow.Author.Tests.{not-true, not-false}
+use borrow.Author.Tests.{not-false}
 use Rattle.model.specs.Length.{lengths_in}
 use Rattle.model.specs.Node.{Node, child_split}
 use Rattle.model.specs.State.{node_at, put_node}
@@ -18,7 +18,7 @@ with-entry s j = child_split s.args.before j (s.args.head.entries ∷ lengths_in
 ready : (c : Joined-len_of-fan) → RoomReady c.args.g 1 c.args.head c.args.leaves.now c.args.inners.now c.args.homes.now c.args.k.0 c.args.i c.if-len_of-fan.leaves c.if-len_of-fan.inners c.if-len_of-fan.homes c.if-len_of-fan.top c.if-len_of-fan.room
 ready c =
     let a = c.args in
-    let len = c.len_of_lem.ensures in
+    let len = c.len_of.ensures in
     ⊎_elim
     (λ w. ready_at _ _ _ _ _ _ _ _ _ _ w.17 w.18 w.19 w.20 w.21
     (ready_split a.views a.g 1 a.head a.leaves.now a.inners.now a.homes.now a.k.0 a.i a.x.now c.requires.0 (omega (arith, c.requires.1)) (sym len ∙ w.0.taken) _ _ _ _ _
@@ -33,7 +33,7 @@ len_of-requires c =
     (record { shaped = pre.0.fits.shaped; room = pre.0.fits.leaves }, omega (arith, pre.0.leaf, pre.0.leaves))
 
 pub overflow_cast-len_of : goal.overflow_cast-len_of
-overflow_cast-len_of c = omega (arith, c.len_of_lem.type-inv)
+overflow_cast-len_of c = omega (arith, c.len_of.type-inv)
 
 pub split_leaf-n-requires : goal.split_leaf-n-requires
 split_leaf-n-requires c =
@@ -41,24 +41,24 @@ split_leaf-n-requires c =
     (rw (← e.same) e.fits, e.leaf, e.inners, e.levels_least, e.levels_most, omega (arith, e.home), refl)
 
 pub shape_of-leaves-then-n-ne0 : goal.shape_of-leaves-then-n-ne0
-shape_of-leaves-then-n-ne0 c = let split_leaf_law = c.split_leaf-n in split_leaf_law.auto.0
+shape_of-leaves-then-n-ne0 c = let split_leaf_law = c.split_leaf-n in split_leaf_law.auto.leaves
 
 pub shape_of-inners-then-n-ne0 : goal.shape_of-inners-then-n-ne0
-shape_of-inners-then-n-ne0 c = let split_leaf_law = c.split_leaf-n in split_leaf_law.auto.1.0
+shape_of-inners-then-n-ne0 c = let split_leaf_law = c.split_leaf-n in split_leaf_law.auto.inners.0
 
 pub shape_of-homes-then-n-ne0 : goal.shape_of-homes-then-n-ne0
-shape_of-homes-then-n-ne0 c = let split_leaf_law = c.split_leaf-n in split_leaf_law.auto.1.1.0
+shape_of-homes-then-n-ne0 c = let split_leaf_law = c.split_leaf-n in split_leaf_law.auto.inners.1.0
 
 pub returns-then-n-ne0 : goal.returns-then-n-ne0
 unfolding model.divide
 returns-then-n-ne0 c =
     let a = c.args in
-    let len_of_lem = c.len_of_lem in
+    let len_of_lem = c.len_of in
     let if1 = c.if-len_of-fan in
     let split_leaf_law = c.split_leaf-n in
     gone _ c.lost.ensures
     (lost_split a.views a.g 1 a.head a.leaves.now a.inners.now a.homes.now a.k.0 a.i a.x.now c.requires.0 (omega (arith, c.requires.1)) (sym len_of_lem.ensures ∙ if1.true)
-    _ split_leaf_law.new.1.1.1.1.1.1.1.0 _ _ _ (split_leaf_law.ensures.0 a.head a.i) c.if-n-ne0.true (with-entry (goal.at.returns-then-n-ne0 c).Start))
+    _ split_leaf_law.new.inners.1.1.1.1.1.1.0 _ _ _ (split_leaf_law.ensures.0 a.head a.i) c.if-n-ne0.true (with-entry (goal.at.returns-then-n-ne0 c).Start))
 
 pub halved-room-requires : goal.halved-room-requires
 halved-room-requires c =
@@ -69,29 +69,29 @@ pub roomy-requires : goal.roomy-requires
 roomy-requires c =
     let pre = c.requires in
     let split_leaf_law = c.split_leaf-n in
-    (record { shaped = pre.0.fits.shaped; room = rw split_leaf_law.auto.0 pre.0.fits.leaves }, omega arith)
+    (record { shaped = pre.0.fits.shaped; room = rw split_leaf_law.auto.leaves pre.0.fits.leaves }, omega arith)
 
 pub shape_of-leaves-then-not-roomy : goal.shape_of-leaves-then-not-roomy
-shape_of-leaves-then-not-roomy c = let split_leaf_law = c.split_leaf-n in split_leaf_law.auto.0
+shape_of-leaves-then-not-roomy c = let split_leaf_law = c.split_leaf-n in split_leaf_law.auto.leaves
 
 pub shape_of-inners-then-not-roomy : goal.shape_of-inners-then-not-roomy
-shape_of-inners-then-not-roomy c = let split_leaf_law = c.split_leaf-n in split_leaf_law.auto.1.0
+shape_of-inners-then-not-roomy c = let split_leaf_law = c.split_leaf-n in split_leaf_law.auto.inners.0
 
 pub shape_of-homes-then-not-roomy : goal.shape_of-homes-then-not-roomy
-shape_of-homes-then-not-roomy c = let split_leaf_law = c.split_leaf-n in split_leaf_law.auto.1.1.0
+shape_of-homes-then-not-roomy c = let split_leaf_law = c.split_leaf-n in split_leaf_law.auto.inners.1.0
 
 pub returns-then-not-roomy : goal.returns-then-not-roomy
 unfolding model.divide
 returns-then-not-roomy c =
     let a = c.args in
-    let len_of_lem = c.len_of_lem in
+    let len_of_lem = c.len_of in
     let if1 = c.if-len_of-fan in
     let split_leaf_law = c.split_leaf-n in
     let if2 = c.if-n-ne0 in
     let halved = c.halved-room in
     gone _ c.lost-then-not-roomy.ensures
     (lost_room a.views a.g 1 a.head a.leaves.now a.inners.now a.homes.now a.k.0 a.i a.x.now c.requires.0 (omega (arith, c.requires.1)) (sym len_of_lem.ensures ∙ if1.true)
-    _ split_leaf_law.new.1.1.1.1.1.1.1.0 _ _ _ (split_leaf_law.ensures.0 a.head a.i) if2.false _ halved.ensures (sym c.roomy.ensures ∙ not-true _ c.if-not-roomy.true) (with-entry (goal.at.returns-then-not-roomy c).Start))
+    _ split_leaf_law.new.inners.1.1.1.1.1.1.0 _ _ _ (split_leaf_law.ensures.0 a.head a.i) if2.false _ halved.ensures (sym c.roomy.ensures ∙ c.if-not-roomy.true) (with-entry (goal.at.returns-then-not-roomy c).Start))
 
 pub split_child-requires : goal.split_child-requires
 split_child-requires c =
@@ -119,7 +119,7 @@ entered-requires c =
 pub shape_of-leaves : goal.shape_of-leaves
 shape_of-leaves c =
     let split-child = c.split_child in
-    split-child.auto.0 ∙ (ready (goal.at.shape_of-leaves c).Joined-len_of-fan).leaves
+    split-child.auto.area ∙ (ready (goal.at.shape_of-leaves c).Joined-len_of-fan).leaves
 
 pub shape_of-inners : goal.shape_of-inners
 shape_of-inners c = (ready (goal.at.shape_of-inners c).Joined-len_of-fan).inners

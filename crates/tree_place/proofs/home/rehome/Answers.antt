@@ -15,7 +15,7 @@ loop-i-init c = (omega arith, refl, refl)
 pub child_of-id-requires : goal.child_of-id-requires
 child_of-id-requires c =
     let pre = c.requires in
-    (pre.0, pre.1, omega (arith, pre.2, c.len_of_lem.ensures))
+    (pre.0, pre.1, omega (arith, pre.2, c.len_of-len.ensures))
 
 pub shape_of-homes-then-entries-id : goal.shape_of-homes-then-entries-id
 shape_of-homes-then-entries-id c = omega arith
@@ -23,7 +23,7 @@ shape_of-homes-then-entries-id c = omega arith
 pub returns-then-entries-id : goal.returns-then-entries-id
 returns-then-entries-id c =
     let args = c.args in
-    let len_of_lem = c.len_of_lem in
+    let len_of_lem = c.len_of-len in
     let pre = c.requires in
     let the-loop = c.loop-i in
     turn_past args.g _ _ _ _ _ args.leaves.now _ _ len_of_lem.ensures pre.2 the-loop.invariant.2 c.loop-i-test.true c.child_of-id.ensures c.if-entries-id.true
@@ -47,7 +47,7 @@ pub loop-i-preserved : goal.loop-i-preserved
 loop-i-preserved c =
     let the-loop = c.loop-i in
     let args = c.args in
-    let len_of_lem = c.len_of_lem in
+    let len_of_lem = c.len_of-len in
     let pre = c.requires in (
       omega arith,
       simp length-set the-loop.invariant.1,
@@ -62,4 +62,4 @@ pub returns : goal.returns
 returns c =
     let args = c.args in
     let pre = c.requires in
-    turn_end args.g _ _ _ _ 0 args.leaves.now _ _ c.len_of_lem.ensures pre.2 c.loop-i.invariant.2 c.loop-i-test.false
+    turn_end args.g _ _ _ _ 0 args.leaves.now _ _ c.len_of-len.ensures pre.2 c.loop-i.invariant.2 c.loop-i-test.false

@@ -7,7 +7,7 @@ pub returns-then-k-nodes : goal.returns-then-k-nodes
 returns-then-k-nodes c = rw (le-ltb _ _ c.if-k-nodes.true)
 
 pub returns-then-len-i : goal.returns-then-len-i
-returns-then-len-i c = rw (lt-ltb _ _ c.if-k-nodes.false, lt-leb _ _ (rw c.len_of_lem.ensures at c.if-len-i.true))
+returns-then-len-i c = rw (lt-ltb _ _ c.if-k-nodes.false, lt-leb _ _ (rw c.len_of-len.ensures at c.if-len-i.true))
 
 pub returns : goal.returns
-returns c = rw (lt-ltb _ _ c.if-k-nodes.false, le-leb _ _ (rw c.len_of_lem.ensures at c.if-len-i.false), c.len_of_lem.ensures)
+returns c = rw (lt-ltb _ _ c.if-k-nodes.false, le-leb _ _ (rw c.len_of-len.ensures at c.if-len-i.false), c.len_of-len.ensures)

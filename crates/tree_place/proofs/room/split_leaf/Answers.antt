@@ -18,9 +18,9 @@ abbrev before : Start → Head → Head
 before s h = counted s.args.used (top_in s.args.top.now) s.args.entries h
 
 -- both halves as they are written
-parts : (c : After-split_off) → Halves (shaped c.before.before.before.before.before.before.before.before.before) c.args.k.0 c.args.used c.args.leaves.now c.split_off.new.0
+parts : (c : After-split_off) → Halves (shaped c.before.before.before.before.before.before.before.before.before) c.args.k.0 c.args.used c.args.leaves.now c.split_off.new.area
 parts c =
-    halves (shaped c) c.args.k.0 c.args.used c.args.leaves.now c.split_off.new.0 c.requires.0.shaped.words (omega (arith, c.requires.0.shaped.columns)) c.requires.1
+    halves (shaped c) c.args.k.0 c.args.used c.args.leaves.now c.split_off.new.area c.requires.0.shaped.words (omega (arith, c.requires.0.shaped.columns)) c.requires.1
     (node_end (shaped c) c.args.used _ c.if-nodes-used.false c.requires.0.leaves) c.split_off.ensures
 
 pub shape_for-g-requires : goal.shape_for-g-requires
@@ -46,10 +46,10 @@ rehome-requires c =
     rw shape-for.ensures (record { shaped = pre.0.shaped; room = rw z.long pre.0.leaves }, if1.false, few z, pre.5)
 
 pub shape_of-leaves-then-rehome-ne0 : goal.shape_of-leaves-then-rehome-ne0
-shape_of-leaves-then-rehome-ne0 c = let split_off = c.split_off in split_off.auto.0
+shape_of-leaves-then-rehome-ne0 c = let split_off = c.split_off in split_off.auto.area
 
 pub shape_of-homes-then-rehome-ne0 : goal.shape_of-homes-then-rehome-ne0
-shape_of-homes-then-rehome-ne0 c = let rehome = c.rehome in rehome.auto.1.0
+shape_of-homes-then-rehome-ne0 c = let rehome = c.rehome in rehome.auto.homes.0
 
 pub returns-then-rehome-ne0 : goal.returns-then-rehome-ne0
 returns-then-rehome-ne0 c =
@@ -68,7 +68,7 @@ parent_of-requires c =
     let shape-for = c.shape_for-g in
     let if1 = c.if-nodes-used in
     let split_off = c.split_off in
-    rw shape-for.ensures (record { shaped = pre.0.shaped; room = rw split_off.auto.0 pre.0.leaves }, omega (arith, pre.1, if1.false))
+    rw shape-for.ensures (record { shaped = pre.0.shaped; room = rw split_off.auto.area pre.0.leaves }, omega (arith, pre.1, if1.false))
 
 pub overflow_sub-levels : goal.overflow_sub-levels
 overflow_sub-levels c = let pre = c.requires in pre.3
@@ -77,19 +77,19 @@ pub add_child-requires : goal.add_child-requires
 add_child-requires c =
     let pre = c.requires in
     let split_off = c.split_off in
-    (record { shaped = pre.0.shaped; leaves = rw split_off.auto.0 pre.0.leaves; inners = pre.0.inners }, pre.2, omega (arith, pre.4), pre.6)
+    (record { shaped = pre.0.shaped; leaves = rw split_off.auto.area pre.0.leaves; inners = pre.0.inners }, pre.2, omega (arith, pre.4), pre.6)
 
 pub shape_of-leaves : goal.shape_of-leaves
 shape_of-leaves c =
     let add-child = c.add_child in
     let split_off = c.split_off in
-    add-child.auto.0 ∙ split_off.auto.0
+    add-child.auto.leaves ∙ split_off.auto.area
 
 pub shape_of-inners : goal.shape_of-inners
-shape_of-inners c = let add-child = c.add_child in add-child.auto.1.0
+shape_of-inners c = let add-child = c.add_child in add-child.auto.inners.0
 
 pub shape_of-homes : goal.shape_of-homes
-shape_of-homes c = let rehome = c.rehome in rehome.auto.1.0
+shape_of-homes c = let rehome = c.rehome in rehome.auto.homes.0
 
 pub returns : goal.returns
 returns c =

@@ -1,6 +1,5 @@
 -- `tree_place::size::asked_way`: summed it is the way up, and without the sum the walk leaves what that leaves.
 use Rattle.std.proofs.Common.{ℕ, Bool, List, take, ap, ◌∙◌, arith}
-use borrow.Author.Tests.{not-true, not-false}
 use Rattle.model.specs.Node.{start}
 use Rattle.model.specs.State.{shape_for, node_at}
 use Rattle.model.specs.declared.shape.Shape.{Shape}
@@ -44,7 +43,7 @@ way_sum-requires c =
     (pre.0, pre.1, pre.2, pre.3, pre.4, pre.5)
 
 pub shape_of-inners-then-summed : goal.shape_of-inners-then-summed
-shape_of-inners-then-summed c = c.way_sum.auto.1.0
+shape_of-inners-then-summed c = c.way_sum.auto.inners.0
 
 pub returns-then-summed : goal.returns-then-summed
 returns-then-summed c =
@@ -58,21 +57,21 @@ way_raise-requires c =
 pub shape_of-inners-then-not-way_raise : goal.shape_of-inners-then-not-way_raise
 shape_of-inners-then-not-way_raise c =
     let way-raise = c.way_raise in
-    way-raise.auto.1.0
+    way-raise.auto.inners.0
 
 pub returns-then-not-way_raise : goal.returns-then-not-way_raise
 returns-then-not-way_raise c =
     let m = node_at (shaped (goal.at.returns-then-not-way_raise c).Start) c.args.k.0 c.args.leaves.now in
     lost_way _ _ c.if-summed.false _ (shaped (goal.at.returns-then-not-way_raise c).Start) c.args.effect (take c.args.views c.args.delta.now) c.args.levels m.parent m.at (start c.args.effect c.args.i m) c.args.inners.now
-    (c.way_raise.ensures ∙ ap (raised (goal.at.returns-then-not-way_raise c).Start) (three_words c.args.delta.now c.requires.6)) (not-true _ c.if-not-way_raise.true)
+    (c.way_raise.ensures ∙ ap (raised (goal.at.returns-then-not-way_raise c).Start) (three_words c.args.delta.now c.requires.6)) (c.if-not-way_raise.true)
 
 pub shape_of-inners : goal.shape_of-inners
 shape_of-inners c =
     let way-raise = c.way_raise in
-    way-raise.auto.1.0
+    way-raise.auto.inners.0
 
 pub returns : goal.returns
 returns c =
     let m = node_at (shaped (goal.at.returns c).Start) c.args.k.0 c.args.leaves.now in
     whole_way _ _ c.if-summed.false _ (shaped (goal.at.returns c).Start) c.args.effect (take c.args.views c.args.delta.now) c.args.levels m.parent m.at (start c.args.effect c.args.i m) c.args.inners.now
-    (c.way_raise.ensures ∙ ap (raised (goal.at.returns c).Start) (three_words c.args.delta.now c.requires.6)) (not-false _ c.if-not-way_raise.false)
+    (c.way_raise.ensures ∙ ap (raised (goal.at.returns c).Start) (three_words c.args.delta.now c.requires.6)) (c.if-not-way_raise.false)

@@ -8,7 +8,7 @@ set_lengths-requires c = c.requires
 pub shape_of-leaves : goal.shape_of-leaves
 shape_of-leaves c =
     let set-lengths = c.set_lengths in
-    set-lengths.auto.0
+    set-lengths.auto.area
 
 pub returns : goal.returns
 returns c =

@@ -23,7 +23,7 @@ add_up-requires c =
     rw shape-for.ensures (pre.1, refl)
 
 pub shape_of-inners : goal.shape_of-inners
-shape_of-inners c = c.add_up.auto.0
+shape_of-inners c = c.add_up.auto.inners
 
 pub returns : goal.returns
 returns c =

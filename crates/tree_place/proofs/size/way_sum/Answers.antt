@@ -28,7 +28,7 @@ climb_up-requires c =
     rw shape-for.ensures (pre.1, omega (arith, pre.2), pre.3, refl)
 
 pub shape_of-inners : goal.shape_of-inners
-shape_of-inners c = c.climb_up.auto.0
+shape_of-inners c = c.climb_up.auto.inners
 
 pub returns : goal.returns
 returns c =

@@ -3,10 +3,10 @@ use Rattle.tree_seats.proofs.RuleLaws.{bad_nobody, bad_unseated, bad_number}
 use Rattle.tree_seats.proofs.rule.bad_seat.Goals as goal
 
 pub returns-then-seats-eq0 : goal.returns-then-seats-eq0
-returns-then-seats-eq0 c = bad_unseated c.args.seats.now c.args.seat _ c.seat-1.given.1 c.if-seats-eq0.true
+returns-then-seats-eq0 c = bad_unseated c.args.seats.now c.args.seat _ c.in-Number.is c.if-seats-eq0.true
 
 pub returns-in-Nobody : goal.returns-in-Nobody
-returns-in-Nobody c = bad_nobody c.args.seats.now c.args.seat c.enum_told-1.given.1
+returns-in-Nobody c = bad_nobody c.args.seats.now c.args.seat c.in-Nobody.is
 
 pub returns-else-seats-eq0 : goal.returns-else-seats-eq0
-returns-else-seats-eq0 c = bad_number c.args.seats.now c.args.seat _ c.seat-1.given.1 c.if-seats-eq0.false
+returns-else-seats-eq0 c = bad_number c.args.seats.now c.args.seat _ c.in-Number.is c.if-seats-eq0.false

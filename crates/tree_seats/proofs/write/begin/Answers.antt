@@ -35,7 +35,7 @@ pub clear-requires : goal.clear-requires
 clear-requires c = length-sets c.args.seats.now 0 (_ ∷ _ ∷ _ ∷ _ ∷ _ ∷ _ ∷ _ ∷ _ ∷ _ ∷ []) ∙ c.requires.0
 
 pub shape_of-seats : goal.shape_of-seats
-shape_of-seats c = c.clear.auto.0 ∙ length-sets c.args.seats.now 0 (_ ∷ _ ∷ _ ∷ _ ∷ _ ∷ _ ∷ _ ∷ _ ∷ _ ∷ [])
+shape_of-seats c = c.clear.auto.seats ∙ length-sets c.args.seats.now 0 (_ ∷ _ ∷ _ ∷ _ ∷ _ ∷ _ ∷ _ ∷ _ ∷ _ ∷ [])
 
 pub returns : goal.returns
 returns c = begun c.args.seats.now c.args.seated c.args.shares.now _ c.requires.0 c.requires.1 c.clear.ensures

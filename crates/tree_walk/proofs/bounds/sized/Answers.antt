@@ -10,14 +10,14 @@ pub len_of-len-requires : goal.len_of-len-requires
 len_of-len-requires c = (c.requires, c.if-k-nodes.false)
 
 pub overflow_cast-len : goal.overflow_cast-len
-overflow_cast-len c = omega (arith, c.len_of_lem.type-inv)
+overflow_cast-len c = omega (arith, c.len_of-len.type-inv)
 
 pub returns-then-len-fan : goal.returns-then-len-fan
 returns-then-len-fan c =
     let args = c.args in
-    sym (sized_full args.g _ _ c.if-k-nodes.false (omega (arith, c.len_of_lem.ensures, c.if-len-fan.true)))
+    sym (sized_full args.g _ _ c.if-k-nodes.false (omega (arith, c.len_of-len.ensures, c.if-len-fan.true)))
 
 pub returns : goal.returns
 returns c =
     let args = c.args in
-    sym (sized_yes args.g _ _ c.if-k-nodes.false (omega (arith, c.len_of_lem.ensures, c.if-len-fan.false)))
+    sym (sized_yes args.g _ _ c.if-k-nodes.false (omega (arith, c.len_of-len.ensures, c.if-len-fan.false)))

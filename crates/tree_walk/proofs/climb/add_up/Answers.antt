@@ -1,6 +1,5 @@
 -- `tree_walk::climb::add_up`: what the walk from here on leaves of the area is what the walk asked for leaves; each turn goes up one level.
 use Rattle.std.proofs.Common.{◌≡◌, ◌-◌, true, length, sym, refl, ◌∙◌, arith}
-use borrow.Author.Tests.{not-true, not-false}
 use Rattle.model.specs.Climb.{inside}
 use Rattle.model_laws.specs.Climb.{in_both}
 use Rattle.tree_area.specs.Area.{AreaHolds}
@@ -10,7 +9,7 @@ use Rattle.tree_walk.proofs.climb.add_up.Goals as goal
 
 -- the place of a turn is inside, and the area is as long as it was
 turn : (c : Else-not-inside) → inside c.args.g c.loop-n.node-id c.loop-n.at ≡ true
-turn c = sym c.inside.ensures ∙ not-false _ c.if-not-inside.false
+turn c = sym c.inside.ensures ∙ c.if-not-inside.false
 
 room : (c : Else-not-inside) → AreaHolds c.args.g (length c.loop-n.inners)
 room c =
@@ -30,7 +29,7 @@ pub returns-then-not-inside : goal.returns-then-not-inside
 returns-then-not-inside c =
     let args = c.args in
     let the-loop = c.loop-n in
-    sym (raise_broken args.g _ _ _ _ _ c.loop-n-test.true (sym c.inside.ensures ∙ not-true _ c.if-not-inside.true)) ∙ the-loop.invariant.1
+    sym (raise_broken args.g _ _ _ _ _ c.loop-n-test.true (sym c.inside.ensures ∙ c.if-not-inside.true)) ∙ the-loop.invariant.1
 
 pub parent_of-up-requires : goal.parent_of-up-requires
 parent_of-up-requires c =
@@ -61,7 +60,7 @@ loop-n-preserved c =
     let args = c.args in
     let loop-test = c.loop-n-test in
     (
-      c.raise_in.auto.0 ∙ the-loop.invariant.0,
+      c.raise_in.auto.area ∙ the-loop.invariant.0,
       rw (parent_of.ensures, at_of.ensures, c.raise_in.ensures) (sym (raise_on args.g _ _ _ _ _ loop-test.true (turn (goal.at.loop-n-preserved c).Else-not-inside)) ∙ the-loop.invariant.1),
     )
 

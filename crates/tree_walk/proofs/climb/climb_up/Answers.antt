@@ -1,6 +1,5 @@
 -- `tree_walk::climb::climb_up`: the climb from here on, with what is summed up modulo 2 ^ 32 and added so far, is the climb asked for; each turn goes up one level.
 use Rattle.std.proofs.Common.{◌≡◌, ◌-◌, true, length, sym, refl, ◌∙◌, arith}
-use borrow.Author.Tests.{not-true, not-false}
 use Rattle.model.specs.Climb.{inside}
 use Rattle.model_laws.specs.Climb.{in_both}
 use Rattle.tree_area.specs.Area.{AreaHolds}
@@ -10,7 +9,7 @@ use Rattle.tree_walk.proofs.climb.climb_up.Goals as goal
 
 -- the place of a turn is inside, and the area is as long as it was
 turn : (c : Else-not-inside) → inside c.args.g c.loop-levels.node-id c.loop-levels.child ≡ true
-turn c = sym c.inside.ensures ∙ not-false _ c.if-not-inside.false
+turn c = sym c.inside.ensures ∙ c.if-not-inside.false
 
 room : (c : Else-not-inside) → AreaHolds c.args.g (length c.loop-levels.inners)
 room c =
@@ -30,7 +29,7 @@ pub returns-then-not-inside : goal.returns-then-not-inside
 returns-then-not-inside c =
     let args = c.args in
     let the-loop = c.loop-levels in
-    low_broken args.g _ _ _ _ _ _ _ c.loop-levels-test.true (sym c.inside.ensures ∙ not-true _ c.if-not-inside.true) ∙ the-loop.invariant.2
+    low_broken args.g _ _ _ _ _ _ _ c.loop-levels-test.true (sym c.inside.ensures ∙ c.if-not-inside.true) ∙ the-loop.invariant.2
 
 pub start_low_in-here-requires : goal.start_low_in-here-requires
 start_low_in-here-requires c =
@@ -67,7 +66,7 @@ loop-levels-preserved c =
     let start-low-in = c.start_low_in-here in
     let parent_of = c.parent_of-up in
     let at_of = c.at_of-place in (
-      c.raise_in.auto.0 ∙ the-loop.invariant.0,
+      c.raise_in.auto.area ∙ the-loop.invariant.0,
       omega (arith, wrapping-add-u32.ensures),
       low_on args.g _ _ _ _ _ _ _ loop-test.true (turn (goal.at.loop-levels-preserved c).Else-not-inside) _ _ _ _ (low_sum_law _ _ _ _ wrapping-add-u32.ensures start-low-in.ensures)
           parent_of.ensures at_of.ensures c.raise_in.ensures ∙ the-loop.invariant.2,

@@ -1,6 +1,5 @@
 -- `tree_walk::climb::rank_up`: the rank from here on, with what is summed up, is the rank asked for; each turn goes up one level.
 use Rattle.std.proofs.Common.{◌≡◌, ◌-◌, true, sym, refl, ◌∙◌, arith}
-use borrow.Author.Tests.{not-true, not-false}
 use Rattle.model.specs.Climb.{inside}
 use Rattle.model_laws.specs.Climb.{in_both, rank_end, rank_broken, rank_on}
 use Rattle.tree_walk.proofs.climb.rank_up.Goals.{Else-not-inside}
@@ -8,7 +7,7 @@ use Rattle.tree_walk.proofs.climb.rank_up.Goals as goal
 
 -- the place of a turn is inside
 turn : (c : Else-not-inside) → inside c.args.g c.loop-n.node c.loop-n.at ≡ true
-turn c = sym c.inside.ensures ∙ not-false _ c.if-not-inside.false
+turn c = sym c.inside.ensures ∙ c.if-not-inside.false
 
 pub loop-n-init : goal.loop-n-init
 loop-n-init c = (omega arith, omega arith, refl)
@@ -17,7 +16,7 @@ pub returns-then-not-inside : goal.returns-then-not-inside
 returns-then-not-inside c =
     let args = c.args in
     let the-loop = c.loop-n in
-    sym (rank_broken args.g _ _ _ _ _ _ c.loop-n-test.true (sym c.inside.ensures ∙ not-true _ c.if-not-inside.true)) ∙ the-loop.invariant.2
+    sym (rank_broken args.g _ _ _ _ _ _ c.loop-n-test.true (sym c.inside.ensures ∙ c.if-not-inside.true)) ∙ the-loop.invariant.2
 
 pub start_in-total-requires : goal.start_in-total-requires
 start_in-total-requires c =

@@ -1,6 +1,5 @@
 -- `tree_walk::climb::steps_up`: the places on the way from here on, before those written so far, are the places asked for.
 use Rattle.std.proofs.Common.{◌≡◌, ◌-◌, true, sym, refl, ◌∙◌, arith, length-set}
-use borrow.Author.Tests.{not-true, not-false}
 use Rattle.model.specs.Climb.{inside}
 use Rattle.model_laws.specs.Climb.{in_both, steps_end, steps_broken, steps_on, step_more, no_steps, all_steps}
 use Rattle.tree_walk.proofs.climb.steps_up.Goals.{Else-not-inside}
@@ -8,7 +7,7 @@ use Rattle.tree_walk.proofs.climb.steps_up.Goals as goal
 
 -- the place of a turn is inside
 turn : (c : Else-not-inside) → inside c.args.g c.loop-level.node-id c.loop-level.at ≡ true
-turn c = sym c.inside.ensures ∙ not-false _ c.if-not-inside.false
+turn c = sym c.inside.ensures ∙ c.if-not-inside.false
 
 pub loop-level-init : goal.loop-level-init
 loop-level-init c = (omega arith, refl, rw (no_steps c.args.left))
@@ -16,7 +15,7 @@ loop-level-init c = (omega arith, refl, rw (no_steps c.args.left))
 pub returns-then-not-inside : goal.returns-then-not-inside
 returns-then-not-inside c =
     let l = c.loop-level in (
-      sym (steps_broken c.args.g _ _ _ _ _ c.loop-level-test.true (sym c.inside.ensures ∙ not-true _ c.if-not-inside.true)) ∙ l.invariant.2,
+      sym (steps_broken c.args.g _ _ _ _ _ c.loop-level-test.true (sym c.inside.ensures ∙ c.if-not-inside.true)) ∙ l.invariant.2,
       l.invariant.1 ∙ c.requires.2,
     )
 
