@@ -187,6 +187,7 @@ first_least : {m k : ℕ} {ks : List ℕ} → Rising m (k ∷ ks) → (m ≤ k) 
 first_least (more h r) = (h, r)
 
 above : {m k : ℕ} {ks : List ℕ} → Rising m ks → In k ks → m ≤ k
+above {m} {k} done s = elim s [ ]
 above {m} {k} (more {k = j} h r) here = h
 above {m} {k} (more {k = j} h r) (later s) =
     let l : suc j ≤ k = above r s in

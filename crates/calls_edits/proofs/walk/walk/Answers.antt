@@ -19,7 +19,7 @@ loop-k-smaller c = omega arith
 pub loop-k-preserved : goal.loop-k-preserved
 loop-k-preserved c =
     let the-loop = c.loop-k in
-    (omega arith, c.step.auto.marks.0 ∙ the-loop.invariant.1, walk_turn _ _ _ _ _ (omega arith) c.step.ensures the-loop.invariant.2)
+    (omega arith, c.step.auto.marks ∙ the-loop.invariant.1, walk_turn _ _ _ _ _ (omega arith) c.step.ensures the-loop.invariant.2)
 
 pub shape_of-marks : goal.shape_of-marks
 shape_of-marks c = c.loop-k.invariant.1

@@ -1,9 +1,9 @@
 -- `tree_node::read::slot_for`: the sums are the totals of the slots passed modulo 2 ^ 32, in the views that there are.
-use Rattle.std.proofs.Common.{◌≡◌, ℕ, ◌+◌, ◌-◌, ◌*◌, ◌<◌, length, refl, ◌∙◌, ⊎_elim, zero-mul, arith, length-set}
+use Rattle.std.proofs.Common.{◌≡◌, ℕ, ◌+◌, ◌-◌, ◌*◌, ◌<◌, length, refl, ◌∙◌, zero-mul, arith, length-set}
 use Rattle.model.specs.Node.{slots_from, total, node_of, wrap, slot_for}
 use Rattle.model_laws.specs.Lists.{one_more, in_row}
 use Rattle.model_laws.specs.Read.{low_none, low_more, slot_written}
-use Rattle.tree_node.proofs.read.slot_for.Goals.{In-loop-i}
+use Rattle.tree_node.proofs.read.slot_for.Goals.{In-loop-i, else-stride-gt2, else-stride-gt3, then-stride-gt2, then-stride-gt3}
 use Rattle.tree_node.proofs.read.slot_for.Goals as goal
 
 -- a word of a turn's slot lies in the node
@@ -61,8 +61,8 @@ loop-i-preserved c =
       omega arith,
       omega (arith, one_more l.i c.args.g.stride),
       c.wrapping_add_u32-first.ensures.value ∙ low_more _ _ _ 0 _ _ _ _ (one (goal.at.loop-i-preserved c).In-loop-i) l.invariant.1 l.invariant.2 refl,
-      (λ h. ⊎_elim (λ w. w.3 ∙ (w.2.ensures ∙ low_more _ _ _ 1 _ _ _ _ h (omega arith) (l.invariant.3 h) refl)) (λ w. absurd (omega (arith, w.0.left, h))) c.if-stride-gt2.branch),
-      (λ h. ⊎_elim (λ w. w.3 ∙ (w.2.ensures ∙ low_more _ _ _ 2 _ _ _ _ h (omega arith) (l.invariant.4 h) refl)) (λ w. absurd (omega (arith, w.0.left, h))) c.if-stride-gt3.branch),
+      (λ h. elim c.if-stride-gt2.branch [ then-stride-gt2 w ↦ w.second-is ∙ (w.wrapping_add_u32-second.ensures.value ∙ low_more _ _ _ 1 _ _ _ _ h (omega arith) (l.invariant.3 h) refl) | else-stride-gt2 w ↦ absurd (omega (arith, w.if-stride-gt2.false, h)) ]),
+      (λ h. elim c.if-stride-gt3.branch [ then-stride-gt3 w ↦ w.third-is ∙ (w.wrapping_add_u32-third.ensures.value ∙ low_more _ _ _ 2 _ _ _ _ h (omega arith) (l.invariant.4 h) refl) | else-stride-gt3 w ↦ absurd (omega (arith, w.if-stride-gt3.false, h)) ]),
     )
 
 pub returns : goal.returns

@@ -1,8 +1,8 @@
 -- `tree_node::write::set_lengths`: the words after the child of slot i are the lengths there, as many as a slot has.
-use Rattle.std.proofs.Common.{◌≡◌, ◌+◌, ◌*◌, ◌≤◌, length, refl, ap, ◌∙◌, ⊎_elim, arith, length-set}
+use Rattle.std.proofs.Common.{◌≡◌, ◌+◌, ◌*◌, ◌≤◌, length, refl, ap, ◌∙◌, arith, length-set}
 use Rattle.tree_node.specs.Shaped.{whole, slot_in_law}
 use Rattle.tree_node.proofs.WriteLaws.{lengths_put}
-use Rattle.tree_node.proofs.write.set_lengths.Goals.{Joined-stride-gt2, Start}
+use Rattle.tree_node.proofs.write.set_lengths.Goals.{Joined-stride-gt2, Start, else-stride-gt2, then-stride-gt2}
 use Rattle.tree_node.proofs.write.set_lengths.Goals as goal
 
 -- slot i lies in the node, and has two words or more
@@ -11,7 +11,7 @@ slot c = (slot_in_law c.args.g _ c.requires.0 c.requires.1 c.args.i c.requires.2
 
 -- the words are as many after the first guard
 same : (c : Joined-stride-gt2) → length c.if-stride-gt2.node ≡ length c.args.node.now
-same c = ⊎_elim (λ w. ap length w.2 ∙ simp length-set refl) (λ w. ap length w.1 ∙ simp length-set refl) c.if-stride-gt2.branch
+same c = elim c.if-stride-gt2.branch [ then-stride-gt2 w ↦ ap length w.node-is ∙ simp length-set refl | else-stride-gt2 w ↦ ap length w.node-is ∙ simp length-set refl ]
 
 pub overflow_mul-p : goal.overflow_mul-p
 overflow_mul-p c = omega (arith, slot (goal.at.overflow_mul-p c).Start)
@@ -56,7 +56,7 @@ pub returns-then-stride-gt3 : goal.returns-then-stride-gt3
 returns-then-stride-gt3 c =
     let came = c.if-stride-gt2.branch in
     lengths_put c.args.g.stride c.args.g.fan c.args.i c.args.x.now c.args.node.now c.if-stride-gt2.node _ (whole _ _ c.requires.0 c.requires.1) c.requires.2 c.requires.3 c.requires.0.columns c.requires.0.narrow
-    (λ h. ⊎_elim (λ w. w.2) (λ w. absurd (omega (arith, w.0.left, h))) came) (λ h. ⊎_elim (λ w. absurd (omega (arith, w.0.taken, h))) (λ w. w.1) came)
+    (λ h. elim came [ then-stride-gt2 w ↦ w.node-is | else-stride-gt2 w ↦ absurd (omega (arith, w.if-stride-gt2.false, h)) ]) (λ h. elim came [ then-stride-gt2 w ↦ absurd (omega (arith, w.if-stride-gt2.true, h)) | else-stride-gt2 w ↦ w.node-is ])
     (λ _. refl) (λ h. absurd (omega (arith, c.if-stride-gt3.true, h)))
 
 pub shape_of-node-else-stride-gt3 : goal.shape_of-node-else-stride-gt3
@@ -66,5 +66,5 @@ pub returns-else-stride-gt3 : goal.returns-else-stride-gt3
 returns-else-stride-gt3 c =
     let came = c.if-stride-gt2.branch in
     lengths_put c.args.g.stride c.args.g.fan c.args.i c.args.x.now c.args.node.now c.if-stride-gt2.node _ (whole _ _ c.requires.0 c.requires.1) c.requires.2 c.requires.3 c.requires.0.columns c.requires.0.narrow
-    (λ h. ⊎_elim (λ w. w.2) (λ w. absurd (omega (arith, w.0.left, h))) came) (λ h. ⊎_elim (λ w. absurd (omega (arith, w.0.taken, h))) (λ w. w.1) came)
+    (λ h. elim came [ then-stride-gt2 w ↦ w.node-is | else-stride-gt2 w ↦ absurd (omega (arith, w.if-stride-gt2.false, h)) ]) (λ h. elim came [ then-stride-gt2 w ↦ absurd (omega (arith, w.if-stride-gt2.true, h)) | else-stride-gt2 w ↦ w.node-is ])
     (λ h. absurd (omega (arith, c.if-stride-gt3.false, h))) (λ _. refl)

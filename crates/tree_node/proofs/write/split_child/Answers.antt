@@ -1,8 +1,8 @@
 -- `tree_node::write::split_child`: the lengths of x are taken from slot i, and the node so changed is read again when x is put in.
-use Rattle.std.proofs.Common.{◌≡◌, ℕ, ◌+◌, ◌≤◌, Bool, cond, ◌∙◌, ⊎_elim, arith}
+use Rattle.std.proofs.Common.{◌≡◌, ℕ, ◌+◌, ◌≤◌, Bool, cond, ◌∙◌, arith}
 use Rattle.tree_node.specs.Shaped.{whole}
 use Rattle.tree_node.proofs.WriteLaws.{lengths_first, split_taken}
-use Rattle.tree_node.proofs.write.split_child.Goals.{Joined-before}
+use Rattle.tree_node.proofs.write.split_child.Goals.{Joined-before, else-before, then-before}
 use Rattle.tree_node.proofs.write.split_child.Goals as goal
 
 -- the place where x is put
@@ -10,7 +10,7 @@ abbrev Put : Bool → ℕ → ℕ → Type 0
 Put before i step = (step ≤ 1) × (i + step ≡ cond before i (i + 1))
 
 place : (c : Joined-before) → Put c.args.before c.args.i c.if-before.step
-place c = ⊎_elim (λ w. (omega arith, rw w.0.taken (omega arith))) (λ w. (omega arith, rw w.0.left (omega arith))) c.if-before.branch
+place c = elim c.if-before.branch [ then-before w ↦ (omega arith, rw w.if-before.true (omega arith)) | else-before w ↦ (omega arith, rw w.if-before.false (omega arith)) ]
 
 pub take_lengths-requires : goal.take_lengths-requires
 take_lengths-requires c = (c.requires.0, c.requires.1, omega (arith, c.requires.2, c.requires.3), c.requires.4)

@@ -1,9 +1,9 @@
 -- `tree_node::write::take_lengths`: the words after the child of slot i are the lengths there, and from each its own is taken.
-use Rattle.std.proofs.Common.{◌≡◌, ℕ, ◌+◌, ◌-◌, ◌*◌, ◌^◌, ◌≤◌, List, length, drop, set, refl, ap, ◌∙◌, ⊎_elim, arith, length-set}
+use Rattle.std.proofs.Common.{◌≡◌, ℕ, ◌+◌, ◌-◌, ◌*◌, ◌^◌, ◌≤◌, List, length, drop, set, refl, ap, ◌∙◌, arith, length-set}
 use Rattle.model.specs.Node.{minus, wrap}
 use Rattle.tree_node.specs.Shaped.{whole, slot_in_law}
 use Rattle.tree_node.proofs.WriteLaws.{four_words, lengths_changed}
-use Rattle.tree_node.proofs.write.take_lengths.Goals.{Joined-stride-gt2, Start}
+use Rattle.tree_node.proofs.write.take_lengths.Goals.{Joined-stride-gt2, Start, else-stride-gt2, then-stride-gt2}
 use Rattle.tree_node.proofs.write.take_lengths.Goals as goal
 
 -- slot i lies in the node, and has two words or more
@@ -12,7 +12,7 @@ slot c = (slot_in_law c.args.g _ c.requires.0 c.requires.1 c.args.i c.requires.2
 
 -- the words are as many after the first guard
 same : (c : Joined-stride-gt2) → length c.if-stride-gt2.node ≡ length c.args.node.now
-same c = ⊎_elim (λ w. ap length w.4 ∙ simp length-set refl) (λ w. ap length w.1 ∙ simp length-set refl) c.if-stride-gt2.branch
+same c = elim c.if-stride-gt2.branch [ then-stride-gt2 w ↦ ap length w.node-is ∙ simp length-set refl | else-stride-gt2 w ↦ ap length w.node-is ∙ simp length-set refl ]
 
 pub overflow_mul-p : goal.overflow_mul-p
 overflow_mul-p c = omega (arith, slot (goal.at.overflow_mul-p c).Start)
@@ -107,7 +107,7 @@ returns-then-stride-gt3 c =
     let came = c.if-stride-gt2.branch in
     lengths_changed (λ x y. wrap (x + (2 ^ 32 - y))) c.args.g.stride c.args.g.fan c.args.i _ _ _ c.less.result (drop 1 c.args.x.now) c.args.node.now c.if-stride-gt2.node _
     (whole _ _ c.requires.0 c.requires.1) c.requires.2 (ap (drop 1) (four_words c.args.x.now c.requires.3)) c.requires.0.columns c.requires.0.narrow c.less.ensures
-    (λ h. ⊎_elim (λ w. w.4 ∙ ap (set one (p + 2)) w.3.ensures) (λ w. absurd (omega (arith, w.0.left, h))) came) (λ h. ⊎_elim (λ w. absurd (omega (arith, w.0.taken, h))) (λ w. w.1) came)
+    (λ h. elim came [ then-stride-gt2 w ↦ w.node-is ∙ ap (set one (p + 2)) w.less-then-stride-gt2.ensures | else-stride-gt2 w ↦ absurd (omega (arith, w.if-stride-gt2.false, h)) ]) (λ h. elim came [ then-stride-gt2 w ↦ absurd (omega (arith, w.if-stride-gt2.true, h)) | else-stride-gt2 w ↦ w.node-is ])
     (λ _. ap (set c.if-stride-gt2.node (p + 3)) c.less-then-stride-gt3.ensures) (λ h. absurd (omega (arith, c.if-stride-gt3.true, h)))
 
 pub shape_of-node-else-stride-gt3 : goal.shape_of-node-else-stride-gt3
@@ -121,5 +121,5 @@ returns-else-stride-gt3 c =
     let came = c.if-stride-gt2.branch in
     lengths_changed (λ x y. wrap (x + (2 ^ 32 - y))) c.args.g.stride c.args.g.fan c.args.i _ _ _ c.less.result (drop 1 c.args.x.now) c.args.node.now c.if-stride-gt2.node _
     (whole _ _ c.requires.0 c.requires.1) c.requires.2 (ap (drop 1) (four_words c.args.x.now c.requires.3)) c.requires.0.columns c.requires.0.narrow c.less.ensures
-    (λ h. ⊎_elim (λ w. w.4 ∙ ap (set one (p + 2)) w.3.ensures) (λ w. absurd (omega (arith, w.0.left, h))) came) (λ h. ⊎_elim (λ w. absurd (omega (arith, w.0.taken, h))) (λ w. w.1) came)
+    (λ h. elim came [ then-stride-gt2 w ↦ w.node-is ∙ ap (set one (p + 2)) w.less-then-stride-gt2.ensures | else-stride-gt2 w ↦ absurd (omega (arith, w.if-stride-gt2.false, h)) ]) (λ h. elim came [ then-stride-gt2 w ↦ absurd (omega (arith, w.if-stride-gt2.true, h)) | else-stride-gt2 w ↦ w.node-is ])
     (λ h. absurd (omega (arith, c.if-stride-gt3.false, h))) (λ _. refl)

@@ -1,4 +1,5 @@
 -- `tree_seats::rule::room`: the limit where nobody is named, else the seat's rules.
+use Rattle.tree_seats.specs.Words.{seats_from}
 use Rattle.tree_seats.proofs.RuleLaws.{good_number, room_nobody, room_number}
 use Rattle.tree_seats.proofs.rule.room.Goals as goal
 
@@ -6,7 +7,7 @@ pub with-requires : goal.with-requires
 with-requires c = (c.requires.0, good_number c.args.seats.now c.args.seat _ c.requires.1 c.in-Number.is)
 
 pub returns-in-Nobody : goal.returns-in-Nobody
-returns-in-Nobody c = room_nobody c.args.limit c.args.entries _ c.args.seat _ c.in-Nobody.is c.without.ensures
+returns-in-Nobody c = room_nobody c.args.limit c.args.entries (seats_from c.args.seats.now) c.args.seat _ c.in-Nobody.is c.without.ensures
 
 pub returns-in-Number : goal.returns-in-Number
-returns-in-Number c = room_number c.args.limit c.args.entries _ c.args.seat _ _ c.in-Number.is c.with.ensures
+returns-in-Number c = room_number c.args.limit c.args.entries (seats_from c.args.seats.now) c.args.seat _ _ c.in-Number.is c.with.ensures

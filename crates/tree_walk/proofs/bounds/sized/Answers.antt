@@ -10,7 +10,7 @@ pub len_of-len-requires : goal.len_of-len-requires
 len_of-len-requires c = (c.requires, c.if-k-nodes.false)
 
 pub overflow_cast-len : goal.overflow_cast-len
-overflow_cast-len c = omega (arith, c.len_of-len.type-inv)
+overflow_cast-len c = omega (arith, c.len_of-len.type_inv)
 
 pub returns-then-len-fan : goal.returns-then-len-fan
 returns-then-len-fan c =

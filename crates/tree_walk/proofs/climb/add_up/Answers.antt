@@ -8,7 +8,7 @@ use Rattle.tree_walk.proofs.climb.add_up.Goals.{Else-not-inside}
 use Rattle.tree_walk.proofs.climb.add_up.Goals as goal
 
 -- the place of a turn is inside, and the area is as long as it was
-turn : (c : Else-not-inside) → inside c.args.g c.loop-n.node-id c.loop-n.at ≡ true
+turn : (c : Else-not-inside) → inside c.args.g c.loop-n.node_id c.loop-n.at ≡ true
 turn c = sym c.inside.ensures ∙ c.if-not-inside.false
 
 room : (c : Else-not-inside) → AreaHolds c.args.g (length c.loop-n.inners)
@@ -58,8 +58,7 @@ loop-n-preserved c =
     let parent_of = c.parent_of-up in
     let at_of = c.at_of-place in
     let args = c.args in
-    let loop-test = c.loop-n-test in
-    (
+    let loop-test = c.loop-n-test in (
       c.raise_in.auto.area ∙ the-loop.invariant.0,
       rw (parent_of.ensures, at_of.ensures, c.raise_in.ensures) (sym (raise_on args.g _ _ _ _ _ loop-test.true (turn (goal.at.loop-n-preserved c).Else-not-inside)) ∙ the-loop.invariant.1),
     )

@@ -8,7 +8,7 @@ use Rattle.tree_walk.proofs.climb.climb_up.Goals.{Else-not-inside}
 use Rattle.tree_walk.proofs.climb.climb_up.Goals as goal
 
 -- the place of a turn is inside, and the area is as long as it was
-turn : (c : Else-not-inside) → inside c.args.g c.loop-levels.node-id c.loop-levels.child ≡ true
+turn : (c : Else-not-inside) → inside c.args.g c.loop-levels.node_id c.loop-levels.child ≡ true
 turn c = sym c.inside.ensures ∙ c.if-not-inside.false
 
 room : (c : Else-not-inside) → AreaHolds c.args.g (length c.loop-levels.inners)
@@ -67,8 +67,8 @@ loop-levels-preserved c =
     let parent_of = c.parent_of-up in
     let at_of = c.at_of-place in (
       c.raise_in.auto.area ∙ the-loop.invariant.0,
-      omega (arith, wrapping-add-u32.ensures),
-      low_on args.g _ _ _ _ _ _ _ loop-test.true (turn (goal.at.loop-levels-preserved c).Else-not-inside) _ _ _ _ (low_sum_law _ _ _ _ wrapping-add-u32.ensures start-low-in.ensures)
+      omega (arith, wrapping-add-u32.ensures.value),
+      low_on args.g _ _ _ _ _ _ _ loop-test.true (turn (goal.at.loop-levels-preserved c).Else-not-inside) _ _ _ _ (low_sum_law _ _ _ _ wrapping-add-u32.ensures.value start-low-in.ensures)
           parent_of.ensures at_of.ensures c.raise_in.ensures ∙ the-loop.invariant.2,
     )
 

@@ -6,7 +6,7 @@ use Rattle.tree_walk.proofs.climb.steps_up.Goals.{Else-not-inside}
 use Rattle.tree_walk.proofs.climb.steps_up.Goals as goal
 
 -- the place of a turn is inside
-turn : (c : Else-not-inside) → inside c.args.g c.loop-level.node-id c.loop-level.at ≡ true
+turn : (c : Else-not-inside) → inside c.args.g c.loop-level.node_id c.loop-level.at ≡ true
 turn c = sym c.inside.ensures ∙ c.if-not-inside.false
 
 pub loop-level-init : goal.loop-level-init

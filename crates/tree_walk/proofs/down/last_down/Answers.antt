@@ -34,7 +34,7 @@ returns-then-len-eq0 c =
     sym (last_none args.g _ _ _ loop-test.true (turn (goal.at.returns-then-len-eq0 c).Else-not-sized) (sym c.len_of-len.ensures ∙ c.if-len-eq0.true)) ∙ the-loop.invariant
 
 pub overflow_cast-len : goal.overflow_cast-len
-overflow_cast-len c = omega (arith, c.len_of-len.type-inv)
+overflow_cast-len c = omega (arith, c.len_of-len.type_inv)
 
 pub overflow_sub-len : goal.overflow_sub-len
 overflow_sub-len c = omega arith

@@ -34,13 +34,13 @@ returns-then-at-len c =
     sym (next_past args.g _ _ _ _ _ loop-test.true (omega (arith, c.len_of-len.ensures, c.if-at-len.true))) ∙ the-loop.invariant.1
 
 pub overflow_add-at : goal.overflow_add-at
-overflow_add-at c = omega (arith, c.len_of-len.type-inv)
+overflow_add-at c = omega (arith, c.len_of-len.type_inv)
 
 pub overflow_cast-at : goal.overflow_cast-at
-overflow_cast-at c = omega (arith, c.len_of-len.type-inv)
+overflow_cast-at c = omega (arith, c.len_of-len.type_inv)
 
 pub overflow_add-at-then-at-len-2 : goal.overflow_add-at-then-at-len-2
-overflow_add-at-then-at-len-2 c = omega (arith, c.len_of-len.type-inv)
+overflow_add-at-then-at-len-2 c = omega (arith, c.len_of-len.type_inv)
 
 pub child_of-next-requires : goal.child_of-next-requires
 child_of-next-requires c =
