@@ -1,7 +1,6 @@
 -- How many slots a lookup examines (document 02, CR 14). `examined` is the paper's number, read off the tree and the finger before the call by slot
 -- numbers; `look_slots` is what a lookup counts, on any words. On a sound tree they are one number (theory's Examined). Assumes nothing.
 use Rattle.std.specs.Prelude.{◌≡◌, Bool, true, cond, ◌&&◌, List, [], ◌∷◌, ◌++◌, ℕ, zero, suc, ◌+◌, ◌-◌, ◌*◌, ◌≤◌, ◌<◌, ltb, leb, eqb, get_or, take}
-use Rattle.model.specs.Kind.{stride}
 use Rattle.model.specs.declared.shape.Kind.{Kind}
 use Rattle.model.specs.declared.shape.Shape.{Shape}
 use Rattle.model.specs.Node.{Node, child, length_in, total, used, half, wrap}
@@ -23,7 +22,6 @@ use Rattle.model.specs.declared.way.Searched.{Searched}
 use Rattle.model.specs.declared.answer.Located.{Located}
 use Rattle.model.specs.declared.answer.Located.TheVariants as located
 use Rattle.model.specs.declared.answer.Selected.{Selected}
-use Rattle.model.specs.declared.answer.Selected.TheVariants as selected
 
 -- the paper's number ---------------------------------------------------------------------------------------------------------------------
 

@@ -10,7 +10,7 @@ use Rattle.model.specs.Node.{Node, node_of, words_of, slots_from, half, lower_ha
 use Rattle.model.specs.State.{node_at, put_node}
 use Rattle.model.specs.declared.shape.Shape.{Shape}
 use Rattle.model_laws.specs.Lists.{all_drop, rows_between, in_row, row_end}
-use Rattle.model_laws.specs.Words.{length_part, length_put, get_d_part, part_part, part_end, part_same, part_before, part_after, part_inside, put_put, put_over}
+use Rattle.model_laws.specs.Words.{length_part, length_put, get_d_part, part_part, part_end, part_same, part_before, part_after, part_inside, put_over}
 use Rattle.model_laws.specs.Slots.{Long, Wide, flat, column, slots_length, slots_wide, length_flat}
 use Rattle.model_laws.specs.Nodes.{Formed, formed, length_words, node_words, words_drop}
 use Rattle.model_laws.specs.Formed.{kept, formed_upper}

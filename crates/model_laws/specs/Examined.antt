@@ -15,7 +15,7 @@ use Rattle.model.specs.Node.{Node, child, length_in, total, used, find_from, wra
 use Rattle.model.specs.State.{node_at}
 use Rattle.model.specs.Climb.{leaf_no}
 use Rattle.model.specs.Locate.{finger, served, leaf_of}
-use Rattle.model.specs.Examined.{slots_before, downward, serves, with_slots, found_slots, finger_slots, served_slots}
+use Rattle.model.specs.Examined.{slots_before, downward, with_slots, found_slots, finger_slots, served_slots}
 use Rattle.model.specs.declared.shape.Shape.{Shape}
 use Rattle.model.specs.declared.shape.Found.{Found}
 use Rattle.model.specs.declared.shape.Found.TheVariants.{At, Nothing}

@@ -10,7 +10,7 @@ use Rattle.std.proofs.Math.ListN.{length, length-set}
 use borrow.Author.Tests.{ltb-true, ltb-false, leb-true}
 use Rattle.model.specs.Lists.{All}
 use Rattle.model.specs.Node.{Node, none, child, used, start, half, plus, lengths_at, with_lengths, slot_for, inserted, child_split, lower_half, upper_half, new_node, adopted, wrap}
-use Rattle.model.specs.State.{State, state, node_at, put_node}
+use Rattle.model.specs.State.{State, node_at, put_node}
 use Rattle.model.specs.Climb.{climb_up, raised, inside}
 use Rattle.model.specs.Grow.{Areas, areas, Linked, Top, top, Grown, grown, Above, node_in, adopt, adopt_all, link, divide, grow_root, split_node, link_half, add_to, above_of}
 use Rattle.model.specs.Place as place

@@ -11,7 +11,7 @@ use Rattle.model.specs.State.{State}
 use Rattle.model.specs.Climb.{rank_up}
 use Rattle.model.specs.Sound.{shape_in, leaf_in, inner_in, Coherent, Sound, FingerRight}
 use Rattle.model.specs.Calls.{area_causes}
-use Rattle.model.specs.Audit.{depth, depth_of, is_sound, audit}
+use Rattle.model.specs.Audit.{depth_of, is_sound, audit}
 use Rattle.model.specs.declared.head.Held.{Held}
 use Rattle.model.specs.declared.head.Held.TheVariants as held
 use Rattle.model.specs.declared.way.Sum.TheVariants as sum
@@ -19,7 +19,7 @@ use Rattle.model.specs.declared.answer.Verdict.TheVariants as verdict
 use Rattle.model_laws.specs.Areas.{formed_at}
 use Rattle.model_theory.specs.WordFits.{fits}
 use Rattle.model_tree.specs.Lists.{all_map}
-use Rattle.model_tree.specs.Levels.{no_slot, Slot, total, len, climb}
+use Rattle.model_tree.specs.Levels.{no_slot, Slot, total, climb}
 use Rattle.model_tree.specs.Reach.{Kids}
 use Rattle.model_tree.specs.Tree.{Tree, Body}
 use Rattle.model_tree.specs.Follows.{levels_most}

@@ -11,7 +11,7 @@ use Rattle.model.specs.Node.{Node, none, child, used, half}
 use Rattle.model.specs.State.{State}
 use Rattle.model.specs.Sound.{shape_in, leaf_in, inner_in, least_inner, Coherent}
 use Rattle.model.specs.Climb.{rank_up}
-use Rattle.model.specs.Audit.{depth, depth_of}
+use Rattle.model.specs.Audit.{depth_of}
 use Rattle.model.specs.declared.head.Held.{Held}
 use Rattle.model.specs.declared.head.Held.TheVariants as held
 use Rattle.model.specs.declared.way.Sum.TheVariants as sum

@@ -1,6 +1,6 @@
 -- Every call of a list, on a sound state: its answer is the row's, and what it leaves is sound and stands for what the row becomes. A call that gives
 -- too many line ends changes neither; any other leaves a coherent state with the row's entries, none of which has too many, or crossed bounds.
-use Rattle.std.specs.Prelude.{◌≡◌, refl, Bool, true, false, cond, ℕ, ◌<◌}
+use Rattle.std.specs.Prelude.{◌≡◌, refl, Bool, true, false, cond, ◌<◌}
 use Rattle.std.proofs.Common.{ap₂, subst}
 use Rattle.model.specs.declared.shape.Kind.{Kind}
 use Rattle.model.specs.State.{State}

@@ -20,7 +20,6 @@ use Rattle.model.specs.Calls.{cursor_at, in_order, by_path}
 use Rattle.model.specs.ById.{with_cursor, tree_move}
 use Rattle.model.specs.Answer.{compared_answer}
 use Rattle.model.specs.declared.head.Cursor.{Cursor}
-use Rattle.model.specs.declared.way.Leaf.TheVariants as leaf
 use Rattle.model.specs.declared.answer.Compared.TheVariants as compared
 use Rattle.model_tree.specs.Levels.{total}
 use Rattle.model_tree.specs.Next.{Lex}

@@ -42,7 +42,7 @@ use Rattle.model_tree.specs.Edit.{leaf_here}
 use Rattle.model_tree.specs.Cursor.{last_of}
 use Rattle.model_tree.specs.Place.{front, behind, full, last_leaf, end_made, total_is}
 use Rattle.model_theory.specs.RowViews.{none_in}
-use Rattle.model_theory.specs.LiftTree.{slot_of, slots_of, tree_of, sum_slots}
+use Rattle.model_theory.specs.LiftTree.{slots_of, tree_of, sum_slots}
 use Rattle.model_theory.specs.WordNeat.{size_is, neat_of}
 use Rattle.model_theory.specs.LiftSound.{body_of, sound_of}
 use Rattle.model_theory.specs.LiftEntries.{entry_from, total_entries, without_entries}

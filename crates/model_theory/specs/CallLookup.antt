@@ -9,9 +9,8 @@ use Rattle.std.proofs.lemmas.Bool.{lt-leb}
 use Rattle.model.specs.Kind.{stride}
 use Rattle.model.specs.declared.shape.Kind.{Kind}
 use Rattle.model.specs.Lists.{sum_by, refusal}
-use Rattle.model.specs.Node.{child}
 use Rattle.model.specs.State.{State, state}
-use Rattle.model.specs.Locate.{finger, effect_at, prepare_at, served_by, from_root}
+use Rattle.model.specs.Locate.{effect_at, prepare_at, served_by, from_root}
 use Rattle.model.specs.Place.{with_finger}
 use Rattle.model.specs.Row as row
 use Rattle.model.specs.Row.{Entry, done, refused, moved, found, row_move}
@@ -19,7 +18,6 @@ use Rattle.model.specs.Sound.{leaf_in, shape_in, Coherent, entries_of}
 use Rattle.model.specs.Refuse.{opening}
 use Rattle.model.specs.Calls as calls
 use Rattle.model.specs.ById.{id_answer, located_answer, tree_move}
-use Rattle.model.specs.declared.shape.Found.TheVariants.{At, Nothing}
 use Rattle.model.specs.declared.head.Finger.{Finger}
 use Rattle.model.specs.declared.head.Held.TheVariants as held
 use Rattle.model.specs.declared.way.Search.{Search}
@@ -28,7 +26,7 @@ use Rattle.model.specs.declared.answer.Named.{Named}
 use Rattle.model.specs.declared.answer.Located.{Located}
 use Rattle.model.specs.declared.answer.Located.TheVariants as located
 use Rattle.model_tree.specs.Lists.{sum_by_append}
-use Rattle.model_tree.specs.Levels.{Slot, total, len}
+use Rattle.model_tree.specs.Levels.{Slot, len}
 use Rattle.model_tree.specs.Tree as tree
 use Rattle.model_tree.specs.Tree.{Tree, Body}
 use Rattle.model_tree.specs.Row.{found_at}

@@ -19,7 +19,6 @@ use Rattle.model.specs.Calls as calls
 use Rattle.model.specs.Calls.{unless, cursor_at}
 use Rattle.model.specs.declared.shape.Place.TheVariants as slot
 use Rattle.model.specs.declared.answer.Standing.TheVariants as standing
-use Rattle.model_tree.specs.Levels.{Slot}
 use Rattle.model_tree.specs.Tree.{above}
 use Rattle.model_tree.specs.Follows.{levels_most}
 use Rattle.model_tree.specs.Cursor.{index_of}

@@ -8,7 +8,7 @@ use Rattle.std.proofs.Math.ListN.{length, length-map}
 use Rattle.model.specs.Kind.{stride}
 use Rattle.model.specs.declared.shape.Kind.{Kind}
 use Rattle.model.specs.Lists.{All, sum_by, Cause, refusal}
-use Rattle.model.specs.Node.{Node, child, lengths, used, start}
+use Rattle.model.specs.Node.{Node, child, used, start}
 use Rattle.model.specs.State.{State}
 use Rattle.model.specs.Climb.{leaf_no, rank_up, next_up}
 use Rattle.model.specs.Row as row

@@ -30,7 +30,7 @@ use Rattle.model_tree.specs.Change.{with_leaf}
 use Rattle.model_tree.specs.Calls.{spot, make_room, RoomMade, Done, put_in, put_done}
 use Rattle.model_theory.specs.RowViews.{firsts_of}
 use Rattle.model_theory.specs.WordTidy.{Tidy}
-use Rattle.model_theory.specs.LiftTree.{slot_of, slots_of, tree_of}
+use Rattle.model_theory.specs.LiftTree.{slots_of, tree_of}
 use Rattle.model_theory.specs.LiftSoundBack.{sound_up}
 use Rattle.model_theory.specs.LiftEntries.{firsts, entry_from, split_entries}
 use Rattle.model_theory.specs.ChangeSums.{slot_of_law, ClimbCarried}

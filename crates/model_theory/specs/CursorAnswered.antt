@@ -1,6 +1,6 @@
 -- The cursors that cursor, first, next, locate, char_index_to_entry and split_entry answer on a sound state are current and stand at the entry meant:
 -- the id that a cursor's answer has in the row's form is the row's, and only a current cursor has an id.
-use Rattle.std.specs.Prelude.{◌≡◌, ◌≢◌, ◌⊎◌, Bool, true, false, cond, ◌&&◌, ltb, leb, length, get_or}
+use Rattle.std.specs.Prelude.{◌≡◌, ◌≢◌, ◌⊎◌, Bool, true, false, cond, length, get_or}
 use Rattle.std.proofs.Math.Path.{refl, sym, ap, subst}
 use Rattle.std.proofs.Common.{◌∙◌, inl, inr, arith, eq-eqb, lt-ltb}
 use mathlib.Core.List.{List, [], ◌∷◌, ◌++◌}

@@ -1,5 +1,5 @@
 -- The premises of the list theorem's cursor form are met by a list on cursors good and bad; what its calls mean and what they answer is computed.
-use Rattle.std.specs.Prelude.{◌≡◌, refl, true, ℕ, replicate}
+use Rattle.std.specs.Prelude.{◌≡◌, refl, true, replicate}
 use Rattle.std.proofs.Common.{ap, arith}
 use mathlib.Core.List.{List, [], ◌∷◌, flat_map, zip_with}
 use Rattle.model.specs.Kind.{base}

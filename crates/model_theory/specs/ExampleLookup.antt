@@ -1,7 +1,7 @@
 -- What some lookups examine, played on a tree's words: fan 4, limit 8, eight entries of lengths (1, 2, 0) in three leaves; the premises of the bounds
 -- are met by them; and the deepest tree that some counts of entries allow.
-use Rattle.std.specs.Prelude.{◌≡◌, refl, ℕ, ◌≤◌, replicate}
-use mathlib.Core.List.{List, [], ◌∷◌, ◌++◌, map, flat_map, zip_with}
+use Rattle.std.specs.Prelude.{◌≡◌, refl, ℕ, replicate}
+use mathlib.Core.List.{List, [], ◌∷◌, flat_map, zip_with}
 use Rattle.std.proofs.Common.{arith}
 use Rattle.model.specs.Kind.{base}
 use Rattle.model.specs.Lists.{All, part, put_at, sum_by, some, range, refusal}

@@ -1,8 +1,8 @@
 -- What a lookup counts on a sound state is the paper's number of slots examined, within its bounds: at most fan × (levels + 2), at most fan where the
 -- finger serves and its leaf holds the position, and at most fan × (k + 2) by the floor on entries.
-use Rattle.std.specs.Prelude.{◌≡◌, ◌⊎◌, Bool, ◌&&◌, List, [], ◌∷◌, ltb, get_or, take}
+use Rattle.std.specs.Prelude.{◌≡◌, Bool, ◌&&◌, List, [], ◌∷◌, ltb, get_or, take}
 use Rattle.std.proofs.Math.Path.{refl, ap}
-use Rattle.std.proofs.Common.{sym, ◌∙◌, subst, inl, inr, not-suc-le-zero, mul_comm, mul-le-mul_right}
+use Rattle.std.proofs.Common.{◌∙◌, not-suc-le-zero, mul_comm, mul-le-mul_right}
 use Rattle.std.proofs.Math.Bool.{true, false, cond}
 use Prim.Native.Nat.{ℕ, zero, suc, ◌+◌, ◌-◌, ◌*◌, ◌%◌, ◌^◌, ◌≤◌, ◌<◌}
 use Rattle.std.proofs.Math.Nat.{suc-mul}
@@ -22,7 +22,7 @@ use Rattle.model.specs.Locate.{served, served_by, into, descend, leaf_of, set_in
 use Rattle.model.specs.Sound.{leaf_in, shape_in, Coherent, FingerRight}
 use Rattle.model.specs.Refuse.{opening}
 use Rattle.model.specs.Deepest.{deepest, Deepest}
-use Rattle.model.specs.Examined.{span, slots_before, downward, serves, holds, from_top, by_finger, by_held, examined, found_slots, served_slots, held_slots, looked_slots, look_slots, Near, Far}
+use Rattle.model.specs.Examined.{span, slots_before, downward, from_top, by_held, examined, found_slots, served_slots, held_slots, looked_slots, look_slots, Near, Far}
 use Rattle.model.specs.declared.shape.Found.{Found}
 use Rattle.model.specs.declared.shape.Found.TheVariants.{At, Nothing}
 use Rattle.model.specs.declared.head.Finger.{Finger}

@@ -13,7 +13,6 @@ use Rattle.model.specs.Seats.{Fair, is_fair}
 use Rattle.model.specs.SeatedCalls.{also_fair, audit_seated}
 use Rattle.model.specs.declared.head.Head.{Head}
 use Rattle.model.specs.declared.seats.Seats.{Seats}
-use Rattle.model.specs.declared.answer.Verdict.{Verdict}
 use Rattle.model.specs.declared.answer.Verdict.TheVariants as verdict
 use Rattle.model.specs.Answer.{number_answer}
 use Rattle.model.specs.Calls.{Reply, reply, area_causes}

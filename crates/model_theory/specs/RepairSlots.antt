@@ -9,7 +9,7 @@ use Rattle.std.proofs.lemmas.Bool.{eqb-false}
 use Rattle.model.specs.Lists.{part, sum_by, range}
 use Rattle.model.specs.Node.{Node, child, length_in, total, used, node_of, totals_from, slot_for, empty_slots}
 use Rattle.model.specs.State.{State, node_at}
-use Rattle.model.specs.Sound.{CoherentAt, shape_in, leaf_in, inner_in, level, leaves_reached, slots_in, below}
+use Rattle.model.specs.Sound.{CoherentAt, leaf_in, inner_in, level, leaves_reached, slots_in, below}
 use Rattle.model.specs.declared.shape.Shape.{Shape}
 use Rattle.model_laws.specs.Lists.{sum_append, rows_between, all_at_at}
 use Rattle.model_laws.specs.Slots.{flat}

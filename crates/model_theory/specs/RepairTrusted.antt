@@ -1,7 +1,7 @@
 -- What soundness asks of the words that repair trusts, and of nothing else. A tree with which some sound tree agrees has it. Assumes nothing.
-use Rattle.std.specs.Prelude.{◌≡◌, refl, ℕ, zero, suc, ◌-◌, ◌*◌, ◌<◌, ◌≤◌, length, get_or}
+use Rattle.std.specs.Prelude.{◌≡◌, refl, ℕ, suc, ◌*◌, ◌<◌, ◌≤◌, length, get_or}
 use Rattle.std.proofs.Common.{sym, ap, subst, ◌∙◌, arith}
-use mathlib.Core.List.{List, [], map, flat_map}
+use mathlib.Core.List.{List, [], map}
 use Rattle.model.specs.Lists.{All, range}
 use Rattle.model.specs.Node.{none, child, total, used, empty_slot}
 use Rattle.model.specs.State.{State, state}

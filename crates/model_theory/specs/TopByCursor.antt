@@ -13,7 +13,6 @@ use Rattle.model.specs.Row as row
 use Rattle.model.specs.Row.{Row, Answer}
 use Rattle.model.specs.Sound.{Coherent}
 use Rattle.model.specs.Refuse.{stale, current}
-use Rattle.model.specs.Calls as calls
 use Rattle.model.specs.Calls.{make}
 use Rattle.model.specs.ByCursor as by
 use Rattle.model.specs.ByCursor.{CursorCall, EntryCall, cursor_step, entry_step, entry_at, meant, meant_all}

@@ -12,9 +12,7 @@ use Rattle.model.specs.Node as node
 use Rattle.model.specs.Node.{length_in, used}
 use Rattle.model.specs.State.{State}
 use Rattle.model.specs.Locate.{finger, served, served_by, descend, leaf_of, from_root}
-use Rattle.model.specs.Row as row
 use Rattle.model.specs.Sound.{leaf_in, inner_in, shape_in, CoherentAt}
-use Rattle.model.specs.declared.shape.Found.TheVariants.{At, Nothing}
 use Rattle.model.specs.declared.head.Finger.{Finger}
 use Rattle.model.specs.declared.head.Held.{Held}
 use Rattle.model.specs.declared.head.Held.TheVariants as held

@@ -15,7 +15,7 @@ use Rattle.model_tree.specs.Insert.{slot_of}
 use Rattle.model_tree.specs.AddChild.{add_child, ins_all}
 use Rattle.model_tree.specs.Fit.{Fit, size, fit_add}
 use Rattle.model_tree.specs.Sound.{LeafSplit, split_leaf_law, split_leaf, cut_leaf, cut_trunk}
-use Rattle.model_tree.specs.Tree.{Tree, half, leaf_slots, row, id_of, BodyAt, to_body}
+use Rattle.model_tree.specs.Tree.{Tree, half, leaf_slots, id_of, BodyAt, to_body}
 use Rattle.model_tree.specs.Follows.{split_room}
 use Rattle.model_tree.specs.Edit.{leaf_here, old_row}
 
