@@ -1,10 +1,10 @@
 -- The rules of seats from the words that are read. Assumes nothing.
-use Rattle.std.proofs.Common.{◌≡◌, ℕ, ◌+◌, ◌-◌, ◌<◌, ◌≤◌, Bool, true, false, cond, not, ◌&&◌, ◌||◌, eqb, ltb, leb, List, [], ◌∷◌, length, get_or, sym, refl, ap, ◌∙◌, ap₂, arith, ltb-false, le-ltb, lt-ltb, eq-eqb, ne_eqb, le-leb}
+use Rattle.std.proofs.Common.{◌≡◌, ℕ, ◌+◌, ◌-◌, ◌<◌, ◌≤◌, Bool, true, false, cond, not, ◌&&◌, ◌||◌, eqb, ltb, leb, List, [], ◌∷◌, get_or, sym, refl, ap, ◌∙◌, ap₂, arith, ltb-false, le-ltb, lt-ltb, eq-eqb, ne_eqb, le-leb}
 use borrow.Author.Tests.{lt-leb}
-use Rattle.model.specs.Lists.{Cause, cause, refusal}
+use Rattle.model.specs.Lists.{cause, refusal}
 use Rattle.model.specs.State.{State}
 use Rattle.model.specs.declared.seats.Seats.{Seats}
-use Rattle.model.specs.Seats.{sum_from, sum, share, charge, unused, all_unused, bad_seat, over, too_high, is_fair, within_limit}
+use Rattle.model.specs.Seats.{sum_from, sum, share, charge, unused, all_unused, bad_seat, over, too_high, is_fair}
 use Rattle.model.specs.SeatedCalls.{space}
 use Rattle.model.specs.declared.seats.Seat.{Seat}
 use Rattle.model.specs.declared.seats.Seat.TheVariants as seat

@@ -1,5 +1,5 @@
 -- Sums over the seats, and the words that they stand in. Assumes nothing.
-use Rattle.std.proofs.Common.{◌≡◌, ℕ, zero, suc, ◌+◌, ◌-◌, ◌*◌, ◌<◌, ◌≤◌, Bool, true, false, cond, eqb, List, length, get_or, sym, refl, ap, ◌∙◌, ap₂, arith, eqb-true}
+use Rattle.std.proofs.Common.{◌≡◌, ℕ, zero, suc, ◌+◌, ◌-◌, ◌*◌, ◌<◌, ◌≤◌, Bool, true, false, cond, eqb, List, get_or, sym, refl, ap, ap₂, arith, eqb-true}
 use Rattle.model.specs.Lists.{part}
 use Rattle.model.specs.Seats.{sum_from, share, charge, unused, others_unused, all_unused}
 use Rattle.model.specs.declared.seats.Seats.{Seats}

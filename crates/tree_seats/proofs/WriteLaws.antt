@@ -1,10 +1,10 @@
 -- What is written to the seats' words. Assumes nothing.
-use Rattle.std.proofs.Common.{◌≡◌, ℕ, zero, suc, ◌+◌, ◌<◌, ◌≤◌, Bool, true, cond, not, eqb, ltb, List, [], ◌∷◌, ◌++◌, length, get_or, take, drop, set, sym, refl, ap, ◌∙◌, subst, ap₂, append_assoc, arith, drop_of_length-le, drop-cons, get_or-set_other, take_at, drop_at, ltb-true}
+use Rattle.std.proofs.Common.{◌≡◌, ℕ, zero, suc, ◌+◌, ◌<◌, ◌≤◌, true, cond, not, eqb, ltb, List, [], ◌∷◌, ◌++◌, length, get_or, take, drop, set, sym, refl, ap, ◌∙◌, subst, ap₂, append_assoc, arith, drop_of_length-le, drop-cons, get_or-set_other, take_at, drop_at, ltb-true}
 use lib.Seq.{sets, sets-eq, lt-length-sets, length-sets, take-set-lt, take-set-le, drop-set-add}
 use Rattle.model.specs.Lists.{part, put_at}
 use Rattle.model.specs.Node.{wrap}
 use Rattle.model.specs.declared.seats.Seats.{Seats}
-use Rattle.model.specs.Seats.{seats_of, no_charges, charge, charged, charged_to, uncharged}
+use Rattle.model.specs.Seats.{seats_of, no_charges, charged, charged_to, uncharged}
 use Rattle.model.specs.declared.seats.Seat.{Seat}
 use Rattle.model.specs.declared.seats.Seat.TheVariants as seat
 use Rattle.model_laws.specs.Words.{part_before, part_same, part_add, part_end, get_d_before}

@@ -1,5 +1,5 @@
 -- The seats of a tree in seventeen words: 0 for a tree without, the shares of seats 0 to 7, and what is charged to each. Assumes nothing.
-use Rattle.std.specs.Prelude.{ℕ, Bool, cond, not, List, ◌∷◌, ◌++◌, ◌==◌, slice_index}
+use Rattle.std.specs.Prelude.{ℕ, cond, not, List, ◌∷◌, ◌++◌, ◌==◌, slice_index}
 use Rattle.model.specs.Lists.{part}
 use Rattle.model.specs.Seats.{seats_of}
 use Rattle.model.specs.declared.seats.Seats.{Seats}

@@ -1,13 +1,13 @@
 -- One turn of the writer, and the count at its end. Assumes nothing.
-use mathlib.Core.Path.{◌≡◌, refl, sym, ap, ap₂, subst, ◌∙◌}
-use mathlib.Core.List.{List, [], ◌∷◌, ◌++◌}
-use Prim.Native.Nat.{ℕ, zero, suc, ◌+◌, ◌-◌, ◌<◌, ◌≤◌}
+use mathlib.Core.Path.{◌≡◌, refl, sym, ap, ap₂, ◌∙◌}
+use mathlib.Core.List.{List}
+use Prim.Native.Nat.{ℕ, ◌+◌, ◌<◌, ◌≤◌}
 use native.Mathlib.Omega.{arith}
 use native.Mathlib.Numerals.{add-one}
-use lib.ListN.{length, get_or, take, drop, set, length-append, length-set}
+use lib.ListN.{length, get_or, take, set, length-set}
 use lib.Seq.{length-take-le, take-suc, take_all}
 use Rattle.model.specs.Lists.{put_at}
-use Rattle.model_laws.specs.Words.{length_put, put_none, put_on, get_d_after}
+use Rattle.model_laws.specs.Words.{put_none, put_on, get_d_after}
 use Rattle.model.specs.Repair.{apart, differ}
 use Rattle.model_laws.specs.Differ.{differ_none, differ_set}
 use Rattle.tree_words.specs.Tally.{tallied}

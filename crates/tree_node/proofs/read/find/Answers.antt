@@ -1,5 +1,5 @@
 -- `tree_node::read::find`: what is still to be found from slot k on is what was to be found, and each turn passes one slot.
-use Rattle.std.proofs.Common.{ℕ, ◌+◌, ◌-◌, ◌<◌, length, sym, refl, ◌∙◌, arith}
+use Rattle.std.proofs.Common.{ℕ, ◌+◌, ◌<◌, length, sym, refl, ◌∙◌, arith}
 use Rattle.model_laws.specs.Lists.{rows_le, one_more, in_row}
 use Rattle.model_laws.specs.Nodes.{used_slots}
 use Rattle.model_laws.specs.Read.{find_here, find_on, find_none}

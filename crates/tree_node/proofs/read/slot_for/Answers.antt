@@ -1,5 +1,5 @@
 -- `tree_node::read::slot_for`: the sums are the totals of the slots passed modulo 2 ^ 32, in the views that there are.
-use Rattle.std.proofs.Common.{◌≡◌, ℕ, ◌+◌, ◌-◌, ◌*◌, ◌<◌, length, refl, ◌∙◌, zero-mul, arith, length-set}
+use Rattle.std.proofs.Common.{◌≡◌, ℕ, ◌+◌, ◌*◌, ◌<◌, length, refl, ◌∙◌, zero-mul, arith, length-set}
 use Rattle.model.specs.Node.{slots_from, total, node_of, wrap, slot_for}
 use Rattle.model_laws.specs.Lists.{one_more, in_row}
 use Rattle.model_laws.specs.Read.{low_none, low_more, slot_written}

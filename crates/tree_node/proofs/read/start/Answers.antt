@@ -1,5 +1,5 @@
 -- `tree_node::read::start`: the sum is the total of the slots passed, and each turn adds the next slot's length.
-use Rattle.std.proofs.Common.{◌≡◌, ◌+◌, ◌-◌, ◌*◌, ◌<◌, length, sym, zero-mul, arith}
+use Rattle.std.proofs.Common.{◌≡◌, ◌+◌, ◌*◌, ◌<◌, length, sym, zero-mul, arith}
 use Rattle.model.specs.Node.{node_of}
 use Rattle.model_laws.specs.Lists.{one_more, in_row}
 use Rattle.model_laws.specs.Slots.{slots_take}

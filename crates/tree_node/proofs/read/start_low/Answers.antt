@@ -1,5 +1,5 @@
 -- `tree_node::read::start_low`: the sum is the total of the slots passed modulo 2 ^ 32, and each turn adds the next slot's length.
-use Rattle.std.proofs.Common.{◌≡◌, ◌+◌, ◌-◌, ◌*◌, ◌<◌, length, refl, ◌∙◌, zero-mul, arith}
+use Rattle.std.proofs.Common.{◌≡◌, ◌+◌, ◌*◌, ◌<◌, length, refl, ◌∙◌, zero-mul, arith}
 use Rattle.model.specs.Node.{node_of}
 use Rattle.model_laws.specs.Lists.{one_more, in_row}
 use Rattle.model_laws.specs.Slots.{slots_take}

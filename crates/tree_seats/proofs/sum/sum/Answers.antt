@@ -1,5 +1,5 @@
 -- `tree_seats::sum::sum`: what is summed and the words from here on are all eight.
-use Rattle.std.proofs.Common.{◌-◌, arith}
+use Rattle.std.proofs.Common.{arith}
 use Rattle.tree_seats.proofs.SumLaws.{begin, again, end}
 use Rattle.tree_seats.proofs.sum.sum.Goals as goal
 

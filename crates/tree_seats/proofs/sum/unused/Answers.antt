@@ -1,5 +1,5 @@
 -- `tree_seats::sum::unused`: what is summed and the unused shares from here on are all of them.
-use Rattle.std.proofs.Common.{◌-◌, ◌∙◌, arith}
+use Rattle.std.proofs.Common.{◌∙◌, arith}
 use Rattle.tree_seats.proofs.SumLaws.{begin, again, end, unused_word}
 use Rattle.tree_seats.proofs.sum.unused.Goals as goal
 

@@ -1,5 +1,5 @@
 -- `tree_walk::climb::add_up`: what the walk from here on leaves of the area is what the walk asked for leaves; each turn goes up one level.
-use Rattle.std.proofs.Common.{◌≡◌, ◌-◌, true, length, sym, refl, ◌∙◌, arith}
+use Rattle.std.proofs.Common.{◌≡◌, true, length, sym, refl, ◌∙◌, arith}
 use Rattle.model.specs.Climb.{inside}
 use Rattle.model_laws.specs.Climb.{in_both}
 use Rattle.tree_area.specs.Area.{AreaHolds}

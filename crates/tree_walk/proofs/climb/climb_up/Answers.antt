@@ -1,5 +1,5 @@
 -- `tree_walk::climb::climb_up`: the climb from here on, with what is summed up modulo 2 ^ 32 and added so far, is the climb asked for; each turn goes up one level.
-use Rattle.std.proofs.Common.{◌≡◌, ◌-◌, true, length, sym, refl, ◌∙◌, arith}
+use Rattle.std.proofs.Common.{◌≡◌, true, length, sym, refl, ◌∙◌, arith}
 use Rattle.model.specs.Climb.{inside}
 use Rattle.model_laws.specs.Climb.{in_both}
 use Rattle.tree_area.specs.Area.{AreaHolds}

@@ -1,5 +1,5 @@
 -- `tree_walk::climb::in_order`: the steps from step j on compare as all steps do, since those before are equal.
-use Rattle.std.proofs.Common.{◌-◌, sym, refl, ◌∙◌, arith}
+use Rattle.std.proofs.Common.{sym, refl, ◌∙◌, arith}
 use Rattle.model_laws.specs.Find.{order_end, order_before, order_after, order_on}
 use Rattle.tree_walk.proofs.climb.in_order.Goals as goal
 

@@ -1,5 +1,5 @@
 -- `tree_walk::climb::rank_up`: the rank from here on, with what is summed up, is the rank asked for; each turn goes up one level.
-use Rattle.std.proofs.Common.{◌≡◌, ◌-◌, true, sym, refl, ◌∙◌, arith}
+use Rattle.std.proofs.Common.{◌≡◌, true, sym, refl, ◌∙◌, arith}
 use Rattle.model.specs.Climb.{inside}
 use Rattle.model_laws.specs.Climb.{in_both, rank_end, rank_broken, rank_on}
 use Rattle.tree_walk.proofs.climb.rank_up.Goals.{Else-not-inside}

@@ -1,5 +1,5 @@
 -- `tree_walk::climb::steps_up`: the places on the way from here on, before those written so far, are the places asked for.
-use Rattle.std.proofs.Common.{◌≡◌, ◌-◌, true, sym, refl, ◌∙◌, arith, length-set}
+use Rattle.std.proofs.Common.{◌≡◌, true, sym, refl, ◌∙◌, arith, length-set}
 use Rattle.model.specs.Climb.{inside}
 use Rattle.model_laws.specs.Climb.{in_both, steps_end, steps_broken, steps_on, step_more, no_steps, all_steps}
 use Rattle.tree_walk.proofs.climb.steps_up.Goals.{Else-not-inside}

@@ -1,5 +1,5 @@
 -- `tree_walk::down::first_down`: the leaf from here on is the leaf asked for; each turn goes down one level by the first slot.
-use Rattle.std.proofs.Common.{◌-◌, ◌<◌, sym, refl, ◌∙◌, arith, ltb-false, ltb-true}
+use Rattle.std.proofs.Common.{◌<◌, sym, refl, ◌∙◌, arith, ltb-false, ltb-true}
 use Rattle.model_laws.specs.Down.{first_end, first_broken, first_on}
 use Rattle.tree_walk.proofs.down.first_down.Goals.{Else-not-held}
 use Rattle.tree_walk.proofs.down.first_down.Goals as goal

@@ -1,5 +1,5 @@
 -- `tree_walk::down::first_down`: the leaf from here on is the leaf asked for; each turn goes down one level by the first slot.
-use Rattle.std.proofs.Common.{◌≡◌, ◌-◌}
+use Rattle.std.proofs.Common.{◌≡◌}
 use Rattle.model.specs.Climb.{first_down}
 use Rattle.tree_walk.proofs.down.first_down.Given as goal
 

@@ -1,5 +1,5 @@
 -- `tree_walk::down::last_down`: the leaf from here on is the leaf asked for; each turn goes down one level by the last slot in use.
-use Rattle.std.proofs.Common.{◌≡◌, ◌-◌, true, sym, refl, ◌∙◌, arith, ltb-false, ltb-true}
+use Rattle.std.proofs.Common.{◌≡◌, true, sym, refl, ◌∙◌, arith, ltb-false, ltb-true}
 use Rattle.model_laws.specs.Down.{sized, sized_in, last_end, last_out, last_broken, last_none, last_on}
 use Rattle.tree_walk.proofs.down.last_down.Goals.{Else-not-sized}
 use Rattle.tree_walk.proofs.down.last_down.Goals as goal

@@ -1,5 +1,5 @@
 -- `tree_walk::down::next_up`: the leaf after the place reached is the leaf asked for; each turn goes up one level from a last place.
-use Rattle.std.proofs.Common.{◌≡◌, ◌-◌, true, sym, refl, ◌∙◌, arith}
+use Rattle.std.proofs.Common.{◌≡◌, true, sym, refl, ◌∙◌, arith}
 use Rattle.model_laws.specs.Down.{sized, sized_in, next_end, next_broken, next_past, next_down, next_on}
 use Rattle.tree_walk.proofs.down.next_up.Goals.{Else-not-sized}
 use Rattle.tree_walk.proofs.down.next_up.Goals as goal

@@ -1,5 +1,5 @@
 -- `tree_walk::down::next_up`: the leaf after the place reached is the leaf asked for; each turn goes up one level from a last place.
-use Rattle.std.proofs.Common.{◌≡◌, ◌+◌, ◌-◌}
+use Rattle.std.proofs.Common.{◌≡◌, ◌+◌}
 use Rattle.model.specs.Climb.{next_up}
 use Rattle.tree_walk.proofs.down.next_up.Given as goal
 

@@ -1,5 +1,4 @@
 -- Each turn writes one word that was as before, so that the count grows by that word alone.
-use Prim.Native.Nat.{◌-◌}
 use native.Mathlib.Omega.{arith}
 use Rattle.tree_words.proofs.TallyLaws.{none_done, one_done, all_done}
 use Rattle.tree_words.proofs.write.put.Goals as goal
