@@ -8,16 +8,12 @@ returns-in-Absent c = rw c.in-Absent.is
 
 pub returns-then-slot-f : goal.returns-then-slot-f
 returns-then-slot-f c =
-    let held = c.held-1 in
-    let if1 = c.if-f-leaf in
-    rw (held.given.1, c.rewound.ensures) (sym (changing_back _ _ held.given.0.0 if1.true c.if-slot-f.true))
+    rw (c.in-At.is, c.rewound.ensures) (sym (changing_back _ _ c.in-At.f c.if-f-leaf.true c.if-slot-f.true))
 
 pub returns-else-slot-f : goal.returns-else-slot-f
 returns-else-slot-f c =
-    let held = c.held-1 in
-    rw held.given.1 (sym (changing_kept _ _ held.given.0.0 c.if-f-leaf.true c.if-slot-f.false))
+    rw c.in-At.is (sym (changing_kept _ _ c.in-At.f c.if-f-leaf.true c.if-slot-f.false))
 
 pub returns-else-f-leaf : goal.returns-else-f-leaf
 returns-else-f-leaf c =
-    let held = c.held-1 in
-    rw held.given.1 (sym (changing_gone _ _ held.given.0.0 c.if-f-leaf.false))
+    rw c.in-At.is (sym (changing_gone _ _ c.in-At.f c.if-f-leaf.false))

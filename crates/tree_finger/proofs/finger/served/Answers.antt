@@ -30,7 +30,7 @@ len_of-len-requires c =
     (pre.0, omega (arith, c.if-leaf-used.false, pre.3))
 
 pub overflow_cast-len : goal.overflow_cast-len
-overflow_cast-len c = omega (arith, c.len_of-len.type-inv)
+overflow_cast-len c = omega (arith, c.len_of-len.type_inv)
 
 pub returns-then-len-fan : goal.returns-then-len-fan
 returns-then-len-fan c =

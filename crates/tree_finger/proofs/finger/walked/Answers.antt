@@ -1,30 +1,24 @@
 -- `tree_finger::finger::walked`: each answer is the definition's at the slot to which the finger goes back.
-use Rattle.std.proofs.Common.{◌-◌, ◌<◌, ◌≤◌, sym, ap, ◌∙◌, arith}
+use Rattle.std.proofs.Common.{◌≡◌, ℕ, ◌-◌, ◌<◌, ◌≤◌, List, sym, ap, ◌∙◌, arith}
 use Rattle.model.specs.Node.{used}
 use Rattle.model.specs.State.{node_at}
+use Rattle.model.specs.Locate.{stand, back}
+use Rattle.model.specs.declared.head.Finger.{Finger}
 use Rattle.model_laws.specs.Find.{used_ranged}
 use Rattle.model_laws.specs.Examined.{walk_counted}
 use Rattle.model_laws.specs.Locate.{back_slot, walked_broken, walked_miss, walked_found}
-use Rattle.tree_finger.proofs.finger.walked.Goals.{After-back-b, In-At}
+use Rattle.tree_finger.proofs.finger.walked.Goals.{In-At}
 use Rattle.tree_finger.proofs.finger.walked.Goals as goal
 
 -- the finger goes back to a slot in use
-from : (c : After-back-b) → c.back-b.result.slot < (node_at c.args.g c.args.f.leaf c.args.leaves.now).len
-from c =
-    let a = c.args in
-    omega (
-      arith,
-      ap (λ s. s.slot) c.back-b.ensures,
-      back_slot a.view a.effect (used (node_at a.g a.f.leaf a.leaves.now)) a.index a.f.slot a.f.within
-          a.f.effect_within a.f.prepare_within,
-      c.requires.5,
-    )
+from : (v e : ℕ) (f : Finger) (index len : ℕ) (slots : List (List ℕ)) (b w x y : ℕ) → stand b w x y ≡ back v e slots index f.slot f.within f.effect_within f.prepare_within → f.slot < len → b < len
+from v e f index len slots b w x y h lt = omega (arith, ap (λ s. s.slot) h, back_slot v e slots index f.slot f.within f.effect_within f.prepare_within)
 
 -- what was found lies in the leaf, and no more than the index is left
 found : (c : In-At) → (c.in-At.slot < c.args.g.fan) × (c.in-At.offset ≤ c.args.index)
 found c =
     let b = c.back-b.result in
-    let f = from c.before.before.before.before.before.before.before in
+    let f = from _ _ c.args.f _ _ _ _ _ _ _ c.back-b.ensures c.requires.5 in
     let e = sym c.find_in-found.ensures.finds ∙ c.in-At.is in
     let r = used_ranged c.args.g _ _ c.args.f.leaf b.slot (c.args.index - b.within) _ _ c.args.leaves.now c.requires.4 (omega arith) in
     (omega (arith, f, c.requires.4, r.slot _ _ _ _ e), omega (arith, r.offset _ _ _ _ e))
@@ -40,7 +34,7 @@ returns-then-index-within c =
 
 pub find_in-found-requires : goal.find_in-found-requires
 find_in-found-requires c =
-    (c.requires.0, c.requires.3, c.requires.1, c.requires.2, c.requires.4, omega (arith, from (goal.at.find_in-found-requires c).After-back-b), omega (arith, c.back-b.type-inv), omega (arith, c.back-b.type-inv))
+    (c.requires.0, c.requires.3, c.requires.1, c.requires.2, c.requires.4, omega (arith, from _ _ c.args.f _ _ _ _ _ _ _ c.back-b.ensures c.requires.5), omega (arith, c.back-b.type_inv), omega (arith, c.back-b.type_inv))
 
 pub returns-in_default : goal.returns-in_default
 returns-in_default c =

@@ -1,6 +1,6 @@
 -- `tree_finger::search::descend`: the descent from here on is the descent asked for, and with what was passed counts the same; each turn goes down
 -- one level to the slot found.
-use Rattle.std.proofs.Common.{◌≡◌, ℕ, ◌+◌, ◌-◌, ◌*◌, ◌≤◌, true, cond, ltb, List, sym, ap, ◌∙◌, ap₂, arith, le-ltb, lt-ltb}
+use Rattle.std.proofs.Common.{◌≡◌, ℕ, ◌+◌, ◌-◌, ◌*◌, ◌≤◌, true, List, sym, ap, ◌∙◌, ap₂, arith, le-ltb, lt-ltb}
 use Rattle.model.specs.Node.{used}
 use Rattle.model.specs.State.{node_at}
 use Rattle.model.specs.Climb.{leaf_no}
@@ -16,10 +16,6 @@ use Rattle.model_laws.specs.Examined.{found_in, downward_on, downward_end}
 use Rattle.tree_finger.specs.Went.{Went}
 use Rattle.tree_finger.proofs.search.descend.Goals.{Else-not-sized}
 use Rattle.tree_finger.proofs.search.descend.Goals as goal
-
--- what a node answers that doesn't hold the position: the root Nothing, a lower one Broken
-abbrev miss_at : ℕ → ℕ → Descent
-miss_at levels n = cond (ltb n levels) descent.Broken descent.Nothing
 
 broken_apart : (l : LeafNo) (r a b : ℕ) → descent.Broken ≡ descent.At l r a b → ⊥
 broken_apart l r a b q = let z : ◌≡◌ {A = ℕ} 0 1 = cc in omega arith

@@ -15,7 +15,7 @@ filled c = omega (arith, c.len_of-len.ensures, c.if-len-fan.false)
 found : (c : In-At) → (c.in-At.slot < c.args.g.fan) × (c.in-At.offset ≤ c.args.rest)
 found c =
     let a = c.args in
-    let t = filled c.before.before.before.before in
+    let t : (node_at a.g a.k.0 a.leaves.now).len ≤ a.g.fan = omega (arith, c.len_of-len.ensures, c.if-len-fan.false) in
     let e = sym c.find_in-found.ensures.finds ∙ c.in-At.is in
     let r = used_ranged a.g _ _ a.k.0 0 _ _ _ a.leaves.now t (omega arith) in
     (omega (arith, t, r.slot _ _ _ _ e), r.offset _ _ _ _ e)
@@ -27,7 +27,7 @@ pub len_of-len-requires : goal.len_of-len-requires
 len_of-len-requires c = (c.requires.0, omega (arith, c.if-leaf-used.false, c.requires.3))
 
 pub overflow_cast-len : goal.overflow_cast-len
-overflow_cast-len c = omega (arith, c.len_of-len.type-inv)
+overflow_cast-len c = omega (arith, c.len_of-len.type_inv)
 
 pub returns-then-len-fan : goal.returns-then-len-fan
 returns-then-len-fan c =

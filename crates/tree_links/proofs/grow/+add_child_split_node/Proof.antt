@@ -162,7 +162,7 @@ add_child_word_requires t c κs =
     (omega (arith, pre.1.0.shaped.words), node_end (shape_for args.views args.fan args.nodes) args.p.0 (length args.inners.now) (omega (arith, (stood t c.before.before).node, pre.1.1)) pre.1.0.inners)
 
 add_child_cast_if1 : (t : ℕ) → add-child-lts.Need-overflow-cast-if1 (add_child_calls t) (add_child_at t) add-child.Post
-add_child_cast_if1 t c = omega (arith, c.word.type-inv)
+add_child_cast_if1 t c = omega (arith, c.word.type_inv)
 
 add_child_cast_if2 : (t : ℕ) → add-child-lts.Need-overflow-cast-if2 (add_child_calls t) (add_child_at t) add-child.Post
 add_child_cast_if2 t c =

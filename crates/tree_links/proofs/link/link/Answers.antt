@@ -19,7 +19,7 @@ word-len-requires c =
     (omega (arith, pre.0.shaped.words), node_end args.g args.p.0 (length args.inners.now) pre.1 pre.0.inners)
 
 pub overflow_cast-len : goal.overflow_cast-len
-overflow_cast-len c = omega (arith, c.word-len.type-inv)
+overflow_cast-len c = omega (arith, c.word-len.type_inv)
 
 pub slot_of-requires : goal.slot_of-requires
 slot_of-requires c =
@@ -39,7 +39,7 @@ overflow_add-i c =
 pub overflow_add-len : goal.overflow_add-len
 overflow_add-len c =
     let word = c.word-len in
-    omega (arith, word.type-inv)
+    omega (arith, word.type_inv)
 
 pub adopt_all-requires : goal.adopt_all-requires
 unfolding node_of
