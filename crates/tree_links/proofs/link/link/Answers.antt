@@ -9,7 +9,7 @@ use Rattle.tree_links.proofs.link.link.Goals as goal
 
 pub overflow_cast-k : goal.overflow_cast-k
 overflow_cast-k c =
-    let good = c.well-formed in
+    let good = c.well_formed in
     omega (arith, good)
 
 pub word-len-requires : goal.word-len-requires
@@ -58,7 +58,7 @@ pub shape_of-inners : goal.shape_of-inners
 shape_of-inners c =
     let adopt_all_law = c.adopt_all in
     let split-child = c.split_child in
-    adopt_all_law.auto.inners.0 ∙ split-child.auto.area
+    adopt_all_law.auto.inners ∙ split-child.auto.area
 
 pub returns : goal.returns
 returns c =

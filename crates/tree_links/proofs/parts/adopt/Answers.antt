@@ -56,4 +56,4 @@ returns-else-level-eq1 c =
     let adopt-part2 = c.adopt_part-else-level-eq1 in
     let pre = c.requires in
     let if1 = c.if-level-eq1 in
-    rw adopt-part2.ensures.0 (adopt_inner _ _ _ _ _ _ _ _ pre.0.shaped.words pre.1 if1.false pre.0.inners adopt-part2.auto.inner.0 adopt-part2.ensures.1)
+    rw adopt-part2.ensures.0 (adopt_inner _ _ _ _ _ _ _ _ pre.0.shaped.words pre.1 if1.false pre.0.inners adopt-part2.auto.inner adopt-part2.ensures.1)

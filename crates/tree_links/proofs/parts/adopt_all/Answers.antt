@@ -81,7 +81,7 @@ loop-i-preserved c =
     let word = c.word-child in
     let if1 = c.if-k-nodes in (
       adopt.auto.leaves ∙ the-loop.invariant.0,
-      adopt.auto.inners.0
+      adopt.auto.inners
           ∙ the-loop.invariant.1,
       all_more _ _ _ _ _ _ _ loop-test.true pre.2 (omega (arith, pre.0.shaped.columns)) word.ensures _ if1.false adopt.ensures ∙ the-loop.invariant.2,
     )

@@ -36,12 +36,12 @@ returns c =
     let s = c in
     dite (ℕ_discrete s.args.level 1)
     (λ e. let q = node-part.ensures.0 e in (
-      leaf.given.1.0 (ap (λ r. r.name) (sym q))
+      leaf.given.1.0 (ap (λ r. r.ghost_name) (sym q))
           ∙ ap (λ r. set (set r.now 1 s.args.parent) 2 s.args.at) q,
       empty _ s.args.inner.now s.args.parent s.args.at c.inner-1.given.1.1 (s.requires.0 e).1,
     ))
     (λ e. let q = node-part.ensures.1 e in (
       empty _ s.args.leaf.now s.args.parent s.args.at leaf.given.1.1 (s.requires.1 e).0,
-      c.inner-1.given.1.0 (ap (λ r. r.name) (sym q))
+      c.inner-1.given.1.0 (ap (λ r. r.ghost_name) (sym q))
           ∙ ap (λ r. set (set r.now 1 s.args.parent) 2 s.args.at) q,
     ))

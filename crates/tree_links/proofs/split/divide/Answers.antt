@@ -19,12 +19,12 @@ shape_for-g-requires c = (omega (arith, c.requires.0.shaped.narrow), c.requires.
 
 pub overflow_cast-k : goal.overflow_cast-k
 overflow_cast-k c =
-    let good = c.well-formed in
+    let good = c.well_formed in
     omega (arith, good)
 
 pub overflow_cast-m : goal.overflow_cast-m
 overflow_cast-m c =
-    let good = c.well-formed in
+    let good = c.well_formed in
     omega (arith, good)
 
 pub split_off-requires : goal.split_off-requires
@@ -52,7 +52,7 @@ pub shape_of-inners : goal.shape_of-inners
 shape_of-inners c =
     let adopt_all_law = c.adopt_all in
     let split_off = c.split_off in
-    adopt_all_law.auto.inners.0 ∙ split_off.auto.area
+    adopt_all_law.auto.inners ∙ split_off.auto.area
 
 pub returns : goal.returns
 returns c =

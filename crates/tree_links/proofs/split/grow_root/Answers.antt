@@ -98,7 +98,7 @@ pub shape_of-inners : goal.shape_of-inners
 shape_of-inners c =
     let adopt_all_law = c.adopt_all-n in
     let new_two = c.new_two in
-    adopt_all_law.auto.inners.0 ∙ new_two.auto.area
+    adopt_all_law.auto.inners ∙ new_two.auto.area
 
 pub returns : goal.returns
 returns c =
