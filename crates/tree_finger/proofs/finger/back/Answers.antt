@@ -30,16 +30,15 @@ pub loop-slot-smaller : goal.loop-slot-smaller
 loop-slot-smaller c = omega arith
 
 pub loop-slot-preserved : goal.loop-slot-preserved
-loop-slot-preserved c =
-    (
-      omega arith,
-      sym (back_turn _ _ (node_at c.args.g c.args.f.leaf c.args.leaves.now) _ _ _ _ _ _ _ _ _ _ _ c.loop-slot-test.true
-          (omega (arith, c.requires.5)) c.if-within-index.false c.length_of-length.ensures c.length_of-effect_length.ensures c.length_of-prepare_length.ensures
-          (wrapped_less _ _ _ c.wrapping_sub_u32-within.ensures.value (omega (arith, c.wrapping_sub_u32-within.type_inv)) (omega (arith, c.length_of-length.type_inv)))
-          (wrapped_less _ _ _ c.wrapping_sub_u32-effect_within.ensures.value (omega (arith, c.wrapping_sub_u32-effect_within.type_inv)) (omega (arith, c.length_of-effect_length.type_inv)))
-          (wrapped_less _ _ _ c.wrapping_sub_u32-prepare_within.ensures.value (omega (arith, c.wrapping_sub_u32-prepare_within.type_inv)) (omega (arith, c.length_of-prepare_length.type_inv))))
-          ∙ c.loop-slot.invariant.1,
-    )
+loop-slot-preserved c = (
+  omega arith,
+  sym (back_turn _ _ (node_at c.args.g c.args.f.leaf c.args.leaves.now) _ _ _ _ _ _ _ _ _ _ _ c.loop-slot-test.true
+      (omega (arith, c.requires.5)) c.if-within-index.false c.length_of-length.ensures c.length_of-effect_length.ensures c.length_of-prepare_length.ensures
+      (wrapped_less _ _ _ c.wrapping_sub_u32-within.ensures.value (omega (arith, c.wrapping_sub_u32-within.type_inv)) (omega (arith, c.length_of-length.type_inv)))
+      (wrapped_less _ _ _ c.wrapping_sub_u32-effect_within.ensures.value (omega (arith, c.wrapping_sub_u32-effect_within.type_inv)) (omega (arith, c.length_of-effect_length.type_inv)))
+      (wrapped_less _ _ _ c.wrapping_sub_u32-prepare_within.ensures.value (omega (arith, c.wrapping_sub_u32-prepare_within.type_inv)) (omega (arith, c.length_of-prepare_length.type_inv))))
+      ∙ c.loop-slot.invariant.1,
+)
 
 pub returns : goal.returns
 returns c = sym (back_first _ _ _ _ _ _ _ _ c.loop-slot-test.false) ∙ c.loop-slot.invariant.1

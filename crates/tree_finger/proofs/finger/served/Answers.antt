@@ -50,16 +50,15 @@ returns-then-slot-len c =
     (omega (arith, c.len_of-len.ensures, c.if-len-fan.false)) (omega (arith, c.len_of-len.ensures, c.if-slot-len.true)))
 
 pub walked-requires : goal.walked-requires
-walked-requires c =
-    (
-      c.requires.0,
-      c.requires.1,
-      c.requires.2,
-      omega (arith, c.if-leaf-used.false, c.requires.3),
-      omega (arith, c.len_of-len.ensures, c.if-len-fan.false),
-      omega (arith, c.len_of-len.ensures, c.if-slot-len.false),
-      c.len_of-len.ensures,
-    )
+walked-requires c = (
+  c.requires.0,
+  c.requires.1,
+  c.requires.2,
+  omega (arith, c.if-leaf-used.false, c.requires.3),
+  omega (arith, c.len_of-len.ensures, c.if-len-fan.false),
+  omega (arith, c.len_of-len.ensures, c.if-slot-len.false),
+  c.len_of-len.ensures,
+)
 
 pub returns : goal.returns
 returns c =

@@ -9,15 +9,14 @@ pub descend-way-requires : goal.descend-way-requires
 descend-way-requires c = (c.requires.1, c.requires.2, c.requires.3, c.requires.4)
 
 pub search_leaf-requires : goal.search_leaf-requires
-search_leaf-requires c =
-    (
-      c.requires.0,
-      c.requires.2,
-      c.requires.3,
-      c.requires.5,
-      (descend_rests _ _ c.args.g _ _ _ _ _ _ _ (nothing_rests _)).rest _ _ _ _ (sym c.descend-way.ensures.is ∙ c.in-At.is),
-      omega (arith, c.descend-way.ensures.few, c.requires.4),
-    )
+search_leaf-requires c = (
+  c.requires.0,
+  c.requires.2,
+  c.requires.3,
+  c.requires.5,
+  (descend_rests _ _ c.args.g _ _ _ _ _ _ _ (nothing_rests _)).rest _ _ _ _ (sym c.descend-way.ensures.is ∙ c.in-At.is),
+  omega (arith, c.descend-way.ensures.few, c.requires.4),
+)
 
 pub returns-in-At : goal.returns-in-At
 unfolding from_root

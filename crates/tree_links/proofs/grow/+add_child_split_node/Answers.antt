@@ -74,16 +74,16 @@ add_child-link-requires t c =
     let j = c.if-word-fan in
     let f = found _ _ a.left a.top.now a.level a.p.0 a.after a.new a.leaves.now a.inners.now _ _ c.shape_for-g.ensures c.requires.0 c.requires.1 c.requires.3 (sym c.in-Slot.is ∙ c.standing-place.ensures) c.word.ensures in
     let o : ReadyToLink (shape_for a.views a.fan a.nodes) a.left a.top.now a.level a.p.0 a.after a.new a.leaves.now a.inners.now j.to j.at j.top j.leaves j.inners = elim j.branch [
-      add_child-then-word-fan+else-used-nodes+else-n-ne0+then-i-fan w ↦ (
-        let s = w.split_node-n in
-        moved w.leaves-is w.inners-is w.top-is w.to-is w.at-is
-        (ready_high f w.if-word-fan.true w.if-used-nodes.false _ _ _ _ s.ensures.0 w.if-n-ne0.false s.auto.leaves s.auto.inners s.ensures.1 w.if-i-fan.true)
-      )
+      | add_child-then-word-fan+else-used-nodes+else-n-ne0+then-i-fan w ↦ (
+          let s = w.split_node-n in
+          moved w.leaves-is w.inners-is w.top-is w.to-is w.at-is
+          (ready_high f w.if-word-fan.true w.if-used-nodes.false _ _ _ _ s.ensures.0 w.if-n-ne0.false s.auto.leaves s.auto.inners s.ensures.1 w.if-i-fan.true)
+          )
       | add_child-then-word-fan+else-used-nodes+else-n-ne0+else-i-fan w ↦ (
-        let s = w.split_node-n in
-        moved w.leaves-is w.inners-is w.top-is w.to-is w.at-is
-        (ready_low f w.if-word-fan.true w.if-used-nodes.false _ _ _ _ s.ensures.0 w.if-n-ne0.false s.auto.leaves s.auto.inners s.ensures.1 w.if-i-fan.false)
-      )
+          let s = w.split_node-n in
+          moved w.leaves-is w.inners-is w.top-is w.to-is w.at-is
+          (ready_low f w.if-word-fan.true w.if-used-nodes.false _ _ _ _ s.ensures.0 w.if-n-ne0.false s.auto.leaves s.auto.inners s.ensures.1 w.if-i-fan.false)
+          )
       | add_child-else-word-fan w ↦ moved w.leaves-is w.inners-is w.top-is w.to-is w.at-is (ready_here f w.if-word-fan.false)
     ] in
     rw c.shape_for-g.ensures (o.fits, o.node, o.fresh, o.room)
@@ -94,16 +94,16 @@ add_child-returns t c =
     let j = c.if-word-fan in
     let f = found _ _ a.left a.top.now a.level a.p.0 a.after a.new a.leaves.now a.inners.now _ _ c.shape_for-g.ensures c.requires.0 c.requires.1 c.requires.3 (sym c.in-Slot.is ∙ c.standing-place.ensures) c.word.ensures in
     let o : ReadyToLink (shape_for a.views a.fan a.nodes) a.left a.top.now a.level a.p.0 a.after a.new a.leaves.now a.inners.now j.to j.at j.top j.leaves j.inners = elim j.branch [
-      add_child-then-word-fan+else-used-nodes+else-n-ne0+then-i-fan w ↦ (
-        let s = w.split_node-n in
-        moved w.leaves-is w.inners-is w.top-is w.to-is w.at-is
-        (ready_high f w.if-word-fan.true w.if-used-nodes.false _ _ _ _ s.ensures.0 w.if-n-ne0.false s.auto.leaves s.auto.inners s.ensures.1 w.if-i-fan.true)
-      )
+      | add_child-then-word-fan+else-used-nodes+else-n-ne0+then-i-fan w ↦ (
+          let s = w.split_node-n in
+          moved w.leaves-is w.inners-is w.top-is w.to-is w.at-is
+          (ready_high f w.if-word-fan.true w.if-used-nodes.false _ _ _ _ s.ensures.0 w.if-n-ne0.false s.auto.leaves s.auto.inners s.ensures.1 w.if-i-fan.true)
+          )
       | add_child-then-word-fan+else-used-nodes+else-n-ne0+else-i-fan w ↦ (
-        let s = w.split_node-n in
-        moved w.leaves-is w.inners-is w.top-is w.to-is w.at-is
-        (ready_low f w.if-word-fan.true w.if-used-nodes.false _ _ _ _ s.ensures.0 w.if-n-ne0.false s.auto.leaves s.auto.inners s.ensures.1 w.if-i-fan.false)
-      )
+          let s = w.split_node-n in
+          moved w.leaves-is w.inners-is w.top-is w.to-is w.at-is
+          (ready_low f w.if-word-fan.true w.if-used-nodes.false _ _ _ _ s.ensures.0 w.if-n-ne0.false s.auto.leaves s.auto.inners s.ensures.1 w.if-i-fan.false)
+          )
       | add_child-else-word-fan w ↦ moved w.leaves-is w.inners-is w.top-is w.to-is w.at-is (ready_here f w.if-word-fan.false)
     ] in
     (ended c.shape_for-g.ensures o c.link.ensures, o.three)

@@ -1,5 +1,4 @@
 -- `tree_links::grow::standing`: the tests are those of the definition, each before what it allows to be read.
-use Prim.Native.Nat.{◌-◌}
 use native.Mathlib.Omega.{arith}
 use lib.ListN.{length}
 use Rattle.model_laws.specs.AreaRead.{node_end}

@@ -1,5 +1,4 @@
 -- `tree_links::parts::adopt`: the node of the area that the level names has the two words written, and the other area lends nothing.
-use Prim.Native.Nat.{◌-◌}
 use native.Mathlib.Omega.{arith}
 use lib.ListN.{length}
 use Rattle.model_laws.specs.AreaRead.{node_end}

@@ -1,5 +1,5 @@
 -- `tree_links::parts::adopt_all`: what is left to do from place i on, of the areas as they are, is what there was to do at the start.
-use Prim.Native.Nat.{◌+◌, ◌-◌, ◌*◌, ◌≤◌}
+use Prim.Native.Nat.{◌+◌, ◌*◌, ◌≤◌}
 use mathlib.Core.Path.{refl, sym, ◌∙◌}
 use native.Mathlib.Omega.{arith}
 use lib.ListN.{length}

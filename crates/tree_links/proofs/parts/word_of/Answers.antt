@@ -1,5 +1,4 @@
 -- `tree_links::parts::word_of`: the area is the one that the level names.
-use Prim.Native.Nat.{◌-◌}
 use lib.ListN.{length}
 use borrow.Author.Tests.{eq-eqb, ne_eqb}
 use Rattle.model_laws.specs.AreaRead.{node_end}
