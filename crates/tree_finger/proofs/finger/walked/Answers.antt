@@ -20,7 +20,7 @@ found c =
     let b = c.back-b.result in
     let f = from _ _ c.args.f _ _ _ _ _ _ _ c.back-b.ensures c.requires.5 in
     let e = sym c.find_in-found.ensures.finds ∙ c.in-At.is in
-    let r = used_ranged c.args.g _ _ c.args.f.leaf b.slot (c.args.index - b.within) _ _ c.args.leaves.now c.requires.4 (omega arith) in
+    let r = used_ranged c.args.g c.args.view c.args.effect c.args.f.leaf b.slot (c.args.index - b.within) b.effect_within b.prepare_within c.args.leaves.now c.requires.4 (omega arith) in
     (omega (arith, f, c.requires.4, r.slot _ _ _ _ e), omega (arith, r.offset _ _ _ _ e))
 
 pub back-b-requires : goal.back-b-requires

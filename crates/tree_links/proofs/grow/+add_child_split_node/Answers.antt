@@ -8,6 +8,7 @@ use Rattle.model.specs.declared.shape.Shape.{Shape}
 use Rattle.model.specs.declared.shape.Place.TheVariants.{Slot}
 use Rattle.model_laws.specs.AreaRead.{node_end}
 use Rattle.tree_links.specs.Fits.{AreasHold}
+use Rattle.tree_links.specs.Tops.{grown_in}
 use Rattle.tree_links.specs.Standing.{standing}
 use Rattle.tree_links.proofs.AddSteps.{GoodPlace, good_place}
 use Rattle.tree_links.proofs.Adding.{PlaceFound, ReadyToLink, moved, as_made, count_as, ended, astray, ready_here, crowded, failed, ready_low, ready_high}
@@ -116,7 +117,7 @@ split_node-returns-then-n-ne0 t c =
 pub split_node-returns-then-left-eq0 : goal.split_node-returns-then-left-eq0
 split_node-returns-then-left-eq0 t c =
     let root = c.grow_root in
-    (cut_root c.args.top.now c.requires.4 _ _ _ _ _ _ _ _ c.divide-n.ensures _ c.if-n-ne0.false c.if-left-eq0.true root.ensures.0, root.ensures.1)
+    (cut_root c.args.top.now c.requires.4 _ _ _ _ _ _ _ _ c.divide-n.ensures (grown_in root.result root.new.top root.new.leaves root.new.inners) c.if-n-ne0.false c.if-left-eq0.true root.ensures.0, root.ensures.1)
 
 pub split_node-word-requires : goal.split_node-word-requires
 split_node-word-requires t c =
@@ -128,4 +129,4 @@ split_node-word-requires t c =
 pub split_node-returns : goal.split_node-returns
 split_node-returns t c =
     let up = c.add_child in
-    (cut_up c.args.top.now c.requires.4 _ _ _ _ _ _ _ _ c.divide-n.ensures _ c.if-n-ne0.false _ _ c.if-left-eq0.false c.shape_for-g.ensures c.word.ensures up.ensures.0, up.ensures.1)
+    (cut_up c.args.top.now c.requires.4 _ _ _ _ _ _ _ _ c.divide-n.ensures (grown_in up.result up.new.top up.new.leaves up.new.inners) c.if-n-ne0.false _ _ c.if-left-eq0.false c.shape_for-g.ensures c.word.ensures up.ensures.0, up.ensures.1)
