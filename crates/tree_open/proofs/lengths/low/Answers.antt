@@ -1,6 +1,5 @@
 -- `tree_open::lengths::low`: what has the bits of all words passed in a column is at least each of them.
-use Prim.Native.Nat.{ℕ, ◌+◌, ◌-◌, ◌*◌, ◌≤◌, ◌<◌}
-use mathlib.Core.Logic.{⊎_elim}
+use Prim.Native.Nat.{ℕ, ◌+◌, ◌*◌, ◌≤◌, ◌<◌}
 use mathlib.Core.Path.{◌≡◌, ap}
 use native.Mathlib.Omega.{arith}
 use native.Mathlib.Nat.{zero-mul}
@@ -8,7 +7,7 @@ use lib.ListN.{length}
 use Rattle.model_laws.specs.Lists.{one_more}
 use Rattle.tree_node.specs.Shaped.{slot_in_law}
 use Rattle.tree_open.proofs.TotalLaws.{few_slots, under_none, under_more, under_below}
-use Rattle.tree_open.proofs.lengths.low.Goals.{Start}
+use Rattle.tree_open.proofs.lengths.low.Goals.{Start, then-stride-gt2, else-stride-gt2, then-stride-gt3, else-stride-gt3}
 use Rattle.tree_open.proofs.lengths.low.Goals as goal
 
 -- slot k lies in the node
@@ -109,8 +108,8 @@ loop-k-preserved c =
       omega (arith, c.loop-k-test.true),
       omega (arith, one_more l.k c.args.g.stride, l.invariant.1),
       under_more c.args.node.now c.args.g.stride l.p l.child l.first c.requires.0.narrow l.second l.third if1.second if2.third
-          (λ h. ⊎_elim (λ w. w.2) (λ w. absurd (omega (arith, w.0.left, h))) if1.branch) (λ h. ⊎_elim (λ w. absurd (omega (arith, w.0.taken, h))) (λ w. w.1) if1.branch)
-          (λ h. ⊎_elim (λ w. w.2) (λ w. absurd (omega (arith, w.0.left, h))) if2.branch) (λ h. ⊎_elim (λ w. absurd (omega (arith, w.0.taken, h))) (λ w. w.1) if2.branch)
+          (λ h. elim if1.branch [ then-stride-gt2 w ↦ w.second-is | else-stride-gt2 w ↦ absurd (omega (arith, w.if-stride-gt2.false, h)) ]) (λ h. elim if1.branch [ then-stride-gt2 w ↦ absurd (omega (arith, w.if-stride-gt2.true, h)) | else-stride-gt2 w ↦ w.second-is ])
+          (λ h. elim if2.branch [ then-stride-gt3 w ↦ w.third-is | else-stride-gt3 w ↦ absurd (omega (arith, w.if-stride-gt3.false, h)) ]) (λ h. elim if2.branch [ then-stride-gt3 w ↦ absurd (omega (arith, w.if-stride-gt3.true, h)) | else-stride-gt3 w ↦ w.third-is ])
           l.invariant.2,
     )
 

@@ -25,7 +25,7 @@ bounds-inners-a c =
 pub overflow_cast-inners : goal.overflow_cast-inners
 overflow_cast-inners c =
     let args = c.args in
-    omega (arith, c.shared_slice_known-2-1.given (args.k.0 * args.g.size))
+    omega (arith, c.type_inv.inners (args.k.0 * args.g.size))
 
 pub offset_bounds-inners-a-2 : goal.offset_bounds-inners-a-2
 offset_bounds-inners-a-2 c =

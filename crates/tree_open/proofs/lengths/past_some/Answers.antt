@@ -1,8 +1,8 @@
 -- `tree_open::lengths::past_some`: one test for each view that a slot has, in their order.
-use mathlib.Core.Logic.{⊎_elim}
 use native.Mathlib.Omega.{arith}
 use Rattle.tree_open.proofs.LengthLaws.{some_first, some_second, some_third, some_none}
 use Rattle.tree_open.proofs.TotalLaws.{passing, if_there, sum_tested, sum_test}
+use Rattle.tree_open.proofs.lengths.past_some.Goals.{then-stride-gt2+else-past_in-2, else-stride-gt2}
 use Rattle.tree_open.proofs.lengths.past_some.Goals as goal
 
 pub totals_in-t-requires : goal.totals_in-t-requires
@@ -49,7 +49,7 @@ returns-then-stride-gt3 c =
     let if4 = c.if-stride-gt3 in
     some_third (passing args.g args.root.0 args.inners.now) args.old.now args.new.now args.g.stride shaped.columns shaped.narrow
     (sum_test _ _ _ _ _ _ t.first past-in.ensures if1.false)
-    (λ h. ⊎_elim (λ w. sum_test _ _ _ _ _ _ (if_there _ 2 _ _ h t.second) w.3.ensures w.4.left) (λ w. absurd (omega (arith, w.left, h))) if2.branch)
+    (λ h. elim if2.branch [ then-stride-gt2+else-past_in-2 w ↦ sum_test _ _ _ _ _ _ (if_there _ 2 _ _ h t.second) w.past_in-then-stride-gt2.ensures w.if-past_in-2.false | else-stride-gt2 w ↦ absurd (omega (arith, w.if-stride-gt2.false, h)) ])
     if4.true _ (sum_tested _ _ _ _ _ (if_there _ 3 _ _ if4.true t.third) c.past_in-then-stride-gt3.ensures)
 
 pub returns : goal.returns
@@ -59,4 +59,4 @@ returns c =
     let t = c.totals_in-t.ensures in
     some_none (passing args.g args.root.0 args.inners.now) args.old.now args.new.now args.g.stride shaped.columns shaped.narrow
     (sum_test _ _ _ _ _ _ t.first c.past_in.ensures c.if-past_in.false)
-    (λ h. ⊎_elim (λ w. sum_test _ _ _ _ _ _ (if_there _ 2 _ _ h t.second) w.3.ensures w.4.left) (λ w. absurd (omega (arith, w.left, h))) c.if-stride-gt2.branch) c.if-stride-gt3.false
+    (λ h. elim c.if-stride-gt2.branch [ then-stride-gt2+else-past_in-2 w ↦ sum_test _ _ _ _ _ _ (if_there _ 2 _ _ h t.second) w.past_in-then-stride-gt2.ensures w.if-past_in-2.false | else-stride-gt2 w ↦ absurd (omega (arith, w.if-stride-gt2.false, h)) ]) c.if-stride-gt3.false

@@ -1,8 +1,7 @@
 -- `tree_open::lengths::used_totals`: each sum is the total of the slots passed in its view, and each turn adds the next slot's length.
-use Prim.Native.Nat.{ℕ, ◌+◌, ◌-◌, ◌*◌, ◌<◌}
+use Prim.Native.Nat.{ℕ, ◌+◌, ◌*◌, ◌<◌}
 use mathlib.Core.Bool.{cond}
 use mathlib.Core.List.{List}
-use mathlib.Core.Logic.{⊎_elim}
 use mathlib.Core.Path.{refl, sym, ap, ◌∙◌}
 use native.Mathlib.Omega.{arith}
 use native.Mathlib.Nat.{zero-mul}
@@ -13,7 +12,7 @@ use Rattle.model_laws.specs.Lists.{one_more, in_row}
 use Rattle.model_laws.specs.Read.{total_none, total_more}
 use Rattle.tree_open.proofs.LengthLaws.{in_use_law}
 use Rattle.tree_open.proofs.TotalLaws.{sum_none, sum_more}
-use Rattle.tree_open.proofs.lengths.used_totals.Goals.{In-loop-k}
+use Rattle.tree_open.proofs.lengths.used_totals.Goals.{In-loop-k, then-stride-gt2, else-stride-gt2, then-stride-gt3, else-stride-gt3}
 use Rattle.tree_open.proofs.lengths.used_totals.Goals as goal
 
 -- a word of a turn's slot lies in the node
@@ -33,7 +32,7 @@ pub bounds-node-0 : goal.bounds-node-0
 bounds-node-0 c = omega (arith, c.requires.0, c.requires.1)
 
 pub overflow_cast-node : goal.overflow_cast-node
-overflow_cast-node c = omega (arith, c.shared_slice_known-2-1.given 0)
+overflow_cast-node c = omega (arith, c.type_inv.node 0)
 
 pub loop-k-init : goal.loop-k-init
 loop-k-init c =
@@ -48,13 +47,13 @@ pub bounds-node-p : goal.bounds-node-p
 bounds-node-p c = omega (arith, turn (goal.at.bounds-node-p c).In-loop-k 1 (one (goal.at.bounds-node-p c).In-loop-k))
 
 pub overflow_cast-first : goal.overflow_cast-first
-overflow_cast-first c = omega (arith, c.shared_slice_known-in-loop-k-1.given c.loop-k.p)
+overflow_cast-first c = omega (arith, c.type_inv.node c.loop-k.p)
 
 pub overflow_add-first : goal.overflow_add-first
 overflow_add-first c =
     let pre = c.requires in
     let the-in-use = c.in_use-len in
-    omega (arith, pre.0, the-in-use.ensures.0, c.shared_slice_known-in-loop-k-1.given c.loop-k.p)
+    omega (arith, pre.0, the-in-use.ensures.0, c.type_inv.node c.loop-k.p)
 
 pub overflow_add-second : goal.overflow_add-second
 overflow_add-second c = omega (arith, turn (goal.at.overflow_add-second c).In-loop-k 2 c.if-stride-gt2.true)
@@ -68,14 +67,14 @@ bounds-node-p-then-stride-gt2 c = omega (arith, turn (goal.at.bounds-node-p-then
 pub overflow_cast-second : goal.overflow_cast-second
 overflow_cast-second c =
     let the-loop = c.loop-k in
-    omega (arith, c.shared_slice_known-then-stride-gt2-1.given (the-loop.p + 1))
+    omega (arith, c.type_inv.node (the-loop.p + 1))
 
 pub overflow_add-second-then-stride-gt2 : goal.overflow_add-second-then-stride-gt2
 overflow_add-second-then-stride-gt2 c =
     let pre = c.requires in
     let the-in-use = c.in_use-len in
     let the-loop = c.loop-k in
-    omega (arith, pre.0, the-in-use.ensures.0, c.shared_slice_known-then-stride-gt2-1.given (the-loop.p + 1))
+    omega (arith, pre.0, the-in-use.ensures.0, c.type_inv.node (the-loop.p + 1))
 
 pub overflow_add-third : goal.overflow_add-third
 overflow_add-third c = omega (arith, turn (goal.at.overflow_add-third c).In-loop-k 3 c.if-stride-gt3.true)
@@ -90,14 +89,14 @@ bounds-node-p-then-stride-gt3 c =
 pub overflow_cast-third : goal.overflow_cast-third
 overflow_cast-third c =
     let the-loop = c.loop-k in
-    omega (arith, c.shared_slice_known-then-stride-gt3-1.given (the-loop.p + 2))
+    omega (arith, c.type_inv.node (the-loop.p + 2))
 
 pub overflow_add-third-then-stride-gt3 : goal.overflow_add-third-then-stride-gt3
 overflow_add-third-then-stride-gt3 c =
     let pre = c.requires in
     let the-in-use = c.in_use-len in
     let the-loop = c.loop-k in
-    omega (arith, pre.0, the-in-use.ensures.0, c.shared_slice_known-then-stride-gt3-1.given (the-loop.p + 2))
+    omega (arith, pre.0, the-in-use.ensures.0, c.type_inv.node (the-loop.p + 2))
 
 pub overflow_add-p : goal.overflow_add-p
 overflow_add-p c =
@@ -122,14 +121,14 @@ loop-k-preserved c =
     let if2 = c.if-stride-gt3 in (
       omega arith,
       omega (arith, one_more l.k s),
-      omega (arith, c.shared_slice_known-in-loop-k-1.given l.p),
-      ⊎_elim (λ w. omega (arith, w.2, w.1.given (l.p + 1), l.invariant.3)) (λ w. omega (arith, w.1, l.invariant.3)) if1.branch,
-      ⊎_elim (λ w. omega (arith, w.2, w.1.given (l.p + 2), l.invariant.4)) (λ w. omega (arith, w.1, l.invariant.4)) if2.branch,
+      omega (arith, c.type_inv.node l.p),
+      elim if1.branch [ then-stride-gt2 w ↦ omega (arith, w.second-is, l.invariant.3) | else-stride-gt2 w ↦ omega (arith, w.second-is, l.invariant.3) ],
+      elim if2.branch [ then-stride-gt3 w ↦ omega (arith, w.third-is, l.invariant.4) | else-stride-gt3 w ↦ omega (arith, w.third-is, l.invariant.4) ],
       total_more _ _ _ 0 _ _ _ _ (one (goal.at.loop-k-preserved c).In-loop-k) l.invariant.1 l.invariant.5 refl,
       sum_more s l.k 1 (l.p + 1) 2 l.second if1.second ws refl (omega (arith, l.invariant.1)) l.invariant.6
-          (λ h. ⊎_elim (λ w. w.2) (λ w. absurd (omega (arith, w.0.left, h))) if1.branch) (λ h. ⊎_elim (λ w. absurd (omega (arith, w.0.taken, h))) (λ w. w.1) if1.branch),
+          (λ h. elim if1.branch [ then-stride-gt2 w ↦ w.second-is | else-stride-gt2 w ↦ absurd (omega (arith, w.if-stride-gt2.false, h)) ]) (λ h. elim if1.branch [ then-stride-gt2 w ↦ absurd (omega (arith, w.if-stride-gt2.true, h)) | else-stride-gt2 w ↦ w.second-is ]),
       sum_more s l.k 2 (l.p + 2) 3 l.third if2.third ws refl (omega (arith, l.invariant.1)) l.invariant.7
-          (λ h. ⊎_elim (λ w. w.2) (λ w. absurd (omega (arith, w.0.left, h))) if2.branch) (λ h. ⊎_elim (λ w. absurd (omega (arith, w.0.taken, h))) (λ w. w.1) if2.branch),
+          (λ h. elim if2.branch [ then-stride-gt3 w ↦ w.third-is | else-stride-gt3 w ↦ absurd (omega (arith, w.if-stride-gt3.false, h)) ]) (λ h. elim if2.branch [ then-stride-gt3 w ↦ absurd (omega (arith, w.if-stride-gt3.true, h)) | else-stride-gt3 w ↦ w.third-is ]),
     )
 
 pub returns : goal.returns

@@ -6,16 +6,14 @@ use Rattle.tree_open.proofs.open.open.Goals as goal
 pub returns-then-astray : goal.returns-then-astray
 returns-then-astray c effect =
     let open-areas = c.open_areas in
-    let g = c.g-1 in
-    open_astray (kind _ effect) _ _ (open-areas.ensures effect) _ g.given.1 _ c.astray.ensures c.if-astray.true
+    open_astray (kind _ effect) _ _ (c.open_areas.ensures effect) _ c.in-Good.is _ c.astray.ensures c.if-astray.true
 
 pub returns-in-Refused : goal.returns-in-Refused
 returns-in-Refused c effect =
     let open-areas = c.open_areas in
-    open_refused (kind _ effect) _ _ (open-areas.ensures effect) _ c.in-Refused.is
+    open_refused (kind _ effect) _ _ (c.open_areas.ensures effect) _ c.in-Refused.is
 
 pub returns-else-astray : goal.returns-else-astray
 returns-else-astray c effect =
     let open-areas = c.open_areas in
-    let g = c.g-1 in
-    open_good (kind _ effect) _ _ (open-areas.ensures effect) _ g.given.1 _ c.astray.ensures c.if-astray.false
+    open_good (kind _ effect) _ _ (c.open_areas.ensures effect) _ c.in-Good.is _ c.astray.ensures c.if-astray.false
