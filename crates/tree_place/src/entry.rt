@@ -2,8 +2,7 @@
 // would be compiled into it, and that function would then be too large to be compiled into the calls.
 ghost use Rattle.std.specs.Prelude.{◌≡◌, ◌<◌, ◌≤◌, length};
 ghost use Rattle.model.specs.Length.{lengths_in};
-ghost use Rattle.model.specs.State.{node_at};
-ghost use Rattle.model.specs.Moments.{at_entry, at_exit};
+ghost use Rattle.model.specs.State.{state, node_at};
 ghost use Rattle.model.specs.Place.{change, place, divide};
 ghost use Rattle.tree_place.specs.Room.{settled_in, Entering};
 
@@ -28,7 +27,7 @@ pub fn place(
     x: &[u32; 4],
 ) -> HeadChange
     requires { Entering views g head leaves.old inners.old homes.old k.0 x.now × (i ≤ (node_at g k.0 leaves.old).len) × (length x.now ≡ 4) }
-    ensures { change result.number (at_exit result.head leaves inners homes) result.leaf.0 result.slot ≡ settled_in head (place g (at_entry head leaves inners homes) k.0 i (lengths_in views x.now)) }
+    ensures { change result.number (state result.head leaves.new inners.new homes.new) result.leaf.0 result.slot ≡ settled_in head (place g (state head leaves.old inners.old homes.old) k.0 i (lengths_in views x.now)) }
 {
     let fan = g.fan;
     let used = head.leaves;
@@ -72,7 +71,7 @@ pub fn divide(
     x: &[u32; 4],
 ) -> HeadChange
     requires { Entering views g head leaves.old inners.old homes.old k.0 x.now × (i < (node_at g k.0 leaves.old).len) × (length x.now ≡ 4) }
-    ensures { change result.number (at_exit result.head leaves inners homes) result.leaf.0 result.slot ≡ settled_in head (divide g before (at_entry head leaves inners homes) k.0 i (lengths_in views x.now)) }
+    ensures { change result.number (state result.head leaves.new inners.new homes.new) result.leaf.0 result.slot ≡ settled_in head (divide g before (state head leaves.old inners.old homes.old) k.0 i (lengths_in views x.now)) }
 {
     let fan = g.fan;
     let used = head.leaves;

@@ -1,13 +1,12 @@
 -- `tree_place::entry::divide`: a full leaf is split first; where that leaves room the slot takes its lengths from the one there and the home follows, and else the head stays.
-use Rattle.std.proofs.Common.{ℕ, List, ◌∷◌, sym, refl, ap, ◌∙◌, ⊎_elim, arith, length-set}
-use borrow.Author.Tests.{not-false}
+use Rattle.std.proofs.Common.{ℕ, List, ◌∷◌, sym, refl, ap, ◌∙◌, arith, length-set}
 use Rattle.model.specs.Length.{lengths_in}
 use Rattle.model.specs.Node.{Node, child_split}
 use Rattle.model.specs.State.{node_at, put_node}
 use Rattle.model.specs.Place as model
 use Rattle.tree_place.proofs.EntryLaws.{roomy, next_slot}
 use Rattle.tree_place.proofs.ReadyLaws.{RoomReady, ready_at, ready_there, ready_split, ready_done, lost_split, lost_room, gone}
-use Rattle.tree_place.proofs.entry.divide.Goals.{Joined-len_of-fan, Start}
+use Rattle.tree_place.proofs.entry.divide.Goals.{Joined-len_of-fan, Start, then-len_of-fan+else-n-ne0+else-not-roomy, else-len_of-fan}
 use Rattle.tree_place.proofs.entry.divide.Goals as goal
 
 -- a node in which the entry has come to slot j
@@ -19,13 +18,15 @@ ready : (c : Joined-len_of-fan) → RoomReady c.args.g 1 c.args.head c.args.leav
 ready c =
     let a = c.args in
     let len = c.len_of.ensures in
-    ⊎_elim
-    (λ w. ready_at _ _ _ _ _ _ _ _ _ _ w.17 w.18 w.19 w.20 w.21
-    (ready_split a.views a.g 1 a.head a.leaves.now a.inners.now a.homes.now a.k.0 a.i a.x.now c.requires.0 (omega (arith, c.requires.1)) (sym len ∙ w.0.taken) _ _ _ _ _
-    (w.5.ensures.0 a.head a.i) w.12.left _ w.13.ensures (sym w.15.ensures ∙ not-false _ w.16.left) w.5.kept.0 w.5.kept.1.0 w.5.kept.1.1.0 w.5.ensures.1))
-    (λ w. ready_at _ _ _ _ _ _ _ _ _ _ w.1 w.2 w.3 w.4 w.5
-    (ready_there a.views a.g 1 a.head a.leaves.now a.inners.now a.homes.now a.k.0 a.i a.x.now c.requires.0 (omega (arith, c.requires.1)) (λ z. w.0.left (len ∙ z))))
-    c.if-len_of-fan.branch
+    elim c.if-len_of-fan.branch [
+      | then-len_of-fan+else-n-ne0+else-not-roomy w ↦
+          ready_at _ _ _ _ _ _ _ _ _ _ w.leaves-is w.inners-is w.homes-is w.top-is w.room-is
+          (ready_split a.views a.g 1 a.head a.leaves.now a.inners.now a.homes.now a.k.0 a.i a.x.now c.requires.0 (omega (arith, c.requires.1)) (sym len ∙ w.if-len_of-fan.true) _ _ _ _ _
+          (w.split_leaf-n.ensures.0 a.head a.i) w.if-n-ne0.false _ w.halved-room.ensures (sym w.roomy.ensures ∙ w.if-not-roomy.false) w.split_leaf-n.auto.leaves w.split_leaf-n.auto.inners w.split_leaf-n.auto.homes w.split_leaf-n.ensures.1)
+      | else-len_of-fan w ↦
+          ready_at _ _ _ _ _ _ _ _ _ _ w.leaves-is w.inners-is w.homes-is w.top-is w.room-is
+          (ready_there a.views a.g 1 a.head a.leaves.now a.inners.now a.homes.now a.k.0 a.i a.x.now c.requires.0 (omega (arith, c.requires.1)) (λ z. w.if-len_of-fan.false (len ∙ z)))
+    ]
 
 pub len_of-requires : goal.len_of-requires
 len_of-requires c =
@@ -33,7 +34,7 @@ len_of-requires c =
     (record { shaped = pre.0.fits.shaped; room = pre.0.fits.leaves }, omega (arith, pre.0.leaf, pre.0.leaves))
 
 pub overflow_cast-len_of : goal.overflow_cast-len_of
-overflow_cast-len_of c = omega (arith, c.len_of.type-inv)
+overflow_cast-len_of c = omega (arith, c.len_of.type_inv)
 
 pub split_leaf-n-requires : goal.split_leaf-n-requires
 split_leaf-n-requires c =
@@ -44,10 +45,10 @@ pub shape_of-leaves-then-n-ne0 : goal.shape_of-leaves-then-n-ne0
 shape_of-leaves-then-n-ne0 c = let split_leaf_law = c.split_leaf-n in split_leaf_law.auto.leaves
 
 pub shape_of-inners-then-n-ne0 : goal.shape_of-inners-then-n-ne0
-shape_of-inners-then-n-ne0 c = let split_leaf_law = c.split_leaf-n in split_leaf_law.auto.inners.0
+shape_of-inners-then-n-ne0 c = let split_leaf_law = c.split_leaf-n in split_leaf_law.auto.inners
 
 pub shape_of-homes-then-n-ne0 : goal.shape_of-homes-then-n-ne0
-shape_of-homes-then-n-ne0 c = let split_leaf_law = c.split_leaf-n in split_leaf_law.auto.inners.1.0
+shape_of-homes-then-n-ne0 c = let split_leaf_law = c.split_leaf-n in split_leaf_law.auto.homes
 
 pub returns-then-n-ne0 : goal.returns-then-n-ne0
 unfolding model.divide
@@ -58,7 +59,7 @@ returns-then-n-ne0 c =
     let split_leaf_law = c.split_leaf-n in
     gone _ c.lost.ensures
     (lost_split a.views a.g 1 a.head a.leaves.now a.inners.now a.homes.now a.k.0 a.i a.x.now c.requires.0 (omega (arith, c.requires.1)) (sym len_of_lem.ensures ∙ if1.true)
-    _ split_leaf_law.new.inners.1.1.1.1.1.1.0 _ _ _ (split_leaf_law.ensures.0 a.head a.i) c.if-n-ne0.true (with-entry (goal.at.returns-then-n-ne0 c).Start))
+    _ split_leaf_law.new.top _ _ _ (split_leaf_law.ensures.0 a.head a.i) c.if-n-ne0.true (with-entry (goal.at.returns-then-n-ne0 c).Start))
 
 pub halved-room-requires : goal.halved-room-requires
 halved-room-requires c =
@@ -75,10 +76,10 @@ pub shape_of-leaves-then-not-roomy : goal.shape_of-leaves-then-not-roomy
 shape_of-leaves-then-not-roomy c = let split_leaf_law = c.split_leaf-n in split_leaf_law.auto.leaves
 
 pub shape_of-inners-then-not-roomy : goal.shape_of-inners-then-not-roomy
-shape_of-inners-then-not-roomy c = let split_leaf_law = c.split_leaf-n in split_leaf_law.auto.inners.0
+shape_of-inners-then-not-roomy c = let split_leaf_law = c.split_leaf-n in split_leaf_law.auto.inners
 
 pub shape_of-homes-then-not-roomy : goal.shape_of-homes-then-not-roomy
-shape_of-homes-then-not-roomy c = let split_leaf_law = c.split_leaf-n in split_leaf_law.auto.inners.1.0
+shape_of-homes-then-not-roomy c = let split_leaf_law = c.split_leaf-n in split_leaf_law.auto.homes
 
 pub returns-then-not-roomy : goal.returns-then-not-roomy
 unfolding model.divide
@@ -91,7 +92,7 @@ returns-then-not-roomy c =
     let halved = c.halved-room in
     gone _ c.lost-then-not-roomy.ensures
     (lost_room a.views a.g 1 a.head a.leaves.now a.inners.now a.homes.now a.k.0 a.i a.x.now c.requires.0 (omega (arith, c.requires.1)) (sym len_of_lem.ensures ∙ if1.true)
-    _ split_leaf_law.new.inners.1.1.1.1.1.1.0 _ _ _ (split_leaf_law.ensures.0 a.head a.i) if2.false _ halved.ensures (sym c.roomy.ensures ∙ c.if-not-roomy.true) (with-entry (goal.at.returns-then-not-roomy c).Start))
+    _ split_leaf_law.new.top _ _ _ (split_leaf_law.ensures.0 a.head a.i) if2.false _ halved.ensures (sym c.roomy.ensures ∙ c.if-not-roomy.true) (with-entry (goal.at.returns-then-not-roomy c).Start))
 
 pub split_child-requires : goal.split_child-requires
 split_child-requires c =

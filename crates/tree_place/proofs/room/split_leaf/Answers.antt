@@ -18,10 +18,10 @@ abbrev before : Start → Head → Head
 before s h = counted s.args.used (top_in s.args.top.now) s.args.entries h
 
 -- both halves as they are written
-parts : (c : After-split_off) → Halves (shaped c.before.before.before.before.before.before.before.before.before) c.args.k.0 c.args.used c.args.leaves.now c.split_off.new.area
+parts : (c : After-split_off) → Halves (shape_for c.args.views c.args.fan c.args.nodes) c.args.k.0 c.args.used c.args.leaves.now c.split_off.new.area
 parts c =
-    halves (shaped c) c.args.k.0 c.args.used c.args.leaves.now c.split_off.new.area c.requires.0.shaped.words (omega (arith, c.requires.0.shaped.columns)) c.requires.1
-    (node_end (shaped c) c.args.used _ c.if-nodes-used.false c.requires.0.leaves) c.split_off.ensures
+    halves (shape_for c.args.views c.args.fan c.args.nodes) c.args.k.0 c.args.used c.args.leaves.now c.split_off.new.area c.requires.0.shaped.words (omega (arith, c.requires.0.shaped.columns)) c.requires.1
+    (node_end (shape_for c.args.views c.args.fan c.args.nodes) c.args.used _ c.if-nodes-used.false c.requires.0.leaves) c.split_off.ensures
 
 pub shape_for-g-requires : goal.shape_for-g-requires
 shape_for-g-requires c = let pre = c.requires in (omega (arith, pre.0.shaped.narrow), pre.0.shaped.few)
@@ -49,7 +49,7 @@ pub shape_of-leaves-then-rehome-ne0 : goal.shape_of-leaves-then-rehome-ne0
 shape_of-leaves-then-rehome-ne0 c = let split_off = c.split_off in split_off.auto.area
 
 pub shape_of-homes-then-rehome-ne0 : goal.shape_of-homes-then-rehome-ne0
-shape_of-homes-then-rehome-ne0 c = let rehome = c.rehome in rehome.auto.homes.0
+shape_of-homes-then-rehome-ne0 c = let rehome = c.rehome in rehome.auto.homes
 
 pub returns-then-rehome-ne0 : goal.returns-then-rehome-ne0
 returns-then-rehome-ne0 c =
@@ -86,10 +86,10 @@ shape_of-leaves c =
     add-child.auto.leaves ∙ split_off.auto.area
 
 pub shape_of-inners : goal.shape_of-inners
-shape_of-inners c = let add-child = c.add_child in add-child.auto.inners.0
+shape_of-inners c = let add-child = c.add_child in add-child.auto.inners
 
 pub shape_of-homes : goal.shape_of-homes
-shape_of-homes c = let rehome = c.rehome in rehome.auto.homes.0
+shape_of-homes c = let rehome = c.rehome in rehome.auto.homes
 
 pub returns : goal.returns
 returns c =

@@ -43,7 +43,7 @@ way_sum-requires c =
     (pre.0, pre.1, pre.2, pre.3, pre.4, pre.5)
 
 pub shape_of-inners-then-summed : goal.shape_of-inners-then-summed
-shape_of-inners-then-summed c = c.way_sum.auto.inners.0
+shape_of-inners-then-summed c = c.way_sum.auto.inners
 
 pub returns-then-summed : goal.returns-then-summed
 returns-then-summed c =
@@ -57,7 +57,7 @@ way_raise-requires c =
 pub shape_of-inners-then-not-way_raise : goal.shape_of-inners-then-not-way_raise
 shape_of-inners-then-not-way_raise c =
     let way-raise = c.way_raise in
-    way-raise.auto.inners.0
+    way-raise.auto.inners
 
 pub returns-then-not-way_raise : goal.returns-then-not-way_raise
 returns-then-not-way_raise c =
@@ -68,7 +68,7 @@ returns-then-not-way_raise c =
 pub shape_of-inners : goal.shape_of-inners
 shape_of-inners c =
     let way-raise = c.way_raise in
-    way-raise.auto.inners.0
+    way-raise.auto.inners
 
 pub returns : goal.returns
 returns c =
