@@ -1,5 +1,5 @@
 -- `tree_place::size::asked_way`: summed it is the way up, and without the sum the walk leaves what that leaves.
-use Rattle.std.proofs.Common.{ℕ, Bool, List, take, ap, ◌∙◌, arith}
+use Rattle.std.proofs.Common.{◌≡◌, ℕ, Bool, List, take, subst, ap, ◌∙◌, arith}
 use Rattle.model.specs.Node.{start}
 use Rattle.model.specs.State.{shape_for, node_at}
 use Rattle.model.specs.declared.shape.Shape.{Shape}
@@ -63,7 +63,7 @@ pub returns-then-not-way_raise : goal.returns-then-not-way_raise
 returns-then-not-way_raise c =
     let m = node_at (shaped (goal.at.returns-then-not-way_raise c).Start) c.args.k.0 c.args.leaves.now in
     lost_way _ _ c.if-summed.false _ (shaped (goal.at.returns-then-not-way_raise c).Start) c.args.effect (take c.args.views c.args.delta.now) c.args.levels m.parent m.at (start c.args.effect c.args.i m) c.args.inners.now
-    (c.way_raise.ensures ∙ ap (raised (goal.at.returns-then-not-way_raise c).Start) (three_words c.args.delta.now c.requires.6)) (c.if-not-way_raise.true)
+    (subst (λ (ds : List ℕ). (c.way_raise.result, c.way_raise.new.inners) ≡ raised (goal.at.returns-then-not-way_raise c).Start ds) (three_words c.args.delta.now c.requires.6) c.way_raise.ensures) (c.if-not-way_raise.true)
 
 pub shape_of-inners : goal.shape_of-inners
 shape_of-inners c =
@@ -74,4 +74,4 @@ pub returns : goal.returns
 returns c =
     let m = node_at (shaped (goal.at.returns c).Start) c.args.k.0 c.args.leaves.now in
     whole_way _ _ c.if-summed.false _ (shaped (goal.at.returns c).Start) c.args.effect (take c.args.views c.args.delta.now) c.args.levels m.parent m.at (start c.args.effect c.args.i m) c.args.inners.now
-    (c.way_raise.ensures ∙ ap (raised (goal.at.returns c).Start) (three_words c.args.delta.now c.requires.6)) (c.if-not-way_raise.false)
+    (subst (λ (ds : List ℕ). (c.way_raise.result, c.way_raise.new.inners) ≡ raised (goal.at.returns c).Start ds) (three_words c.args.delta.now c.requires.6) c.way_raise.ensures) (c.if-not-way_raise.false)
