@@ -4,7 +4,6 @@ ghost use Rattle.model.specs.Kind.{kind_of};
 ghost use Rattle.model.specs.Lists.{sum_by, range};
 ghost use Rattle.model.specs.Node.{total, used};
 ghost use Rattle.model.specs.State.{state, node_at};
-ghost use Rattle.model.specs.Moments.{at_entry};
 ghost use Rattle.model.specs.Refuse.{shape_of};
 ghost use Rattle.model.specs.Audit.{every, is_sum, is_inner, is_leaf, is_finger, is_held_finger, is_sound, audit};
 ghost use Rattle.model.specs.declared.shape.Kind.{Kind};
@@ -190,7 +189,7 @@ fn every_leaf(
     count: u32,
 ) -> bool
     requires { Known head g (length leaves.now) (length inners.now) × (head.entries ≤ length homes.now) × (count ≤ head.leaves) }
-    ensures { (K : Kind) → g ≡ shape_of K head → K.ordered ≡ ordered → result ≡ every (is_leaf K (at_entry head leaves inners homes)) 0 count }
+    ensures { (K : Kind) → g ≡ shape_of K head → K.ordered ≡ ordered → result ≡ every (is_leaf K (state head leaves.now inners.now homes.now)) 0 count }
 {
     let mut k: u32 = 0;
     while k < count {
@@ -242,7 +241,7 @@ fn is_sound(
     ordered: bool,
 ) -> bool
     requires { AreaHolds g (length leaves.now) × AreaHolds g (length inners.now) × (effect + 1 < g.stride) × (head.limit ≤ length homes.now) }
-    ensures { (views : ℕ) → g ≡ shape_of (kind_of views effect ordered) head → result ≡ is_sound (kind_of views effect ordered) (at_entry head leaves inners homes) }
+    ensures { (views : ℕ) → g ≡ shape_of (kind_of views effect ordered) head → result ≡ is_sound (kind_of views effect ordered) (state head leaves.now inners.now homes.now) }
 {
     let finger = head.finger;
     if !counts(head, g) {
@@ -275,7 +274,7 @@ pub fn audit(
     homes: &[u32],
 ) -> Verdict
     requires { (1 ≤ views) × (views ≤ 3) × (effect < views) }
-    ensures { result ≡ audit (kind_of views effect ordered) (at_entry head leaves inners homes) }
+    ensures { result ≡ audit (kind_of views effect ordered) (state head leaves.now inners.now homes.now) }
 {
     let fan = head.fan;
     let limit = head.limit;

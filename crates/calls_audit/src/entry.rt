@@ -3,7 +3,6 @@ ghost use Rattle.std.specs.Prelude.{◌≡◌, [], ℕ, ◌-◌, ◌<◌, ◌≤
 ghost use Rattle.model.specs.Kind.{kind_of, crossed};
 ghost use Rattle.model.specs.Node.{lengths};
 ghost use Rattle.model.specs.State.{state, node_at};
-ghost use Rattle.model.specs.Moments.{at_entry};
 ghost use Rattle.model.specs.Refuse.{shape_of};
 ghost use Rattle.model.specs.Sound.{least_leaf};
 ghost use Rattle.model.specs.Audit.{every, is_other, is_leaf};
@@ -123,7 +122,7 @@ pub fn is_leaf(
     k: LeafNo,
 ) -> bool
     requires { Known head g (length leaves.now) (length inners.now) × (head.entries ≤ length homes.now) × (k.0 < head.leaves) }
-    ensures { (K : Kind) → g ≡ shape_of K head → K.ordered ≡ ordered → result ≡ is_leaf K (at_entry head leaves inners homes) k.0 }
+    ensures { (K : Kind) → g ≡ shape_of K head → K.ordered ≡ ordered → result ≡ is_leaf K (state head leaves.now inners.now homes.now) k.0 }
 {
     let levels = head.levels;
     let used = head.inners;

@@ -1,7 +1,7 @@
 // The call, of the full tree with its seats' seventeen words.
 ghost use Rattle.std.specs.Prelude.{◌≡◌, length};
+ghost use Rattle.model.specs.State.{state};
 ghost use Rattle.model.specs.Kind.{base};
-ghost use Rattle.model.specs.Moments.{at_entry};
 ghost use Rattle.model.specs.SeatedCalls.{audit_seated};
 ghost use Rattle.tree_seats.specs.Words.{seats_from};
 
@@ -12,7 +12,7 @@ use tree_seats::rule::is_fair;
 // Whether the tree is sound, and its seats fair.
 pub fn audit(head: Head, seats: &[u32], leaves: &[u32], inners: &[u32], homes: &[u32]) -> Verdict
     requires { length seats.now ≡ 17 }
-    ensures { result ≡ audit_seated base (at_entry head leaves inners homes) (seats_from seats.now) }
+    ensures { result ≡ audit_seated base (state head leaves.now inners.now homes.now) (seats_from seats.now) }
 {
     match crate::any::audit(3, 1, false, head, leaves, inners, homes) {
         Verdict::Yes => {

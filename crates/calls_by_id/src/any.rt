@@ -1,9 +1,9 @@
 // The count, and the calls whose answer names an entry by its id, on a tree with views lengths an entry, positions answered in view effect.
 ghost use Rattle.std.specs.Prelude.{◌≡◌, ℕ, ◌<◌, ◌≤◌};
+ghost use Rattle.model.specs.State.{state};
 ghost use Rattle.model.specs.Kind.{kind};
 ghost use Rattle.model.specs.Row as row;
 ghost use Rattle.model.specs.Row.{moved};
-ghost use Rattle.model.specs.Moments.{at_entry, at_exit};
 ghost use Rattle.model.specs.Answer.{number_answer};
 ghost use Rattle.model.specs.Calls as calls;
 ghost use Rattle.model.specs.ById.{next_answer, tree_move};
@@ -27,7 +27,7 @@ pub fn locate(
     index: u32,
 ) -> LookedReply
     requires { (1 ≤ views) × (views ≤ 3) × (effect < views) × (view < views) }
-    ensures { moved (at_exit result.head leaves inners homes) (looked_answer result.answer) ≡ tree_move (kind views effect) (at_entry head leaves inners homes) (row.lookup view index) }
+    ensures { moved (state result.head leaves.now inners.now homes.now) (looked_answer result.answer) ≡ tree_move (kind views effect) (state head leaves.now inners.now homes.now) (row.lookup view index) }
 {
     let r = calls_read::any_lookup::locate(views, effect, head, leaves, inners, homes, view, index);
     let kept = r.head;
@@ -62,7 +62,7 @@ pub fn next(
     at: Cursor,
 ) -> Following
     requires { (1 ≤ views) × (views ≤ 3) }
-    ensures { (effect : ℕ) → following_answer result ≡ next_answer (kind views effect) (at_entry head leaves inners homes) (calls.next_after (kind views effect) (at_entry head leaves inners homes) at) }
+    ensures { (effect : ℕ) → following_answer result ≡ next_answer (kind views effect) (state head leaves.now inners.now homes.now) (calls.next_after (kind views effect) (state head leaves.now inners.now homes.now) at) }
 {
     match calls_read::any::next(views, head, leaves, inners, homes, at) {
         Next::Refused(n) => Following::Refused(n),
@@ -77,7 +77,7 @@ pub fn next(
 // How many entries the tree has.
 pub fn len(views: usize, head: Head, leaves: &[u32], inners: &[u32], homes: &[u32]) -> Number
     requires { (1 ≤ views) × (views ≤ 3) }
-    ensures { (effect : ℕ) → moved (at_entry head leaves inners homes) (number_answer result) ≡ tree_move (kind views effect) (at_entry head leaves inners homes) row.count }
+    ensures { (effect : ℕ) → moved (state head leaves.now inners.now homes.now) (number_answer result) ≡ tree_move (kind views effect) (state head leaves.now inners.now homes.now) row.count }
 {
     let fan = head.fan;
     let limit = head.limit;

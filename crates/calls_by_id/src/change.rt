@@ -1,10 +1,10 @@
 // The calls by id that change lengths or add an entry.
 ghost use Rattle.std.specs.Prelude.{◌≡◌, ℕ, ◌<◌, ◌≤◌, length, get_or};
+ghost use Rattle.model.specs.State.{state};
 ghost use Rattle.model.specs.Length.{lengths_in};
 ghost use Rattle.model.specs.Kind.{kind, kind_of};
 ghost use Rattle.model.specs.Row as row;
 ghost use Rattle.model.specs.Row.{moved};
-ghost use Rattle.model.specs.Moments.{at_entry, at_exit};
 ghost use Rattle.model.specs.Answer.{outcome_answer, inserted_answer};
 ghost use Rattle.model.specs.ById.{divided_id_answer, tree_move};
 ghost use Rattle.calls_by_id.specs.Place.{place_of};
@@ -29,7 +29,7 @@ fn place(
     id: EntryId,
 ) -> Standing
     requires { (1 ≤ views) × (views ≤ 3) }
-    ensures { (effect : ℕ) → result ≡ place_of (kind views effect) (at_entry head leaves inners homes) id.0 }
+    ensures { (effect : ℕ) → result ≡ place_of (kind views effect) (state head leaves.now inners.now homes.now) id.0 }
 {
     let i = id.0;
     if i == NONE {
@@ -55,7 +55,7 @@ pub fn insert(
     x: &[u32; 4],
 ) -> InsertedReply
     requires { (1 ≤ views) × (views ≤ 3) × (effect < views) × (get_or x.now 0 0 ≡ head.entries) × (length x.now ≡ 4) }
-    ensures { moved (at_exit result.head leaves inners homes) (inserted_answer result.answer) ≡ tree_move (kind_of views effect ordered) (at_entry head leaves inners homes) (row.insert id.0 (lengths_in views x.now)) }
+    ensures { moved (state result.head leaves.new inners.new homes.new) (inserted_answer result.answer) ≡ tree_move (kind_of views effect ordered) (state head leaves.old inners.old homes.old) (row.insert id.0 (lengths_in views x.now)) }
 {
     match place(views, head, leaves, inners, homes, id) {
         Standing::Refused(n) => InsertedReply {
@@ -85,7 +85,7 @@ pub fn split_entry(
     before: bool,
 ) -> DividedReply
     requires { (1 ≤ views) × (views ≤ 3) × (get_or x.now 0 0 ≡ head.entries) × (length x.now ≡ 4) }
-    ensures { (effect : ℕ) → moved (at_exit result.head leaves inners homes) (divided_id_answer result.answer) ≡ tree_move (kind_of views effect ordered) (at_entry head leaves inners homes) (row.split before id.0 (lengths_in views x.now)) }
+    ensures { (effect : ℕ) → moved (state result.head leaves.new inners.new homes.new) (divided_id_answer result.answer) ≡ tree_move (kind_of views effect ordered) (state head leaves.old inners.old homes.old) (row.split before id.0 (lengths_in views x.now)) }
 {
     match cursor(views, head, leaves, inners, homes, id) {
         Standing::Refused(n) => DividedReply {
@@ -114,7 +114,7 @@ pub fn set_lengths(
     new: &[u32; 4],
 ) -> OutcomeReply
     requires { (1 ≤ views) × (views ≤ 3) × (effect < views) × (length new.now ≡ 4) }
-    ensures { moved (at_exit result.head leaves inners homes) (outcome_answer result.answer) ≡ tree_move (kind_of views effect ordered) (at_entry head leaves inners homes) (row.set_lengths id.0 (lengths_in views new.now)) }
+    ensures { moved (state result.head leaves.new inners.new homes.now) (outcome_answer result.answer) ≡ tree_move (kind_of views effect ordered) (state head leaves.old inners.old homes.now) (row.set_lengths id.0 (lengths_in views new.now)) }
 {
     match cursor(views, head, leaves, inners, homes, id) {
         Standing::Refused(n) => OutcomeReply {

@@ -1,10 +1,10 @@
 // The calls by id that follow the order of the entries.
 ghost use Rattle.std.specs.Prelude.{◌≡◌};
+ghost use Rattle.model.specs.State.{state};
 ghost use Rattle.model.specs.Kind.{base};
 ghost use Rattle.model.specs.Row as row;
 ghost use Rattle.model.specs.Row.{moved};
 ghost use Rattle.model.specs.Answer.{named_answer};
-ghost use Rattle.model.specs.Moments.{at_entry};
 ghost use Rattle.model.specs.Calls as calls;
 ghost use Rattle.model.specs.ById.{next_answer, tree_step};
 ghost use Rattle.calls_by_id.specs.Answer.{following_answer};
@@ -16,7 +16,7 @@ use model::head::{Cursor, Head};
 
 // The first entry.
 pub fn first(head: Head, leaves: &[u32], inners: &[u32], homes: &[u32]) -> Named
-    ensures { moved (at_entry head leaves inners homes) (named_answer result) ≡ tree_step base (at_entry head leaves inners homes) row.first }
+    ensures { moved (state head leaves.now inners.now homes.now) (named_answer result) ≡ tree_step base (state head leaves.now inners.now homes.now) row.first }
 {
     match calls_read::order::first(head, leaves, inners, homes) {
         Standing::Refused(n) => Named::Refused(n),
@@ -26,7 +26,7 @@ pub fn first(head: Head, leaves: &[u32], inners: &[u32], homes: &[u32]) -> Named
 
 // The id of the entry after the one at a cursor, or nothing after the last.
 pub fn next(head: Head, leaves: &[u32], inners: &[u32], homes: &[u32], at: Cursor) -> Following
-    ensures { following_answer result ≡ next_answer base (at_entry head leaves inners homes) (calls.next_after base (at_entry head leaves inners homes) at) }
+    ensures { following_answer result ≡ next_answer base (state head leaves.now inners.now homes.now) (calls.next_after base (state head leaves.now inners.now homes.now) at) }
 {
     crate::any::next(3, head, leaves, inners, homes, at)
 }

@@ -1,10 +1,10 @@
 // The lookup by id.
 ghost use Rattle.std.specs.Prelude.{◌≡◌};
+ghost use Rattle.model.specs.State.{state};
 ghost use Rattle.model.specs.Length.{view_number};
 ghost use Rattle.model.specs.Kind.{base};
 ghost use Rattle.model.specs.Row as row;
 ghost use Rattle.model.specs.Row.{moved};
-ghost use Rattle.model.specs.Moments.{at_entry, at_exit};
 ghost use Rattle.model.specs.ById.{tree_step};
 ghost use Rattle.calls_by_id.specs.Answer.{looked_answer};
 
@@ -21,7 +21,7 @@ pub fn locate(
     view: View,
     index: u32,
 ) -> LookedReply
-    ensures { moved (at_exit result.head leaves inners homes) (looked_answer result.answer) ≡ tree_step base (at_entry head leaves inners homes) (row.lookup (view_number view) index) }
+    ensures { moved (state result.head leaves.now inners.now homes.now) (looked_answer result.answer) ≡ tree_step base (state head leaves.now inners.now homes.now) (row.lookup (view_number view) index) }
 {
     crate::any::locate(3, 1, head, leaves, inners, homes, view.number(), index)
 }

@@ -1,9 +1,9 @@
 // The calls by id that follow the order of the entries.
 ghost use Rattle.std.specs.Prelude.{◌≡◌, ℕ, ◌<◌, ◌≤◌};
+ghost use Rattle.model.specs.State.{state};
 ghost use Rattle.model.specs.Kind.{kind};
 ghost use Rattle.model.specs.Row as row;
 ghost use Rattle.model.specs.Row.{moved};
-ghost use Rattle.model.specs.Moments.{at_entry};
 ghost use Rattle.model.specs.Answer.{number_answer, compared_answer};
 ghost use Rattle.model.specs.ById.{tree_move};
 ghost use Rattle.calls_by_id.specs.Answer.{following_answer};
@@ -25,7 +25,7 @@ pub fn rank(
     id: EntryId,
 ) -> Number
     requires { (1 ≤ views) × (views ≤ 3) × (view < views) }
-    ensures { (effect : ℕ) → moved (at_entry head leaves inners homes) (number_answer result) ≡ tree_move (kind views effect) (at_entry head leaves inners homes) (row.rank view id.0) }
+    ensures { (effect : ℕ) → moved (state head leaves.now inners.now homes.now) (number_answer result) ≡ tree_move (kind views effect) (state head leaves.now inners.now homes.now) (row.rank view id.0) }
 {
     match cursor(views, head, leaves, inners, homes, id) {
         Standing::Refused(n) => Number::Refused(n),
@@ -45,7 +45,7 @@ pub fn next(
     id: EntryId,
 ) -> Following
     requires { (1 ≤ views) × (views ≤ 3) }
-    ensures { (effect : ℕ) → moved (at_entry head leaves inners homes) (following_answer result) ≡ tree_move (kind views effect) (at_entry head leaves inners homes) (row.next id.0) }
+    ensures { (effect : ℕ) → moved (state head leaves.now inners.now homes.now) (following_answer result) ≡ tree_move (kind views effect) (state head leaves.now inners.now homes.now) (row.next id.0) }
 {
     match cursor(views, head, leaves, inners, homes, id) {
         Standing::Refused(n) => Following::Refused(n),
@@ -64,7 +64,7 @@ pub fn cmp(
     other: EntryId,
 ) -> Compared
     requires { (1 ≤ views) × (views ≤ 3) }
-    ensures { (effect : ℕ) → moved (at_entry head leaves inners homes) (compared_answer result) ≡ tree_move (kind views effect) (at_entry head leaves inners homes) (row.compare id.0 other.0) }
+    ensures { (effect : ℕ) → moved (state head leaves.now inners.now homes.now) (compared_answer result) ≡ tree_move (kind views effect) (state head leaves.now inners.now homes.now) (row.compare id.0 other.0) }
 {
     match cursor(views, head, leaves, inners, homes, id) {
         Standing::Refused(n) => Compared::Refused(n),

@@ -1,10 +1,10 @@
 // The count of the entries, as a call of a list answers it.
 ghost use Rattle.std.specs.Prelude.{◌≡◌};
+ghost use Rattle.model.specs.State.{state};
 ghost use Rattle.model.specs.Kind.{base};
 ghost use Rattle.model.specs.Row as row;
 ghost use Rattle.model.specs.Row.{moved};
 ghost use Rattle.model.specs.Answer.{number_answer};
-ghost use Rattle.model.specs.Moments.{at_entry};
 ghost use Rattle.model.specs.ById.{tree_step};
 
 use model::answer::Number;
@@ -12,7 +12,7 @@ use model::head::Head;
 
 // How many entries the tree has.
 pub fn len(head: Head, leaves: &[u32], inners: &[u32], homes: &[u32]) -> Number
-    ensures { moved (at_entry head leaves inners homes) (number_answer result) ≡ tree_step base (at_entry head leaves inners homes) row.count }
+    ensures { moved (state head leaves.now inners.now homes.now) (number_answer result) ≡ tree_step base (state head leaves.now inners.now homes.now) row.count }
 {
     crate::any::len(3, head, leaves, inners, homes)
 }

@@ -5,7 +5,6 @@ ghost use Rattle.model.specs.Length.{lengths_in};
 ghost use Rattle.model.specs.Kind.{kind, kind_of};
 ghost use Rattle.model.specs.Lists.{Cause, refusal};
 ghost use Rattle.model.specs.State.{state};
-ghost use Rattle.model.specs.Moments.{at_entry, at_exit};
 ghost use Rattle.model.specs.Refuse.{shape_of, opening};
 ghost use Rattle.model.specs.Calls as calls;
 ghost use Rattle.model.specs.Calls.{reply, target_causes, insert_causes};
@@ -47,7 +46,7 @@ fn open_for(
     before: Target,
 ) -> Opened
     requires { (1 ≤ views) × (views ≤ 3) }
-    ensures { (effect : ℕ) → result ≡ opened_by (opening (kind views effect) (at_entry head leaves inners homes) ++ target_causes (kind views effect) (at_entry head leaves inners homes) before) (shape_of (kind views effect) head) }
+    ensures { (effect : ℕ) → result ≡ opened_by (opening (kind views effect) (state head leaves.now inners.now homes.now) ++ target_causes (kind views effect) (state head leaves.now inners.now homes.now) before) (shape_of (kind views effect) head) }
 {
     match before {
         Target::Before(at) => open_at(views, head, leaves, inners, homes, at),
@@ -69,7 +68,7 @@ fn open_insert(
     x: &[u32; 4],
 ) -> Opened
     requires { (1 ≤ views) × (views ≤ 3) × (length x.now ≡ 4) }
-    ensures { (effect : ℕ) (causes : List Cause) → refusal causes ≡ room → result ≡ opened_by (insert_causes (kind_of views effect ordered) causes (at_entry head leaves inners homes) before (lengths_in views x.now)) (shape_of (kind_of views effect ordered) head) }
+    ensures { (effect : ℕ) (causes : List Cause) → refusal causes ≡ room → result ≡ opened_by (insert_causes (kind_of views effect ordered) causes (state head leaves.now inners.now homes.now) before (lengths_in views x.now)) (shape_of (kind_of views effect ordered) head) }
 {
     if too_many_lines(views, x) {
         return Opened::Refused(10);
@@ -163,7 +162,7 @@ fn enter(
     x: &[u32; 4],
 ) -> InsertedReply
     requires { Ready (kind views effect) (state head leaves.old inners.old homes.old) g × Aimed (kind views effect) (state head leaves.old inners.old homes.old) before × (effect < views) × (head.entries < head.limit) × (get_or x.now 0 0 ≡ head.entries) × (length x.now ≡ 4) }
-    ensures { reply (at_exit result.head leaves inners homes) result.answer ≡ inserted_by (kind views effect) g (at_entry head leaves inners homes) before (lengths_in views x.now) }
+    ensures { reply (state result.head leaves.new inners.new homes.new) result.answer ≡ inserted_by (kind views effect) g (state head leaves.old inners.old homes.old) before (lengths_in views x.now) }
 {
     let to = aim_at(head, leaves, inners, g, before);
     if to.number != 0 {
@@ -205,7 +204,7 @@ pub fn insert(
     x: &[u32; 4],
 ) -> InsertedReply
     requires { (1 ≤ views) × (views ≤ 3) × (effect < views) × (get_or x.now 0 0 ≡ head.entries) × (length x.now ≡ 4) × (room ≡ 0 → head.entries < head.limit) }
-    ensures { (causes : List Cause) → refusal causes ≡ room → reply (at_exit result.head leaves inners homes) result.answer ≡ calls.insert_by (kind_of views effect ordered) causes (at_entry head leaves inners homes) before (lengths_in views x.now) }
+    ensures { (causes : List Cause) → refusal causes ≡ room → reply (state result.head leaves.new inners.new homes.new) result.answer ≡ calls.insert_by (kind_of views effect ordered) causes (state head leaves.old inners.old homes.old) before (lengths_in views x.now) }
 {
     match open_insert(views, ordered, room, head, leaves, inners, homes, before, x) {
         Opened::Refused(n) => refused(head, n),

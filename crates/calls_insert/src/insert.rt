@@ -1,8 +1,8 @@
 // One entry more: insert.
 ghost use Rattle.std.specs.Prelude.{◌≡◌};
+ghost use Rattle.model.specs.State.{state};
 ghost use Rattle.model.specs.Length.{list_of};
 ghost use Rattle.model.specs.Kind.{base};
-ghost use Rattle.model.specs.Moments.{at_entry, at_exit};
 ghost use Rattle.model.specs.Calls as calls;
 ghost use Rattle.model.specs.Calls.{reply};
 
@@ -20,7 +20,7 @@ pub fn insert(
     before: Target,
     lengths: Lengths,
 ) -> InsertedReply
-    ensures { reply (at_exit result.head leaves inners homes) result.answer ≡ calls.insert base (at_entry head leaves inners homes) before (list_of lengths) }
+    ensures { reply (state result.head leaves.new inners.new homes.new) result.answer ≡ calls.insert base (state head leaves.old inners.old homes.old) before (list_of lengths) }
 {
     let slot = Slot::new(head.entries, lengths);
     let x: [u32; 4] = [

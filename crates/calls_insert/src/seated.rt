@@ -1,8 +1,8 @@
 // One entry more for a seat, or for nobody: insert, in a tree whose seats stand in seventeen lent words.
 ghost use Rattle.std.specs.Prelude.{◌≡◌, false, ◌||◌, length, get_or};
+ghost use Rattle.model.specs.State.{state};
 ghost use Rattle.model.specs.Length.{list_of};
 ghost use Rattle.model.specs.Kind.{base, too_many_lines};
-ghost use Rattle.model.specs.Moments.{at_entry, at_exit};
 ghost use Rattle.model.specs.Seats.{bad_seat};
 ghost use Rattle.model.specs.SeatedCalls.{seated_reply, after_insert, insert_seated};
 ghost use Rattle.tree_seats.specs.Words.{seats_from};
@@ -49,7 +49,7 @@ pub fn insert(
     lengths: Lengths,
 ) -> InsertedReply
     requires { length seats.old ≡ 17 }
-    ensures { (seated_reply (at_exit result.head leaves inners homes) (seats_from seats.new) result.answer ≡ insert_seated base (at_entry head leaves inners homes) (seats_from seats.old) seat before (list_of lengths)) × (get_or seats.new 0 0 ≡ get_or seats.old 0 0) }
+    ensures { (seated_reply (state result.head leaves.new inners.new homes.new) (seats_from seats.new) result.answer ≡ insert_seated base (state head leaves.old inners.old homes.old) (seats_from seats.old) seat before (list_of lengths)) × (get_or seats.new 0 0 ≡ get_or seats.old 0 0) }
 {
     if bad_arguments(seats, seat, lengths) {
         return InsertedReply {

@@ -5,8 +5,7 @@ ghost use Rattle.model.specs.Length.{lengths_in};
 ghost use Rattle.model.specs.Lists.{Cause, refusal};
 ghost use Rattle.model.specs.Kind.{kind_of, stride};
 ghost use Rattle.model.specs.Node.{new_node};
-ghost use Rattle.model.specs.State.{shape, put_node};
-ghost use Rattle.model.specs.Moments.{at_entry, at_exit};
+ghost use Rattle.model.specs.State.{state, shape, put_node};
 ghost use Rattle.model.specs.Calls as calls;
 ghost use Rattle.model.specs.Calls.{begun, make_causes, reply};
 ghost use Rattle.model.specs.declared.shape.Kind.{Kind};
@@ -45,7 +44,7 @@ fn begin(
     homes: &mut [u32],
 ) -> Head
     requires { Shaped g × (g.size ≤ length leaves.old) × (g.size ≤ length inners.old) × (0 < length homes.old) × (slice_index x.now 0 ≡ 0) × (length x.now ≡ 4) }
-    ensures { (K : Kind) → g ≡ shape (stride K) fan limit → at_exit result leaves inners homes ≡ begun K fan limit stamp (lengths_in K.views x.now) leaves.old inners.old homes.old }
+    ensures { (K : Kind) → g ≡ shape (stride K) fan limit → state result leaves.new inners.new homes.new ≡ begun K fan limit stamp (lengths_in K.views x.now) leaves.old inners.old homes.old }
 {
     let empty = Slot::EMPTY;
     write_first(leaves, g, 0, x);
@@ -132,7 +131,7 @@ pub fn new(
     homes: &mut [u32],
 ) -> OutcomeReply
     requires { (1 ≤ views) × (views ≤ 3) × (slice_index x.now 0 ≡ 0) × (length x.now ≡ 4) }
-    ensures { (effect : ℕ) (more : List Cause) → refusal more ≡ high → reply (at_exit result.head leaves inners homes) result.answer ≡ make_by (kind_of views effect ordered) more fan limit (lengths_in views x.now) leaves.old inners.old homes.old }
+    ensures { (effect : ℕ) (more : List Cause) → refusal more ≡ high → reply (state result.head leaves.new inners.new homes.new) result.answer ≡ make_by (kind_of views effect ordered) more fan limit (lengths_in views x.now) leaves.old inners.old homes.old }
 {
     match open_new(views, ordered, high, fan, limit, x, leaves, inners, homes) {
         Opened::Refused(n) => {
@@ -170,7 +169,7 @@ pub fn reset(
     homes: &mut [u32],
 ) -> OutcomeReply
     requires { (1 ≤ views) × (views ≤ 3) × (slice_index x.now 0 ≡ 0) × (length x.now ≡ 4) }
-    ensures { (effect : ℕ) → reply (at_exit result.head leaves inners homes) result.answer ≡ calls.reset (kind_of views effect ordered) (at_entry head leaves inners homes) (lengths_in views x.now) }
+    ensures { (effect : ℕ) → reply (state result.head leaves.new inners.new homes.new) result.answer ≡ calls.reset (kind_of views effect ordered) (state head leaves.old inners.old homes.old) (lengths_in views x.now) }
 {
     let fan = head.fan;
     let limit = head.limit;

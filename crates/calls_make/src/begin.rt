@@ -1,8 +1,8 @@
 // The calls that begin a tree: one leaf with the entry 0, and one inner node above it.
 ghost use Rattle.std.specs.Prelude.{◌≡◌};
+ghost use Rattle.model.specs.State.{state};
 ghost use Rattle.model.specs.Length.{list_of};
 ghost use Rattle.model.specs.Kind.{base};
-ghost use Rattle.model.specs.Moments.{at_entry, at_exit};
 ghost use Rattle.model.specs.Calls as calls;
 ghost use Rattle.model.specs.Calls.{reply};
 
@@ -19,7 +19,7 @@ pub fn new(
     inners: &mut [u32],
     homes: &mut [u32],
 ) -> OutcomeReply
-    ensures { reply (at_exit result.head leaves inners homes) result.answer ≡ calls.make base fan limit (list_of lengths) leaves.old inners.old homes.old }
+    ensures { reply (state result.head leaves.new inners.new homes.new) result.answer ≡ calls.make base fan limit (list_of lengths) leaves.old inners.old homes.old }
 {
     let slot = Slot::new(0, lengths);
     let x: [u32; 4] = [
@@ -39,7 +39,7 @@ pub fn reset(
     inners: &mut [u32],
     homes: &mut [u32],
 ) -> OutcomeReply
-    ensures { reply (at_exit result.head leaves inners homes) result.answer ≡ calls.reset base (at_entry head leaves inners homes) (list_of lengths) }
+    ensures { reply (state result.head leaves.new inners.new homes.new) result.answer ≡ calls.reset base (state head leaves.old inners.old homes.old) (list_of lengths) }
 {
     let slot = Slot::new(0, lengths);
     let x: [u32; 4] = [

@@ -1,9 +1,9 @@
 // The calls that begin a tree whose seats stand in seventeen lent words.
 ghost use Rattle.std.specs.Prelude.{◌≡◌, ◌≤◌, length, ◌≢◌, slice_index};
+ghost use Rattle.model.specs.State.{state};
 ghost use Rattle.model.specs.Lists.{refusal};
 ghost use Rattle.model.specs.Length.{list_of};
 ghost use Rattle.model.specs.Kind.{base};
-ghost use Rattle.model.specs.Moments.{at_entry, at_exit};
 ghost use Rattle.model.specs.Seats.{no_seats};
 ghost use Rattle.model.specs.SeatedCalls.{seated_reply, after_reset, reset_seated};
 ghost use Rattle.tree_seats.specs.Words.{seats_from};
@@ -69,7 +69,7 @@ pub fn new(
     homes: &mut [u32],
 ) -> OutcomeReply
     requires { (length seats.old ≡ 17) × ((length shares.now ≢ 0) → length shares.now ≡ 8) }
-    ensures { (seated_reply (at_exit result.head leaves inners homes) (seats_from seats.new) result.answer ≡ make_with base fan limit shares.now (list_of lengths) leaves.old inners.old homes.old) × (slice_index seats.new 0 ≤ 1) }
+    ensures { (seated_reply (state result.head leaves.new inners.new homes.new) (seats_from seats.new) result.answer ≡ make_with base fan limit shares.now (list_of lengths) leaves.old inners.old homes.old) × (slice_index seats.new 0 ≤ 1) }
 {
     let high = high_for(limit, shares);
     let slot = Slot::new(0, lengths);
@@ -110,7 +110,7 @@ pub fn reset(
     homes: &mut [u32],
 ) -> OutcomeReply
     requires { length seats.old ≡ 17 }
-    ensures { (seated_reply (at_exit result.head leaves inners homes) (seats_from seats.new) result.answer ≡ reset_seated base (at_entry head leaves inners homes) (seats_from seats.old) (list_of lengths)) × (slice_index seats.new 0 ≡ slice_index seats.old 0) }
+    ensures { (seated_reply (state result.head leaves.new inners.new homes.new) (seats_from seats.new) result.answer ≡ reset_seated base (state head leaves.old inners.old homes.old) (seats_from seats.old) (list_of lengths)) × (slice_index seats.new 0 ≡ slice_index seats.old 0) }
 {
     let slot = Slot::new(0, lengths);
     let x: [u32; 4] = [

@@ -1,7 +1,7 @@
 // The calls that change lengths of a planning tree or add an entry.
 ghost use Rattle.std.specs.Prelude.{◌≡◌};
+ghost use Rattle.model.specs.State.{state};
 ghost use Rattle.model.specs.Row.{moved};
-ghost use Rattle.model.specs.Moments.{at_entry, at_exit};
 ghost use Rattle.model.specs.Answer.{outcome_answer, inserted_answer};
 ghost use Rattle.model.specs.ById.{divided_id_answer};
 ghost use Rattle.model.specs.Plan as plan;
@@ -22,7 +22,7 @@ pub fn insert(
     id: EntryId,
     bounds: Bounds,
 ) -> InsertedReply
-    ensures { moved (at_exit result.head leaves inners homes) (inserted_answer result.answer) ≡ tree_plan (at_entry head leaves inners homes) (plan.insert id.0 (bounds_of bounds)) }
+    ensures { moved (state result.head leaves.new inners.new homes.new) (inserted_answer result.answer) ≡ tree_plan (state head leaves.old inners.old homes.old) (plan.insert id.0 (bounds_of bounds)) }
 {
     let next = head.entries;
     let x: [u32; 4] = [next, bounds.lowest, bounds.highest, 0];
@@ -39,7 +39,7 @@ pub fn split(
     bounds: Bounds,
     before: bool,
 ) -> DividedReply
-    ensures { moved (at_exit result.head leaves inners homes) (divided_id_answer result.answer) ≡ tree_plan (at_entry head leaves inners homes) (plan.split before id.0 (bounds_of bounds)) }
+    ensures { moved (state result.head leaves.new inners.new homes.new) (divided_id_answer result.answer) ≡ tree_plan (state head leaves.old inners.old homes.old) (plan.split before id.0 (bounds_of bounds)) }
 {
     let next = head.entries;
     let x: [u32; 4] = [next, bounds.lowest, bounds.highest, 0];
@@ -55,7 +55,7 @@ pub fn set(
     id: EntryId,
     bounds: Bounds,
 ) -> OutcomeReply
-    ensures { moved (at_exit result.head leaves inners homes) (outcome_answer result.answer) ≡ tree_plan (at_entry head leaves inners homes) (plan.set_lengths id.0 (bounds_of bounds)) }
+    ensures { moved (state result.head leaves.new inners.new homes.now) (outcome_answer result.answer) ≡ tree_plan (state head leaves.old inners.old homes.now) (plan.set_lengths id.0 (bounds_of bounds)) }
 {
     let x: [u32; 4] = [0, bounds.lowest, bounds.highest, 0];
     calls_by_id::change::set_lengths(2, 1, true, head, leaves, inners, homes, id, &x)

@@ -1,10 +1,10 @@
 // The first and the last entry that could hold a position. The lookups keep the finger found.
 ghost use Rattle.std.specs.Prelude.{◌≡◌, cond, ◌-◌, ◌<◌, ltb};
+ghost use Rattle.model.specs.State.{state};
 ghost use Rattle.model.specs.Kind.{planning};
 ghost use Rattle.model.specs.Node.{wrap};
 ghost use Rattle.model.specs.Row as row;
 ghost use Rattle.model.specs.Row.{moved};
-ghost use Rattle.model.specs.Moments.{at_entry, at_exit};
 ghost use Rattle.model.specs.Answer.{named_answer};
 ghost use Rattle.model.specs.ById.{tree_step};
 ghost use Rattle.model.specs.Plan as plan;
@@ -38,7 +38,7 @@ fn held(
     index: u32,
 ) -> NamedReply
     requires { view < 2 }
-    ensures { moved (at_exit result.head leaves inners homes) (named_answer result.answer) ≡ id_move (tree_step planning (at_entry head leaves inners homes) (row.lookup view index)) }
+    ensures { moved (state result.head leaves.now inners.now homes.now) (named_answer result.answer) ≡ id_move (tree_step planning (state head leaves.now inners.now homes.now) (row.lookup view index)) }
 {
     let r = calls_by_id::any::locate(2, 1, head, leaves, inners, homes, view, index);
     let after = r.head;
@@ -68,7 +68,7 @@ pub fn first_at(
     homes: &[u32],
     position: u32,
 ) -> NamedReply
-    ensures { moved (at_exit result.head leaves inners homes) (named_answer result.answer) ≡ tree_plan (at_entry head leaves inners homes) (plan.first_at position) }
+    ensures { moved (state result.head leaves.now inners.now homes.now) (named_answer result.answer) ≡ tree_plan (state head leaves.now inners.now homes.now) (plan.first_at position) }
 {
     held(head, leaves, inners, homes, 1, position)
 }
@@ -81,7 +81,7 @@ pub fn last_at(
     homes: &[u32],
     position: u32,
 ) -> NamedReply
-    ensures { moved (at_exit result.head leaves inners homes) (named_answer result.answer) ≡ tree_plan (at_entry head leaves inners homes) (plan.last_at position) }
+    ensures { moved (state result.head leaves.now inners.now homes.now) (named_answer result.answer) ≡ tree_plan (state head leaves.now inners.now homes.now) (plan.last_at position) }
 {
     match open(2, head, leaves, inners, homes) {
         Opened::Refused(n) => NamedReply {

@@ -1,8 +1,8 @@
 // The calls that begin a planning tree.
 ghost use Rattle.std.specs.Prelude.{◌≡◌};
+ghost use Rattle.model.specs.State.{state};
 ghost use Rattle.model.specs.Kind.{planning};
 ghost use Rattle.model.specs.Row.{moved};
-ghost use Rattle.model.specs.Moments.{at_entry, at_exit};
 ghost use Rattle.model.specs.Answer.{outcome_answer};
 ghost use Rattle.model.specs.Calls as calls;
 ghost use Rattle.model.specs.Calls.{reply};
@@ -23,7 +23,7 @@ pub fn new(
     inners: &mut [u32],
     homes: &mut [u32],
 ) -> OutcomeReply
-    ensures { reply (at_exit result.head leaves inners homes) result.answer ≡ calls.make planning fan limit (bounds_of bounds) leaves.old inners.old homes.old }
+    ensures { reply (state result.head leaves.new inners.new homes.new) result.answer ≡ calls.make planning fan limit (bounds_of bounds) leaves.old inners.old homes.old }
 {
     let x: [u32; 4] = [0, bounds.lowest, bounds.highest, 0];
     calls_make::any::new(2, true, 0, fan, limit, &x, leaves, inners, homes)
@@ -37,7 +37,7 @@ pub fn reset(
     homes: &mut [u32],
     bounds: Bounds,
 ) -> OutcomeReply
-    ensures { moved (at_exit result.head leaves inners homes) (outcome_answer result.answer) ≡ tree_plan (at_entry head leaves inners homes) (plan.reset (bounds_of bounds)) }
+    ensures { moved (state result.head leaves.new inners.new homes.new) (outcome_answer result.answer) ≡ tree_plan (state head leaves.old inners.old homes.old) (plan.reset (bounds_of bounds)) }
 {
     let x: [u32; 4] = [0, bounds.lowest, bounds.highest, 0];
     calls_make::any::reset(2, true, head, &x, leaves, inners, homes)

@@ -1,8 +1,8 @@
 // The calls that read a planning tree.
 ghost use Rattle.std.specs.Prelude.{◌≡◌};
+ghost use Rattle.model.specs.State.{state};
 ghost use Rattle.model.specs.Kind.{planning};
 ghost use Rattle.model.specs.Row.{moved};
-ghost use Rattle.model.specs.Moments.{at_entry};
 ghost use Rattle.model.specs.Answer.{number_answer};
 ghost use Rattle.model.specs.Audit.{audit};
 ghost use Rattle.model.specs.Calls.{entry_lengths};
@@ -21,7 +21,7 @@ use model::number::EntryId;
 
 // The lengths of the entry at a cursor.
 fn lengths_of(head: Head, leaves: &[u32], inners: &[u32], homes: &[u32], at: Cursor) -> Ranged
-    ensures { ranged_answer result ≡ entry_lengths planning (at_entry head leaves inners homes) at }
+    ensures { ranged_answer result ≡ entry_lengths planning (state head leaves.now inners.now homes.now) at }
 {
     let mut x: [u32; 4] = [0; 4];
     let n = calls_read::any::lengths(2, head, leaves, inners, homes, at, &mut x);
@@ -36,7 +36,7 @@ fn lengths_of(head: Head, leaves: &[u32], inners: &[u32], homes: &[u32], at: Cur
 
 // The lengths of the entry id.
 pub fn lengths(head: Head, leaves: &[u32], inners: &[u32], homes: &[u32], id: EntryId) -> Ranged
-    ensures { moved (at_entry head leaves inners homes) (ranged_answer result) ≡ tree_plan (at_entry head leaves inners homes) (plan.lengths id.0) }
+    ensures { moved (state head leaves.now inners.now homes.now) (ranged_answer result) ≡ tree_plan (state head leaves.now inners.now homes.now) (plan.lengths id.0) }
 {
     match cursor(2, head, leaves, inners, homes, id) {
         Standing::Refused(n) => Ranged::Refused(n),
@@ -46,35 +46,35 @@ pub fn lengths(head: Head, leaves: &[u32], inners: &[u32], homes: &[u32], id: En
 
 // How many entries the tree has.
 pub fn count(head: Head, leaves: &[u32], inners: &[u32], homes: &[u32]) -> Number
-    ensures { moved (at_entry head leaves inners homes) (number_answer result) ≡ tree_plan (at_entry head leaves inners homes) plan.count }
+    ensures { moved (state head leaves.now inners.now homes.now) (number_answer result) ≡ tree_plan (state head leaves.now inners.now homes.now) plan.count }
 {
     calls_by_id::any::len(2, head, leaves, inners, homes)
 }
 
 // The entry after the entry id, or nothing after the last.
 pub fn next(head: Head, leaves: &[u32], inners: &[u32], homes: &[u32], id: EntryId) -> Following
-    ensures { moved (at_entry head leaves inners homes) (following_answer result) ≡ tree_plan (at_entry head leaves inners homes) (plan.next id.0) }
+    ensures { moved (state head leaves.now inners.now homes.now) (following_answer result) ≡ tree_plan (state head leaves.now inners.now homes.now) (plan.next id.0) }
 {
     calls_by_id::order::next(2, head, leaves, inners, homes, id)
 }
 
 // The least position that the entry id can have: the lowest lengths before it.
 pub fn earliest(head: Head, leaves: &[u32], inners: &[u32], homes: &[u32], id: EntryId) -> Number
-    ensures { moved (at_entry head leaves inners homes) (number_answer result) ≡ tree_plan (at_entry head leaves inners homes) (plan.earliest id.0) }
+    ensures { moved (state head leaves.now inners.now homes.now) (number_answer result) ≡ tree_plan (state head leaves.now inners.now homes.now) (plan.earliest id.0) }
 {
     rank(2, head, leaves, inners, homes, 0, id)
 }
 
 // The greatest: the highest lengths before it.
 pub fn latest(head: Head, leaves: &[u32], inners: &[u32], homes: &[u32], id: EntryId) -> Number
-    ensures { moved (at_entry head leaves inners homes) (number_answer result) ≡ tree_plan (at_entry head leaves inners homes) (plan.latest id.0) }
+    ensures { moved (state head leaves.now inners.now homes.now) (number_answer result) ≡ tree_plan (state head leaves.now inners.now homes.now) (plan.latest id.0) }
 {
     rank(2, head, leaves, inners, homes, 1, id)
 }
 
 // Whether the tree is sound.
 pub fn audit(head: Head, leaves: &[u32], inners: &[u32], homes: &[u32]) -> Verdict
-    ensures { result ≡ audit planning (at_entry head leaves inners homes) }
+    ensures { result ≡ audit planning (state head leaves.now inners.now homes.now) }
 {
     calls_audit::any::audit(2, 1, true, head, leaves, inners, homes)
 }

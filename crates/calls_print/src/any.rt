@@ -1,8 +1,8 @@
 // The sheet of a tree with views lengths an entry, whose second column of positions and lengths is that of view effect: the causes in
 // order, the lines of the entries, and the blank lines that fill up the last page.
 ghost use Rattle.std.specs.Prelude.{◌≡◌, ℕ, ◌<◌, ◌≤◌};
+ghost use Rattle.model.specs.State.{state};
 ghost use Rattle.model.specs.Kind.{kind};
-ghost use Rattle.model.specs.Moments.{at_entry};
 ghost use Rattle.model.specs.Refuse.{shape_of};
 ghost use Rattle.model.specs.Sheet.{pages_for};
 ghost use Rattle.model.specs.Print.{print_causes, print};
@@ -31,7 +31,7 @@ fn open_print(
     bytes: usize,
 ) -> Opened
     requires { (1 ≤ views) × (views ≤ 3) }
-    ensures { (effect : ℕ) → result ≡ opened_by (print_causes (kind views effect) (at_entry head leaves inners homes) bytes) (shape_of (kind views effect) head) }
+    ensures { (effect : ℕ) → result ≡ opened_by (print_causes (kind views effect) (state head leaves.now inners.now homes.now) bytes) (shape_of (kind views effect) head) }
 {
     let fan = head.fan;
     let limit = head.limit;
@@ -61,7 +61,7 @@ pub fn print(
     page: &mut [u8],
 ) -> Number
     requires { (1 ≤ views) × (views ≤ 3) × (effect < views) }
-    ensures { (result, page.new) ≡ print (kind views effect) (at_entry head leaves inners homes) page.old }
+    ensures { (result, page.new) ≡ print (kind views effect) (state head leaves.now inners.now homes.now) page.old }
 {
     let bytes = page.len();
     match open_print(views, head, leaves, inners, homes, bytes) {

@@ -3,8 +3,7 @@ ghost use Rattle.std.specs.Prelude.{◌≡◌, ℕ, ◌<◌, ◌≤◌, [], ◌�
 ghost use Rattle.model.specs.Kind.{kind};
 ghost use Rattle.model.specs.Length.{lengths_in};
 ghost use Rattle.model.specs.Node.{used, index_from};
-ghost use Rattle.model.specs.State.{node_at};
-ghost use Rattle.model.specs.Moments.{at_entry};
+ghost use Rattle.model.specs.State.{state, node_at};
 ghost use Rattle.model.specs.Calls as calls;
 ghost use Rattle.tree_area.specs.Area.{AreaHolds};
 ghost use Rattle.calls_read.specs.Read.{cursor_in, lengths_by};
@@ -32,7 +31,7 @@ pub fn id(
     at: Cursor,
 ) -> Named
     requires { (1 ≤ views) × (views ≤ 3) }
-    ensures { (effect : ℕ) → result ≡ calls.id (kind views effect) (at_entry head leaves inners homes) at }
+    ensures { (effect : ℕ) → result ≡ calls.id (kind views effect) (state head leaves.now inners.now homes.now) at }
 {
     match open_at(views, head, leaves, inners, homes, at) {
         Opened::Refused(n) => Named::Refused(n),
@@ -56,7 +55,7 @@ pub fn lengths(
     x: &mut [u32; 4],
 ) -> u32
     requires { (1 ≤ views) × (views ≤ 3) × (length x.old ≡ 4) }
-    ensures { ((effect : ℕ) → lengths_by result (lengths_in views x.new) ≡ calls.entry_lengths (kind views effect) (at_entry head leaves inners homes) at) × (length x.new ≡ 4) }
+    ensures { ((effect : ℕ) → lengths_by result (lengths_in views x.new) ≡ calls.entry_lengths (kind views effect) (state head leaves.now inners.now homes.now) at) × (length x.new ≡ 4) }
 {
     match open_at(views, head, leaves, inners, homes, at) {
         Opened::Refused(n) => n,
@@ -108,7 +107,7 @@ pub fn cursor(
     id: EntryId,
 ) -> Standing
     requires { (1 ≤ views) × (views ≤ 3) }
-    ensures { (effect : ℕ) → result ≡ calls.cursor (kind views effect) (at_entry head leaves inners homes) id.0 }
+    ensures { (effect : ℕ) → result ≡ calls.cursor (kind views effect) (state head leaves.now inners.now homes.now) id.0 }
 {
     match open(views, head, leaves, inners, homes) {
         Opened::Refused(n) => Standing::Refused(n),
@@ -138,7 +137,7 @@ pub fn entry_to_char_index(
     at: Cursor,
 ) -> Number
     requires { (1 ≤ views) × (views ≤ 3) × (view < views) }
-    ensures { (effect : ℕ) → result ≡ calls.entry_to_char_index (kind views effect) (at_entry head leaves inners homes) view at }
+    ensures { (effect : ℕ) → result ≡ calls.entry_to_char_index (kind views effect) (state head leaves.now inners.now homes.now) view at }
 {
     match open_at(views, head, leaves, inners, homes, at) {
         Opened::Refused(n) => Number::Refused(n),
@@ -158,7 +157,7 @@ pub fn entry_to_char_index(
 // The cursor of the first entry.
 pub fn first(views: usize, head: Head, leaves: &[u32], inners: &[u32], homes: &[u32]) -> Standing
     requires { (1 ≤ views) × (views ≤ 3) }
-    ensures { (effect : ℕ) → result ≡ calls.first (kind views effect) (at_entry head leaves inners homes) }
+    ensures { (effect : ℕ) → result ≡ calls.first (kind views effect) (state head leaves.now inners.now homes.now) }
 {
     match open(views, head, leaves, inners, homes) {
         Opened::Refused(n) => Standing::Refused(n),
@@ -187,7 +186,7 @@ pub fn next(
     at: Cursor,
 ) -> Next
     requires { (1 ≤ views) × (views ≤ 3) }
-    ensures { (effect : ℕ) → result ≡ calls.next_after (kind views effect) (at_entry head leaves inners homes) at }
+    ensures { (effect : ℕ) → result ≡ calls.next_after (kind views effect) (state head leaves.now inners.now homes.now) at }
 {
     match open_at(views, head, leaves, inners, homes, at) {
         Opened::Refused(n) => Next::Refused(n),
@@ -282,7 +281,7 @@ pub fn cmp(
     b: Cursor,
 ) -> Compared
     requires { (1 ≤ views) × (views ≤ 3) }
-    ensures { (effect : ℕ) → result ≡ calls.cmp (kind views effect) (at_entry head leaves inners homes) a b }
+    ensures { (effect : ℕ) → result ≡ calls.cmp (kind views effect) (state head leaves.now inners.now homes.now) a b }
 {
     match open(views, head, leaves, inners, homes) {
         Opened::Refused(n) => Compared::Refused(n),

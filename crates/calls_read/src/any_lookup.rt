@@ -1,8 +1,8 @@
 // The lookup on a tree with views lengths an entry, positions answered in view effect: first from the finger, then from the root.
 // The head comes back with the finger that was found.
 ghost use Rattle.std.specs.Prelude.{◌≡◌, ◌+◌, ◌<◌, ◌≤◌, true, false};
+ghost use Rattle.model.specs.State.{state};
 ghost use Rattle.model.specs.Kind.{kind};
-ghost use Rattle.model.specs.Moments.{at_entry, at_exit};
 ghost use Rattle.model.specs.Node.{wrap};
 ghost use Rattle.model.specs.Calls.{reply};
 ghost use Rattle.model.specs.Examined as count;
@@ -88,7 +88,7 @@ pub fn locate(
     index: u32,
 ) -> LocatedReply
     requires { (1 ≤ views) × (views ≤ 3) × (effect < views) × (view < views) }
-    ensures { (reply (at_exit result.head leaves inners homes) (counted result.answer result.examined) ≡ count.locate (kind views effect) (at_entry head leaves inners homes) view index) × (result.stayed ≡ true → Stayed head.finger result.head.finger) }
+    ensures { (reply (state result.head leaves.now inners.now homes.now) (counted result.answer result.examined) ≡ count.locate (kind views effect) (state head leaves.now inners.now homes.now) view index) × (result.stayed ≡ true → Stayed head.finger result.head.finger) }
 {
     match open(views, head, leaves, inners, homes) {
         Opened::Refused(n) => refused(head, n),

@@ -1,8 +1,8 @@
 // The lookups. The head comes back with the finger that was found.
 ghost use Rattle.std.specs.Prelude.{◌≡◌, true};
+ghost use Rattle.model.specs.State.{state};
 ghost use Rattle.model.specs.Length.{view_number};
 ghost use Rattle.model.specs.Kind.{base};
-ghost use Rattle.model.specs.Moments.{at_entry, at_exit};
 ghost use Rattle.model.specs.Calls.{reply};
 ghost use Rattle.model.specs.Examined as count;
 ghost use Rattle.model.specs.Examined.{counted};
@@ -21,7 +21,7 @@ pub fn locate(
     view: View,
     index: u32,
 ) -> LocatedReply
-    ensures { (reply (at_exit result.head leaves inners homes) (counted result.answer result.examined) ≡ count.locate base (at_entry head leaves inners homes) (view_number view) index) × (result.stayed ≡ true → Stayed head.finger result.head.finger) }
+    ensures { (reply (state result.head leaves.now inners.now homes.now) (counted result.answer result.examined) ≡ count.locate base (state head leaves.now inners.now homes.now) (view_number view) index) × (result.stayed ≡ true → Stayed head.finger result.head.finger) }
 {
     crate::any_lookup::locate(3, 1, head, leaves, inners, homes, view.number(), index)
 }
@@ -35,7 +35,7 @@ pub fn char_index_to_entry(
     view: View,
     index: u32,
 ) -> SelectedReply
-    ensures { reply (at_exit result.head leaves inners homes) (counted result.answer result.examined) ≡ count.char_index_to_entry base (at_entry head leaves inners homes) (view_number view) index }
+    ensures { reply (state result.head leaves.now inners.now homes.now) (counted result.answer result.examined) ≡ count.char_index_to_entry base (state head leaves.now inners.now homes.now) (view_number view) index }
 {
     let r = locate(head, leaves, inners, homes, view, index);
     let kept = r.head;

@@ -1,8 +1,8 @@
 // The calls that follow the order of the entries: an entry's position, the first, the next, and which of two stands first.
 ghost use Rattle.std.specs.Prelude.{◌≡◌};
+ghost use Rattle.model.specs.State.{state};
 ghost use Rattle.model.specs.Length.{view_number};
 ghost use Rattle.model.specs.Kind.{base};
-ghost use Rattle.model.specs.Moments.{at_entry};
 ghost use Rattle.model.specs.Calls as calls;
 
 use model::answer::{Compared, Next, Number, Standing};
@@ -18,21 +18,21 @@ pub fn entry_to_char_index(
     view: View,
     at: Cursor,
 ) -> Number
-    ensures { result ≡ calls.entry_to_char_index base (at_entry head leaves inners homes) (view_number view) at }
+    ensures { result ≡ calls.entry_to_char_index base (state head leaves.now inners.now homes.now) (view_number view) at }
 {
     crate::any::entry_to_char_index(3, head, leaves, inners, homes, view.number(), at)
 }
 
 // The cursor of the first entry.
 pub fn first(head: Head, leaves: &[u32], inners: &[u32], homes: &[u32]) -> Standing
-    ensures { result ≡ calls.first base (at_entry head leaves inners homes) }
+    ensures { result ≡ calls.first base (state head leaves.now inners.now homes.now) }
 {
     crate::any::first(3, head, leaves, inners, homes)
 }
 
 // The cursor of the entry after the one at a cursor, or nothing after the last.
 pub fn next(head: Head, leaves: &[u32], inners: &[u32], homes: &[u32], at: Cursor) -> Next
-    ensures { result ≡ calls.next_after base (at_entry head leaves inners homes) at }
+    ensures { result ≡ calls.next_after base (state head leaves.now inners.now homes.now) at }
 {
     crate::any::next(3, head, leaves, inners, homes, at)
 }
@@ -46,7 +46,7 @@ pub fn cmp(
     a: Cursor,
     b: Cursor,
 ) -> Compared
-    ensures { result ≡ calls.cmp base (at_entry head leaves inners homes) a b }
+    ensures { result ≡ calls.cmp base (state head leaves.now inners.now homes.now) a b }
 {
     crate::any::cmp(3, head, leaves, inners, homes, a, b)
 }

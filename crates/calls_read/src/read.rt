@@ -1,7 +1,7 @@
 // The calls that read a count or one entry.
 ghost use Rattle.std.specs.Prelude.{◌≡◌};
+ghost use Rattle.model.specs.State.{state};
 ghost use Rattle.model.specs.Kind.{base};
-ghost use Rattle.model.specs.Moments.{at_entry};
 ghost use Rattle.model.specs.Answer.{measured_answer};
 ghost use Rattle.model.specs.Calls as calls;
 
@@ -37,14 +37,14 @@ pub fn is_empty(head: Head) -> Verdict
 
 // The id of the entry at a cursor.
 pub fn id(head: Head, leaves: &[u32], inners: &[u32], homes: &[u32], at: Cursor) -> Named
-    ensures { result ≡ calls.id base (at_entry head leaves inners homes) at }
+    ensures { result ≡ calls.id base (state head leaves.now inners.now homes.now) at }
 {
     crate::any::id(3, head, leaves, inners, homes, at)
 }
 
 // The lengths of the entry at a cursor.
 pub fn lengths(head: Head, leaves: &[u32], inners: &[u32], homes: &[u32], at: Cursor) -> Measured
-    ensures { measured_answer result ≡ calls.entry_lengths base (at_entry head leaves inners homes) at }
+    ensures { measured_answer result ≡ calls.entry_lengths base (state head leaves.now inners.now homes.now) at }
 {
     let mut x: [u32; 4] = [0; 4];
     let n = crate::any::lengths(3, head, leaves, inners, homes, at, &mut x);
@@ -60,7 +60,7 @@ pub fn lengths(head: Head, leaves: &[u32], inners: &[u32], homes: &[u32], at: Cu
 
 // The cursor of an entry.
 pub fn cursor(head: Head, leaves: &[u32], inners: &[u32], homes: &[u32], id: EntryId) -> Standing
-    ensures { result ≡ calls.cursor base (at_entry head leaves inners homes) id.0 }
+    ensures { result ≡ calls.cursor base (state head leaves.now inners.now homes.now) id.0 }
 {
     crate::any::cursor(3, head, leaves, inners, homes, id)
 }

@@ -1,9 +1,9 @@
 // The calls that change lengths of a reading copy or add an entry.
 ghost use Rattle.std.specs.Prelude.{◌≡◌, [], ◌∷◌};
+ghost use Rattle.model.specs.State.{state};
 ghost use Rattle.model.specs.Kind.{reading};
 ghost use Rattle.model.specs.Row as row;
 ghost use Rattle.model.specs.Row.{moved};
-ghost use Rattle.model.specs.Moments.{at_entry, at_exit};
 ghost use Rattle.model.specs.Answer.{outcome_answer, inserted_answer};
 ghost use Rattle.model.specs.ById.{divided_id_answer, tree_step};
 
@@ -20,7 +20,7 @@ pub fn insert(
     id: EntryId,
     length: u32,
 ) -> InsertedReply
-    ensures { moved (at_exit result.head leaves inners homes) (inserted_answer result.answer) ≡ tree_step reading (at_entry head leaves inners homes) (row.insert id.0 (length ∷ [])) }
+    ensures { moved (state result.head leaves.new inners.new homes.new) (inserted_answer result.answer) ≡ tree_step reading (state head leaves.old inners.old homes.old) (row.insert id.0 (length ∷ [])) }
 {
     let next = head.entries;
     let x: [u32; 4] = [next, length, 0, 0];
@@ -37,7 +37,7 @@ pub fn split(
     length: u32,
     before: bool,
 ) -> DividedReply
-    ensures { moved (at_exit result.head leaves inners homes) (divided_id_answer result.answer) ≡ tree_step reading (at_entry head leaves inners homes) (row.split before id.0 (length ∷ [])) }
+    ensures { moved (state result.head leaves.new inners.new homes.new) (divided_id_answer result.answer) ≡ tree_step reading (state head leaves.old inners.old homes.old) (row.split before id.0 (length ∷ [])) }
 {
     let next = head.entries;
     let x: [u32; 4] = [next, length, 0, 0];
@@ -53,7 +53,7 @@ pub fn set(
     id: EntryId,
     length: u32,
 ) -> OutcomeReply
-    ensures { moved (at_exit result.head leaves inners homes) (outcome_answer result.answer) ≡ tree_step reading (at_entry head leaves inners homes) (row.set_lengths id.0 (length ∷ [])) }
+    ensures { moved (state result.head leaves.new inners.new homes.now) (outcome_answer result.answer) ≡ tree_step reading (state head leaves.old inners.old homes.now) (row.set_lengths id.0 (length ∷ [])) }
 {
     let x: [u32; 4] = [0, length, 0, 0];
     calls_by_id::change::set_lengths(1, 0, false, head, leaves, inners, homes, id, &x)

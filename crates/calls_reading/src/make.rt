@@ -1,9 +1,9 @@
 // The calls that begin a reading copy.
 ghost use Rattle.std.specs.Prelude.{◌≡◌, [], ◌∷◌};
+ghost use Rattle.model.specs.State.{state};
 ghost use Rattle.model.specs.Kind.{reading};
 ghost use Rattle.model.specs.Row as row;
 ghost use Rattle.model.specs.Row.{moved};
-ghost use Rattle.model.specs.Moments.{at_entry, at_exit};
 ghost use Rattle.model.specs.Answer.{outcome_answer};
 ghost use Rattle.model.specs.Calls as calls;
 ghost use Rattle.model.specs.Calls.{reply};
@@ -21,7 +21,7 @@ pub fn new(
     inners: &mut [u32],
     homes: &mut [u32],
 ) -> OutcomeReply
-    ensures { reply (at_exit result.head leaves inners homes) result.answer ≡ calls.make reading fan limit (length ∷ []) leaves.old inners.old homes.old }
+    ensures { reply (state result.head leaves.new inners.new homes.new) result.answer ≡ calls.make reading fan limit (length ∷ []) leaves.old inners.old homes.old }
 {
     let x: [u32; 4] = [0, length, 0, 0];
     calls_make::any::new(1, false, 0, fan, limit, &x, leaves, inners, homes)
@@ -35,7 +35,7 @@ pub fn reset(
     homes: &mut [u32],
     length: u32,
 ) -> OutcomeReply
-    ensures { moved (at_exit result.head leaves inners homes) (outcome_answer result.answer) ≡ tree_step reading (at_entry head leaves inners homes) (row.reset (length ∷ [])) }
+    ensures { moved (state result.head leaves.new inners.new homes.new) (outcome_answer result.answer) ≡ tree_step reading (state head leaves.old inners.old homes.old) (row.reset (length ∷ [])) }
 {
     let x: [u32; 4] = [0, length, 0, 0];
     calls_make::any::reset(1, false, head, &x, leaves, inners, homes)

@@ -1,9 +1,9 @@
 // The calls that read a reading copy; the lookup keeps the finger found.
 ghost use Rattle.std.specs.Prelude.{◌≡◌};
+ghost use Rattle.model.specs.State.{state};
 ghost use Rattle.model.specs.Kind.{reading};
 ghost use Rattle.model.specs.Row as row;
 ghost use Rattle.model.specs.Row.{moved};
-ghost use Rattle.model.specs.Moments.{at_entry, at_exit};
 ghost use Rattle.model.specs.Answer.{number_answer, compared_answer};
 ghost use Rattle.model.specs.ById.{tree_step};
 ghost use Rattle.calls_by_id.specs.Answer.{looked_answer, following_answer};
@@ -15,21 +15,21 @@ use model::number::EntryId;
 
 // The entry that holds a position, the offset into it, and its own position, twice: as the effect one and as that in view 0.
 pub fn lookup(head: Head, leaves: &[u32], inners: &[u32], homes: &[u32], index: u32) -> LookedReply
-    ensures { moved (at_exit result.head leaves inners homes) (looked_answer result.answer) ≡ tree_step reading (at_entry head leaves inners homes) (row.lookup 0 index) }
+    ensures { moved (state result.head leaves.now inners.now homes.now) (looked_answer result.answer) ≡ tree_step reading (state head leaves.now inners.now homes.now) (row.lookup 0 index) }
 {
     calls_by_id::any::locate(1, 0, head, leaves, inners, homes, 0, index)
 }
 
 // The position of the entry id: the lengths before it.
 pub fn rank(head: Head, leaves: &[u32], inners: &[u32], homes: &[u32], id: EntryId) -> Number
-    ensures { moved (at_entry head leaves inners homes) (number_answer result) ≡ tree_step reading (at_entry head leaves inners homes) (row.rank 0 id.0) }
+    ensures { moved (state head leaves.now inners.now homes.now) (number_answer result) ≡ tree_step reading (state head leaves.now inners.now homes.now) (row.rank 0 id.0) }
 {
     calls_by_id::order::rank(1, head, leaves, inners, homes, 0, id)
 }
 
 // The entry after the entry id, or nothing after the last.
 pub fn next(head: Head, leaves: &[u32], inners: &[u32], homes: &[u32], id: EntryId) -> Following
-    ensures { moved (at_entry head leaves inners homes) (following_answer result) ≡ tree_step reading (at_entry head leaves inners homes) (row.next id.0) }
+    ensures { moved (state head leaves.now inners.now homes.now) (following_answer result) ≡ tree_step reading (state head leaves.now inners.now homes.now) (row.next id.0) }
 {
     calls_by_id::order::next(1, head, leaves, inners, homes, id)
 }
@@ -43,7 +43,7 @@ pub fn compare(
     id: EntryId,
     other: EntryId,
 ) -> Compared
-    ensures { moved (at_entry head leaves inners homes) (compared_answer result) ≡ tree_step reading (at_entry head leaves inners homes) (row.compare id.0 other.0) }
+    ensures { moved (state head leaves.now inners.now homes.now) (compared_answer result) ≡ tree_step reading (state head leaves.now inners.now homes.now) (row.compare id.0 other.0) }
 {
     calls_by_id::order::cmp(1, head, leaves, inners, homes, id, other)
 }

@@ -1,7 +1,7 @@
 // repair, of a tree with one to three lengths an entry.
 ghost use Rattle.std.specs.Prelude.{◌≡◌, ◌&&◌, ℕ, ◌<◌, ◌≤◌, length};
+ghost use Rattle.model.specs.State.{state};
 ghost use Rattle.model.specs.Kind.{kind_of};
-ghost use Rattle.model.specs.Moments.{at_entry, at_exit};
 ghost use Rattle.model.specs.Calls.{reply};
 ghost use Rattle.model.specs.Mend.{no_finger, is_fit};
 ghost use Rattle.model.specs.Repair.{mend_if, repair_if};
@@ -48,7 +48,7 @@ fn by_queue(
     named: &mut [u8],
 ) -> NumberReply
     requires { Open head g leaves.old inners.old homes.old × FreshQueue head g (length order.old) upper.old lower.old named.old }
-    ensures { (effect : ℕ) (w : Open head g leaves.old inners.old homes.old) → reply (at_exit result.head leaves inners homes) result.answer ≡ mend_if (kind_of w.views effect ordered) (is_fit (kind_of w.views effect ordered) (at_entry head leaves inners homes) && fair) (at_entry head leaves inners homes) }
+    ensures { (effect : ℕ) (w : Open head g leaves.old inners.old homes.old) → reply (state result.head leaves.new inners.new homes.new) result.answer ≡ mend_if (kind_of w.views effect ordered) (is_fit (kind_of w.views effect ordered) (state head leaves.old inners.old homes.old) && fair) (state head leaves.old inners.old homes.old) }
 {
     let fit = is_fit(head, leaves, inners, g, ordered, order, upper, lower, named);
     let no = NumberReply {
@@ -79,7 +79,7 @@ fn with_queue(
     g: Shape,
 ) -> NumberReply
     requires { Open head g leaves.old inners.old homes.old }
-    ensures { (effect : ℕ) (w : Open head g leaves.old inners.old homes.old) → reply (at_exit result.head leaves inners homes) result.answer ≡ mend_if (kind_of w.views effect ordered) (is_fit (kind_of w.views effect ordered) (at_entry head leaves inners homes) && fair) (at_entry head leaves inners homes) }
+    ensures { (effect : ℕ) (w : Open head g leaves.old inners.old homes.old) → reply (state result.head leaves.new inners.new homes.new) result.answer ≡ mend_if (kind_of w.views effect ordered) (is_fit (kind_of w.views effect ordered) (state head leaves.old inners.old homes.old) && fair) (state head leaves.old inners.old homes.old) }
 {
     let mut order: [u16; 131072] = [0; 131072];
     let mut upper: [u8; 32768] = [0; 32768];
@@ -104,7 +104,7 @@ pub fn repair(
     homes: &mut [u32],
 ) -> NumberReply
     requires { (1 ≤ views) × (views ≤ 3) × (effect < views) }
-    ensures { reply (at_exit result.head leaves inners homes) result.answer ≡ repair_if (kind_of views effect ordered) fair (at_entry head leaves inners homes) }
+    ensures { reply (state result.head leaves.new inners.new homes.new) result.answer ≡ repair_if (kind_of views effect ordered) fair (state head leaves.old inners.old homes.old) }
 {
     let fan = head.fan;
     let limit = head.limit;

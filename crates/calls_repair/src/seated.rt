@@ -1,7 +1,7 @@
 // The call, of the full tree with its seats' seventeen words.
 ghost use Rattle.std.specs.Prelude.{◌≡◌, length};
+ghost use Rattle.model.specs.State.{state};
 ghost use Rattle.model.specs.Kind.{base};
-ghost use Rattle.model.specs.Moments.{at_entry, at_exit};
 ghost use Rattle.model.specs.Calls.{reply};
 ghost use Rattle.model.specs.Repair.{repair};
 ghost use Rattle.tree_seats.specs.Words.{seats_from};
@@ -19,7 +19,7 @@ pub fn repair(
     homes: &mut [u32],
 ) -> NumberReply
     requires { length seats.now ≡ 17 }
-    ensures { reply (at_exit result.head leaves inners homes) result.answer ≡ repair base (at_entry head leaves inners homes) (seats_from seats.now) }
+    ensures { reply (state result.head leaves.new inners.new homes.new) result.answer ≡ repair base (state head leaves.old inners.old homes.old) (seats_from seats.now) }
 {
     let fair = is_fair(head.limit, head.entries, seats);
     crate::any::repair(3, 1, false, fair, head, leaves, inners, homes)

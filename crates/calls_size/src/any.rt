@@ -1,10 +1,10 @@
 // Other lengths for an entry of a tree with views lengths an entry, positions answered in view effect; ordered: the first two are a lowest
 // and a highest one.
 ghost use Rattle.std.specs.Prelude.{◌≡◌, ℕ, ◌+◌, ◌-◌, ◌^◌, ◌<◌, ◌≤◌, length, take};
+ghost use Rattle.model.specs.State.{state};
 ghost use Rattle.model.specs.Kind.{kind_of};
 ghost use Rattle.model.specs.Length.{lengths_in};
 ghost use Rattle.model.specs.Node.{lengths, minus, wrap};
-ghost use Rattle.model.specs.Moments.{at_entry, at_exit};
 ghost use Rattle.model.specs.Refuse.{shape_of};
 ghost use Rattle.model.specs.Calls.{reply, resize_causes, slot_at};
 ghost use Rattle.tree_node.specs.Shaped.{Shaped};
@@ -32,7 +32,7 @@ fn open_resize(
     new: &[u32; 4],
 ) -> Opened
     requires { (1 ≤ views) × (views ≤ 3) × (length old.old ≡ 4) × (length new.now ≡ 4) }
-    ensures { (effect : ℕ) → (result ≡ opened_by (resize_causes (kind_of views effect ordered) (at_entry head leaves inners homes) at (lengths_in views new.now)) (shape_of (kind_of views effect ordered) head)) × old_by result (lengths_in views old.new) (lengths (slot_at (kind_of views effect ordered) (at_entry head leaves inners homes) at)) × (length old.new ≡ 4) }
+    ensures { (effect : ℕ) → (result ≡ opened_by (resize_causes (kind_of views effect ordered) (state head leaves.now inners.now homes.now) at (lengths_in views new.now)) (shape_of (kind_of views effect ordered) head)) × old_by result (lengths_in views old.new) (lengths (slot_at (kind_of views effect ordered) (state head leaves.now inners.now homes.now) at)) × (length old.new ≡ 4) }
 {
     if too_many_lines(views, new) {
         return Opened::Refused(10);
@@ -89,7 +89,7 @@ pub fn resize(
     summed: bool,
 ) -> NumberReply
     requires { (1 ≤ views) × (views ≤ 3) × (effect < views) × (length new.now ≡ 4) }
-    ensures { reply (at_exit result.head leaves inners homes) result.answer ≡ resize (kind_of views effect ordered) summed (at_entry head leaves inners homes) at (lengths_in views new.now) }
+    ensures { reply (state result.head leaves.new inners.new homes.now) result.answer ≡ resize (kind_of views effect ordered) summed (state head leaves.old inners.old homes.now) at (lengths_in views new.now) }
 {
     let mut old: [u32; 4] = [0; 4];
     let mut delta: [u32; 3] = [0; 3];

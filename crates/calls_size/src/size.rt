@@ -1,8 +1,8 @@
 // Other lengths for an entry: set_lengths and update.
 ghost use Rattle.std.specs.Prelude.{◌≡◌};
+ghost use Rattle.model.specs.State.{state};
 ghost use Rattle.model.specs.Kind.{base};
 ghost use Rattle.model.specs.Length.{list_of};
-ghost use Rattle.model.specs.Moments.{at_entry, at_exit};
 ghost use Rattle.model.specs.Calls as calls;
 ghost use Rattle.model.specs.Calls.{reply};
 ghost use Rattle.calls_size.specs.Size.{resize, unnumbered};
@@ -21,7 +21,7 @@ pub fn resize(
     lengths: Lengths,
     summed: bool,
 ) -> NumberReply
-    ensures { reply (at_exit result.head leaves inners homes) result.answer ≡ resize base summed (at_entry head leaves inners homes) at (list_of lengths) }
+    ensures { reply (state result.head leaves.new inners.new homes.now) result.answer ≡ resize base summed (state head leaves.old inners.old homes.now) at (list_of lengths) }
 {
     let x: [u32; 4] = [
         0,
@@ -41,7 +41,7 @@ pub fn update(
     at: Cursor,
     lengths: Lengths,
 ) -> NumberReply
-    ensures { reply (at_exit result.head leaves inners homes) result.answer ≡ calls.update base (at_entry head leaves inners homes) at (list_of lengths) }
+    ensures { reply (state result.head leaves.new inners.new homes.now) result.answer ≡ calls.update base (state head leaves.old inners.old homes.now) at (list_of lengths) }
 {
     resize(head, leaves, inners, homes, at, lengths, true)
 }
@@ -65,7 +65,7 @@ pub fn set_lengths(
     at: Cursor,
     lengths: Lengths,
 ) -> OutcomeReply
-    ensures { reply (at_exit result.head leaves inners homes) result.answer ≡ calls.set_lengths base (at_entry head leaves inners homes) at (list_of lengths) }
+    ensures { reply (state result.head leaves.new inners.new homes.now) result.answer ≡ calls.set_lengths base (state head leaves.old inners.old homes.now) at (list_of lengths) }
 {
     let r = resize(head, leaves, inners, homes, at, lengths, false);
     let after = r.head;

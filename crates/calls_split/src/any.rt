@@ -3,8 +3,7 @@ ghost use Rattle.std.specs.Prelude.{◌≡◌, ℕ, ◌<◌, ◌≤◌, List, le
 ghost use Rattle.model.specs.Length.{lengths_in};
 ghost use Rattle.model.specs.Kind.{kind_of};
 ghost use Rattle.model.specs.Lists.{Cause, refusal};
-ghost use Rattle.model.specs.State.{next_stamp};
-ghost use Rattle.model.specs.Moments.{at_entry, at_exit};
+ghost use Rattle.model.specs.State.{state, next_stamp};
 ghost use Rattle.model.specs.Refuse.{shape_of};
 ghost use Rattle.model.specs.Calls as calls;
 ghost use Rattle.model.specs.Calls.{reply, divided_at, split_causes};
@@ -30,7 +29,7 @@ fn open_split(
     x: &[u32; 4],
 ) -> Opened
     requires { (1 ≤ views) × (views ≤ 3) × (length x.now ≡ 4) }
-    ensures { (effect : ℕ) (causes : List Cause) → refusal causes ≡ room → result ≡ opened_by (split_causes (kind_of views effect ordered) causes (at_entry head leaves inners homes) at (lengths_in views x.now)) (shape_of (kind_of views effect ordered) head) }
+    ensures { (effect : ℕ) (causes : List Cause) → refusal causes ≡ room → result ≡ opened_by (split_causes (kind_of views effect ordered) causes (state head leaves.now inners.now homes.now) at (lengths_in views x.now)) (shape_of (kind_of views effect ordered) head) }
 {
     if too_many_lines(views, x) {
         return Opened::Refused(10);
@@ -91,7 +90,7 @@ pub fn split_entry(
     before: bool,
 ) -> DividedReply
     requires { (1 ≤ views) × (views ≤ 3) × (slice_index x.now 0 ≡ head.entries) × (length x.now ≡ 4) × (room ≡ 0 → head.entries < head.limit) }
-    ensures { (effect : ℕ) (causes : List Cause) → refusal causes ≡ room → reply (at_exit result.head leaves inners homes) result.answer ≡ calls.split_by (kind_of views effect ordered) causes (at_entry head leaves inners homes) at (lengths_in views x.now) before }
+    ensures { (effect : ℕ) (causes : List Cause) → refusal causes ≡ room → reply (state result.head leaves.new inners.new homes.new) result.answer ≡ calls.split_by (kind_of views effect ordered) causes (state head leaves.old inners.old homes.old) at (lengths_in views x.now) before }
 {
     match open_split(views, ordered, room, head, leaves, inners, homes, at, x) {
         Opened::Refused(n) => DividedReply {

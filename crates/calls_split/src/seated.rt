@@ -1,8 +1,8 @@
 // One entry divided in two for a seat, or for nobody: split_entry, in a tree whose seats stand in seventeen lent words.
 ghost use Rattle.std.specs.Prelude.{◌≡◌, false, length, slice_index};
+ghost use Rattle.model.specs.State.{state};
 ghost use Rattle.model.specs.Length.{list_of};
 ghost use Rattle.model.specs.Kind.{base};
-ghost use Rattle.model.specs.Moments.{at_entry, at_exit};
 ghost use Rattle.model.specs.Seats.{bad_seat};
 ghost use Rattle.model.specs.SeatedCalls.{seated_reply, after_split, split_seated};
 ghost use Rattle.tree_seats.specs.Words.{seats_from};
@@ -38,7 +38,7 @@ pub fn split_entry(
     before: bool,
 ) -> DividedReply
     requires { length seats.old ≡ 17 }
-    ensures { (seated_reply (at_exit result.head leaves inners homes) (seats_from seats.new) result.answer ≡ split_seated base (at_entry head leaves inners homes) (seats_from seats.old) seat at (list_of lengths) before) × (slice_index seats.new 0 ≡ slice_index seats.old 0) }
+    ensures { (seated_reply (state result.head leaves.new inners.new homes.new) (seats_from seats.new) result.answer ≡ split_seated base (state head leaves.old inners.old homes.old) (seats_from seats.old) seat at (list_of lengths) before) × (slice_index seats.new 0 ≡ slice_index seats.old 0) }
 {
     if bad_seat(seats, seat) {
         return DividedReply {

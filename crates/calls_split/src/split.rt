@@ -1,8 +1,8 @@
 // One entry divided in two: split_entry.
 ghost use Rattle.std.specs.Prelude.{◌≡◌};
+ghost use Rattle.model.specs.State.{state};
 ghost use Rattle.model.specs.Length.{list_of};
 ghost use Rattle.model.specs.Kind.{base};
-ghost use Rattle.model.specs.Moments.{at_entry, at_exit};
 ghost use Rattle.model.specs.Calls as calls;
 ghost use Rattle.model.specs.Calls.{reply};
 
@@ -21,7 +21,7 @@ pub fn split_entry(
     lengths: Lengths,
     before: bool,
 ) -> DividedReply
-    ensures { reply (at_exit result.head leaves inners homes) result.answer ≡ calls.split_entry base (at_entry head leaves inners homes) at (list_of lengths) before }
+    ensures { reply (state result.head leaves.new inners.new homes.new) result.answer ≡ calls.split_entry base (state head leaves.old inners.old homes.old) at (list_of lengths) before }
 {
     let slot = Slot::new(head.entries, lengths);
     let x: [u32; 4] = [

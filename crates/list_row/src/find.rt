@@ -1,6 +1,6 @@
 // The entries that a call names by id, and their cursors.
 ghost use Rattle.std.specs.Prelude.{◌≡◌};
-ghost use Rattle.model.specs.Moments.{at_entry};
+ghost use Rattle.model.specs.State.{state};
 ghost use Rattle.list_records.specs.Said.{call_of};
 ghost use Rattle.list_row.specs.Find.{no_ids, one_id, target_ids, ids_of, found_of};
 
@@ -82,7 +82,7 @@ pub fn ids_of(call: Call) -> Ids
 
 // The cursors of the entries with these ids. A loop for two of them at most: a function that is called at one place only is compiled into it.
 pub fn find(head: Head, leaves: &[u32], inners: &[u32], homes: &[u32], ids: Ids) -> FoundCursors
-    ensures { result ≡ found_of (at_entry head leaves inners homes) ids }
+    ensures { result ≡ found_of (state head leaves.now inners.now homes.now) ids }
 {
     let second = ids.second;
     let mut left = ids.count;

@@ -1,9 +1,9 @@
 // Records on a tree made anew, and the tree that the door and rowrun start from.
 ghost use Rattle.std.specs.Prelude.{◌≡◌, true, length};
+ghost use Rattle.model.specs.State.{state};
 ghost use Rattle.model.specs.Length.{list_of};
 ghost use Rattle.model.specs.Kind.{base};
 ghost use Rattle.model.specs.Row.{made_row};
-ghost use Rattle.model.specs.Moments.{at_exit};
 ghost use Rattle.model.specs.Calls.{reply, make};
 ghost use Rattle.model.specs.Promise.{Represents};
 ghost use Rattle.model.specs.declared.answer.Outcome.TheVariants as outcome;
@@ -26,8 +26,8 @@ pub fn make_and_run(
     records: &[u8],
     out: &mut [u8],
 ) -> OutcomeReply
-    ensures out_after { ran (at_exit result.head leaves inners homes) result.answer out.new ≡ make_and_run fan limit (list_of lengths) leaves.old inners.old homes.old records.now out.old }
-    ensures as_row { (make base fan limit (list_of lengths) leaves.old inners.old homes.old).answer ≡ outcome.Done → fit records.now out.old ≡ true → AsRow records.now (ran (at_exit result.head leaves inners homes) result.answer out.new) fan (made_row limit (list_of lengths)) }
+    ensures out_after { ran (state result.head leaves.new inners.new homes.new) result.answer out.new ≡ make_and_run fan limit (list_of lengths) leaves.old inners.old homes.old records.now out.old }
+    ensures as_row { (make base fan limit (list_of lengths) leaves.old inners.old homes.old).answer ≡ outcome.Done → fit records.now out.old ≡ true → AsRow records.now (ran (state result.head leaves.new inners.new homes.new) result.answer out.new) fan (made_row limit (list_of lengths)) }
 {
     let made = new(fan, limit, lengths, leaves, inners, homes);
     let head = made.head;
@@ -54,8 +54,8 @@ pub const FIRST: Lengths = Lengths {
 
 // The door's tree.
 pub fn door_tree(leaves: &mut [u32], inners: &mut [u32], homes: &mut [u32]) -> OutcomeReply
-    ensures answer_value { reply (at_exit result.head leaves inners homes) result.answer ≡ door_tree leaves.old inners.old homes.old }
-    ensures represents { length leaves.old ≡ 4480 → length inners.old ≡ 4480 → length homes.old ≡ 512 → Represents base (at_exit result.head leaves inners homes) door_row }
+    ensures answer_value { reply (state result.head leaves.new inners.new homes.new) result.answer ≡ door_tree leaves.old inners.old homes.old }
+    ensures represents { length leaves.old ≡ 4480 → length inners.old ≡ 4480 → length homes.old ≡ 512 → Represents base (state result.head leaves.new inners.new homes.new) door_row }
 {
     new(FAN, LIMIT, FIRST, leaves, inners, homes)
 }

@@ -1,8 +1,8 @@
 // Records on a tree, each answer into its own sixteen bytes of an output.
 ghost use Rattle.std.specs.Prelude.{◌≡◌, true, ◌%◌, length};
+ghost use Rattle.model.specs.State.{state};
 ghost use Rattle.model.specs.Kind.{base};
 ghost use Rattle.model.specs.Row.{Row};
-ghost use Rattle.model.specs.Moments.{at_entry, at_exit};
 ghost use Rattle.model.specs.Promise.{Represents};
 ghost use Rattle.list_row.specs.Run.{records_of, tree_output, turn, turns, fit, ran, run_on, AsRow};
 
@@ -23,7 +23,7 @@ fn one(
     out: &mut [u8],
 ) -> Head
     requires { (length bytes.now ≡ 16) × (length out.old ≡ 16) }
-    ensures { tree_output (at_exit result leaves inners homes) out.new ≡ turn (at_entry head leaves inners homes) bytes.now }
+    ensures { tree_output (state result leaves.new inners.new homes.new) out.new ≡ turn (state head leaves.old inners.old homes.old) bytes.now }
 {
     let fields = read(bytes);
     let kind = fields.kind;
@@ -45,7 +45,7 @@ fn all(
     out: &mut [u8],
 ) -> Head
     requires { (length records.now ≡ length out.old) × (length records.now % 16 ≡ 0) }
-    ensures { tree_output (at_exit result leaves inners homes) out.new ≡ turns (at_entry head leaves inners homes) (records_of records.now) }
+    ensures { tree_output (state result leaves.new inners.new homes.new) out.new ≡ turns (state head leaves.old inners.old homes.old) (records_of records.now) }
 {
     let mut h = head;
     let mut at = 0;
@@ -75,8 +75,8 @@ pub fn run(
     records: &[u8],
     out: &mut [u8],
 ) -> OutcomeReply
-    ensures out_after { ran (at_exit result.head leaves inners homes) result.answer out.new ≡ run_on (at_entry head leaves inners homes) records.now out.old }
-    ensures as_row { (q : Row) → fit records.now out.old ≡ true → Represents base (at_entry head leaves inners homes) q → AsRow records.now (ran (at_exit result.head leaves inners homes) result.answer out.new) head.fan q }
+    ensures out_after { ran (state result.head leaves.new inners.new homes.new) result.answer out.new ≡ run_on (state head leaves.old inners.old homes.old) records.now out.old }
+    ensures as_row { (q : Row) → fit records.now out.old ≡ true → Represents base (state head leaves.old inners.old homes.old) q → AsRow records.now (ran (state result.head leaves.new inners.new homes.new) result.answer out.new) head.fan q }
 {
     if records.len() != out.len() {
         return OutcomeReply {

@@ -1,8 +1,8 @@
 // One record on a tree.
 ghost use Rattle.std.specs.Prelude.{◌≡◌};
+ghost use Rattle.model.specs.State.{state};
 ghost use Rattle.model.specs.Kind.{base};
 ghost use Rattle.model.specs.Row.{overlong};
-ghost use Rattle.model.specs.Moments.{at_entry, at_exit};
 ghost use Rattle.model.specs.ById.{tree_step};
 ghost use Rattle.list_records.specs.Said.{call_of};
 ghost use Rattle.list_row.specs.Find.{call_at};
@@ -56,7 +56,7 @@ fn call_at(
     a: Cursor,
     b: Cursor,
 ) -> Step
-    ensures { stepped (at_exit result.head leaves inners homes) result.answer ≡ step_by (call_at (at_entry head leaves inners homes) (call_of call) a b) }
+    ensures { stepped (state result.head leaves.new inners.new homes.new) result.answer ≡ step_by (call_at (state head leaves.old inners.old homes.old) (call_of call) a b) }
 {
     match call {
         Call::Reset(l) => outcome(reset(head, l, leaves, inners, homes)),
@@ -84,7 +84,7 @@ pub fn step(
     homes: &mut [u32],
     call: Call,
 ) -> Step
-    ensures { stepped (at_exit result.head leaves inners homes) result.answer ≡ step_by (tree_step base (at_entry head leaves inners homes) (call_of call)) }
+    ensures { stepped (state result.head leaves.new inners.new homes.new) result.answer ≡ step_by (tree_step base (state head leaves.old inners.old homes.old) (call_of call)) }
 {
     if is_overlong(call) {
         return refuse(head, 10);

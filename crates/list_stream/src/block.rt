@@ -1,7 +1,7 @@
 // The records of a block on a tree, each with its answer's line.
 ghost use Rattle.std.specs.Prelude.{◌≡◌, ◌+◌, ◌*◌, ◌/◌, ◌%◌, ◌≤◌, length};
+ghost use Rattle.model.specs.State.{state};
 ghost use Rattle.model.specs.Record.{decode};
-ghost use Rattle.model.specs.Moments.{at_entry, at_exit};
 ghost use Rattle.list_row.specs.Run.{calls_of, records_of};
 ghost use Rattle.list_stream.specs.Shown.{shown, show_one, show_from, fed_of, feed};
 
@@ -30,7 +30,7 @@ fn show_record(
     at: usize,
 ) -> Played
     requires { (length bytes.now ≡ 16) × (at + 44 ≤ length out.old) }
-    ensures { shown (at_exit result.head leaves inners homes) result.end out.new ≡ show_one (at_entry head leaves inners homes) (decode bytes.now) at out.old }
+    ensures { shown (state result.head leaves.new inners.new homes.new) result.end out.new ≡ show_one (state head leaves.old inners.old homes.old) (decode bytes.now) at out.old }
 {
     let call = decode(read(bytes));
     let done = step(head, leaves, inners, homes, call);
@@ -53,7 +53,7 @@ pub fn show(
     out: &mut [u8],
 ) -> Played
     requires { 44 * (length block.now / 16) ≤ length out.old }
-    ensures { shown (at_exit result.head leaves inners homes) result.end out.new ≡ show_from (at_entry head leaves inners homes) (calls_of (records_of block.now)) 0 out.old }
+    ensures { shown (state result.head leaves.new inners.new homes.new) result.end out.new ≡ show_from (state head leaves.old inners.old homes.old) (calls_of (records_of block.now)) 0 out.old }
 {
     let mut after = head;
     let mut at = 0;
@@ -92,7 +92,7 @@ pub fn feed(
     out: &mut [u8],
 ) -> Fed
     requires { (have ≤ length block.old) × (44 * (have / 16) ≤ length out.old) }
-    ensures { fed_of (at_exit result.head leaves inners homes) result.end out.new result.kept block.new ≡ feed (at_entry head leaves inners homes) block.old have out.old }
+    ensures { fed_of (state result.head leaves.new inners.new homes.new) result.end out.new result.kept block.new ≡ feed (state head leaves.old inners.old homes.old) block.old have out.old }
 {
     let played = show(head, leaves, inners, homes, &block[..have], out);
     let after = played.head;

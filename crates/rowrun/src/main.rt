@@ -5,7 +5,6 @@
 ghost use Rattle.std.specs.Prelude.{◌≡◌, ◌+◌, ◌*◌, ◌/◌, ◌<◌, ◌≤◌, length};
 ghost use Rattle.model.specs.Kind.{base};
 ghost use Rattle.model.specs.State.{state};
-ghost use Rattle.model.specs.Moments.{at_entry, at_exit};
 ghost use Rattle.model.specs.Promise.{Represents};
 ghost use Rattle.list_row.specs.Made.{door_row};
 ghost use Rattle.list_stream.specs.Shown.{fed_of};
@@ -37,7 +36,7 @@ fn answer(
     out: &mut [u8],
 ) -> Fed
     requires { (kept + n ≤ length block.old) × (44 * ((kept + n) / 16) ≤ length out.old) × (44 ≤ length out.old) }
-    ensures block_after { fed_of (at_exit result.head leaves inners homes) result.end out.new result.kept block.new ≡ answered (at_entry head leaves inners homes) block.old kept n out.old }
+    ensures block_after { fed_of (state result.head leaves.new inners.new homes.new) result.end out.new result.kept block.new ≡ answered (state head leaves.old inners.old homes.old) block.old kept n out.old }
     ensures end_in_bounds { result.end ≤ length out.new }
 {
     if n == 0 {
@@ -62,7 +61,7 @@ fn turn(
     out: &mut [u8],
 ) -> Input
     requires { (length block.old ≡ 4096) × (length out.old ≡ 11264) × (kept < 16) }
-    ensures { Turned result (at_entry head leaves inners homes) block.old kept out.old leaves.new inners.new homes.new block.new out.new }
+    ensures { Turned result (state head leaves.old inners.old homes.old) block.old kept out.old leaves.new inners.new homes.new block.new out.new }
 {
     let got = libc::read(STDIN_FILENO, &mut block[kept..]);
     if got < 0 {

@@ -6,7 +6,6 @@ ghost use Rattle.std.specs.Prelude.{◌≡◌, List, ◌+◌, ◌*◌, ◌<◌, 
 ghost use Rattle.model.specs.Kind.{base};
 ghost use Rattle.model.specs.Row.{Call};
 ghost use Rattle.model.specs.State.{state};
-ghost use Rattle.model.specs.Moments.{at_entry, at_exit};
 ghost use Rattle.model.specs.Promise.{Represents};
 ghost use Rattle.model.specs.Sheet.{pages_for, sheet};
 ghost use Rattle.list_row.specs.Made.{door_row};
@@ -38,7 +37,7 @@ fn play(
     out: &mut [u8],
 ) -> Left
     requires { (have ≤ length block.old) × (length block.old ≤ length out.old) }
-    ensures { BlockPlayed (at_entry head leaves inners homes) block.old have (at_exit result.head leaves inners homes) result.kept block.new }
+    ensures { BlockPlayed (state head leaves.old inners.old homes.old) block.old have (state result.head leaves.new inners.new homes.new) result.kept block.new }
 {
     let kept = have % 16;
     let whole = have - kept;
@@ -77,7 +76,7 @@ fn turn(
     out: &mut [u8],
 ) -> Input
     requires { (length block.old ≡ 4096) × (length out.old ≡ 4096) × (kept < 16) }
-    ensures { Turned result (at_entry head leaves inners homes) block.old kept leaves.new inners.new homes.new block.new }
+    ensures { Turned result (state head leaves.old inners.old homes.old) block.old kept leaves.new inners.new homes.new block.new }
 {
     let got = libc::read(STDIN_FILENO, &mut block[kept..]);
     if got < 0 {
@@ -97,7 +96,7 @@ fn turn(
 // The sheet of the tree, at the start of the page; how many bytes it has.
 fn pages(head: Head, leaves: &[u32], inners: &[u32], homes: &[u32], page: &mut [u8]) -> usize
     ensures upper_bound { result ≤ length page.new }
-    ensures value { (cs : List Call) → Represents base (at_entry head leaves inners homes) (left_row cs) → length page.old ≡ 30250 → (result ≡ 2750 * pages_for (length (left_row cs).entries)) × (take result page.new ≡ sheet base (left_row cs).entries) }
+    ensures value { (cs : List Call) → Represents base (state head leaves.now inners.now homes.now) (left_row cs) → length page.old ≡ 30250 → (result ≡ 2750 * pages_for (length (left_row cs).entries)) × (take result page.new ≡ sheet base (left_row cs).entries) }
 {
     match print(head, leaves, inners, homes, page) {
         Number::Is(n) => 2750 * (n as usize),

@@ -1,7 +1,7 @@
 // The exported calls that change lengths or add an entry. Each is the one caller of its call, which is compiled into it.
 ghost use Rattle.std.specs.Prelude.{◌≡◌};
 ghost use Rattle.smelvock_marshal.specs.Flat.{cursor_from, lengths_from};
-ghost use Rattle.smelvock_marshal.specs.Lent.{given_at_entry, left_at_exit};
+ghost use Rattle.smelvock_marshal.specs.Lent.{given, left};
 ghost use Rattle.smelvock.specs.Changes as flat;
 
 use calls_insert::seated::insert;
@@ -31,7 +31,7 @@ pub extern "C" fn smelvock_resize(
     lines: u32,
     summed: u32,
 ) -> FlatNumber
-    ensures { left_at_exit result head leaves inners homes ≡ flat.resize (given_at_entry head leaves inners homes) (cursor_from leaf slot stamp) (lengths_from prepare effect lines) summed }
+    ensures { left result head.new leaves.new inners.new homes.now ≡ flat.resize (given head.old leaves.old inners.old homes.now) (cursor_from leaf slot stamp) (lengths_from prepare effect lines) summed }
 {
     if bad_flag(head, summed) {
         return refused_number(10);
@@ -72,7 +72,7 @@ pub extern "C" fn smelvock_insert_words(
     effect: u32,
     lines: u32,
 ) -> FlatInserted
-    ensures { left_at_exit result head leaves inners homes ≡ flat.insert (given_at_entry head leaves inners homes) seat end (cursor_from leaf slot stamp) (lengths_from prepare effect lines) }
+    ensures { left result head.new leaves.new inners.new homes.new ≡ flat.insert (given head.old leaves.old inners.old homes.old) seat end (cursor_from leaf slot stamp) (lengths_from prepare effect lines) }
 {
     if bad_seated_flag(head, end) {
         return refused_inserted(10);
@@ -115,7 +115,7 @@ pub extern "C" fn smelvock_split_entry_words(
     lines: u32,
     before: u32,
 ) -> FlatDivided
-    ensures { left_at_exit result head leaves inners homes ≡ flat.split_entry (given_at_entry head leaves inners homes) seat (cursor_from leaf slot stamp) (lengths_from prepare effect lines) before }
+    ensures { left result head.new leaves.new inners.new homes.new ≡ flat.split_entry (given head.old leaves.old inners.old homes.old) seat (cursor_from leaf slot stamp) (lengths_from prepare effect lines) before }
 {
     if bad_seated_flag(head, before) {
         return refused_divided(10);

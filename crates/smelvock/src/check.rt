@@ -1,6 +1,6 @@
 // The exported audit.
 ghost use Rattle.std.specs.Prelude.{◌≡◌};
-ghost use Rattle.smelvock_marshal.specs.Lent.{given_at_entry};
+ghost use Rattle.smelvock_marshal.specs.Lent.{given};
 ghost use Rattle.smelvock.specs.Reads as flat;
 
 use calls_audit::seated::audit;
@@ -15,7 +15,7 @@ pub extern "C" fn smelvock_audit(
     inners: &[u32],
     homes: &[u32],
 ) -> FlatNumber
-    ensures { result ≡ flat.audit (given_at_entry head leaves inners homes) }
+    ensures { result ≡ flat.audit (given head.now leaves.now inners.now homes.now) }
 {
     if bad_seats(head) {
         return refused_number(10);

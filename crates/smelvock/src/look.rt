@@ -1,6 +1,6 @@
 // The exported lookup.
 ghost use Rattle.std.specs.Prelude.{◌≡◌};
-ghost use Rattle.smelvock_marshal.specs.Lent.{given_at_entry, left_at_exit};
+ghost use Rattle.smelvock_marshal.specs.Lent.{given, left};
 ghost use Rattle.smelvock.specs.Changes as flat;
 
 use calls_read::lookup::locate;
@@ -18,7 +18,7 @@ pub extern "C" fn smelvock_locate(
     view: u32,
     index: u32,
 ) -> FlatLocated
-    ensures { left_at_exit result head leaves inners homes ≡ flat.locate (given_at_entry head leaves inners homes) view index }
+    ensures { left result head.new leaves.now inners.now homes.now ≡ flat.locate (given head.old leaves.now inners.now homes.now) view index }
 {
     if bad_view(head, view) {
         return refused_located(10);

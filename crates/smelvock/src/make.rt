@@ -1,7 +1,7 @@
 // The exported calls that make a tree.
 ghost use Rattle.std.specs.Prelude.{◌≡◌};
 ghost use Rattle.smelvock_marshal.specs.Flat.{lengths_from};
-ghost use Rattle.smelvock_marshal.specs.Lent.{given_at_entry, left_at_exit};
+ghost use Rattle.smelvock_marshal.specs.Lent.{given, left};
 ghost use Rattle.smelvock.specs.Changes as flat;
 
 use calls_make::seated::{new, reset};
@@ -23,7 +23,7 @@ pub extern "C" fn smelvock_new_words(
     inners: &mut [u32],
     homes: &mut [u32],
 ) -> u32
-    ensures { left_at_exit result head leaves inners homes ≡ flat.make fan limit shares.now (lengths_from prepare effect lines) (given_at_entry head leaves inners homes) }
+    ensures { left result head.new leaves.new inners.new homes.new ≡ flat.make fan limit shares.now (lengths_from prepare effect lines) (given head.old leaves.old inners.old homes.old) }
 {
     if bad_made(head, shares) {
         return 10;
@@ -56,7 +56,7 @@ pub extern "C" fn smelvock_reset_words(
     effect: u32,
     lines: u32,
 ) -> u32
-    ensures { left_at_exit result head leaves inners homes ≡ flat.reset (given_at_entry head leaves inners homes) (lengths_from prepare effect lines) }
+    ensures { left result head.new leaves.new inners.new homes.new ≡ flat.reset (given head.old leaves.old inners.old homes.old) (lengths_from prepare effect lines) }
 {
     if bad_seats(head) {
         return 10;

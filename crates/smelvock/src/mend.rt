@@ -1,6 +1,6 @@
 // The exported repair.
 ghost use Rattle.std.specs.Prelude.{◌≡◌};
-ghost use Rattle.smelvock_marshal.specs.Lent.{given_at_entry, left_at_exit};
+ghost use Rattle.smelvock_marshal.specs.Lent.{given, left};
 ghost use Rattle.smelvock.specs.Changes as flat;
 
 use calls_repair::seated::repair;
@@ -16,7 +16,7 @@ pub extern "C" fn smelvock_repair(
     inners: &mut [u32],
     homes: &mut [u32],
 ) -> FlatNumber
-    ensures { left_at_exit result head leaves inners homes ≡ flat.repair (given_at_entry head leaves inners homes) }
+    ensures { left result head.new leaves.new inners.new homes.new ≡ flat.repair (given head.old leaves.old inners.old homes.old) }
 {
     if bad_stored(head) {
         return refused_number(10);

@@ -1,7 +1,7 @@
 // The exported calls that follow the order of the entries.
 ghost use Rattle.std.specs.Prelude.{◌≡◌};
 ghost use Rattle.smelvock_marshal.specs.Flat.{cursor_from};
-ghost use Rattle.smelvock_marshal.specs.Lent.{given_at_entry};
+ghost use Rattle.smelvock_marshal.specs.Lent.{given};
 ghost use Rattle.smelvock.specs.Reads as flat;
 
 use calls_read::order::{cmp, first, next};
@@ -19,7 +19,7 @@ pub extern "C" fn smelvock_first(
     inners: &[u32],
     homes: &[u32],
 ) -> FlatStanding
-    ensures { result ≡ flat.first (given_at_entry head leaves inners homes) }
+    ensures { result ≡ flat.first (given head.now leaves.now inners.now homes.now) }
 {
     if bad_head(head) {
         return refused_standing(10);
@@ -38,7 +38,7 @@ pub extern "C" fn smelvock_next_words(
     slot: u32,
     stamp: u64,
 ) -> FlatStanding
-    ensures { result ≡ flat.next (given_at_entry head leaves inners homes) (cursor_from leaf slot stamp) }
+    ensures { result ≡ flat.next (given head.now leaves.now inners.now homes.now) (cursor_from leaf slot stamp) }
 {
     if bad_head(head) {
         return refused_standing(10);
@@ -66,7 +66,7 @@ pub extern "C" fn smelvock_cmp_words(
     other_slot: u32,
     other_stamp: u64,
 ) -> FlatNumber
-    ensures { result ≡ flat.cmp (given_at_entry head leaves inners homes) (cursor_from leaf slot stamp) (cursor_from other_leaf other_slot other_stamp) }
+    ensures { result ≡ flat.cmp (given head.now leaves.now inners.now homes.now) (cursor_from leaf slot stamp) (cursor_from other_leaf other_slot other_stamp) }
 {
     if bad_head(head) {
         return refused_number(10);

@@ -1,6 +1,6 @@
 // The exported call that prints the sheet.
 ghost use Rattle.std.specs.Prelude.{◌≡◌};
-ghost use Rattle.smelvock_marshal.specs.Lent.{given_at_entry};
+ghost use Rattle.smelvock_marshal.specs.Lent.{given};
 ghost use Rattle.smelvock.specs.Prints as flat;
 
 use calls_print::print::print;
@@ -16,7 +16,7 @@ pub extern "C" fn smelvock_print(
     homes: &[u32],
     page: &mut [u8],
 ) -> FlatNumber
-    ensures { (result, page.new) ≡ flat.print (given_at_entry head leaves inners homes) page.old }
+    ensures { (result, page.new) ≡ flat.print (given head.now leaves.now inners.now homes.now) page.old }
 {
     if bad_head(head) {
         return refused_number(10);

@@ -1,7 +1,7 @@
 // The exported calls that read a count or one entry.
 ghost use Rattle.std.specs.Prelude.{◌≡◌};
 ghost use Rattle.smelvock_marshal.specs.Flat.{cursor_from};
-ghost use Rattle.smelvock_marshal.specs.Lent.{given_at_entry};
+ghost use Rattle.smelvock_marshal.specs.Lent.{given};
 ghost use Rattle.smelvock.specs.Reads as flat;
 
 use calls_read::order::entry_to_char_index;
@@ -47,7 +47,7 @@ pub extern "C" fn smelvock_id_words(
     slot: u32,
     stamp: u64,
 ) -> FlatNumber
-    ensures { result ≡ flat.id (given_at_entry head leaves inners homes) (cursor_from leaf slot stamp) }
+    ensures { result ≡ flat.id (given head.now leaves.now inners.now homes.now) (cursor_from leaf slot stamp) }
 {
     if bad_head(head) {
         return refused_number(10);
@@ -72,7 +72,7 @@ pub extern "C" fn smelvock_lengths_words(
     slot: u32,
     stamp: u64,
 ) -> FlatMeasured
-    ensures { result ≡ flat.lengths (given_at_entry head leaves inners homes) (cursor_from leaf slot stamp) }
+    ensures { result ≡ flat.lengths (given head.now leaves.now inners.now homes.now) (cursor_from leaf slot stamp) }
 {
     if bad_head(head) {
         return refused_measured(10);
@@ -95,7 +95,7 @@ pub extern "C" fn smelvock_cursor(
     homes: &[u32],
     id: u32,
 ) -> FlatStanding
-    ensures { result ≡ flat.cursor (given_at_entry head leaves inners homes) id }
+    ensures { result ≡ flat.cursor (given head.now leaves.now inners.now homes.now) id }
 {
     if bad_head(head) {
         return refused_standing(10);
@@ -115,7 +115,7 @@ pub extern "C" fn smelvock_entry_to_char_index_words(
     slot: u32,
     stamp: u64,
 ) -> FlatNumber
-    ensures { result ≡ flat.entry_to_char_index (given_at_entry head leaves inners homes) view (cursor_from leaf slot stamp) }
+    ensures { result ≡ flat.entry_to_char_index (given head.now leaves.now inners.now homes.now) view (cursor_from leaf slot stamp) }
 {
     if bad_view(head, view) {
         return refused_number(10);

@@ -1,6 +1,6 @@
 // The exported calls that change lengths of a planning tree or add an entry. Each is the one caller of its call, which is compiled into it.
 ghost use Rattle.std.specs.Prelude.{◌≡◌};
-ghost use Rattle.smelvock_marshal.specs.Lent.{given_at_entry, left_at_exit};
+ghost use Rattle.smelvock_marshal.specs.Lent.{given, left};
 ghost use Rattle.smelvock_planning.specs.Calls as flat;
 
 use calls_planning::bounds::Bounds;
@@ -23,7 +23,7 @@ pub extern "C" fn smelvock_plan_insert(
     lowest: u32,
     highest: u32,
 ) -> FlatInserted
-    ensures { left_at_exit result head leaves inners homes ≡ flat.insert (given_at_entry head leaves inners homes) id lowest highest }
+    ensures { left result head.new leaves.new inners.new homes.new ≡ flat.insert (given head.old leaves.old inners.old homes.old) id lowest highest }
 {
     if bad_head(head) {
         return refused_inserted(10);
@@ -52,7 +52,7 @@ pub extern "C" fn smelvock_plan_split(
     highest: u32,
     before: u32,
 ) -> FlatNumber
-    ensures { left_at_exit result head leaves inners homes ≡ flat.split (given_at_entry head leaves inners homes) id lowest highest before }
+    ensures { left result head.new leaves.new inners.new homes.new ≡ flat.split (given head.old leaves.old inners.old homes.old) id lowest highest before }
 {
     if bad_flag(head, before) {
         return refused_number(10);
@@ -87,7 +87,7 @@ pub extern "C" fn smelvock_plan_set(
     lowest: u32,
     highest: u32,
 ) -> u32
-    ensures { left_at_exit result head leaves inners homes ≡ flat.set (given_at_entry head leaves inners homes) id lowest highest }
+    ensures { left result head.new leaves.new inners.new homes.now ≡ flat.set (given head.old leaves.old inners.old homes.now) id lowest highest }
 {
     if bad_head(head) {
         return 10;

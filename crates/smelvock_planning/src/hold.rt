@@ -1,6 +1,6 @@
 // The exported lookups for a position, which keep the finger found.
 ghost use Rattle.std.specs.Prelude.{◌≡◌};
-ghost use Rattle.smelvock_marshal.specs.Lent.{given_at_entry, left_at_exit};
+ghost use Rattle.smelvock_marshal.specs.Lent.{given, left};
 ghost use Rattle.smelvock_planning.specs.Calls as flat;
 
 use calls_planning::hold::{first_at, last_at};
@@ -16,7 +16,7 @@ pub extern "C" fn smelvock_plan_first_at(
     homes: &[u32],
     position: u32,
 ) -> FlatNumber
-    ensures { left_at_exit result head leaves inners homes ≡ flat.first_at (given_at_entry head leaves inners homes) position }
+    ensures { left result head.new leaves.now inners.now homes.now ≡ flat.first_at (given head.old leaves.now inners.now homes.now) position }
 {
     if bad_head(head) {
         return refused_number(10);
@@ -37,7 +37,7 @@ pub extern "C" fn smelvock_plan_last_at(
     homes: &[u32],
     position: u32,
 ) -> FlatNumber
-    ensures { left_at_exit result head leaves inners homes ≡ flat.last_at (given_at_entry head leaves inners homes) position }
+    ensures { left result head.new leaves.now inners.now homes.now ≡ flat.last_at (given head.old leaves.now inners.now homes.now) position }
 {
     if bad_head(head) {
         return refused_number(10);

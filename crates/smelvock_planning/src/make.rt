@@ -1,6 +1,6 @@
 // The exported calls that begin a planning tree.
 ghost use Rattle.std.specs.Prelude.{◌≡◌};
-ghost use Rattle.smelvock_marshal.specs.Lent.{given_at_entry, left_at_exit};
+ghost use Rattle.smelvock_marshal.specs.Lent.{given, left};
 ghost use Rattle.smelvock_planning.specs.Calls as flat;
 
 use calls_planning::bounds::Bounds;
@@ -20,7 +20,7 @@ pub extern "C" fn smelvock_plan_new(
     inners: &mut [u32],
     homes: &mut [u32],
 ) -> u32
-    ensures { left_at_exit result head leaves inners homes ≡ flat.make fan limit lowest highest (given_at_entry head leaves inners homes) }
+    ensures { left result head.new leaves.new inners.new homes.new ≡ flat.make fan limit lowest highest (given head.old leaves.old inners.old homes.old) }
 {
     if head.len() != 36 {
         return 10;
@@ -45,7 +45,7 @@ pub extern "C" fn smelvock_plan_reset(
     lowest: u32,
     highest: u32,
 ) -> u32
-    ensures { left_at_exit result head leaves inners homes ≡ flat.reset (given_at_entry head leaves inners homes) lowest highest }
+    ensures { left result head.new leaves.new inners.new homes.new ≡ flat.reset (given head.old leaves.old inners.old homes.old) lowest highest }
 {
     if bad_head(head) {
         return 10;

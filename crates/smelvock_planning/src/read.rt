@@ -1,6 +1,6 @@
 // The exported calls that read a planning tree.
 ghost use Rattle.std.specs.Prelude.{◌≡◌};
-ghost use Rattle.smelvock_marshal.specs.Lent.{given_at_entry};
+ghost use Rattle.smelvock_marshal.specs.Lent.{given};
 ghost use Rattle.smelvock_planning.specs.Calls as flat;
 
 use crate::answered::{ranged_of, refused_ranged};
@@ -21,7 +21,7 @@ pub extern "C" fn smelvock_plan_lengths(
     homes: &[u32],
     id: u32,
 ) -> FlatBounds
-    ensures { result ≡ flat.lengths (given_at_entry head leaves inners homes) id }
+    ensures { result ≡ flat.lengths (given head.now leaves.now inners.now homes.now) id }
 {
     if bad_head(head) {
         return refused_ranged(10);
@@ -37,7 +37,7 @@ pub extern "C" fn smelvock_plan_count(
     inners: &[u32],
     homes: &[u32],
 ) -> FlatNumber
-    ensures { result ≡ flat.count (given_at_entry head leaves inners homes) }
+    ensures { result ≡ flat.count (given head.now leaves.now inners.now homes.now) }
 {
     if bad_head(head) {
         return refused_number(10);
@@ -55,7 +55,7 @@ pub extern "C" fn smelvock_plan_next(
     homes: &[u32],
     id: u32,
 ) -> FlatNumber
-    ensures { result ≡ flat.next (given_at_entry head leaves inners homes) id }
+    ensures { result ≡ flat.next (given head.now leaves.now inners.now homes.now) id }
 {
     if bad_head(head) {
         return refused_number(10);
@@ -72,7 +72,7 @@ pub extern "C" fn smelvock_plan_earliest(
     homes: &[u32],
     id: u32,
 ) -> FlatNumber
-    ensures { result ≡ flat.earliest (given_at_entry head leaves inners homes) id }
+    ensures { result ≡ flat.earliest (given head.now leaves.now inners.now homes.now) id }
 {
     if bad_head(head) {
         return refused_number(10);
@@ -89,7 +89,7 @@ pub extern "C" fn smelvock_plan_latest(
     homes: &[u32],
     id: u32,
 ) -> FlatNumber
-    ensures { result ≡ flat.latest (given_at_entry head leaves inners homes) id }
+    ensures { result ≡ flat.latest (given head.now leaves.now inners.now homes.now) id }
 {
     if bad_head(head) {
         return refused_number(10);
@@ -105,7 +105,7 @@ pub extern "C" fn smelvock_plan_audit(
     inners: &[u32],
     homes: &[u32],
 ) -> FlatNumber
-    ensures { result ≡ flat.audit (given_at_entry head leaves inners homes) }
+    ensures { result ≡ flat.audit (given head.now leaves.now inners.now homes.now) }
 {
     if bad_head(head) {
         return refused_number(10);

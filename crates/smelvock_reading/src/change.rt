@@ -1,6 +1,6 @@
 // The exported calls that change a length of a reading copy or add an entry. Each is the one caller of its call, which is compiled into it.
 ghost use Rattle.std.specs.Prelude.{◌≡◌};
-ghost use Rattle.smelvock_marshal.specs.Lent.{given_at_entry, left_at_exit};
+ghost use Rattle.smelvock_marshal.specs.Lent.{given, left};
 ghost use Rattle.smelvock_reading.specs.Calls as flat;
 
 use calls_reading::change::{insert, set, split};
@@ -21,7 +21,7 @@ pub extern "C" fn smelvock_read_insert(
     id: u32,
     length: u32,
 ) -> FlatInserted
-    ensures { left_at_exit result head leaves inners homes ≡ flat.insert (given_at_entry head leaves inners homes) id length }
+    ensures { left result head.new leaves.new inners.new homes.new ≡ flat.insert (given head.old leaves.old inners.old homes.old) id length }
 {
     if bad_head(head) {
         return refused_inserted(10);
@@ -45,7 +45,7 @@ pub extern "C" fn smelvock_read_split(
     length: u32,
     before: u32,
 ) -> FlatNumber
-    ensures { left_at_exit result head leaves inners homes ≡ flat.split (given_at_entry head leaves inners homes) id length before }
+    ensures { left result head.new leaves.new inners.new homes.new ≡ flat.split (given head.old leaves.old inners.old homes.old) id length before }
 {
     if bad_flag(head, before) {
         return refused_number(10);
@@ -75,7 +75,7 @@ pub extern "C" fn smelvock_read_set(
     id: u32,
     length: u32,
 ) -> u32
-    ensures { left_at_exit result head leaves inners homes ≡ flat.set (given_at_entry head leaves inners homes) id length }
+    ensures { left result head.new leaves.new inners.new homes.now ≡ flat.set (given head.old leaves.old inners.old homes.now) id length }
 {
     if bad_head(head) {
         return 10;

@@ -1,6 +1,6 @@
 // The exported calls that begin a reading copy.
 ghost use Rattle.std.specs.Prelude.{◌≡◌};
-ghost use Rattle.smelvock_marshal.specs.Lent.{given_at_entry, left_at_exit};
+ghost use Rattle.smelvock_marshal.specs.Lent.{given, left};
 ghost use Rattle.smelvock_reading.specs.Calls as flat;
 
 use calls_reading::make::{new, reset};
@@ -18,7 +18,7 @@ pub extern "C" fn smelvock_read_new(
     inners: &mut [u32],
     homes: &mut [u32],
 ) -> u32
-    ensures { left_at_exit result head leaves inners homes ≡ flat.make fan limit length (given_at_entry head leaves inners homes) }
+    ensures { left result head.new leaves.new inners.new homes.new ≡ flat.make fan limit length (given head.old leaves.old inners.old homes.old) }
 {
     if head.len() != 36 {
         return 10;
@@ -38,7 +38,7 @@ pub extern "C" fn smelvock_read_reset(
     homes: &mut [u32],
     length: u32,
 ) -> u32
-    ensures { left_at_exit result head leaves inners homes ≡ flat.reset (given_at_entry head leaves inners homes) length }
+    ensures { left result head.new leaves.new inners.new homes.new ≡ flat.reset (given head.old leaves.old inners.old homes.old) length }
 {
     if bad_head(head) {
         return 10;

@@ -1,6 +1,6 @@
 // The exported calls that read a reading copy; the lookup keeps the finger found.
 ghost use Rattle.std.specs.Prelude.{◌≡◌};
-ghost use Rattle.smelvock_marshal.specs.Lent.{given_at_entry, left_at_exit};
+ghost use Rattle.smelvock_marshal.specs.Lent.{given, left};
 ghost use Rattle.smelvock_reading.specs.Calls as flat;
 
 use crate::answered::{looked_of, refused_looked};
@@ -21,7 +21,7 @@ pub extern "C" fn smelvock_read_lookup(
     homes: &[u32],
     index: u32,
 ) -> FlatLooked
-    ensures { left_at_exit result head leaves inners homes ≡ flat.lookup (given_at_entry head leaves inners homes) index }
+    ensures { left result head.new leaves.now inners.now homes.now ≡ flat.lookup (given head.old leaves.now inners.now homes.now) index }
 {
     if bad_head(head) {
         return refused_looked(10);
@@ -42,7 +42,7 @@ pub extern "C" fn smelvock_read_rank(
     homes: &[u32],
     id: u32,
 ) -> FlatNumber
-    ensures { result ≡ flat.rank (given_at_entry head leaves inners homes) id }
+    ensures { result ≡ flat.rank (given head.now leaves.now inners.now homes.now) id }
 {
     if bad_head(head) {
         return refused_number(10);
@@ -60,7 +60,7 @@ pub extern "C" fn smelvock_read_next(
     homes: &[u32],
     id: u32,
 ) -> FlatNumber
-    ensures { result ≡ flat.next (given_at_entry head leaves inners homes) id }
+    ensures { result ≡ flat.next (given head.now leaves.now inners.now homes.now) id }
 {
     if bad_head(head) {
         return refused_number(10);
@@ -79,7 +79,7 @@ pub extern "C" fn smelvock_read_compare(
     id: u32,
     other: u32,
 ) -> FlatNumber
-    ensures { result ≡ flat.compare (given_at_entry head leaves inners homes) id other }
+    ensures { result ≡ flat.compare (given head.now leaves.now inners.now homes.now) id other }
 {
     if bad_head(head) {
         return refused_number(10);

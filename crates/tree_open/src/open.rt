@@ -3,7 +3,6 @@ ghost use Rattle.std.specs.Prelude.{◌≡◌, [], ◌++◌, ℕ, suc, ◌+◌, 
 ghost use Rattle.model.specs.Kind.{kind};
 ghost use Rattle.model.specs.Lists.{refusal};
 ghost use Rattle.model.specs.State.{state, shape, nodes_for, node_at};
-ghost use Rattle.model.specs.Moments.{at_entry};
 ghost use Rattle.model.specs.Refuse.{bad_size, too_short, astray, shape_of, opening, stale, at_cursor};
 ghost use Rattle.model.specs.Calls.{area_causes};
 ghost use Rattle.model.specs.declared.shape.Kind.{Kind};
@@ -146,7 +145,7 @@ pub fn open_areas(
 // What every call tests that reads links.
 pub fn open(views: usize, head: Head, leaves: &[u32], inners: &[u32], homes: &[u32]) -> Opened
     requires { (1 ≤ views) × (views ≤ 3) }
-    ensures { (effect : ℕ) → result ≡ opened_by (opening (kind views effect) (at_entry head leaves inners homes)) (shape_of (kind views effect) head) }
+    ensures { (effect : ℕ) → result ≡ opened_by (opening (kind views effect) (state head leaves.now inners.now homes.now)) (shape_of (kind views effect) head) }
 {
     let fan = head.fan;
     let limit = head.limit;
@@ -191,7 +190,7 @@ pub fn open_at(
     c: Cursor,
 ) -> Opened
     requires { (1 ≤ views) × (views ≤ 3) }
-    ensures { (effect : ℕ) → result ≡ opened_by (opening (kind views effect) (at_entry head leaves inners homes) ++ at_cursor (kind views effect) (at_entry head leaves inners homes) c) (shape_of (kind views effect) head) }
+    ensures { (effect : ℕ) → result ≡ opened_by (opening (kind views effect) (state head leaves.now inners.now homes.now) ++ at_cursor (kind views effect) (state head leaves.now inners.now homes.now) c) (shape_of (kind views effect) head) }
 {
     match open(views, head, leaves, inners, homes) {
         Opened::Refused(n) => Opened::Refused(n),
