@@ -1,12 +1,12 @@
 -- The test of an inner node, by what its parts answer. Assumes nothing.
 use mathlib.Core.Path.{◌≡◌, refl, sym, ap, ◌∙◌}
-use mathlib.Core.Bool.{Bool, true, false, cond, not, ◌&&◌}
+use mathlib.Core.Bool.{Bool, true, false, cond, ◌&&◌}
 use mathlib.Core.List.{List, []}
 use Prim.Native.Nat.{ℕ, zero, suc, ◌-◌, ◌<◌, ◌≤◌}
 use native.Mathlib.Omega.{arith}
 use lib.ListN.{get_or}
 use lib.Dec.{leb, eqb}
-use borrow.Author.Tests.{le-leb, lt-leb, eq-eqb, ne_eqb, not-true, not-false}
+use borrow.Author.Tests.{le-leb, lt-leb, eq-eqb, ne_eqb}
 use Rattle.model.specs.Kind.{stride}
 use Rattle.model.specs.State.{state, node_at}
 use Rattle.model.specs.Refuse.{shape_of}
@@ -69,21 +69,21 @@ module _ (K : Kind) (h : Head) (ls xs hs : List ℕ) where
         filled : f ≡ filled_part g k
         filled = ef ∙ ap (λ (m : ℕ). is_filled K (state h [] [] []) m (node_at g k xs)) el
 
-        pub inner_unfilled : not f ≡ true → false ≡ is_inner K (state h ls xs hs) k
-        inner_unfilled n = sym (rw (le-leb 1 d low, le-leb d h.levels high, sym filled ∙ not-true f n) at (sym inner_by_law))
+        pub inner_unfilled : f ≡ false → false ≡ is_inner K (state h ls xs hs) k
+        inner_unfilled n = sym (rw (le-leb 1 d low, le-leb d h.levels high, sym filled ∙ n) at (sym inner_by_law))
 
-        module _ (nf : not f ≡ false) (b : Bool) (eb : b ≡ root_by g h xs k) where
-          pub inner_misplaced : not b ≡ true → false ≡ is_inner K (state h ls xs hs) k
+        module _ (nf : f ≡ true) (b : Bool) (eb : b ≡ root_by g h xs k) where
+          pub inner_misplaced : b ≡ false → false ≡ is_inner K (state h ls xs hs) k
           inner_misplaced n =
-              sym (rw (le-leb 1 d low, le-leb d h.levels high, sym filled ∙ not-false f nf, sym eb ∙ not-true b n) at (sym inner_by_law))
+              sym (rw (le-leb 1 d low, le-leb d h.levels high, sym filled ∙ nf, sym eb ∙ n) at (sym inner_by_law))
 
-          module _ (nb : not b ≡ false) (len : ℕ) (en : len ≡ (node_at g k xs).len) (r : Bool) where
+          module _ (nb : b ≡ true) (len : ℕ) (en : len ≡ (node_at g k xs).len) (r : Bool) where
             pub inner_lowest : d ≡ h.levels → r ≡ every (child_by g h.leaves ls xs k) 0 len → r ≡ is_inner K (state h ls xs hs) k
             inner_lowest q er =
                 er ∙ ap (every (child_by g h.leaves ls xs k) 0) en
-                ∙ sym (rw (le-leb 1 d low, le-leb d h.levels high, sym filled ∙ not-false f nf, sym eb ∙ not-false b nb, eq-eqb d h.levels q) at (sym inner_by_law))
+                ∙ sym (rw (le-leb 1 d low, le-leb d h.levels high, sym filled ∙ nf, sym eb ∙ nb, eq-eqb d h.levels q) at (sym inner_by_law))
 
             pub inner_higher : (d ≡ h.levels → ⊥) → r ≡ every (child_by g h.inners xs xs k) 0 len → r ≡ is_inner K (state h ls xs hs) k
             inner_higher q er =
                 er ∙ ap (every (child_by g h.inners xs xs k) 0) en
-                ∙ sym (rw (le-leb 1 d low, le-leb d h.levels high, sym filled ∙ not-false f nf, sym eb ∙ not-false b nb, ne_eqb d h.levels q) at (sym inner_by_law))
+                ∙ sym (rw (le-leb 1 d low, le-leb d h.levels high, sym filled ∙ nf, sym eb ∙ nb, ne_eqb d h.levels q) at (sym inner_by_law))

@@ -7,7 +7,7 @@ use native.Mathlib.Omega.{arith}
 use lib.ListN.{get_or}
 use lib.Seq.{get_or-drop}
 use lib.Dec.{ltb, eqb}
-use borrow.Author.Tests.{lt-ltb, le-ltb, ltb-true, eq-eqb, ne_eqb, not-true, not-false}
+use borrow.Author.Tests.{lt-ltb, le-ltb, ltb-true, eq-eqb, ne_eqb}
 use Rattle.model.specs.Kind.{kind, kind_of, stride, too_many_lines, crossed}
 use Rattle.model.specs.Node.{Node, child, lengths, length_in}
 use Rattle.model.specs.State.{state, node_at}
@@ -100,22 +100,22 @@ module _ (K : Kind) (h : Head) (ls xs hs : List ℕ) where
         ap (λ (x : Shape). leaf_by x d k) e
         ∙ whole k d (ed ∙ ap (depth_by g h.inners xs h.levels) ep ∙ ap (λ (x : Shape). depth_by x h.inners xs h.levels (node_at x k ls).parent) e ∙ depth_same K h ls xs hs h.levels _)
 
-    pub leaf_unfilled : not f ≡ true → false ≡ is_leaf K (state h ls xs hs) k
-    leaf_unfilled n = sym (rw (sym filled ∙ not-true f n) at (sym (leaf_by_law _ _ refl refl)))
+    pub leaf_unfilled : f ≡ false → false ≡ is_leaf K (state h ls xs hs) k
+    leaf_unfilled n = sym (rw (sym filled ∙ n) at (sym (leaf_by_law _ _ refl refl)))
 
-    module _ (nf : not f ≡ false) where
+    module _ (nf : f ≡ true) where
       module _ (p a : ℕ) (ep : p ≡ (node_at g k ls).parent) (ea : a ≡ (node_at g k ls).at) (b : Bool) (eb : b ≡ held_by g h.inners xs k p a) where
         held : b ≡ held_part g k
         held = eb ∙ rw (ep, ea)
 
-        pub leaf_unheld : not b ≡ true → false ≡ is_leaf K (state h ls xs hs) k
-        leaf_unheld n = sym (rw (sym filled ∙ not-false f nf, sym held ∙ not-true b n) at (sym (leaf_by_law _ _ refl refl)))
+        pub leaf_unheld : b ≡ false → false ≡ is_leaf K (state h ls xs hs) k
+        leaf_unheld n = sym (rw (sym filled ∙ nf, sym held ∙ n) at (sym (leaf_by_law _ _ refl refl)))
 
-        module _ (nb : not b ≡ false) (d : ℕ) (ed : d ≡ depth_by g h.inners xs h.levels p) where
+        module _ (nb : b ≡ true) (d : ℕ) (ed : d ≡ depth_by g h.inners xs h.levels p) where
           pub leaf_uneven : (d ≡ h.levels → ⊥) → false ≡ is_leaf K (state h ls xs hs) k
-          leaf_uneven n = sym (rw (sym filled ∙ not-false f nf, sym held ∙ not-false b nb, ne_eqb d h.levels n) at (sym (leaf_by_law p d ep ed)))
+          leaf_uneven n = sym (rw (sym filled ∙ nf, sym held ∙ nb, ne_eqb d h.levels n) at (sym (leaf_by_law p d ep ed)))
 
           pub leaf_last : d ≡ h.levels → (len : ℕ) → len ≡ (node_at g k ls).len → (y : Bool) → K.ordered ≡ y → (r : Bool) → r ≡ every (entry_by g y h.entries ls hs k) 0 len → r ≡ is_leaf K (state h ls xs hs) k
           leaf_last q len en y ey r er =
               er ∙ ap (λ (z : Bool). every (entry_by g z h.entries ls hs k) 0 len) (sym ey) ∙ ap (every (entry_by g K.ordered h.entries ls hs k) 0) en
-              ∙ sym (rw (sym filled ∙ not-false f nf, sym held ∙ not-false b nb, eq-eqb d h.levels q) at (sym (leaf_by_law p d ep ed)))
+              ∙ sym (rw (sym filled ∙ nf, sym held ∙ nb, eq-eqb d h.levels q) at (sym (leaf_by_law p d ep ed)))

@@ -1,12 +1,12 @@
 -- The test of the whole tree, by what its parts answer. Assumes nothing.
 use mathlib.Core.Path.{◌≡◌, refl, sym, ap, ◌∙◌}
-use mathlib.Core.Bool.{Bool, true, false, cond, not, ◌&&◌}
+use mathlib.Core.Bool.{Bool, true, false, cond, ◌&&◌}
 use mathlib.Core.List.{List, []}
 use Prim.Native.Nat.{ℕ, suc, ◌+◌, ◌-◌, ◌<◌, ◌≤◌}
 use native.Mathlib.Omega.{arith}
 use native.Mathlib.Nat.{lt_of_lt_of_le, le_trans}
 use lib.Dec.{ltb, leb, eqb}
-use borrow.Author.Tests.{eq-eqb, ne_eqb, leb-true, ltb-true, not-true, not-false}
+use borrow.Author.Tests.{eq-eqb, ne_eqb, leb-true, ltb-true}
 use Rattle.model.specs.Lists.{sum_by, range}
 use Rattle.model.specs.Node.{total, used}
 use Rattle.model.specs.State.{State, state, node_at, shape}
@@ -105,37 +105,37 @@ module _ (K : Kind) (h : Head) (ls xs hs : List ℕ) where
     sound_by_law : is_sound K t ≡ sound_by g
     sound_by_law = sym (ap sound_by e ∙ whole)
 
-    pub sound_counts : not a ≡ true → false ≡ is_sound K t
-    sound_counts n = sym (rw (sym ea ∙ not-true a n) at sound_by_law)
+    pub sound_counts : a ≡ false → false ≡ is_sound K t
+    sound_counts n = sym (rw (sym ea ∙ n) at sound_by_law)
 
-    module _ (na : not a ≡ false) where
+    module _ (na : a ≡ true) where
       good_counts : counts_by h g ≡ true
-      good_counts = sym ea ∙ not-false a na
+      good_counts = sym ea ∙ na
 
       module _ (b : Bool) (eb : b ≡ every (is_inner K (state h ls xs [])) 0 h.inners) where
         inner : b ≡ every (is_inner K t) 0 h.inners
         inner = eb ∙ every_same (is_inner K (state h ls xs [])) (is_inner K t) inner_homes 0 h.inners
 
-        pub sound_inners : not b ≡ true → false ≡ is_sound K t
-        sound_inners n = sym (rw (good_counts, sym inner ∙ not-true b n) at sound_by_law)
+        pub sound_inners : b ≡ false → false ≡ is_sound K t
+        sound_inners n = sym (rw (good_counts, sym inner ∙ n) at sound_by_law)
 
-        module _ (nb : not b ≡ false) (c : Bool) (ec : c ≡ every (is_leaf K t) 0 h.leaves) where
-          pub sound_leaves : not c ≡ true → false ≡ is_sound K t
-          sound_leaves n = sym (rw (good_counts, sym inner ∙ not-false b nb, sym ec ∙ not-true c n) at sound_by_law)
+        module _ (nb : b ≡ true) (c : Bool) (ec : c ≡ every (is_leaf K t) 0 h.leaves) where
+          pub sound_leaves : c ≡ false → false ≡ is_sound K t
+          sound_leaves n = sym (rw (good_counts, sym inner ∙ nb, sym ec ∙ n) at sound_by_law)
 
-          module _ (nc : not c ≡ false) (l : ℕ) (el : l ≡ lens_part g) where
+          module _ (nc : c ≡ true) (l : ℕ) (el : l ≡ lens_part g) where
             pub sound_lens : (l ≡ h.entries → ⊥) → false ≡ is_sound K t
-            sound_lens n = sym (rw (good_counts, sym inner ∙ not-false b nb, sym ec ∙ not-false c nc, ← el, ne_eqb l h.entries n) at sound_by_law)
+            sound_lens n = sym (rw (good_counts, sym inner ∙ nb, sym ec ∙ nc, ← el, ne_eqb l h.entries n) at sound_by_law)
 
             module _ (ql : l ≡ h.entries) (d : Bool) (ed : d ≡ totals_part g) where
-              pub sound_totals : not d ≡ true → false ≡ is_sound K t
+              pub sound_totals : d ≡ false → false ≡ is_sound K t
               sound_totals n =
-                  sym (rw (good_counts, sym inner ∙ not-false b nb, sym ec ∙ not-false c nc, ← el, eq-eqb l h.entries ql, sym ed ∙ not-true d n) at sound_by_law)
+                  sym (rw (good_counts, sym inner ∙ nb, sym ec ∙ nc, ← el, eq-eqb l h.entries ql, sym ed ∙ n) at sound_by_law)
 
-              pub sound_finger : not d ≡ false → (r : Bool) → r ≡ is_held_finger K (state h ls xs []) h.finger → r ≡ is_sound K t
+              pub sound_finger : d ≡ true → (r : Bool) → r ≡ is_held_finger K (state h ls xs []) h.finger → r ≡ is_sound K t
               sound_finger nd r er =
                   er ∙ finger_homes h.finger
-                  ∙ sym (rw (good_counts, sym inner ∙ not-false b nb, sym ec ∙ not-false c nc, ← el, eq-eqb l h.entries ql, sym ed ∙ not-false d nd) at sound_by_law)
+                  ∙ sym (rw (good_counts, sym inner ∙ nb, sym ec ∙ nc, ← el, eq-eqb l h.entries ql, sym ed ∙ nd) at sound_by_law)
 
 -- a view of the tree is a column of every slot
 pub view_wide : (g : Shape) (views fan limit v : ℕ) → g ≡ shape (suc views) fan limit → v < views → v + 1 < g.stride

@@ -1,11 +1,11 @@
 -- The sums over all leaves, a total, and the test of the finger, by what its parts answer. Assumes nothing.
 use mathlib.Core.Path.{◌≡◌, refl, sym, ap, ◌∙◌}
-use mathlib.Core.Bool.{Bool, true, false, not, ◌&&◌}
+use mathlib.Core.Bool.{Bool, true, false, ◌&&◌}
 use mathlib.Core.List.{List}
 use Prim.Native.Nat.{ℕ, suc, ◌+◌, ◌-◌, ◌<◌, ◌≤◌}
 use native.Mathlib.Omega.{arith}
 use lib.Dec.{ltb, leb, eqb}
-use borrow.Author.Tests.{lt-ltb, le-ltb, lt-leb, le-leb, not-true, not-false}
+use borrow.Author.Tests.{lt-ltb, le-ltb, lt-leb, le-leb}
 use Rattle.model.specs.Lists.{sum_by, range}
 use Rattle.model.specs.Node.{Node, total, used, start}
 use Rattle.model.specs.State.{state, node_at}
@@ -51,20 +51,20 @@ module _ (g : Shape) (levels v : ℕ) (n : Node) (slot a b : ℕ) (xs : List ℕ
   started : is_sum a (rank_up g v levels n.parent n.at 0 xs) ≡ t
   started = let same : rank_up g v levels p i 0 xs ≡ rank_up g v levels n.parent n.at 0 xs = rw (ep, ei) in sym (et ∙ ap (is_sum a) (er ∙ same))
 
-  pub part_start : not t ≡ true → false ≡ part_by g levels v n slot a b xs
-  part_start q = rw (started ∙ not-true t q)
+  pub part_start : t ≡ false → false ≡ part_by g levels v n slot a b xs
+  part_start q = rw (started ∙ q)
 
-  pub part_last : not t ≡ false → (x : ℕ) → x ≡ start v slot n → eqb b x ≡ part_by g levels v n slot a b xs
-  part_last q x ex = rw (started ∙ not-false t q, ex)
+  pub part_last : t ≡ true → (x : ℕ) → x ≡ start v slot n → eqb b x ≡ part_by g levels v n slot a b xs
+  part_last q x ex = rw (started ∙ q, ex)
 
 -- the finger's sums in effect and in prepare
 module _ (g : Shape) (levels e : ℕ) (f : Finger) (ls xs : List ℕ) (c : Bool)
     (ec : c ≡ part_by g levels e (node_at g f.leaf ls) f.slot f.effect f.effect_within xs) where
-  pub beside_effect : not c ≡ true → false ≡ beside_by g levels e f ls xs
-  beside_effect n = rw (sym ec ∙ not-true c n)
+  pub beside_effect : c ≡ false → false ≡ beside_by g levels e f ls xs
+  beside_effect n = rw (sym ec ∙ n)
 
-  pub beside_last : not c ≡ false → (d : Bool) → d ≡ part_by g levels 0 (node_at g f.leaf ls) f.slot f.prepare f.prepare_within xs → d ≡ beside_by g levels e f ls xs
-  beside_last n d ed = rw (sym ec ∙ not-false c n) ed
+  pub beside_last : c ≡ true → (d : Bool) → d ≡ part_by g levels 0 (node_at g f.leaf ls) f.slot f.prepare f.prepare_within xs → d ≡ beside_by g levels e f ls xs
+  beside_last n d ed = rw (sym ec ∙ n) ed
 
 -- the finger: its sums in the order of the definition, and view by view
 by_views : (a d e f g h i : Bool) → (a && d && e && f && g && h && i) ≡ (a && (d && f) && ((e && g) && (h && i)))
@@ -123,8 +123,8 @@ module _ (K : Kind) (h : Head) (ls xs hs : List ℕ) (f : Finger) where
         finger_slot n = sym (rw (viewed, lt-ltb f.leaf h.leaves hl, ← el, le-ltb f.slot len n) at finger_by_law)
 
         module _ (hs' : f.slot < len) (b : Bool) (eb : b ≡ own_part g) where
-          pub finger_own : not b ≡ true → false ≡ is_finger K (state h ls xs hs) f
-          finger_own n = sym (finger_by_law ∙ rw (viewed, lt-ltb f.leaf h.leaves hl, ← el, lt-ltb f.slot len hs', sym eb ∙ not-true b n))
+          pub finger_own : b ≡ false → false ≡ is_finger K (state h ls xs hs) f
+          finger_own n = sym (finger_by_law ∙ rw (viewed, lt-ltb f.leaf h.leaves hl, ← el, lt-ltb f.slot len hs', sym eb ∙ n))
 
-          pub finger_last : not b ≡ false → (d : Bool) → d ≡ beside_by g h.levels K.effect f ls xs → d ≡ is_finger K (state h ls xs hs) f
-          finger_last n d ed = ed ∙ sym (finger_by_law ∙ rw (viewed, lt-ltb f.leaf h.leaves hl, ← el, lt-ltb f.slot len hs', sym eb ∙ not-false b n))
+          pub finger_last : b ≡ true → (d : Bool) → d ≡ beside_by g h.levels K.effect f ls xs → d ≡ is_finger K (state h ls xs hs) f
+          finger_last n d ed = ed ∙ sym (finger_by_law ∙ rw (viewed, lt-ltb f.leaf h.leaves hl, ← el, lt-ltb f.slot len hs', sym eb ∙ n))

@@ -1,6 +1,5 @@
 -- What print answers, from what its tests answered and what was written. Assumes nothing.
-use Rattle.std.proofs.Common.{◌≡◌, ℕ, ◌+◌, ◌-◌, ◌*◌, ◌<◌, ◌≤◌, Bool, true, false, cond, not, eqb, List, ◌++◌, length, sym, refl, ap, ◌∙◌, arith, eqb-true}
-use borrow.Author.Tests.{not-true, not-false}
+use Rattle.std.proofs.Common.{◌≡◌, ℕ, ◌+◌, ◌-◌, ◌*◌, ◌<◌, ◌≤◌, Bool, true, false, cond, eqb, List, ◌++◌, length, sym, refl, ap, ◌∙◌, arith, eqb-true}
 use Rattle.model.specs.Lists.{put_at}
 use Rattle.model.specs.State.{State}
 use Rattle.model.specs.Climb.{first_down}
@@ -52,17 +51,17 @@ module _ (K : Kind) (s : State) (page : List ℕ) (o : Opened) (e : o ≡ opened
         (omega (arith, r.0.entries, r.0.limit_most), omega (arith, r.0.entries, r.0.limit_most), omega (arith, r.1))
 
     module _ (all : Bool) (new : List ℕ) (m : (all ≡ eqb (length (met_by g)) s.head.entries) × (new ≡ put_at 0 (slot_lines K 0 0 (met_by g)) page)) where
-      pub print_broken : not all ≡ true → (number.Refused 9, new) ≡ print K s page
+      pub print_broken : all ≡ false → (number.Refused 9, new) ≡ print K s page
       unfolding print slots_met
       print_broken h =
-          let f : eqb (length (met_by g)) s.head.entries ≡ false = sym m.0 ∙ not-true all h in
+          let f : eqb (length (met_by g)) s.head.entries ≡ false = sym m.0 ∙ h in
           call_good refuse answer_by _ (shape_of K s.head) o e g d (number.Refused 9, new) (rw f (ap (λ (l : List ℕ). (number.Refused 9, l)) m.1))
 
-      pub print_good : not all ≡ false → (pages : ℕ) → pages ≡ pages_for s.head.entries → (last : List ℕ) → last ≡ put_at (55 * s.head.entries) (blank_lines (50 * pages - s.head.entries)) new
+      pub print_good : all ≡ true → (pages : ℕ) → pages ≡ pages_for s.head.entries → (last : List ℕ) → last ≡ put_at (55 * s.head.entries) (blank_lines (50 * pages - s.head.entries)) new
           → (number.Is pages, last) ≡ print K s page
       unfolding print slots_met
       print_good h pages q last el =
-          let t : eqb (length (met_by g)) s.head.entries ≡ true = sym m.0 ∙ not-false all h in
+          let t : eqb (length (met_by g)) s.head.entries ≡ true = sym m.0 ∙ h in
           let n : ℕ = s.head.entries in
           let text : List ℕ = slot_lines K 0 0 (met_by g) in
           let lt : length (slot_lines K 0 0 (met_by g)) ≡ 55 * s.head.entries = length_slot_lines K 0 0 (met_by g) ∙ ap (λ (k : ℕ). 55 * k) (eqb-true (length (met_by g)) s.head.entries t) in

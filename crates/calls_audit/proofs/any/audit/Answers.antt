@@ -26,8 +26,7 @@ pub returns-then-is_sound : goal.returns-then-is_sound
 returns-then-is_sound c =
     let a = c.args in
     let open-areas = c.open_areas in
-    let g = c.g-1 in
-    audit_good (kind_of a.views a.effect a.ordered) (state a.head a.leaves.now a.inners.now a.homes.now) _ (open-areas.ensures a.effect) _ g.given.1 _ (c.is_sound.ensures a.views) _ c.if-is_sound.true
+    audit_good (kind_of a.views a.effect a.ordered) (state a.head a.leaves.now a.inners.now a.homes.now) _ (open-areas.ensures a.effect) _ c.in-Good.is _ (c.is_sound.ensures a.views) _ c.if-is_sound.true
 
 pub returns-in-Refused : goal.returns-in-Refused
 returns-in-Refused c =
@@ -39,5 +38,4 @@ pub returns-else-is_sound : goal.returns-else-is_sound
 returns-else-is_sound c =
     let a = c.args in
     let open-areas = c.open_areas in
-    let g = c.g-1 in
-    audit_good (kind_of a.views a.effect a.ordered) (state a.head a.leaves.now a.inners.now a.homes.now) _ (open-areas.ensures a.effect) _ g.given.1 _ (c.is_sound.ensures a.views) _ c.if-is_sound.false
+    audit_good (kind_of a.views a.effect a.ordered) (state a.head a.leaves.now a.inners.now a.homes.now) _ (open-areas.ensures a.effect) _ c.in-Good.is _ (c.is_sound.ensures a.views) _ c.if-is_sound.false

@@ -23,7 +23,7 @@ returns-then-not-is_leaf c K e o =
     let args = c.args in
     let the-loop = c.loop-k in
     sym (every_stop (is_leaf K (state args.head args.leaves.now args.inners.now args.homes.now)) _ _ c.loop-k-test.true
-    (sym (c.is_IsLeaf.ensures K e o) ∙ c.if-not-is_leaf.true)) ∙ the-loop.invariant K e o
+    (sym (c.is_leaf.ensures K e o) ∙ c.if-not-is_leaf.true)) ∙ the-loop.invariant K e o
 
 pub overflow_add-k : goal.overflow_add-k
 overflow_add-k c = omega arith
@@ -36,7 +36,7 @@ loop-k-preserved c K e o =
     let args = c.args in
     let the-loop = c.loop-k in
     sym (every_on (is_leaf K (state args.head args.leaves.now args.inners.now args.homes.now)) _ _ c.loop-k-test.true
-    (sym (c.is_IsLeaf.ensures K e o) ∙ c.if-not-is_leaf.false)) ∙ the-loop.invariant K e o
+    (sym (c.is_leaf.ensures K e o) ∙ c.if-not-is_leaf.false)) ∙ the-loop.invariant K e o
 
 pub returns : goal.returns
 returns c K e o =

@@ -1,7 +1,6 @@
 -- `calls_audit::any::is_sound`: each test is one of those of the definition, in its order; good counts are what the others need.
 use mathlib.Core.Path.{refl, sym, ◌∙◌}
 use native.Mathlib.Omega.{arith}
-use borrow.Author.Tests.{not-false}
 use Rattle.model.specs.Kind.{kind_of}
 use Rattle.calls_audit.proofs.SoundLaws.{known, few_entries, root_in, sound_counts, sound_inners, sound_leaves, sound_lens, sound_totals, sound_finger}
 use Rattle.calls_audit.proofs.any.is_sound.Goals as goal
@@ -49,7 +48,7 @@ slots_used-requires c =
     let pre = c.requires in
     let counts = c.counts in
     let if1 = c.if-not-counts in
-    let good = sym counts.ensures ∙ not-false _ if1.false in
+    let good = sym counts.ensures ∙ if1.false in
     (pre.0, (known args.head args.g good _ _ pre.0 pre.1).leaves)
 
 pub overflow_cast-head : goal.overflow_cast-head
@@ -74,7 +73,7 @@ totals-requires c =
     let counts = c.counts in
     let if1 = c.if-not-counts in
     let pre = c.requires in
-    let good = sym counts.ensures ∙ not-false _ if1.false in
+    let good = sym counts.ensures ∙ if1.false in
     (pre.1, root_in args.head args.g good)
 
 pub returns-then-not-totals : goal.returns-then-not-totals
@@ -97,7 +96,7 @@ is_held_finger-requires c =
     let pre = c.requires in
     let counts = c.counts in
     let if1 = c.if-not-counts in
-    let good = sym counts.ensures ∙ not-false _ if1.false in
+    let good = sym counts.ensures ∙ if1.false in
     (known args.head args.g good _ _ pre.0 pre.1, pre.2)
 
 pub returns : goal.returns

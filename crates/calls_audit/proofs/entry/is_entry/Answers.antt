@@ -1,7 +1,7 @@
 -- `calls_audit::entry::is_entry`: each test is one of the five of the definition, in its order.
-use mathlib.Core.Logic.{⊎_elim}
 use native.Mathlib.Omega.{arith}
 use Rattle.calls_audit.proofs.LeafLaws.{entry_out, entry_away, entry_long, entry_crossed, entry_last}
+use Rattle.calls_audit.proofs.entry.is_entry.Goals.{then-stride-gt3+else-length_of-gt65535, else-stride-gt3}
 use Rattle.calls_audit.proofs.entry.is_entry.Goals as goal
 
 pub returns-then-id-entries : goal.returns-then-id-entries
@@ -38,7 +38,7 @@ pub returns-then-is_crossed : goal.returns-then-is_crossed
 returns-then-is_crossed c =
     let args = c.args in
     entry_crossed args.g args.ordered _ args.leaves.now args.homes.now _ _ _ c.child_of-id.ensures c.if-id-entries.false c.if-homes-id.false
-    (λ h. ⊎_elim (λ w. omega (arith, w.1.ensures, w.2.left)) (λ w. absurd (omega (arith, w.left, h))) c.if-stride-gt3.branch) _ c.is_crossed.ensures c.if-is_crossed.true
+    (λ h. elim c.if-stride-gt3.branch [ then-stride-gt3+else-length_of-gt65535 w ↦ omega (arith, w.length_of.ensures, w.if-length_of-gt65535.false) | else-stride-gt3 w ↦ absurd (omega (arith, w.if-stride-gt3.false, h)) ]) _ c.is_crossed.ensures c.if-is_crossed.true
 
 pub is_new-requires : goal.is_new-requires
 is_new-requires c =
@@ -49,4 +49,4 @@ pub returns : goal.returns
 returns c =
     let args = c.args in
     entry_last args.g args.ordered _ args.leaves.now args.homes.now _ _ _ c.child_of-id.ensures c.if-id-entries.false c.if-homes-id.false
-    (λ h. ⊎_elim (λ w. omega (arith, w.1.ensures, w.2.left)) (λ w. absurd (omega (arith, w.left, h))) c.if-stride-gt3.branch) _ c.is_crossed.ensures c.if-is_crossed.false _ c.is_new.ensures
+    (λ h. elim c.if-stride-gt3.branch [ then-stride-gt3+else-length_of-gt65535 w ↦ omega (arith, w.length_of.ensures, w.if-length_of-gt65535.false) | else-stride-gt3 w ↦ absurd (omega (arith, w.if-stride-gt3.false, h)) ]) _ c.is_crossed.ensures c.if-is_crossed.false _ c.is_new.ensures

@@ -1,6 +1,5 @@
 -- `calls_audit::entry::is_leaf`: each test is one of the four of the definition, in its order.
 use native.Mathlib.Nat.{lt_of_lt_of_le}
-use borrow.Author.Tests.{not-false}
 use Rattle.model.specs.Kind.{stride}
 use Rattle.calls_audit.proofs.LeafLaws.{leaf_unfilled, leaf_unheld, leaf_uneven, leaf_last}
 use Rattle.calls_audit.proofs.entry.is_leaf.Goals as goal
@@ -71,7 +70,7 @@ are_entries-requires c =
       pre.0.leaf_area,
       pre.1,
       lt_of_lt_of_le pre.2 pre.0.leaves,
-      rw c.len_of-len.ensures (is-filled.ensures.1 (not-false _ if1.false)),
+      rw c.len_of-len.ensures (is-filled.ensures.1 if1.false),
     )
 
 pub returns : goal.returns

@@ -1,22 +1,13 @@
 -- `calls_audit::link::has_totals`: the test of the views from here on is the test of all.
-use Prim.Native.Nat.{ℕ, ◌-◌}
+use Prim.Native.Nat.{◌-◌}
 use mathlib.Core.Path.{sym, ◌∙◌}
-use mathlib.Core.Bool.{Bool}
-use mathlib.Core.List.{List, []}
 use native.Mathlib.Omega.{arith}
-use lib.ListN.{get_or}
 use Rattle.model.specs.State.{node_at}
-use Rattle.model.specs.declared.shape.Shape.{Shape}
 use Rattle.calls_audit.proofs.Every.{every_all, every_stop, every_on, every_end}
 use Rattle.calls_audit.specs.Links.{totals_by}
 use Rattle.calls_audit.proofs.LinkLaws.{same_total, total_other, total_same}
+use Rattle.calls_audit.proofs.link.has_totals.Invariants.{same_at, slot_at}
 use Rattle.calls_audit.proofs.link.has_totals.Goals as goal
-
-abbrev slot_at : List ℕ → Shape → ℕ → ℕ → List ℕ
-slot_at xs g k i = get_or (node_at g k xs).slots i []
-
-abbrev same_at : List ℕ → List ℕ → Shape → ℕ → ℕ → ℕ → ℕ → Bool
-same_at xs ws g k i child = same_total (slot_at xs g k i) (node_at g child ws)
 
 pub loop-v-init : goal.loop-v-init
 loop-v-init c =

@@ -1,7 +1,6 @@
 -- `calls_audit::link::is_inner`: each test is one of the five of the definition, in its order.
 use mathlib.Core.List.{[]}
 use native.Mathlib.Nat.{lt_of_lt_of_le}
-use borrow.Author.Tests.{not-false}
 use Rattle.model.specs.Kind.{stride}
 use Rattle.calls_audit.proofs.InnerLaws.{inner_low, inner_deep, inner_unfilled, inner_misplaced, inner_lowest, inner_higher}
 use Rattle.calls_audit.proofs.link.is_inner.Goals as goal
@@ -63,7 +62,7 @@ are_children-requires c =
       pre.0.leaf_area,
       pre.0.leaves,
       lt_of_lt_of_le pre.1 pre.0.inners,
-      rw c.len_of-len.ensures (is-filled.ensures.1 (not-false _ if3.false)),
+      rw c.len_of-len.ensures (is-filled.ensures.1 if3.false),
     )
 
 pub returns-then-d-levels-2 : goal.returns-then-d-levels-2
@@ -89,7 +88,7 @@ are_children-requires-2 c =
       pre.0.inner_area,
       pre.0.inners,
       lt_of_lt_of_le pre.1 pre.0.inners,
-      rw c.len_of-len.ensures (is-filled.ensures.1 (not-false _ if3.false)),
+      rw c.len_of-len.ensures (is-filled.ensures.1 if3.false),
     )
 
 pub returns : goal.returns

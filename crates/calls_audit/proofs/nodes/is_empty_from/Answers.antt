@@ -1,20 +1,10 @@
 -- `calls_audit::nodes::is_empty_from`: the test of the slots from here on is the test of all.
-use Prim.Native.Nat.{ℕ, ◌-◌}
+use Prim.Native.Nat.{◌-◌}
 use mathlib.Core.Path.{refl, sym, ◌∙◌}
-use mathlib.Core.Bool.{Bool}
-use mathlib.Core.List.{List, []}
 use native.Mathlib.Omega.{arith}
-use lib.ListN.{get_or}
-use Rattle.model.specs.State.{node_at}
-use Rattle.model.specs.Audit.{is_empty_slot}
-use Rattle.model.specs.declared.shape.Kind.{Kind}
-use Rattle.model.specs.declared.shape.Shape.{Shape}
 use Rattle.calls_audit.proofs.Every.{every_stop, every_on, every_end}
+use Rattle.calls_audit.proofs.nodes.is_empty_from.Invariants.{empty_at}
 use Rattle.calls_audit.proofs.nodes.is_empty_from.Goals as goal
-
--- slot j of node k is empty
-abbrev empty_at : Kind → Shape → ℕ → List ℕ → ℕ → Bool
-empty_at K g k area j = is_empty_slot K (get_or (node_at g k area).slots j [])
 
 pub loop-i-init : goal.loop-i-init
 loop-i-init c K e = refl

@@ -1,17 +1,11 @@
 -- `calls_audit::nodes::is_empty_slot`: the child is tested first; then the test of the views from here on is the test of all.
-use Prim.Native.Nat.{ℕ, ◌-◌}
+use Prim.Native.Nat.{◌-◌}
 use mathlib.Core.Path.{sym, ◌∙◌}
-use mathlib.Core.List.{List, []}
 use native.Mathlib.Omega.{arith}
-use lib.ListN.{get_or}
-use Rattle.model.specs.State.{node_at}
-use Rattle.model.specs.declared.shape.Shape.{Shape}
 use Rattle.calls_audit.proofs.AreaLaws.{no_length, view_some, view_none, slot_held, slot_views}
 use Rattle.calls_audit.proofs.Every.{every_all, every_stop, every_on, every_end}
+use Rattle.calls_audit.proofs.nodes.is_empty_slot.Invariants.{slot_at}
 use Rattle.calls_audit.proofs.nodes.is_empty_slot.Goals as goal
-
-abbrev slot_at : List ℕ → Shape → ℕ → ℕ → List ℕ
-slot_at area g k i = get_or (node_at g k area).slots i []
 
 pub child_of-requires : goal.child_of-requires
 child_of-requires c = (c.requires.0, c.requires.1, c.requires.2)

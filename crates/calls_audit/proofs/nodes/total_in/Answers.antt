@@ -1,33 +1,26 @@
 -- `calls_audit::nodes::total_in`: the part that is lent holds the node's words.
-use Prim.Native.Nat.{◌+◌, ◌*◌, ◌≤◌}
 use native.Mathlib.Omega.{arith}
-use lib.ListN.{length}
 use Rattle.model_laws.specs.Words.{lent}
 use Rattle.model_laws.specs.AreaRead.{node_end, node_length}
-use Rattle.calls_audit.proofs.nodes.total_in.Goals.{After-shared_slice_known-1}
 use Rattle.calls_audit.proofs.nodes.total_in.Goals as goal
 
--- the node ends within the area
-inside : (c : After-shared_slice_known-1) → c.args.k * c.args.g.size + c.args.g.size ≤ length c.args.area.now
-inside c = node_end c.args.g c.args.k (length c.args.area.now) c.requires.1 c.requires.0.room
-
 pub overflow_mul-a : goal.overflow_mul-a
-overflow_mul-a c = omega (arith, inside (goal.at.overflow_mul-a c).After-shared_slice_known-1)
+overflow_mul-a c = omega (arith, node_end c.args.g c.args.k _ c.requires.1 c.requires.0.room)
 
 pub overflow_add-e : goal.overflow_add-e
-overflow_add-e c = omega (arith, inside (goal.at.overflow_add-e c).After-shared_slice_known-1)
+overflow_add-e c = omega (arith, node_end c.args.g c.args.k _ c.requires.1 c.requires.0.room)
 
 pub offset_bounds-area-a : goal.offset_bounds-area-a
-offset_bounds-area-a c = omega (arith, inside (goal.at.offset_bounds-area-a c).After-shared_slice_known-1)
+offset_bounds-area-a c = omega (arith, node_end c.args.g c.args.k _ c.requires.1 c.requires.0.room)
 
 pub slice_bounds-used_total-count : goal.slice_bounds-used_total-count
 slice_bounds-used_total-count c = omega arith
 
 pub slice_bounds-used_total-start : goal.slice_bounds-used_total-start
-slice_bounds-used_total-start c = omega (arith, inside (goal.at.slice_bounds-used_total-start c).After-shared_slice_known-1)
+slice_bounds-used_total-start c = omega (arith, node_end c.args.g c.args.k _ c.requires.1 c.requires.0.room)
 
 pub slice_bounds-used_total-end : goal.slice_bounds-used_total-end
-slice_bounds-used_total-end c = omega (arith, inside (goal.at.slice_bounds-used_total-end c).After-shared_slice_known-1)
+slice_bounds-used_total-end c = omega (arith, node_end c.args.g c.args.k _ c.requires.1 c.requires.0.room)
 
 pub used_total-requires : goal.used_total-requires
 used_total-requires c = (

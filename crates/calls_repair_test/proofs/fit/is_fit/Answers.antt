@@ -2,7 +2,6 @@
 use mathlib.Core.Path.{refl, ◌∙◌}
 use mathlib.Core.Bool.{false}
 use native.Mathlib.Omega.{arith}
-use borrow.Author.Tests.{not-false}
 use Rattle.model.specs.Kind.{kind_of}
 use Rattle.calls_repair_test.specs.Queue.{kids_of}
 use Rattle.calls_repair_test.proofs.LevelLaws.{never}
@@ -45,7 +44,7 @@ returns-then-not-every_leaf c =
     let counts = c.counts in
     let if1 = c.if-not-counts in
     let every-inner = c.every_inner in (
-      λ views effect hs e. fit_3 views effect args.ordered args.head args.leaves.now args.inners.now hs _ e _ counts.ensures (not-false _ if1.false) _
+      λ views effect hs e. fit_3 views effect args.ordered args.head args.leaves.now args.inners.now hs _ e _ counts.ensures if1.false _
           (every-inner.ensures (kind_of views effect args.ordered) e) (c.if-not-every_inner.false) _ (c.every_leaf.ensures views effect e)
           (c.if-not-every_leaf.true),
       λ q. never false refl q,
@@ -61,10 +60,10 @@ reach-met-requires c =
     let every-inner = c.every_inner in
     let if3 = c.if-not-every_leaf in
     let every-leaf = c.every_leaf in
-    let w = counted args.head args.g _ counts.ensures (not-false _ if1.false) in (
-      inner_lens pre.2.views 0 args.ordered args.head args.g pre.2.same args.inners.now args.head.inners pre.1 w.inners _ (not-false _ if2.false)
+    let w = counted args.head args.g _ counts.ensures if1.false in (
+      inner_lens pre.2.views 0 args.ordered args.head args.g pre.2.same args.inners.now args.head.inners pre.1 w.inners _ if2.false
           (every-inner.ensures (kind_of pre.2.views 0 args.ordered) pre.2.same),
-      leaf_lens pre.2.views 0 args.ordered args.head args.g pre.2.same args.leaves.now args.head.leaves pre.0 w.leaves _ (not-false _ if3.false)
+      leaf_lens pre.2.views 0 args.ordered args.head args.g pre.2.same args.leaves.now args.head.leaves pre.0 w.leaves _ if3.false
           (every-leaf.ensures pre.2.views 0 pre.2.same),
       w.levels,
       omega (arith, w.inners, w.leaves, w.entries, pre.2.nodes, pre.2.limit, pre.2.order),
@@ -83,8 +82,8 @@ returns-then-not-met c =
     let every-leaf = c.every_leaf in
     let if3 = c.if-not-every_leaf in
     let reach = c.reach-met in (
-      λ views effect hs e. fit_4 views effect args.ordered args.head args.leaves.now args.inners.now hs _ e _ counts.ensures (not-false _ if1.false) _
-          (every-inner.ensures (kind_of views effect args.ordered) e) (not-false _ if2.false) _ (every-leaf.ensures views effect e) (not-false _ if3.false) _ reach.ensures.0
+      λ views effect hs e. fit_4 views effect args.ordered args.head args.leaves.now args.inners.now hs _ e _ counts.ensures if1.false _
+          (every-inner.ensures (kind_of views effect args.ordered) e) if2.false _ (every-leaf.ensures views effect e) if3.false _ reach.ensures.0
           (c.if-not-met.true),
       λ q. never false refl q,
     )
@@ -96,7 +95,7 @@ totals-ok-requires c =
     let if1 = c.if-not-counts in
     let pre = c.requires in
     let reach = c.reach-met in
-    let w = counted args.head args.g _ counts.ensures (not-false _ if1.false) in (
+    let w = counted args.head args.g _ counts.ensures if1.false in (
       pre.0,
       omega arith,
       (reach.ensures.1 (c.if-not-met.false)).long,
@@ -116,8 +115,8 @@ returns c =
     let every-leaf = c.every_leaf in
     let if3 = c.if-not-every_leaf in
     let reach = c.reach-met in (
-      λ views effect hs e. fit_5 views effect args.ordered args.head args.leaves.now args.inners.now hs _ e _ counts.ensures (not-false _ if1.false) _
-          (every-inner.ensures (kind_of views effect args.ordered) e) (not-false _ if2.false) _ (every-leaf.ensures views effect e) (not-false _ if3.false) _ reach.ensures.0
+      λ views effect hs e. fit_5 views effect args.ordered args.head args.leaves.now args.inners.now hs _ e _ counts.ensures if1.false _
+          (every-inner.ensures (kind_of views effect args.ordered) e) if2.false _ (every-leaf.ensures views effect e) if3.false _ reach.ensures.0
           (c.if-not-met.false) _ (c.totals-ok.ensures ∙ totals_are views effect args.ordered args.head args.leaves.now args.inners.now hs _ e _ _ _ _
           (reach.ensures.1 (c.if-not-met.false))),
       λ q. reach.ensures.1 (c.if-not-met.false),

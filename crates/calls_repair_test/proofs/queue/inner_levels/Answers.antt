@@ -1,7 +1,6 @@
 -- The root is noted first, and the levels below it behind it.
 use mathlib.Core.Path.{sym, subst}
 use Prim.Native.Nat.{ℕ, ◌<◌}
-use borrow.Author.Tests.{not-false}
 use Rattle.calls_repair_test.specs.Queue.{kids_of}
 use Rattle.calls_repair_test.proofs.QueueLaws.{noted_sizes, still}
 use Rattle.calls_repair_test.proofs.LevelLaws.{never, first_noted, first_stop, first_on, first_last}
@@ -29,7 +28,7 @@ returns c =
     let see = c.see-first in
     let args = c.args in
     let below = c.below in
-    let f = first_noted _ _ _ _ _ _ _ _ pre.1.order (not-false _ if1.false) see.ensures in (
-      first_on (kids_of args.g args.inners.now) _ _ _ _ _ _ _ _ _ pre.2 see.ensures (not-false _ if1.false) f.count f.front _ below.ensures.0,
+    let f = first_noted _ _ _ _ _ _ _ _ pre.1.order if1.false see.ensures in (
+      first_on (kids_of args.g args.inners.now) _ _ _ _ _ _ _ _ _ pre.2 see.ensures if1.false f.count f.front _ below.ensures.0,
       λ q. first_last (kids_of args.g args.inners.now) _ _ _ _ _ _ _ _ _ pre.2 see.ensures f.front _ _ _ (below.ensures.1 q),
     )

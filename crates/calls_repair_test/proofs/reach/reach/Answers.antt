@@ -2,7 +2,6 @@
 use mathlib.Core.Path.{refl}
 use mathlib.Core.Bool.{false}
 use native.Mathlib.Omega.{arith}
-use borrow.Author.Tests.{not-false}
 use Rattle.calls_repair_test.specs.Queue.{kids_of}
 use Rattle.calls_repair_test.proofs.LevelLaws.{never}
 use Rattle.calls_repair_test.proofs.ReachLaws.{stop_1, room_1, room_2, sorted_2, long_2, parents_2, stop_2, room_3, long_3, parents_3, end_3, reached_3}
@@ -73,7 +72,7 @@ returns-then-not-is_full-2 c =
     let level = c.level-second in (
       stop_2 (kids_of args.g args.inners.now) (kids_of args.g args.leaves.now) args.root args.levels args.n args.m args.entries pre.2
           args.order.now args.upper.now args.lower.now args.named.now pre.4 pre.5 pre.6 pre.3 _ _ _ _ _ inner-levels.ensures.0
-          inner-levels.ensures.1 _ is-full.ensures (not-false _ if1.false) _ _ _ _ level.ensures _ c.is_full-2.ensures (c.if-not-is_full-2.true),
+          inner-levels.ensures.1 _ is-full.ensures if1.false _ _ _ _ level.ensures _ c.is_full-2.ensures (c.if-not-is_full-2.true),
       λ q. never false refl q,
     )
 
@@ -89,16 +88,16 @@ level-third-requires c =
       pre.1.area,
       room_3 (kids_of args.g args.inners.now) (kids_of args.g args.leaves.now) args.root args.levels args.n args.m args.entries pre.2
           args.order.now args.upper.now args.lower.now args.named.now pre.4 pre.5 pre.6 pre.3 _ _ _ _ _ inner-levels.ensures.0
-          inner-levels.ensures.1 _ is-full.ensures (not-false _ if1.false) _ _ _ _ level.ensures _ is-full2.ensures (c.if-not-is_full-2.false),
+          inner-levels.ensures.1 _ is-full.ensures if1.false _ _ _ _ level.ensures _ is-full2.ensures (c.if-not-is_full-2.false),
       omega arith,
       omega arith,
       long_3 (kids_of args.g args.inners.now) (kids_of args.g args.leaves.now) args.root args.levels args.n args.m args.entries
           pre.2 args.order.now args.upper.now args.lower.now args.named.now pre.4 pre.5 pre.6 pre.3 _ _ _ _ _ inner-levels.ensures.0
-          inner-levels.ensures.1 _ is-full.ensures (not-false _ if1.false) _ _ _ _ level.ensures _ is-full2.ensures (c.if-not-is_full-2.false),
+          inner-levels.ensures.1 _ is-full.ensures if1.false _ _ _ _ level.ensures _ is-full2.ensures (c.if-not-is_full-2.false),
       parents_3
           (kids_of args.g args.inners.now) (kids_of args.g args.leaves.now) args.root args.levels args.n args.m args.entries pre.2 args.order.now
           args.upper.now args.lower.now args.named.now pre.4 pre.5 pre.6 pre.3 _ _ _ _ _ inner-levels.ensures.0 inner-levels.ensures.1 _
-          is-full.ensures (not-false _ if1.false) _ _ _ _ level.ensures _ is-full2.ensures (c.if-not-is_full-2.false) _ _ pre.1,
+          is-full.ensures if1.false _ _ _ _ level.ensures _ is-full2.ensures (c.if-not-is_full-2.false) _ _ pre.1,
     )
 
 pub returns : goal.returns
@@ -114,9 +113,9 @@ returns c =
     let level2 = c.level-third in (
       end_3 (kids_of args.g args.inners.now) (kids_of args.g args.leaves.now) args.root args.levels args.n args.m args.entries pre.2 args.order.now
           args.upper.now args.lower.now args.named.now pre.4 pre.5 pre.6 pre.3 _ _ _ _ _ inner-levels.ensures.0 inner-levels.ensures.1 _
-          is-full.ensures (not-false _ if1.false) _ _ _ _ level.ensures _ is-full2.ensures (not-false _ if2.false) _ _ _ _ level2.ensures _ c.is_full-ok.ensures,
+          is-full.ensures if1.false _ _ _ _ level.ensures _ is-full2.ensures if2.false _ _ _ _ level2.ensures _ c.is_full-ok.ensures,
       λ q. reached_3 (kids_of args.g args.inners.now) (kids_of args.g args.leaves.now) args.root args.levels args.n args.m args.entries pre.2
           args.order.now args.upper.now args.lower.now args.named.now pre.4 pre.5 pre.6 pre.3 _ _ _ _ _ inner-levels.ensures.0
-          inner-levels.ensures.1 _ is-full.ensures (not-false _ if1.false) _ _ _ _ level.ensures _ is-full2.ensures (not-false _ if2.false) _ _ _ _ level2.ensures _
+          inner-levels.ensures.1 _ is-full.ensures if1.false _ _ _ _ level.ensures _ is-full2.ensures if2.false _ _ _ _ level2.ensures _
           c.is_full-ok.ensures q,
     )
