@@ -10,16 +10,14 @@ pub returns-then-bytes-pages_for : goal.returns-then-bytes-pages_for
 returns-then-bytes-pages_for c effect =
     let args = c.args in
     let open-areas = c.open_areas in
-    let g = c.g-1 in
-    small (kind args.views effect) _ _ _ (open-areas.ensures effect) _ g.given.1 _ c.pages_for.ensures c.if-bytes-pages_for.true
+    small (kind args.views effect) _ _ _ (open-areas.ensures effect) _ c.in-Good.is _ c.pages_for.ensures c.if-bytes-pages_for.true
 
 pub returns-then-astray : goal.returns-then-astray
 returns-then-astray c effect =
     let args = c.args in
     let open-areas = c.open_areas in
-    let g = c.g-1 in
     let pages-for = c.pages_for in
-    outside (kind args.views effect) _ _ _ (open-areas.ensures effect) _ g.given.1 _ pages-for.ensures c.if-bytes-pages_for.false _ c.astray.ensures c.if-astray.true
+    outside (kind args.views effect) _ _ _ (open-areas.ensures effect) _ c.in-Good.is _ pages-for.ensures c.if-bytes-pages_for.false _ c.astray.ensures c.if-astray.true
 
 pub returns-in-Refused : goal.returns-in-Refused
 returns-in-Refused c effect =
@@ -31,6 +29,5 @@ pub returns-else-astray : goal.returns-else-astray
 returns-else-astray c effect =
     let args = c.args in
     let open-areas = c.open_areas in
-    let g = c.g-1 in
     let pages-for = c.pages_for in
-    good (kind args.views effect) _ _ _ (open-areas.ensures effect) _ g.given.1 _ pages-for.ensures c.if-bytes-pages_for.false _ c.astray.ensures c.if-astray.false
+    good (kind args.views effect) _ _ _ (open-areas.ensures effect) _ c.in-Good.is _ pages-for.ensures c.if-bytes-pages_for.false _ c.astray.ensures c.if-astray.false

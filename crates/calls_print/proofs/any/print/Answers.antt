@@ -21,43 +21,38 @@ returns-then-not-entry_lines c =
     let args = c.args in
     let pre = c.requires in
     let open-print = c.open_print in
-    let g = c.g-1 in
     let entry-lines = c.entry_lines in
-    print_broken (kind args.views args.effect) _ _ _ (open-print.ensures args.effect) (pre.0, pre.1) _ g.given.1 _ _ (entry-lines.ensures.0, entry-lines.ensures.1 args.views) c.if-not-entry_lines.true
+    print_broken (kind args.views args.effect) _ _ _ (open-print.ensures args.effect) (pre.0, pre.1) _ c.in-Good.is _ _ (entry-lines.ensures.0, entry-lines.ensures.1 args.views) c.if-not-entry_lines.true
 
 pub overflow_mul-lines : goal.overflow_mul-lines
 overflow_mul-lines c =
     let args = c.args in
     let pre = c.requires in
     let open-print = c.open_print in
-    let g = c.g-1 in
-    omega (arith, (filled (kind args.views args.effect) _ args.page.now _ (open-print.ensures args.effect) (pre.0, pre.1) _ g.given.1 _ c.pages_for-pages.ensures).1)
+    omega (arith, (filled (kind args.views args.effect) _ args.page.now _ (open-print.ensures args.effect) (pre.0, pre.1) _ c.in-Good.is _ c.pages_for-pages.ensures).1)
 
 pub overflow_mul-pages : goal.overflow_mul-pages
 overflow_mul-pages c =
     let args = c.args in
     let pre = c.requires in
     let open-print = c.open_print in
-    let g = c.g-1 in
-    omega (arith, (filled (kind args.views args.effect) _ args.page.now _ (open-print.ensures args.effect) (pre.0, pre.1) _ g.given.1 _ c.pages_for-pages.ensures).0)
+    omega (arith, (filled (kind args.views args.effect) _ args.page.now _ (open-print.ensures args.effect) (pre.0, pre.1) _ c.in-Good.is _ c.pages_for-pages.ensures).0)
 
 pub blank_lines-requires : goal.blank_lines-requires
 blank_lines-requires c =
     let args = c.args in
     let pre = c.requires in
     let open-print = c.open_print in
-    let g = c.g-1 in
     let entry-lines = c.entry_lines in
-    omega (arith, (filled (kind args.views args.effect) _ args.page.now _ (open-print.ensures args.effect) (pre.0, pre.1) _ g.given.1 _ c.pages_for-pages.ensures).2, entry-lines.auto.inners.1.1.1.1.1.1.0)
+    omega (arith, (filled (kind args.views args.effect) _ args.page.now _ (open-print.ensures args.effect) (pre.0, pre.1) _ c.in-Good.is _ c.pages_for-pages.ensures).2, entry-lines.auto.page)
 
 pub overflow_cast-result : goal.overflow_cast-result
 overflow_cast-result c =
     let args = c.args in
     let pre = c.requires in
     let open-print = c.open_print in
-    let g = c.g-1 in
     let pages-for = c.pages_for-pages in
-    omega (arith, (filled (kind args.views args.effect) _ args.page.now _ (open-print.ensures args.effect) (pre.0, pre.1) _ g.given.1 _ pages-for.ensures).0)
+    omega (arith, (filled (kind args.views args.effect) _ args.page.now _ (open-print.ensures args.effect) (pre.0, pre.1) _ c.in-Good.is _ pages-for.ensures).0)
 
 pub returns-in-Refused : goal.returns-in-Refused
 returns-in-Refused c =
@@ -70,8 +65,7 @@ returns-else-not-entry_lines c =
     let args = c.args in
     let pre = c.requires in
     let open-print = c.open_print in
-    let g = c.g-1 in
     let entry-lines = c.entry_lines in
     let if1 = c.if-not-entry_lines in
     let pages-for = c.pages_for-pages in
-    print_good (kind args.views args.effect) _ _ _ (open-print.ensures args.effect) (pre.0, pre.1) _ g.given.1 _ _ (entry-lines.ensures.0, entry-lines.ensures.1 args.views) if1.false _ pages-for.ensures _ c.blank_lines.ensures
+    print_good (kind args.views args.effect) _ _ _ (open-print.ensures args.effect) (pre.0, pre.1) _ c.in-Good.is _ _ (entry-lines.ensures.0, entry-lines.ensures.1 args.views) if1.false _ pages-for.ensures _ c.blank_lines.ensures

@@ -19,7 +19,7 @@ pub len_of-len-requires : goal.len_of-len-requires
 len_of-len-requires c =
     let pre = c.requires in
     let the-loop = c.loop-left in
-    (pre.0, leaf_in_law _ _ _ the-loop.invariant.0 c.in-At.is)
+    (pre.0, leaf_in_law c.args.g _ _ the-loop.invariant.0 c.in-At.is)
 
 pub shape_of-page-then-len-eq0 : goal.shape_of-page-then-len-eq0
 shape_of-page-then-len-eq0 c =
@@ -30,9 +30,8 @@ pub returns-then-len-eq0 : goal.returns-then-len-eq0
 returns-then-len-eq0 c =
     let pre = c.requires in
     let the-loop = c.loop-left in
-    let leaf = c.leaf-1 in
     let loop-test = c.loop-left-test in
-    stopped _ _ _ _ _ _ _ _ pre.4 _ _ _ the-loop.invariant.1 (rw leaf.given.1 (met_empty _ _ _ _ _ _ c.len_of-len.ensures _ c.if-len-eq0.true)) loop-test.true
+    stopped _ _ _ _ _ _ _ _ pre.4 _ _ _ the-loop.invariant.1 (rw c.in-At.is (met_empty _ _ _ _ _ _ c.len_of-len.ensures _ c.if-len-eq0.true)) loop-test.true
 
 pub shape_of-page-then-fan-len : goal.shape_of-page-then-fan-len
 shape_of-page-then-fan-len c =
@@ -43,19 +42,17 @@ pub returns-then-fan-len : goal.returns-then-fan-len
 returns-then-fan-len c =
     let pre = c.requires in
     let the-loop = c.loop-left in
-    let leaf = c.leaf-1 in
     let loop-test = c.loop-left-test in
-    stopped _ _ _ _ _ _ _ _ pre.4 _ _ _ the-loop.invariant.1 (rw leaf.given.1 (met_over _ _ _ _ _ _ c.len_of-len.ensures _ c.if-fan-len.true)) loop-test.true
+    stopped _ _ _ _ _ _ _ _ pre.4 _ _ _ the-loop.invariant.1 (rw c.in-At.is (met_over _ _ _ _ _ _ c.len_of-len.ensures _ c.if-fan-len.true)) loop-test.true
 
 pub leaf_lines-lines-requires : goal.leaf_lines-lines-requires
 leaf_lines-lines-requires c =
     let pre = c.requires in
     let the-loop = c.loop-left in
-    let leaf = c.leaf-1 in
     let len_of_lem = c.len_of-len in (
       pre.0,
       pre.2,
-      leaf_in_law _ _ _ the-loop.invariant.0 leaf.given.1,
+      leaf_in_law c.args.g _ _ the-loop.invariant.0 c.in-At.is,
       omega (arith, (least_in len_of_lem.result the-loop.left c.least-n.result c.least-n.ensures).0, c.if-fan-len.false),
       omega (arith, (least_in len_of_lem.result the-loop.left c.least-n.result c.least-n.ensures).1, the-loop.invariant.1.place, the-loop.invariant.1.few, the-loop.invariant.1.long, pre.4),
     )
@@ -71,15 +68,13 @@ pub parent_of-parent-requires : goal.parent_of-parent-requires
 parent_of-parent-requires c =
     let pre = c.requires in
     let the-loop = c.loop-left in
-    let leaf = c.leaf-1 in
-    (pre.0, leaf_in_law _ _ _ the-loop.invariant.0 leaf.given.1)
+    (pre.0, leaf_in_law c.args.g _ _ the-loop.invariant.0 c.in-At.is)
 
 pub at_of-place-requires : goal.at_of-place-requires
 at_of-place-requires c =
     let pre = c.requires in
     let the-loop = c.loop-left in
-    let leaf = c.leaf-1 in
-    (pre.0, leaf_in_law _ _ _ the-loop.invariant.0 leaf.given.1)
+    (pre.0, leaf_in_law c.args.g _ _ the-loop.invariant.0 c.in-At.is)
 
 pub next_up-leaf-requires : goal.next_up-leaf-requires
 next_up-leaf-requires c =
@@ -100,14 +95,13 @@ loop-left-preserved c =
     let args = c.args in
     let pre = c.requires in
     let the-loop = c.loop-left in
-    let leaf = c.leaf-1 in
     let len_of_lem = c.len_of-len in
     let if1 = c.if-len-eq0 in
     let if2 = c.if-fan-len in
     let least = c.least-n in
     let leaf-lines = c.leaf_lines-lines in (
       subst (Within args.g) (sym c.next_up-leaf.ensures) (next_within _ _ _ _ _ _),
-      onward _ _ _ _ _ _ _ _ pre.4 _ _ _ the-loop.invariant.1 _ leaf.given.1 _ len_of_lem.ensures if1.false if2.false _ least.ensures _ leaf-lines.ensures leaf-lines.auto.g.1.1.1.1.0
+      onward _ _ _ _ _ _ _ _ pre.4 _ _ _ the-loop.invariant.1 _ c.in-At.is _ len_of_lem.ensures if1.false if2.false _ least.ensures _ leaf-lines.ensures leaf-lines.auto.page
           _ _ c.parent_of-parent.ensures c.at_of-place.ensures _ c.next_up-leaf.ensures,
     )
 
