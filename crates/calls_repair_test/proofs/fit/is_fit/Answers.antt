@@ -2,6 +2,7 @@
 use mathlib.Core.Path.{refl, ◌∙◌}
 use mathlib.Core.Bool.{false}
 use native.Mathlib.Omega.{arith}
+use borrow.Author.Tests.{not-true, not-false}
 use Rattle.model.specs.Kind.{kind_of}
 use Rattle.calls_repair_test.specs.Queue.{kids_of}
 use Rattle.calls_repair_test.proofs.LevelLaws.{never}
@@ -84,7 +85,7 @@ returns-then-not-met c =
     let reach = c.reach-met in (
       λ views effect hs e. fit_4 views effect args.ordered args.head args.leaves.now args.inners.now hs _ e _ counts.ensures if1.false _
           (every-inner.ensures (kind_of views effect args.ordered) e) if2.false _ (every-leaf.ensures views effect e) if3.false _ reach.ensures.0
-          (c.if-not-met.true),
+          (not-true _ c.if-not-met.true),
       λ q. never false refl q,
     )
 
@@ -98,11 +99,11 @@ totals-ok-requires c =
     let w = counted args.head args.g _ counts.ensures if1.false in (
       pre.0,
       omega arith,
-      (reach.ensures.1 (c.if-not-met.false)).long,
+      (reach.ensures.1 (not-false _ c.if-not-met.false)).long,
       omega (arith, w.inners, w.leaves, pre.2.nodes),
       listed
           (kids_of args.g args.inners.now) args.head.root.0 args.head.levels args.head.inners args.head.leaves _ args.g.nodes _
-          (reach.ensures.1 (c.if-not-met.false)) w.leaves,
+          (reach.ensures.1 (not-false _ c.if-not-met.false)) w.leaves,
     )
 
 pub returns : goal.returns
@@ -117,7 +118,7 @@ returns c =
     let reach = c.reach-met in (
       λ views effect hs e. fit_5 views effect args.ordered args.head args.leaves.now args.inners.now hs _ e _ counts.ensures if1.false _
           (every-inner.ensures (kind_of views effect args.ordered) e) if2.false _ (every-leaf.ensures views effect e) if3.false _ reach.ensures.0
-          (c.if-not-met.false) _ (c.totals-ok.ensures ∙ totals_are views effect args.ordered args.head args.leaves.now args.inners.now hs _ e _ _ _ _
-          (reach.ensures.1 (c.if-not-met.false))),
-      λ q. reach.ensures.1 (c.if-not-met.false),
+          (not-false _ c.if-not-met.false) _ (c.totals-ok.ensures ∙ totals_are views effect args.ordered args.head args.leaves.now args.inners.now hs _ e _ _ _ _
+          (reach.ensures.1 (not-false _ c.if-not-met.false))),
+      λ q. reach.ensures.1 (not-false _ c.if-not-met.false),
     )

@@ -4,7 +4,6 @@ use mathlib.Core.List.{[]}
 use Prim.Native.Nat.{◌-◌}
 use native.Mathlib.Omega.{arith}
 use native.Mathlib.Nat.{lt_of_lt_of_le}
-use borrow.Author.Tests.{not-true}
 use Rattle.model.specs.Kind.{stride}
 use Rattle.model.specs.State.{state}
 use Rattle.model.specs.Mend.{is_fit_inner}
@@ -27,8 +26,8 @@ returns-then-not-is_long c K e =
     let len_of_lem = c.len_of in
     let the-loop = c.loop-k in
     sym (every_stop (is_fit_inner K (state args.head [] args.inners.now [])) _ _ loop-test.true
-    (sym (inner_by_law K args.head args.inners.now _ _ _ _ _ e len_of_lem.ensures (c.least_inner.ensures (stride K)) c.is_long.ensures) ∙ not-true _
-    c.if-not-is_long.true)) ∙ the-loop.invariant K e
+    (sym (inner_by_law K args.head args.inners.now _ _ _ _ _ e len_of_lem.ensures (c.least_inner.ensures (stride K)) c.is_long.ensures)
+    ∙ c.if-not-is_long.true)) ∙ the-loop.invariant K e
 
 pub overflow_add-k : goal.overflow_add-k
 overflow_add-k c = omega arith

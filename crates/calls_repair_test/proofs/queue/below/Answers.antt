@@ -2,6 +2,7 @@
 use mathlib.Core.Path.{refl, ◌∙◌}
 use Prim.Native.Nat.{◌-◌}
 use native.Mathlib.Omega.{arith}
+use borrow.Author.Tests.{not-true, not-false}
 use Rattle.calls_repair_test.specs.Queue.{kids_of}
 use Rattle.calls_repair_test.proofs.QueueLaws.{all_sizes, still}
 use Rattle.calls_repair_test.proofs.LevelLaws.{never, parents_of, start_deep, deep_stop, deep_on, deep_end}
@@ -45,8 +46,8 @@ returns-then-not-seen c =
     let loop-test = c.loop-d-test in
     let pre = c.requires in
     let level = c.level-seen in (
-      deep_stop (kids_of args.g args.inners.now) _ _ _ _ _ _ _ _ _ _ the-loop.invariant loop-test.true pre.1.order _ _ _ _ level.ensures (c.if-not-seen.true),
-      λ q. never _ (c.if-not-seen.true) q,
+      deep_stop (kids_of args.g args.inners.now) _ _ _ _ _ _ _ _ _ _ the-loop.invariant loop-test.true pre.1.order _ _ _ _ level.ensures (not-true _ c.if-not-seen.true),
+      λ q. never _ (not-true _ c.if-not-seen.true) q,
     )
 
 pub overflow_add-d : goal.overflow_add-d
@@ -66,7 +67,7 @@ loop-d-preserved c =
     let loop-test = c.loop-d-test in
     let pre = c.requires in
     let level = c.level-seen in
-    deep_on (kids_of args.g args.inners.now) _ _ _ _ _ _ _ _ _ _ the-loop.invariant loop-test.true pre.1.order _ _ _ _ level.ensures (c.if-not-seen.false)
+    deep_on (kids_of args.g args.inners.now) _ _ _ _ _ _ _ _ _ _ the-loop.invariant loop-test.true pre.1.order _ _ _ _ level.ensures (not-false _ c.if-not-seen.false)
 
 pub shape_of-order : goal.shape_of-order
 shape_of-order c = c.loop-d.invariant.orders

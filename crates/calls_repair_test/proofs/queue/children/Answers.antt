@@ -3,6 +3,7 @@ use mathlib.Core.Path.{refl, ◌∙◌}
 use mathlib.Core.Bool.{true}
 use Prim.Native.Nat.{◌-◌}
 use native.Mathlib.Omega.{arith}
+use borrow.Author.Tests.{not-true, not-false}
 use Rattle.model.specs.State.{node_at}
 use Rattle.model_laws.specs.AreaRead.{slots_are}
 use Rattle.calls_repair_test.proofs.QueueLaws.{turn, last, stop, go_on, noted_sizes, still}
@@ -45,7 +46,7 @@ returns-then-not-seen c =
     let child_of = c.child_of-c in
     let the-see = c.see-seen in
     let the-loop = c.loop-i in
-    stop _ _ _ _ _ _ _ _ (c.if-not-seen.true) (turn _ _ _ (node_at args.g args.k args.inners.now) _ _ _ _
+    stop _ _ _ _ _ _ _ _ (not-true _ c.if-not-seen.true) (turn _ _ _ (node_at args.g args.k args.inners.now) _ _ _ _
     (omega (arith, slots_are args.g args.k args.inners.now, pre.2, pre.3)) (omega (arith, loop-test.true, pre.3)) child_of.ensures the-see.ensures
     the-loop.invariant.3)
 
@@ -66,7 +67,7 @@ loop-i-preserved c =
       omega arith,
       (noted_sizes _ _ _ _ _ _ _ _ _ _ the-see.ensures).0 ∙ the-loop.invariant.1,
       (noted_sizes _ _ _ _ _ _ _ _ _ _ the-see.ensures).1 ∙ the-loop.invariant.2,
-      go_on _ _ _ _ _ _ _ _ (c.if-not-seen.false) (turn _ _ _ (node_at args.g args.k args.inners.now) _ _ _ _
+      go_on _ _ _ _ _ _ _ _ (not-false _ c.if-not-seen.false) (turn _ _ _ (node_at args.g args.k args.inners.now) _ _ _ _
           (omega (arith, slots_are args.g args.k args.inners.now, pre.2, pre.3)) (omega (arith, loop-test.true, pre.3)) child_of.ensures the-see.ensures
           the-loop.invariant.3),
     )

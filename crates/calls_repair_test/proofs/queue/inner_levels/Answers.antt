@@ -1,6 +1,7 @@
 -- The root is noted first, and the levels below it behind it.
 use mathlib.Core.Path.{sym, subst}
 use Prim.Native.Nat.{ℕ, ◌<◌}
+use borrow.Author.Tests.{not-true, not-false}
 use Rattle.calls_repair_test.specs.Queue.{kids_of}
 use Rattle.calls_repair_test.proofs.QueueLaws.{noted_sizes, still}
 use Rattle.calls_repair_test.proofs.LevelLaws.{never, first_noted, first_stop, first_on, first_last}
@@ -11,14 +12,14 @@ returns-then-not-first c =
     let args = c.args in
     let pre = c.requires in
     let see = c.see-first in
-    (first_stop (kids_of args.g args.inners.now) _ _ _ _ _ _ _ _ _ pre.2 see.ensures (c.if-not-first.true), λ q. never _ (c.if-not-first.true) q)
+    (first_stop (kids_of args.g args.inners.now) _ _ _ _ _ _ _ _ _ pre.2 see.ensures (not-true _ c.if-not-first.true), λ q. never _ (not-true _ c.if-not-first.true) q)
 
 pub below-requires : goal.below-requires
 below-requires c =
     let pre = c.requires in
     let see = c.see-first in
     let args = c.args in
-    let f = first_noted _ _ _ _ _ _ _ _ pre.1.order (c.if-not-first.false) see.ensures in let s = noted_sizes _ _ _ _ _ _ _ _ _ _ see.ensures in
+    let f = first_noted _ _ _ _ _ _ _ _ pre.1.order (not-false _ c.if-not-first.false) see.ensures in let s = noted_sizes _ _ _ _ _ _ _ _ _ _ see.ensures in
     (pre.0, still pre.1 s.0 s.1, pre.2, f.some, subst (λ (x : ℕ). x < args.n) (sym f.front) f.below)
 
 pub returns : goal.returns
@@ -28,7 +29,7 @@ returns c =
     let see = c.see-first in
     let args = c.args in
     let below = c.below in
-    let f = first_noted _ _ _ _ _ _ _ _ pre.1.order if1.false see.ensures in (
-      first_on (kids_of args.g args.inners.now) _ _ _ _ _ _ _ _ _ pre.2 see.ensures if1.false f.count f.front _ below.ensures.0,
+    let f = first_noted _ _ _ _ _ _ _ _ pre.1.order (not-false _ if1.false) see.ensures in (
+      first_on (kids_of args.g args.inners.now) _ _ _ _ _ _ _ _ _ pre.2 see.ensures (not-false _ if1.false) f.count f.front _ below.ensures.0,
       λ q. first_last (kids_of args.g args.inners.now) _ _ _ _ _ _ _ _ _ pre.2 see.ensures f.front _ _ _ (below.ensures.1 q),
     )

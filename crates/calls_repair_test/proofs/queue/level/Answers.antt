@@ -2,6 +2,7 @@
 use mathlib.Core.Path.{refl, ◌∙◌}
 use Prim.Native.Nat.{◌-◌}
 use native.Mathlib.Omega.{arith}
+use borrow.Author.Tests.{not-true, not-false}
 use Rattle.calls_repair_test.specs.Queue.{kids_of}
 use Rattle.calls_repair_test.proofs.QueueLaws.{begin, left_stop, left_on, left_none, parent_at, all_sizes, still}
 use Rattle.calls_repair_test.proofs.queue.level.Goals as goal
@@ -74,7 +75,7 @@ returns-then-not-seen c =
     let loop-test = c.loop-j-test in
     let pre = c.requires in
     let the-children = c.children-seen in
-    left_stop (kids_of args.g args.inners.now) _ _ _ _ _ _ _ _ _ _ _ the-loop.invariant loop-test.true pre.4 _ _ _ _ _ refl the-children.ensures (c.if-not-seen.true)
+    left_stop (kids_of args.g args.inners.now) _ _ _ _ _ _ _ _ _ _ _ the-loop.invariant loop-test.true pre.4 _ _ _ _ _ refl the-children.ensures (not-true _ c.if-not-seen.true)
 
 pub overflow_add-j : goal.overflow_add-j
 overflow_add-j c = omega arith
@@ -89,7 +90,7 @@ loop-j-preserved c =
     let loop-test = c.loop-j-test in
     let pre = c.requires in
     let the-children = c.children-seen in
-    left_on (kids_of args.g args.inners.now) _ _ _ _ _ _ _ _ _ _ _ the-loop.invariant loop-test.true pre.4 _ _ _ _ _ refl the-children.ensures (c.if-not-seen.false)
+    left_on (kids_of args.g args.inners.now) _ _ _ _ _ _ _ _ _ _ _ the-loop.invariant loop-test.true pre.4 _ _ _ _ _ refl the-children.ensures (not-false _ c.if-not-seen.false)
 
 pub shape_of-order : goal.shape_of-order
 shape_of-order c = c.loop-j.invariant.orders

@@ -18,9 +18,7 @@ bounds-order-j c =
     omega (arith, c.loop-j-test.true, pre.3)
 
 pub overflow_cast-order : goal.overflow_cast-order
-overflow_cast-order c =
-    let shared-slice-known2 = c.shared_slice_known-2-1 in
-    record { fits = omega (arith, shared-slice-known2.given c.loop-j.j) }
+overflow_cast-order c = record { fits = omega arith }
 
 pub leaf_total-sum-requires : goal.leaf_total-sum-requires
 leaf_total-sum-requires c =
