@@ -25,9 +25,7 @@ bounds-order-j c =
     omega (arith, c.loop-j.invariant.0, c.loop-j-test.true, pre.3)
 
 pub overflow_cast-p : goal.overflow_cast-p
-overflow_cast-p c =
-    let shared-slice-known2 = c.shared_slice_known-2-1 in
-    record { fits = omega (arith, shared-slice-known2.given (c.loop-j.j - 1)) }
+overflow_cast-p c = record { fits = omega arith }
 
 pub len_of-len-requires : goal.len_of-len-requires
 len_of-len-requires c =
