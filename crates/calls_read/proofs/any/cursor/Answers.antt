@@ -17,28 +17,24 @@ returns-then-entries-i c effect =
 pub bounds-homes-i : goal.bounds-homes-i
 bounds-homes-i c =
     let pre = c.requires in
-    let g = c.g-1 in
-    let h = ready (kind _ 0) pre _ _ _ (c.«open».ensures 0) g.given.1 in
+    let h = ready (kind _ 0) pre _ _ _ (c.«open».ensures 0) c.in-Good.is in
     omega (arith, h.entries, h.home_area)
 
 pub returns-then-k-head : goal.returns-then-k-head
 returns-then-k-head c effect =
-    let g = c.g-1 in
     let if1 = c.if-entries-i in
-    cursor_astray (kind _ effect) _ _ _ (c.«open».ensures effect) _ g.given.1 if1.false _ refl c.if-k-head.true
+    cursor_astray (kind _ effect) _ _ _ (c.«open».ensures effect) _ c.in-Good.is if1.false _ refl c.if-k-head.true
 
 pub cursor_in-requires : goal.cursor_in-requires
 cursor_in-requires c =
     let pre = c.requires in
-    let g = c.g-1 in
-    let h = ready (kind _ 0) pre _ _ _ (c.«open».ensures 0) g.given.1 in
+    let h = ready (kind _ 0) pre _ _ _ (c.«open».ensures 0) c.in-Good.is in
     (leaf_area _ _ h, lt_of_lt_of_le c.if-k-head.false h.leaves)
 
 pub returns-in-Refused : goal.returns-in-Refused
-returns-in-Refused c effect = cursor_refused (kind _ effect) _ _ _ (c.before.before.before.«open».ensures effect) _ c.in-Refused.is
+returns-in-Refused c effect = cursor_refused (kind _ effect) _ _ _ (c.«open».ensures effect) _ c.in-Refused.is
 
 pub returns-else-k-head : goal.returns-else-k-head
 returns-else-k-head c effect =
-    let g = c.g-1 in
     let if1 = c.if-entries-i in
-    cursor_good (kind _ effect) _ _ _ (c.«open».ensures effect) _ g.given.1 if1.false _ refl c.if-k-head.false _ c.cursor_in.ensures
+    cursor_good (kind _ effect) _ _ _ (c.«open».ensures effect) _ c.in-Good.is if1.false _ refl c.if-k-head.false _ c.cursor_in.ensures

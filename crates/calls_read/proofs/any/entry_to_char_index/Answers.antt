@@ -31,16 +31,14 @@ at_of-place-requires c =
     let args = c.args in
     let pre = c.requires in
     let open_at = c.open_at in
-    let g = c.g-1 in
-    let i = slot_in_law _ args.at _ (cursor_ready (kind args.views 0) (pre.0, pre.1) _ args.at _ _ (open_at.ensures 0) g.given.1) in (i.0, i.1)
+    let i = slot_in_law _ args.at _ (cursor_ready (kind args.views 0) (pre.0, pre.1) _ args.at _ _ (open_at.ensures 0) c.in-Good.is) in (i.0, i.1)
 
 pub rank_up-requires : goal.rank_up-requires
 rank_up-requires c =
     let args = c.args in
     let pre = c.requires in
     let open_at = c.open_at in
-    let g = c.g-1 in
-    let h = cursor_ready (kind args.views 0) (pre.0, pre.1) _ args.at _ _ (open_at.ensures 0) g.given.1 in
+    let h = cursor_ready (kind args.views 0) (pre.0, pre.1) _ args.at _ _ (open_at.ensures 0) c.in-Good.is in
     (inner_area _ _ h.ready, view_in _ _ _ h.ready pre.2, h.ready.levels_most, c.start_in-before.ensures.1)
 
 pub returns-in-Refused : goal.returns-in-Refused
@@ -53,21 +51,19 @@ pub returns-in-Is : goal.returns-in-Is
 returns-in-Is c =
     let args = c.args in
     let open_at = c.open_at in
-    let g = c.g-1 in
     let start-in = c.start_in-before in
     let parent_of = c.parent_of-parent in
     let at_of = c.at_of-place in
     let rank_up = c.rank_up in
-    λ effect. rank_good (kind args.views effect) _ args.at _ (open_at.ensures effect) _ g.given.1 args.view _ _ _ _ _ start-in.ensures.0 parent_of.ensures
+    λ effect. rank_good (kind args.views effect) _ args.at _ (open_at.ensures effect) _ c.in-Good.is args.view _ _ _ _ _ start-in.ensures.0 parent_of.ensures
     at_of.ensures rank_up.ensures c.in-Is.is
 
 pub returns-in-Broken : goal.returns-in-Broken
 returns-in-Broken c =
     let args = c.args in
     let open_at = c.open_at in
-    let g = c.g-1 in
     let start-in = c.start_in-before in
     let parent_of = c.parent_of-parent in
     let at_of = c.at_of-place in
-    λ effect. rank_good (kind args.views effect) _ args.at _ (open_at.ensures effect) _ g.given.1 args.view _ _ _ _ _ start-in.ensures.0 parent_of.ensures
+    λ effect. rank_good (kind args.views effect) _ args.at _ (open_at.ensures effect) _ c.in-Good.is args.view _ _ _ _ _ start-in.ensures.0 parent_of.ensures
     at_of.ensures c.rank_up.ensures c.in-Broken.is

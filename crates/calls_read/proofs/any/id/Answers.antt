@@ -24,5 +24,4 @@ pub returns-in-Good : goal.returns-in-Good
 returns-in-Good c effect =
     let args = c.args in
     let open_at = c.open_at in
-    let g = c.g-1 in
-    id_good (kind _ effect) _ args.at _ (open_at.ensures effect) _ g.given.1 _ c.child_of-id.ensures
+    id_good (kind _ effect) _ args.at _ (open_at.ensures effect) _ c.in-Good.is _ c.child_of-id.ensures

@@ -33,7 +33,7 @@ returns-in-Good c =
     let pre = c.requires in
     let o = c.open_at.ensures in
     let good = c.in-Good.is in
-    let x = c.lengths_at.new.g.1.1.1.0 in (
+    let x = c.lengths_at.new.x in (
       (λ effect. let h = cursor_ready (kind args.views effect) (pre.0, pre.1) _ args.at _ _ (o effect) good in
           lengths_good (kind args.views effect) _ args.at _ (o effect) _ good args.views x (views_are _ _ h.ready) c.lengths_at.ensures.0),
       c.lengths_at.ensures.1,

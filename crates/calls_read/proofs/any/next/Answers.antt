@@ -30,32 +30,28 @@ pub returns-then-i-len_of : goal.returns-then-i-len_of
 returns-then-i-len_of c =
     let args = c.args in
     let open_at = c.open_at in
-    let g = c.g-1 in
-    λ effect. next_here (kind args.views effect) _ args.at _ (open_at.ensures effect) _ g.given.1 _ c.len_of.ensures c.if-i-len_of.true
+    λ effect. next_here (kind args.views effect) _ args.at _ (open_at.ensures effect) _ c.in-Good.is _ c.len_of.ensures c.if-i-len_of.true
 
 pub parent_of-parent-requires : goal.parent_of-parent-requires
 parent_of-parent-requires c =
     let args = c.args in
     let pre = c.requires in
     let open_at = c.open_at in
-    let g = c.g-1 in
-    let i = slot_in_law _ args.at _ (cursor_ready (kind args.views 0) pre _ args.at _ _ (open_at.ensures 0) g.given.1) in (i.0, i.1)
+    let i = slot_in_law _ args.at _ (cursor_ready (kind args.views 0) pre _ args.at _ _ (open_at.ensures 0) c.in-Good.is) in (i.0, i.1)
 
 pub at_of-place-requires : goal.at_of-place-requires
 at_of-place-requires c =
     let args = c.args in
     let pre = c.requires in
     let open_at = c.open_at in
-    let g = c.g-1 in
-    let i = slot_in_law _ args.at _ (cursor_ready (kind args.views 0) pre _ args.at _ _ (open_at.ensures 0) g.given.1) in (i.0, i.1)
+    let i = slot_in_law _ args.at _ (cursor_ready (kind args.views 0) pre _ args.at _ _ (open_at.ensures 0) c.in-Good.is) in (i.0, i.1)
 
 pub next_up-requires : goal.next_up-requires
 next_up-requires c =
     let args = c.args in
     let pre = c.requires in
     let open_at = c.open_at in
-    let g = c.g-1 in
-    let h = cursor_ready (kind args.views 0) pre _ args.at _ _ (open_at.ensures 0) g.given.1 in (inner_area _ _ h.ready, h.ready.levels_most)
+    let h = cursor_ready (kind args.views 0) pre _ args.at _ _ (open_at.ensures 0) c.in-Good.is in (inner_area _ _ h.ready, h.ready.levels_most)
 
 pub returns-in-Refused : goal.returns-in-Refused
 returns-in-Refused c =
@@ -67,35 +63,32 @@ pub returns-in-At : goal.returns-in-At
 returns-in-At c =
     let args = c.args in
     let open_at = c.open_at in
-    let g = c.g-1 in
     let len_of_lem = c.len_of in
     let if1 = c.if-i-len_of in
     let parent_of = c.parent_of-parent in
     let at_of = c.at_of-place in
     let next_up = c.next_up in
-    λ effect. next_on (kind args.views effect) _ args.at _ (open_at.ensures effect) _ g.given.1 _ len_of_lem.ensures if1.false _ _ _ _ parent_of.ensures
+    λ effect. next_on (kind args.views effect) _ args.at _ (open_at.ensures effect) _ c.in-Good.is _ len_of_lem.ensures if1.false _ _ _ _ parent_of.ensures
     at_of.ensures next_up.ensures c.in-At.is
 
 pub returns-in-Nothing : goal.returns-in-Nothing
 returns-in-Nothing c =
     let args = c.args in
     let open_at = c.open_at in
-    let g = c.g-1 in
     let len_of_lem = c.len_of in
     let if1 = c.if-i-len_of in
     let parent_of = c.parent_of-parent in
     let at_of = c.at_of-place in
-    λ effect. next_on (kind args.views effect) _ args.at _ (open_at.ensures effect) _ g.given.1 _ len_of_lem.ensures if1.false _ _ _ _ parent_of.ensures
+    λ effect. next_on (kind args.views effect) _ args.at _ (open_at.ensures effect) _ c.in-Good.is _ len_of_lem.ensures if1.false _ _ _ _ parent_of.ensures
     at_of.ensures c.next_up.ensures c.in-Nothing.is
 
 pub returns-in-Broken : goal.returns-in-Broken
 returns-in-Broken c =
     let args = c.args in
     let open_at = c.open_at in
-    let g = c.g-1 in
     let len_of_lem = c.len_of in
     let if1 = c.if-i-len_of in
     let parent_of = c.parent_of-parent in
     let at_of = c.at_of-place in
-    λ effect. next_on (kind args.views effect) _ args.at _ (open_at.ensures effect) _ g.given.1 _ len_of_lem.ensures if1.false _ _ _ _ parent_of.ensures
+    λ effect. next_on (kind args.views effect) _ args.at _ (open_at.ensures effect) _ c.in-Good.is _ len_of_lem.ensures if1.false _ _ _ _ parent_of.ensures
     at_of.ensures c.next_up.ensures c.in-Broken.is

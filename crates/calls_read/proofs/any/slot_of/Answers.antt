@@ -4,30 +4,25 @@ use Rattle.model.specs.Node.{node_of}
 use Rattle.model.specs.declared.shape.Scan.{Scan}
 use Rattle.model_laws.specs.Words.{lent}
 use Rattle.model_laws.specs.AreaRead.{node_end, node_length}
-use Rattle.calls_read.proofs.any.slot_of.Goals.{After-struct_known-1}
 use Rattle.calls_read.proofs.any.slot_of.Goals as goal
 
--- the node ends within the area
-inside : (c : After-struct_known-1) → c.args.k.0 * c.args.g.size + c.args.g.size ≤ length c.args.leaves.now
-inside c = node_end c.args.g c.args.k.0 (length c.args.leaves.now) c.requires.1 c.requires.0.room
-
 pub overflow_mul-a : goal.overflow_mul-a
-overflow_mul-a c = omega (arith, inside (goal.at.overflow_mul-a c).After-struct_known-1)
+overflow_mul-a c = omega (arith, node_end c.args.g c.args.k.0 (length c.args.leaves.now) c.requires.1 c.requires.0.room)
 
 pub overflow_add-e : goal.overflow_add-e
-overflow_add-e c = omega (arith, inside (goal.at.overflow_add-e c).After-struct_known-1)
+overflow_add-e c = omega (arith, node_end c.args.g c.args.k.0 (length c.args.leaves.now) c.requires.1 c.requires.0.room)
 
 pub offset_bounds-leaves-a : goal.offset_bounds-leaves-a
-offset_bounds-leaves-a c = omega (arith, inside (goal.at.offset_bounds-leaves-a c).After-struct_known-1)
+offset_bounds-leaves-a c = omega (arith, node_end c.args.g c.args.k.0 (length c.args.leaves.now) c.requires.1 c.requires.0.room)
 
 pub slice_bounds-index_of-count : goal.slice_bounds-index_of-count
 slice_bounds-index_of-count c = omega arith
 
 pub slice_bounds-index_of-start : goal.slice_bounds-index_of-start
-slice_bounds-index_of-start c = omega (arith, inside (goal.at.slice_bounds-index_of-start c).After-struct_known-1)
+slice_bounds-index_of-start c = omega (arith, node_end c.args.g c.args.k.0 (length c.args.leaves.now) c.requires.1 c.requires.0.room)
 
 pub slice_bounds-index_of-end : goal.slice_bounds-index_of-end
-slice_bounds-index_of-end c = omega (arith, inside (goal.at.slice_bounds-index_of-end c).After-struct_known-1)
+slice_bounds-index_of-end c = omega (arith, node_end c.args.g c.args.k.0 (length c.args.leaves.now) c.requires.1 c.requires.0.room)
 
 pub index_of-found-requires : goal.index_of-found-requires
 unfolding node_of
