@@ -40,17 +40,17 @@ returns-in-Refused c effect more high =
 pub shape_of-leaves-in-Good : goal.shape_of-leaves-in-Good
 shape_of-leaves-in-Good c =
     let the-begin = c.begin in
-    the-begin.auto.limit.1.1.1.1.0
+    the-begin.auto.leaves
 
 pub shape_of-inners-in-Good : goal.shape_of-inners-in-Good
 shape_of-inners-in-Good c =
     let the-begin = c.begin in
-    the-begin.auto.limit.1.1.1.1.1.0
+    the-begin.auto.inners
 
 pub shape_of-homes-in-Good : goal.shape_of-homes-in-Good
 shape_of-homes-in-Good c =
     let the-begin = c.begin in
-    the-begin.auto.limit.1.1.1.1.1.1.0
+    the-begin.auto.homes
 
 pub returns-in-Good : goal.returns-in-Good
 returns-in-Good c effect more high =

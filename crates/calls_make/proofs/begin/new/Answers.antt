@@ -14,17 +14,17 @@ new-requires c =
 pub shape_of-leaves : goal.shape_of-leaves
 shape_of-leaves c =
     let new2 = c.new in
-    new2.auto.ordered.1.1.1.1.1.0
+    new2.auto.leaves
 
 pub shape_of-inners : goal.shape_of-inners
 shape_of-inners c =
     let new2 = c.new in
-    new2.auto.ordered.1.1.1.1.1.1.0
+    new2.auto.inners
 
 pub shape_of-homes : goal.shape_of-homes
 shape_of-homes c =
     let new2 = c.new in
-    new2.auto.ordered.1.1.1.1.1.1.1.0
+    new2.auto.homes
 
 pub returns : goal.returns
 returns c =

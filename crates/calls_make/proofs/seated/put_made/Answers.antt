@@ -5,11 +5,9 @@ use Rattle.calls_make.proofs.seated.put_made.Goals as goal
 pub returns-in-Done : goal.returns-in-Done
 returns-in-Done c =
     let args = c.args in
-    let the-enum-told = c.enum_told-1 in
-    (made_done _ args.answer _ the-enum-told.given.1 c.put_seats.ensures.0, c.put_seats.ensures.1)
+    (made_done _ args.answer _ c.in-Done.is c.put_seats.ensures.0, c.put_seats.ensures.1)
 
 pub returns-in-Refused : goal.returns-in-Refused
 returns-in-Refused c =
     let args = c.args in
-    let answer = c.answer-1 in
-    (made_refused _ args.answer _ _ answer.given.1 c.put_none.ensures.0, c.put_none.ensures.1)
+    (made_refused _ args.answer _ _ c.in-Refused.is c.put_none.ensures.0, c.put_none.ensures.1)
