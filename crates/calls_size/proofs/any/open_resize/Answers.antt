@@ -55,7 +55,7 @@ returns-then-past c =
     let o = c.open_at in
     let r = c.crossed in
     let x = c.lengths_at in
-    λ effect. let p = resize_past (kind_of views effect c.args.ordered) _ at l _ (m.ensures effect) c.if-too_many_lines.false _ (at_ordered views effect c.args.ordered _ _ at (o.ensures effect)) _ c.in-Good.is _ r.ensures c.if-crossed.false x.new.g.1.1.1.0 x.ensures.0 _ c.past.ensures c.if-past.true in
+    λ effect. let p = resize_past (kind_of views effect c.args.ordered) _ at l _ (m.ensures effect) c.if-too_many_lines.false _ (at_ordered views effect c.args.ordered _ _ at (o.ensures effect)) _ c.in-Good.is _ r.ensures c.if-crossed.false x.new.x x.ensures.0 _ c.past.ensures c.if-past.true in
     (p.0, p.1, x.ensures.1)
 
 pub returns-in-Refused : goal.returns-in-Refused
@@ -76,5 +76,5 @@ returns-else-past c =
     let o = c.open_at in
     let r = c.crossed in
     let x = c.lengths_at in
-    λ effect. let p = resize_good (kind_of views effect c.args.ordered) _ at l _ (m.ensures effect) c.if-too_many_lines.false _ (at_ordered views effect c.args.ordered _ _ at (o.ensures effect)) _ c.in-Good.is _ r.ensures c.if-crossed.false x.new.g.1.1.1.0 x.ensures.0 _ c.past.ensures c.if-past.false in
+    λ effect. let p = resize_good (kind_of views effect c.args.ordered) _ at l _ (m.ensures effect) c.if-too_many_lines.false _ (at_ordered views effect c.args.ordered _ _ at (o.ensures effect)) _ c.in-Good.is _ r.ensures c.if-crossed.false x.new.x x.ensures.0 _ c.past.ensures c.if-past.false in
     (p.0, p.1, x.ensures.1)

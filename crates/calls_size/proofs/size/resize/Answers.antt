@@ -17,12 +17,12 @@ resize-requires c = (omega arith, omega arith, omega arith, refl)
 pub shape_of-leaves : goal.shape_of-leaves
 shape_of-leaves c =
     let the-resize = c.resize in
-    the-resize.auto.effect.1.1.1.0
+    the-resize.auto.leaves
 
 pub shape_of-inners : goal.shape_of-inners
 shape_of-inners c =
     let the-resize = c.resize in
-    the-resize.auto.effect.1.1.1.1.0
+    the-resize.auto.inners
 
 pub returns : goal.returns
 returns c =
