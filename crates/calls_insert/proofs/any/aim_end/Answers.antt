@@ -16,8 +16,7 @@ last_down-requires c = c.requires.1
 pub returns-then-head-k : goal.returns-then-head-k
 returns-then-head-k c =
     let d = c.last_down in
-    let k = c.k-1 in
-    λ K hs e. end_unused K (entry (goal.at.returns-then-head-k c).Start hs) c.args.g e _ d.ensures _ k.given.1 c.if-head-k.true
+    λ K hs e. end_unused K (entry (goal.at.returns-then-head-k c).Start hs) c.args.g e _ d.ensures _ c.in-At.is c.if-head-k.true
 
 pub len_of-len-requires : goal.len_of-len-requires
 len_of-len-requires c =
@@ -26,18 +25,16 @@ len_of-len-requires c =
 pub returns-then-g-len : goal.returns-then-g-len
 returns-then-g-len c =
     let d = c.last_down in
-    let k = c.k-1 in
     let one = c.if-head-k in
     let len = c.len_of-len in
-    λ K hs e. end_over K (entry (goal.at.returns-then-g-len c).Start hs) c.args.g e _ d.ensures _ k.given.1 one.false _ len.ensures c.if-g-len.true
+    λ K hs e. end_over K (entry (goal.at.returns-then-g-len c).Start hs) c.args.g e _ d.ensures _ c.in-At.is one.false _ len.ensures c.if-g-len.true
 
 pub returns-else-g-len : goal.returns-else-g-len
 returns-else-g-len c =
     let d = c.last_down in
-    let k = c.k-1 in
     let one = c.if-head-k in
     let len = c.len_of-len in
-    λ K hs e. end_slot K (entry (goal.at.returns-else-g-len c).Start hs) c.args.g e _ d.ensures _ k.given.1 one.false _ len.ensures c.if-g-len.false
+    λ K hs e. end_slot K (entry (goal.at.returns-else-g-len c).Start hs) c.args.g e _ d.ensures _ c.in-At.is one.false _ len.ensures c.if-g-len.false
 
 pub returns-in-Nothing : goal.returns-in-Nothing
 returns-in-Nothing c =

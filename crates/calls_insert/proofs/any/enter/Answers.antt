@@ -51,17 +51,17 @@ place-r-requires c =
 pub shape_of-leaves-then-r-ne0 : goal.shape_of-leaves-then-r-ne0
 shape_of-leaves-then-r-ne0 c =
     let place = c.place-r in
-    place.auto.head.1.0
+    place.auto.leaves
 
 pub shape_of-inners-then-r-ne0 : goal.shape_of-inners-then-r-ne0
 shape_of-inners-then-r-ne0 c =
     let place = c.place-r in
-    place.auto.head.1.1.0
+    place.auto.inners
 
 pub shape_of-homes-then-r-ne0 : goal.shape_of-homes-then-r-ne0
 shape_of-homes-then-r-ne0 c =
     let place = c.place-r in
-    place.auto.head.1.1.1.0
+    place.auto.homes
 
 pub returns-then-r-ne0 : goal.returns-then-r-ne0
 returns-then-r-ne0 c =
@@ -76,24 +76,24 @@ way_sum-requires c =
     let to = c.aim_at-to in
     let w = aiming (goal.at.way_sum-requires c).Start _ to.ensures c.if-to-ne0.false in
     let p = c.place-r in
-    let v = way_in (kind_of (goal.at.way_sum-requires c).Start) (entry (goal.at.way_sum-requires c).Start) c.args.before c.args.g _ c.args.x.now w _ _ _ _ _ _ _ p.ensures c.if-r-ne0.false c.requires.0 _ _ p.auto.head.1.0 p.auto.head.1.1.0 in
+    let v = way_in (kind_of (goal.at.way_sum-requires c).Start) (entry (goal.at.way_sum-requires c).Start) c.args.before c.args.g _ c.args.x.now w _ _ _ _ _ _ _ p.ensures c.if-r-ne0.false c.requires.0 _ _ p.auto.leaves p.auto.inners in
     (v.0, v.1, c.requires.2, v.2, v.3, v.4)
 
 pub shape_of-leaves-in-Is : goal.shape_of-leaves-in-Is
 shape_of-leaves-in-Is c =
     let place = c.place-r in
-    place.auto.head.1.0
+    place.auto.leaves
 
 pub shape_of-inners-in-Is : goal.shape_of-inners-in-Is
 shape_of-inners-in-Is c =
     let way-sum = c.way_sum in
     let place = c.place-r in
-    way-sum.auto.inners.0 ∙ place.auto.head.1.1.0
+    way-sum.auto.inners ∙ place.auto.inners
 
 pub shape_of-homes-in-Is : goal.shape_of-homes-in-Is
 shape_of-homes-in-Is c =
     let place = c.place-r in
-    place.auto.head.1.1.1.0
+    place.auto.homes
 
 pub returns-in-Is : goal.returns-in-Is
 returns-in-Is c =
@@ -107,18 +107,18 @@ returns-in-Is c =
 pub shape_of-leaves-in-Broken : goal.shape_of-leaves-in-Broken
 shape_of-leaves-in-Broken c =
     let place = c.place-r in
-    place.auto.head.1.0
+    place.auto.leaves
 
 pub shape_of-inners-in-Broken : goal.shape_of-inners-in-Broken
 shape_of-inners-in-Broken c =
     let way-sum = c.way_sum in
     let place = c.place-r in
-    way-sum.auto.inners.0 ∙ place.auto.head.1.1.0
+    way-sum.auto.inners ∙ place.auto.inners
 
 pub shape_of-homes-in-Broken : goal.shape_of-homes-in-Broken
 shape_of-homes-in-Broken c =
     let place = c.place-r in
-    place.auto.head.1.1.1.0
+    place.auto.homes
 
 pub returns-in-Broken : goal.returns-in-Broken
 returns-in-Broken c =

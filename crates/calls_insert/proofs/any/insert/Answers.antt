@@ -53,17 +53,17 @@ returns-in-Refused c =
 pub shape_of-leaves-in-Good : goal.shape_of-leaves-in-Good
 shape_of-leaves-in-Good c =
     let enter = c.enter in
-    enter.auto.effect.1.1.0
+    enter.auto.leaves
 
 pub shape_of-inners-in-Good : goal.shape_of-inners-in-Good
 shape_of-inners-in-Good c =
     let enter = c.enter in
-    enter.auto.effect.1.1.1.0
+    enter.auto.inners
 
 pub shape_of-homes-in-Good : goal.shape_of-homes-in-Good
 shape_of-homes-in-Good c =
     let enter = c.enter in
-    enter.auto.effect.1.1.1.1.0
+    enter.auto.homes
 
 pub returns-in-Good : goal.returns-in-Good
 returns-in-Good c =

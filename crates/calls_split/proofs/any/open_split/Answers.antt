@@ -37,7 +37,7 @@ returns-then-too_much c =
     let lines = c.too_many_lines in
     let few = c.if-too_many_lines.false in
     let o = c.open_at in
-    λ effect causes room. split_much (kind_of c.args.views effect c.args.ordered) causes _ c.args.at c.args.x.now _ (lines.ensures effect) few _ (at_ordered c.args.views effect c.args.ordered _ _ c.args.at (o.ensures effect)) _ c.in-Good.is c.lengths_at.new.g.1.1.1.0 c.lengths_at.ensures.0 _ c.too_much.ensures c.if-too_much.true
+    λ effect causes room. split_much (kind_of c.args.views effect c.args.ordered) causes _ c.args.at c.args.x.now _ (lines.ensures effect) few _ (at_ordered c.args.views effect c.args.ordered _ _ c.args.at (o.ensures effect)) _ c.in-Good.is c.lengths_at.new.x c.lengths_at.ensures.0 _ c.too_much.ensures c.if-too_much.true
 
 pub hollow_part-requires : goal.hollow_part-requires
 hollow_part-requires c =
@@ -50,7 +50,7 @@ returns-then-hollow_part c =
     let lines = c.too_many_lines in
     let few = c.if-too_many_lines.false in
     let o = c.open_at in
-    λ effect causes room. split_hollow (kind_of c.args.views effect c.args.ordered) causes _ c.args.at c.args.x.now _ (lines.ensures effect) few _ (at_ordered c.args.views effect c.args.ordered _ _ c.args.at (o.ensures effect)) _ c.in-Good.is c.lengths_at.new.g.1.1.1.0 c.lengths_at.ensures.0 _ c.too_much.ensures c.if-too_much.false _ c.hollow_part.ensures c.if-hollow_part.true
+    λ effect causes room. split_hollow (kind_of c.args.views effect c.args.ordered) causes _ c.args.at c.args.x.now _ (lines.ensures effect) few _ (at_ordered c.args.views effect c.args.ordered _ _ c.args.at (o.ensures effect)) _ c.in-Good.is c.lengths_at.new.x c.lengths_at.ensures.0 _ c.too_much.ensures c.if-too_much.false _ c.hollow_part.ensures c.if-hollow_part.true
 
 pub crossed_part-requires : goal.crossed_part-requires
 crossed_part-requires c =
@@ -62,7 +62,7 @@ returns-then-crossed_part c =
     let lines = c.too_many_lines in
     let few = c.if-too_many_lines.false in
     let o = c.open_at in
-    λ effect causes room. split_crossed (kind_of c.args.views effect c.args.ordered) causes _ c.args.at c.args.x.now _ (lines.ensures effect) few _ (at_ordered c.args.views effect c.args.ordered _ _ c.args.at (o.ensures effect)) _ c.in-Good.is c.lengths_at.new.g.1.1.1.0 c.lengths_at.ensures.0 _ c.too_much.ensures c.if-too_much.false _ c.hollow_part.ensures c.if-hollow_part.false _ c.crossed_part.ensures c.if-crossed_part.true
+    λ effect causes room. split_crossed (kind_of c.args.views effect c.args.ordered) causes _ c.args.at c.args.x.now _ (lines.ensures effect) few _ (at_ordered c.args.views effect c.args.ordered _ _ c.args.at (o.ensures effect)) _ c.in-Good.is c.lengths_at.new.x c.lengths_at.ensures.0 _ c.too_much.ensures c.if-too_much.false _ c.hollow_part.ensures c.if-hollow_part.false _ c.crossed_part.ensures c.if-crossed_part.true
 
 pub returns-then-room-ne0 : goal.returns-then-room-ne0
 returns-then-room-ne0 c =
@@ -70,7 +70,7 @@ returns-then-room-ne0 c =
     let few = c.if-too_many_lines.false in
     let o = c.open_at in
     let y = c.lengths_at in
-    λ effect causes room. split_full_law (kind_of c.args.views effect c.args.ordered) causes _ c.args.at c.args.x.now _ (lines.ensures effect) few _ (at_ordered c.args.views effect c.args.ordered _ _ c.args.at (o.ensures effect)) _ c.in-Good.is y.new.g.1.1.1.0 y.ensures.0 _
+    λ effect causes room. split_full_law (kind_of c.args.views effect c.args.ordered) causes _ c.args.at c.args.x.now _ (lines.ensures effect) few _ (at_ordered c.args.views effect c.args.ordered _ _ c.args.at (o.ensures effect)) _ c.in-Good.is y.new.x y.ensures.0 _
     c.too_much.ensures c.if-too_much.false _ c.hollow_part.ensures c.if-hollow_part.false _ c.crossed_part.ensures c.if-crossed_part.false _ room c.if-room-ne0.true
 
 pub returns-in-Refused : goal.returns-in-Refused
@@ -86,5 +86,5 @@ returns-else-room-ne0 c =
     let few = c.if-too_many_lines.false in
     let o = c.open_at in
     let y = c.lengths_at in
-    λ effect causes room. split_good (kind_of c.args.views effect c.args.ordered) causes _ c.args.at c.args.x.now _ (lines.ensures effect) few _ (at_ordered c.args.views effect c.args.ordered _ _ c.args.at (o.ensures effect)) _ c.in-Good.is y.new.g.1.1.1.0 y.ensures.0 _
+    λ effect causes room. split_good (kind_of c.args.views effect c.args.ordered) causes _ c.args.at c.args.x.now _ (lines.ensures effect) few _ (at_ordered c.args.views effect c.args.ordered _ _ c.args.at (o.ensures effect)) _ c.in-Good.is y.new.x y.ensures.0 _
     c.too_much.ensures c.if-too_much.false _ c.hollow_part.ensures c.if-hollow_part.false _ c.crossed_part.ensures c.if-crossed_part.false _ room c.if-room-ne0.false

@@ -16,40 +16,37 @@ pub divide-r-requires : goal.divide-r-requires
 divide-r-requires c =
     let l = lengths_in c.args.views c.args.x.now in
     let o = c.open_split in
-    let g = c.g-1 in
-    let i = divide_in_law (kind_of c.args.views 0 c.args.ordered) (c.requires.0, c.requires.1) _ c.args.at l c.args.room c.requires.4 _ _ (o.ensures 0 (cause c.args.room true ∷ []) (one_cause c.args.room)) g.given.1 c.args.x.now c.requires.2 in
+    let i = divide_in_law (kind_of c.args.views 0 c.args.ordered) (c.requires.0, c.requires.1) _ c.args.at l c.args.room c.requires.4 _ _ (o.ensures 0 (cause c.args.room true ∷ []) (one_cause c.args.room)) c.in-Good.is c.args.x.now c.requires.2 in
     (i.0, i.1, c.requires.3)
 
 pub shape_of-leaves-then-r-ne0 : goal.shape_of-leaves-then-r-ne0
 shape_of-leaves-then-r-ne0 c =
     let divide = c.divide-r in
-    divide.auto.head.1.0
+    divide.auto.leaves
 
 pub shape_of-inners-then-r-ne0 : goal.shape_of-inners-then-r-ne0
 shape_of-inners-then-r-ne0 c =
     let divide = c.divide-r in
-    divide.auto.head.1.1.0
+    divide.auto.inners
 
 pub shape_of-homes-then-r-ne0 : goal.shape_of-homes-then-r-ne0
 shape_of-homes-then-r-ne0 c =
     let divide = c.divide-r in
-    divide.auto.head.1.1.1.0
+    divide.auto.homes
 
 pub returns-then-r-ne0 : goal.returns-then-r-ne0
 returns-then-r-ne0 c =
     let l = lengths_in c.args.views c.args.x.now in
     let o = c.open_split in
-    let g = c.g-1 in
     let r = c.divide-r in
-    λ effect causes room. entry_broken (kind_of c.args.views effect c.args.ordered) causes _ c.args.at l c.args.before _ (o.ensures effect causes room) _ g.given.1 _ _ _ _ _ _ _ r.ensures c.if-r-ne0.true
+    λ effect causes room. entry_broken (kind_of c.args.views effect c.args.ordered) causes _ c.args.at l c.args.before _ (o.ensures effect causes room) _ c.in-Good.is _ _ _ _ _ _ _ r.ensures c.if-r-ne0.true
 
 pub divided_at-requires : goal.divided_at-requires
 divided_at-requires c =
     let l = lengths_in c.args.views c.args.x.now in
     let o = c.open_split in
-    let g = c.g-1 in
     let r = c.divide-r in
-    answer_in (kind_of c.args.views 0 c.args.ordered) (c.requires.0, c.requires.1) _ c.args.at l c.args.room c.requires.4 _ _ (o.ensures 0 (cause c.args.room true ∷ []) (one_cause c.args.room)) g.given.1 c.args.before _ r.ensures c.if-r-ne0.false
+    answer_in (kind_of c.args.views 0 c.args.ordered) (c.requires.0, c.requires.1) _ c.args.at l c.args.room c.requires.4 _ _ (o.ensures 0 (cause c.args.room true ∷ []) (one_cause c.args.room)) c.in-Good.is c.args.before _ r.ensures c.if-r-ne0.false
 
 pub shape_of-leaves-in-Refused : goal.shape_of-leaves-in-Refused
 shape_of-leaves-in-Refused c = refl
@@ -67,22 +64,21 @@ returns-in-Refused c =
 pub shape_of-leaves-else-r-ne0 : goal.shape_of-leaves-else-r-ne0
 shape_of-leaves-else-r-ne0 c =
     let divide = c.divide-r in
-    divide.auto.head.1.0
+    divide.auto.leaves
 
 pub shape_of-inners-else-r-ne0 : goal.shape_of-inners-else-r-ne0
 shape_of-inners-else-r-ne0 c =
     let divide = c.divide-r in
-    divide.auto.head.1.1.0
+    divide.auto.inners
 
 pub shape_of-homes-else-r-ne0 : goal.shape_of-homes-else-r-ne0
 shape_of-homes-else-r-ne0 c =
     let divide = c.divide-r in
-    divide.auto.head.1.1.1.0
+    divide.auto.homes
 
 pub returns-else-r-ne0 : goal.returns-else-r-ne0
 returns-else-r-ne0 c =
     let l = lengths_in c.args.views c.args.x.now in
     let o = c.open_split in
-    let g = c.g-1 in
     let r = c.divide-r in
-    λ effect causes room. entry_whole (kind_of c.args.views effect c.args.ordered) causes _ c.args.at l c.args.before _ (o.ensures effect causes room) _ g.given.1 _ _ _ _ _ _ _ r.ensures c.if-r-ne0.false _ c.divided_at.ensures
+    λ effect causes room. entry_whole (kind_of c.args.views effect c.args.ordered) causes _ c.args.at l c.args.before _ (o.ensures effect causes room) _ c.in-Good.is _ _ _ _ _ _ _ r.ensures c.if-r-ne0.false _ c.divided_at.ensures

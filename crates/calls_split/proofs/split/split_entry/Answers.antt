@@ -16,13 +16,13 @@ pub split_entry-requires : goal.split_entry-requires
 split_entry-requires c = (omega arith, omega arith, ap (λ (z : Slot). z.child) c.new-slot.ensures, refl, c.without-room.ensures.1)
 
 pub shape_of-leaves : goal.shape_of-leaves
-shape_of-leaves c = c.split_entry.auto.ordered.1.1.1.0
+shape_of-leaves c = c.split_entry.auto.leaves
 
 pub shape_of-inners : goal.shape_of-inners
-shape_of-inners c = c.split_entry.auto.ordered.1.1.1.1.0
+shape_of-inners c = c.split_entry.auto.inners
 
 pub shape_of-homes : goal.shape_of-homes
-shape_of-homes c = c.split_entry.auto.ordered.1.1.1.1.1.0
+shape_of-homes c = c.split_entry.auto.homes
 
 pub returns : goal.returns
 returns c =
