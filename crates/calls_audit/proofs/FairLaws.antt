@@ -1,6 +1,6 @@
 -- What audit says of a tree with its seats. Assumes nothing.
 use mathlib.Core.Path.{◌≡◌, sym, ap, ap₂, ◌∙◌}
-use mathlib.Core.Bool.{Bool, true, false}
+use mathlib.Core.Bool.{Bool}
 use Prim.Native.Nat.{ℕ}
 use Rattle.model.specs.Kind.{base}
 use Rattle.model.specs.State.{State}

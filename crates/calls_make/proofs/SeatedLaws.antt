@@ -5,7 +5,7 @@ use Rattle.model.specs.Lists.{refusal}
 use Rattle.model.specs.State.{State, state, head_of}
 use Rattle.model.specs.Calls.{Reply, reply, make_causes, begun, make, reset}
 use Rattle.model.specs.Seats.{seats_of, no_charges, no_seats, too_high, uncharged}
-use Rattle.model.specs.SeatedCalls.{SeatedReply, seated_reply, make_seated, after_reset, reset_seated}
+use Rattle.model.specs.SeatedCalls.{seated_reply, make_seated, after_reset, reset_seated}
 use Rattle.model.specs.declared.seats.Seats.{Seats}
 use Rattle.model.specs.declared.head.Held.TheVariants as held
 use Rattle.model.specs.declared.answer.Outcome.{Outcome}

@@ -11,7 +11,6 @@ use Rattle.model.specs.declared.shape.Kind.{Kind}
 use Rattle.model.specs.declared.shape.Shape.{Shape}
 use Rattle.model.specs.declared.head.Finger.{Finger}
 use Rattle.model.specs.declared.head.Held.{Held}
-use Rattle.model.specs.declared.head.Held.TheVariants as held
 use Rattle.model.specs.declared.way.Search.{Search}
 use Rattle.model.specs.declared.way.Search.TheVariants as search
 use Rattle.model.specs.declared.way.Searched.{Searched}

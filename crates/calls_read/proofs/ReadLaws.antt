@@ -16,7 +16,6 @@ use Rattle.model.specs.declared.answer.Standing.{Standing}
 use Rattle.model.specs.declared.answer.Standing.TheVariants as standing
 use Rattle.model.specs.declared.answer.Named.{Named}
 use Rattle.model.specs.declared.answer.Named.TheVariants as named
-use Rattle.model.specs.declared.answer.Measured.TheVariants as measured
 use Rattle.model_laws.specs.AreaRead.{used_length}
 use Rattle.tree_node.specs.Shaped.{Shaped}
 use Rattle.tree_open.proofs.Causes.{opened_first, opened_next, opened_none, opened_stop, opened_more, good_shape, refused_number, call_refused, call_good}

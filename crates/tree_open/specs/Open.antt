@@ -1,5 +1,5 @@
 -- The tests that every call makes first, as the code answers them. Assumes nothing.
-use Rattle.std.specs.Prelude.{cond, List, ℕ, eqb}
+use Rattle.std.specs.Prelude.{cond, List, eqb}
 use Rattle.model.specs.Lists.{Cause, refusal}
 use Rattle.model.specs.declared.shape.Shape.{Shape}
 use Rattle.tree_open.specs.declared.open.Opened.{Opened}

@@ -1,5 +1,5 @@
 -- What is known where none of the first tests gives a number. Assumes nothing.
-use Rattle.std.specs.Prelude.{◌≡◌, ℕ, ◌*◌, ◌≤◌, ◌<◌, length}
+use Rattle.std.specs.Prelude.{◌≡◌, ◌*◌, ◌≤◌, ◌<◌, length}
 use Rattle.model.specs.State.{State, node_at}
 use Rattle.model.specs.Refuse.{shape_of}
 use Rattle.model.specs.declared.shape.Kind.{Kind}

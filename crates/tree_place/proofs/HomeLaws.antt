@@ -1,5 +1,5 @@
 -- One turn of rehoming the entries of a leaf. Assumes nothing.
-use Rattle.std.proofs.Common.{◌≡◌, ℕ, suc, ◌+◌, ◌<◌, ◌≤◌, List, [], ◌∷◌, length, get_or, drop, set, sym, refl, ap, ◌∙◌, add-one, drop_of_length-le, drop-cons, get_or-take, le-ltb, lt-ltb}
+use Rattle.std.proofs.Common.{◌≡◌, ℕ, ◌+◌, ◌<◌, ◌≤◌, List, [], length, get_or, drop, set, sym, ap, ◌∙◌, add-one, drop_of_length-le, drop-cons, get_or-take, le-ltb, lt-ltb}
 use Rattle.model.specs.Node.{child, used}
 use Rattle.model.specs.State.{node_at}
 use Rattle.model.specs.declared.shape.Shape.{Shape}

@@ -1,5 +1,4 @@
 -- `calls_audit::any::every_inner`: the test of the nodes from here on is the test of all.
-use Prim.Native.Nat.{◌-◌}
 use mathlib.Core.Path.{sym, ◌∙◌}
 use mathlib.Core.List.{[]}
 use native.Mathlib.Omega.{arith}

@@ -1,5 +1,4 @@
 -- `calls_audit::any::every_leaf`: the test of the nodes from here on is the test of all.
-use Prim.Native.Nat.{◌-◌}
 use mathlib.Core.Path.{sym, ◌∙◌}
 use native.Mathlib.Omega.{arith}
 use native.Mathlib.Nat.{lt_of_lt_of_le}

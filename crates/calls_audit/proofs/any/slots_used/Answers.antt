@@ -1,5 +1,4 @@
 -- `calls_audit::any::slots_used`: what is summed and the sum of the leaves from here on are the sum of all.
-use Prim.Native.Nat.{◌-◌}
 use native.Mathlib.Omega.{arith}
 use native.Mathlib.Nat.{lt_of_lt_of_le}
 use Rattle.model.specs.State.{node_at}

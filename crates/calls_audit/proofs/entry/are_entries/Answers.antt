@@ -1,5 +1,4 @@
 -- `calls_audit::entry::are_entries`: the test of the slots from here on is the test of all.
-use Prim.Native.Nat.{◌-◌}
 use mathlib.Core.Path.{sym, ◌∙◌}
 use native.Mathlib.Omega.{arith}
 use native.Mathlib.Nat.{lt_of_lt_of_le}

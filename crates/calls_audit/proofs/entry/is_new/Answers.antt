@@ -1,5 +1,4 @@
 -- `calls_audit::entry::is_new`: the test of the slots from here on is the test of all.
-use Prim.Native.Nat.{◌-◌}
 use mathlib.Core.Path.{sym, ◌∙◌}
 use native.Mathlib.Omega.{arith}
 use native.Mathlib.Nat.{lt_trans}

@@ -1,5 +1,4 @@
 -- `calls_audit::link::depth`: the nodes passed and the depth from here on are the depth asked for; each turn goes up one level.
-use Prim.Native.Nat.{◌-◌}
 use native.Mathlib.Omega.{arith}
 use native.Mathlib.Nat.{lt_of_lt_of_le}
 use Rattle.calls_audit.proofs.LinkLaws.{depth_root, depth_end, depth_astray, depth_on}

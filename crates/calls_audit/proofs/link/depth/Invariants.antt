@@ -1,5 +1,5 @@
 -- `calls_audit::link::depth`: the nodes passed and the depth from here on are the depth asked for; each turn goes up one level.
-use Prim.Native.Nat.{◌+◌, ◌-◌, ◌≤◌}
+use Prim.Native.Nat.{◌+◌, ◌≤◌}
 use mathlib.Core.Path.{◌≡◌}
 use Rattle.calls_audit.specs.Links.{depth_by}
 use Rattle.calls_audit.proofs.link.depth.Given as goal

@@ -1,5 +1,4 @@
 -- `calls_audit::nodes::is_empty_from`: the test of the slots from here on is the test of all.
-use Prim.Native.Nat.{◌-◌}
 use mathlib.Core.Path.{refl, sym, ◌∙◌}
 use native.Mathlib.Omega.{arith}
 use Rattle.calls_audit.proofs.Every.{every_stop, every_on, every_end}

@@ -1,5 +1,5 @@
 -- `calls_print::line::blank_line`: after i turns i blanks are written; the line feed comes behind 54.
-use Rattle.std.proofs.Common.{◌-◌, sym, refl, ◌∙◌, arith, length-set}
+use Rattle.std.proofs.Common.{sym, refl, ◌∙◌, arith, length-set}
 use Rattle.model_laws.specs.Words.{put_none}
 use Rattle.calls_print.proofs.LineLaws.{one_blank, line_end}
 use Rattle.calls_print.proofs.line.blank_line.Goals as goal

@@ -1,5 +1,5 @@
 -- `calls_print::line::column`: each turn writes the last column that is left; what is left is the number without its last digit.
-use Rattle.std.proofs.Common.{◌-◌, refl, ◌∙◌, arith, length-set}
+use Rattle.std.proofs.Common.{refl, ◌∙◌, arith, length-set}
 use Rattle.calls_print.proofs.ColumnLaws.{turn, all_columns}
 use Rattle.calls_print.proofs.line.column.Goals as goal
 

@@ -1,5 +1,5 @@
 -- `calls_print::line::column`: each turn writes the last column that is left; what is left is the number without its last digit.
-use Rattle.std.proofs.Common.{◌≡◌, ◌-◌, ◌≤◌, length}
+use Rattle.std.proofs.Common.{◌≡◌, ◌≤◌, length}
 use Rattle.model.specs.Lists.{put_at}
 use Rattle.calls_print.proofs.ColumnLaws.{glyphs}
 use Rattle.calls_print.proofs.line.column.Given as goal

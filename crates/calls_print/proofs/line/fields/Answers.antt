@@ -1,5 +1,5 @@
 -- `calls_print::line::fields`: each turn writes the first of the numbers that are left, and the blank behind it.
-use Rattle.std.proofs.Common.{◌-◌, refl, ◌∙◌, arith, length-set}
+use Rattle.std.proofs.Common.{refl, ◌∙◌, arith, length-set}
 use Rattle.calls_print.proofs.LineLaws.{one_field, no_field}
 use Rattle.calls_print.proofs.line.fields.Goals as goal
 

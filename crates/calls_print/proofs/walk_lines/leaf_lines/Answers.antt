@@ -1,5 +1,5 @@
 -- `calls_print::walk_lines::leaf_lines`: each turn writes the line of the first slot that is left.
-use Rattle.std.proofs.Common.{◌-◌, refl, ◌∙◌, arith}
+use Rattle.std.proofs.Common.{refl, ◌∙◌, arith}
 use Rattle.model.specs.State.{node_at}
 use Rattle.model_laws.specs.AreaRead.{slots_are}
 use Rattle.calls_print.proofs.LaidLaws.{one_slot, no_slot}

@@ -1,5 +1,5 @@
 -- `calls_read::any::slot_of`: the part that is lent holds the node's words.
-use Rattle.std.proofs.Common.{◌+◌, ◌*◌, ◌≤◌, length, ap, arith}
+use Rattle.std.proofs.Common.{length, ap, arith}
 use Rattle.model.specs.Node.{node_of}
 use Rattle.model.specs.declared.shape.Scan.{Scan}
 use Rattle.model_laws.specs.Words.{lent}

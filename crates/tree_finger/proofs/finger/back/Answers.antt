@@ -1,5 +1,5 @@
 -- `tree_finger::finger::back`: back from here is back from the finger's slot; each turn goes one slot back.
-use Rattle.std.proofs.Common.{◌-◌, sym, refl, ◌∙◌, arith}
+use Rattle.std.proofs.Common.{sym, refl, ◌∙◌, arith}
 use Rattle.model.specs.State.{node_at}
 use Rattle.tree_words.proofs.Turns.{wrapped_less}
 use Rattle.model_laws.specs.Locate.{back_first, back_here, back_turn}

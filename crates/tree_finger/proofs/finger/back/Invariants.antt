@@ -1,5 +1,5 @@
 -- `tree_finger::finger::back`: back from here is back from the finger's slot; each turn goes one slot back.
-use Rattle.std.proofs.Common.{◌≡◌, ◌-◌, ◌≤◌}
+use Rattle.std.proofs.Common.{◌≡◌, ◌≤◌}
 use Rattle.model.specs.Node.{used}
 use Rattle.model.specs.State.{node_at}
 use Rattle.model.specs.Locate.{back}

@@ -1,7 +1,5 @@
 -- `tree_finger::finger::walked`: each answer is the definition's at the slot to which the finger goes back.
 use Rattle.std.proofs.Common.{◌≡◌, ℕ, ◌-◌, ◌<◌, ◌≤◌, List, sym, ap, ◌∙◌, arith}
-use Rattle.model.specs.Node.{used}
-use Rattle.model.specs.State.{node_at}
 use Rattle.model.specs.Locate.{stand, back}
 use Rattle.model.specs.declared.head.Finger.{Finger}
 use Rattle.model_laws.specs.Find.{used_ranged}

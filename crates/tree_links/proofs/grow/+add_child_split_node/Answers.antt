@@ -1,6 +1,6 @@
 -- `tree_links::grow::add_child` and `tree_links::grow::split_node`: each goes through its definition test by test. What each has at a return is
 -- a law of `Adding` or `Splitting`.
-use Rattle.std.proofs.Common.{◌≡◌, ℕ, ◌+◌, ◌-◌, ◌*◌, ◌<◌, ◌≤◌, List, length, get_or, sym, refl, ◌∙◌, arith}
+use Rattle.std.proofs.Common.{◌≡◌, ℕ, ◌*◌, ◌≤◌, List, length, get_or, sym, refl, ◌∙◌, arith}
 use Rattle.model.specs.Lists.{part}
 use Rattle.model.specs.State.{shape_for}
 use Rattle.model.specs.Grow.{areas}
@@ -12,7 +12,7 @@ use Rattle.tree_links.specs.Tops.{grown_in}
 use Rattle.tree_links.specs.Standing.{standing}
 use Rattle.tree_links.proofs.AddSteps.{GoodPlace, good_place}
 use Rattle.tree_links.proofs.Adding.{PlaceFound, ReadyToLink, moved, as_made, count_as, ended, astray, ready_here, crowded, failed, ready_low, ready_high}
-use Rattle.tree_links.proofs.Splitting.{three, used_more, levels_same, cut_bad, cut_root, cut_up}
+use Rattle.tree_links.proofs.Splitting.{three, cut_bad, cut_root, cut_up}
 use Rattle.tree_links.proofs.grow.+add_child_split_node.Goals.{add_child-then-word-fan+else-used-nodes+else-n-ne0+then-i-fan, add_child-then-word-fan+else-used-nodes+else-n-ne0+else-i-fan, add_child-else-word-fan}
 use Rattle.tree_links.proofs.grow.+add_child_split_node.Goals as goal
 

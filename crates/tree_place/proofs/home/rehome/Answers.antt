@@ -1,5 +1,5 @@
 -- `tree_place::home::rehome`: each turn gives one more of the leaf's entries its home.
-use Rattle.std.proofs.Common.{◌-◌, refl, arith, length-set}
+use Rattle.std.proofs.Common.{refl, arith, length-set}
 use Rattle.tree_place.proofs.HomeLaws.{turn_on, turn_past, turn_end}
 use Rattle.tree_place.proofs.home.rehome.Goals as goal
 
