@@ -1,5 +1,6 @@
 -- 21 where a test fails; else the tree is one that the writer may be handed, and what it leaves is the answer.
 use native.Mathlib.Omega.{arith}
+use borrow.Author.Tests.{not-true, not-false}
 use Rattle.calls_repair.proofs.AnswerLaws.{not_fit, not_fair, is_mended, leaf_room, inner_room, job_of, job_done}
 use Rattle.calls_repair.proofs.any.by_queue.Goals as goal
 
@@ -12,14 +13,14 @@ pub returns-then-not-fit : goal.returns-then-not-fit
 returns-then-not-fit c =
     let args = c.args in
     let is-fit = c.is_fit-fit in
-    λ effect w. not_fit _ _ args.fair (is-fit.ensures.0 w.views effect args.homes.now w.same) (c.if-not-fit.true)
+    λ effect w. not_fit _ _ args.fair (is-fit.ensures.0 w.views effect args.homes.now w.same) (not-true _ c.if-not-fit.true)
 
 pub returns-then-not-fair : goal.returns-then-not-fair
 returns-then-not-fair c =
     let args = c.args in
     let is-fit = c.is_fit-fit in
-    λ effect w. not_fair _ _ args.fair (is-fit.ensures.0 w.views effect args.homes.now w.same) (c.if-not-fit.false)
-    (c.if-not-fair.true)
+    λ effect w. not_fair _ _ args.fair (is-fit.ensures.0 w.views effect args.homes.now w.same) (not-false _ c.if-not-fit.false)
+    c.if-not-fair.true
 
 pub mend-n-requires : goal.mend-n-requires
 mend-n-requires c =
@@ -27,7 +28,7 @@ mend-n-requires c =
     let args = c.args in
     let is-fit = c.is_fit-fit in
     let if1 = c.if-not-fit in
-    let fit = if1.false in
+    let fit = not-false _ if1.false in
     job_of pre.0 args.ordered (is-fit.ensures.0 pre.0.views 0 args.homes.now pre.0.same) fit (is-fit.ensures.1 fit)
 
 pub overflow_cast-result : goal.overflow_cast-result
@@ -42,7 +43,7 @@ returns c =
     let if1 = c.if-not-fit in
     let if2 = c.if-not-fair in
     let mend = c.mend-n in
-    let fit = if1.false in
+    let fit = not-false _ if1.false in
     λ effect w. is_mended _ _ args.fair (is-fit.ensures.0 w.views effect args.homes.now w.same) fit if2.false
     c.without_finger.ensures
     (job_done w args.ordered (is-fit.ensures.0 w.views 0 args.homes.now w.same) fit (is-fit.ensures.1 fit) mend.ensures.1)

@@ -13,10 +13,9 @@ with_queue-requires c =
     let args = c.args in
     let pre = c.requires in
     let open-areas = c.open_areas in
-    let g = c.g-1 in
     opens args.views args.effect args.ordered (pre.0, pre.1)
     (state args.head args.leaves.now args.inners.now args.homes.now)
-    (open-areas.ensures args.effect) g.given.1
+    (open-areas.ensures args.effect) c.in-Good.is
 
 pub returns-in-Refused : goal.returns-in-Refused
 returns-in-Refused c =
@@ -32,8 +31,7 @@ returns-in-Good c =
     let args = c.args in
     let pre = c.requires in
     let open-areas = c.open_areas in
-    let g = c.g-1 in
     let with-queue = c.with_queue in
     call_goes args.views args.effect args.ordered (pre.0, pre.1)
     (state args.head args.leaves.now args.inners.now args.homes.now)
-    (open-areas.ensures args.effect) args.fair g.given.1 with-queue.ensures
+    (open-areas.ensures args.effect) args.fair c.in-Good.is with-queue.ensures
