@@ -13,14 +13,12 @@ pub returns-in-Refused-id : goal.returns-in-Refused-id
 returns-in-Refused-id c =
     let args = c.args in
     let the-locate = c.locate-r in
-    let answer2 = c.answer-in-At-1 in
     let id = c.id in
-    lookup_at (kind args.views args.effect) _ _ args.view _ _ _ the-locate.ensures.0 _ _ _ _ answer2.given.1 _ _ (id.ensures args.effect) c.in-Refused-id.is
+    lookup_at (kind args.views args.effect) _ _ args.view _ _ _ the-locate.ensures.0 _ _ _ _ c.in-At.is _ _ (id.ensures args.effect) c.in-Refused-id.is
 
 pub returns-in-Entry : goal.returns-in-Entry
 returns-in-Entry c =
     let args = c.args in
     let the-locate = c.locate-r in
-    let answer2 = c.answer-in-At-1 in
     let id = c.id in
-    lookup_at (kind args.views args.effect) _ _ args.view _ _ _ the-locate.ensures.0 _ _ _ _ answer2.given.1 _ _ (id.ensures args.effect) c.in-Entry.is
+    lookup_at (kind args.views args.effect) _ _ args.view _ _ _ the-locate.ensures.0 _ _ _ _ c.in-At.is _ _ (id.ensures args.effect) c.in-Entry.is

@@ -11,13 +11,11 @@ returns-in-Nothing c effect = next_none _ _ _ _ (c.next.ensures effect) c.in-Not
 pub returns-in-Refused-id : goal.returns-in-Refused-id
 returns-in-Refused-id c effect =
     let the-next = c.next in
-    let the-c = c.c-1 in
     let id = c.id in
-    next_at _ _ _ _ (the-next.ensures effect) _ the-c.given.1 _ _ (id.ensures effect) c.in-Refused-id.is
+    next_at _ _ _ _ (the-next.ensures effect) _ c.in-At.is _ _ (id.ensures effect) c.in-Refused-id.is
 
 pub returns-in-Entry : goal.returns-in-Entry
 returns-in-Entry c effect =
     let the-next = c.next in
-    let the-c = c.c-1 in
     let id = c.id in
-    next_at _ _ _ _ (the-next.ensures effect) _ the-c.given.1 _ _ (id.ensures effect) c.in-Entry.is
+    next_at _ _ _ _ (the-next.ensures effect) _ c.in-At.is _ _ (id.ensures effect) c.in-Entry.is

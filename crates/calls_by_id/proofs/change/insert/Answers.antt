@@ -38,19 +38,13 @@ returns-in-Refused c =
     insert_stops (kind_of c.args.views c.args.effect c.args.ordered) (entry (goal.at.returns-in-Refused c).Start) _ _ l (place_ordered c.args.views c.args.effect c.args.ordered (entry (goal.at.returns-in-Refused c).Start) c.args.id.0 _ (c.place.ensures c.args.effect)) _ c.in-Refused.is
 
 pub shape_of-leaves-in-At : goal.shape_of-leaves-in-At
-shape_of-leaves-in-At c =
-    let the-insert = c.insert in
-    the-insert.auto.effect.1.1.1.1.0
+shape_of-leaves-in-At c = c.insert.auto.leaves
 
 pub shape_of-inners-in-At : goal.shape_of-inners-in-At
-shape_of-inners-in-At c =
-    let the-insert = c.insert in
-    the-insert.auto.effect.1.1.1.1.1.0
+shape_of-inners-in-At c = c.insert.auto.inners
 
 pub shape_of-homes-in-At : goal.shape_of-homes-in-At
-shape_of-homes-in-At c =
-    let the-insert = c.insert in
-    the-insert.auto.effect.1.1.1.1.1.1.0
+shape_of-homes-in-At c = c.insert.auto.homes
 
 pub returns-in-At : goal.returns-in-At
 returns-in-At c =

@@ -38,19 +38,13 @@ returns-in-Refused c effect =
     split_stops (kind_of c.args.views effect c.args.ordered) (entry (goal.at.returns-in-Refused c).Start) _ _ (cursor_ordered _ effect c.args.ordered _ _ _ (c.cursor.ensures effect)) c.args.before l _ c.in-Refused.is
 
 pub shape_of-leaves-in-At : goal.shape_of-leaves-in-At
-shape_of-leaves-in-At c =
-    let the-split-entry = c.split_entry in
-    the-split-entry.auto.ordered.1.1.1.0
+shape_of-leaves-in-At c = c.split_entry.auto.leaves
 
 pub shape_of-inners-in-At : goal.shape_of-inners-in-At
-shape_of-inners-in-At c =
-    let the-split-entry = c.split_entry in
-    the-split-entry.auto.ordered.1.1.1.1.0
+shape_of-inners-in-At c = c.split_entry.auto.inners
 
 pub shape_of-homes-in-At : goal.shape_of-homes-in-At
-shape_of-homes-in-At c =
-    let the-split-entry = c.split_entry in
-    the-split-entry.auto.ordered.1.1.1.1.1.0
+shape_of-homes-in-At c = c.split_entry.auto.homes
 
 pub returns-in-At : goal.returns-in-At
 returns-in-At c effect =

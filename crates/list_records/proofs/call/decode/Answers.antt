@@ -1,4 +1,5 @@
 -- `list_records::call::decode`: each kind is its place in the list of kinds, under the same condition.
+use borrow.Author.Rules.{rules}
 use Rattle.model.specs.Record.{kinds}
 use Rattle.list_records.specs.Said.{plain_fields, said}
 use Rattle.list_records.proofs.Laws.{at_kind, no_kind, reset_kind, lookup_kind, rank_kind, next_kind, compare_kind, lengths_kind, count_kind, first_kind}
@@ -70,8 +71,7 @@ pub returns-in-10 : goal.returns-in-10
 unfolding said
 returns-in-10 c =
     let args = c.args in
-    let the_match = c.in-1 in
-    compare_kind (plain_fields args.f) _ _ _ c.both-in-10.ensures the_match.keys10 c.only-in-10.ensures c.both-in-10-2.ensures
+    compare_kind (plain_fields args.f) _ _ _ c.both-in-10.ensures c.in-10.is c.only-in-10.ensures c.both-in-10-2.ensures
 
 pub returns-in-11 : goal.returns-in-11
 unfolding said
@@ -87,8 +87,7 @@ returns-in-12 c =
     let args = c.args in
     let both = c.both in
     let both2 = c.both-no_lengths in
-    let the_match = c.in-1 in
-    count_kind (plain_fields args.f) _ _ _ both.ensures _ both2.ensures _ c.both-in-12.ensures the_match.keys12 c.only-in-12.ensures c.both-in-12-2.ensures
+    count_kind (plain_fields args.f) _ _ _ both.ensures _ both2.ensures _ c.both-in-12.ensures c.in-12.is c.only-in-12.ensures c.both-in-12-2.ensures
 
 pub returns-in-13 : goal.returns-in-13
 unfolding said
@@ -96,11 +95,10 @@ returns-in-13 c =
     let args = c.args in
     let both = c.both in
     let both2 = c.both-no_lengths in
-    let the_match = c.in-1 in
-    first_kind (plain_fields args.f) _ _ _ both.ensures _ both2.ensures _ c.both-in-13.ensures the_match.keys13 c.only-in-13.ensures c.both-in-13-2.ensures
+    first_kind (plain_fields args.f) _ _ _ both.ensures _ both2.ensures _ c.both-in-13.ensures c.in-13.is c.only-in-13.ensures c.both-in-13-2.ensures
 
 pub returns-in_default : goal.returns-in_default
 unfolding said
 returns-in_default c =
     let args = c.args in
-    no_kind (plain_fields args.f) _ c.in-1.rest.0.0.0.0.0.0.0.0.0.0.0.0.1 c.in-1.rest.0.0.0.0.0.0.0.0.0.0.0.1 c.in-1.rest.0.0.0.0.0.0.0.0.0.0.1 c.in-1.rest.0.0.0.0.0.0.0.0.0.1 c.in-1.rest.0.0.0.0.0.0.0.0.1 c.in-1.rest.0.0.0.0.0.0.0.1 c.in-1.rest.0.0.0.0.0.0.1 c.in-1.rest.0.0.0.0.0.1 c.in-1.rest.0.0.0.0.1 c.in-1.rest.0.0.0.1 c.in-1.rest.0.0.1 c.in-1.rest.0.1 c.in-1.rest.1
+    no_kind (plain_fields args.f) _ (search rules) (search rules) (search rules) (search rules) (search rules) (search rules) (search rules) (search rules) (search rules) (search rules) (search rules) (search rules) (search rules)
