@@ -10,17 +10,17 @@ insert-requires c = (omega arith, omega arith, omega arith, refl, refl)
 pub shape_of-leaves : goal.shape_of-leaves
 shape_of-leaves c =
     let the-insert = c.insert in
-    the-insert.auto.effect.1.1.1.0
+    the-insert.auto.leaves
 
 pub shape_of-inners : goal.shape_of-inners
 shape_of-inners c =
     let the-insert = c.insert in
-    the-insert.auto.effect.1.1.1.1.0
+    the-insert.auto.inners
 
 pub shape_of-homes : goal.shape_of-homes
 shape_of-homes c =
     let the-insert = c.insert in
-    the-insert.auto.effect.1.1.1.1.1.0
+    the-insert.auto.homes
 
 pub returns : goal.returns
 returns c = c.insert.ensures ∙ insert_plan _ _ _

@@ -10,12 +10,12 @@ set_lengths-requires c = (omega arith, omega arith, omega arith, refl)
 pub shape_of-leaves : goal.shape_of-leaves
 shape_of-leaves c =
     let the-set-lengths = c.set_lengths in
-    the-set-lengths.auto.effect.1.1.1.0
+    the-set-lengths.auto.leaves
 
 pub shape_of-inners : goal.shape_of-inners
 shape_of-inners c =
     let the-set-lengths = c.set_lengths in
-    the-set-lengths.auto.effect.1.1.1.1.0
+    the-set-lengths.auto.inners
 
 pub returns : goal.returns
 returns c = c.set_lengths.ensures ∙ set_plan _ _ _

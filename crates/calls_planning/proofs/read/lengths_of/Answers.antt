@@ -8,7 +8,7 @@ pub lengths-n-requires : goal.lengths-n-requires
 lengths-n-requires c = (omega arith, omega arith, refl)
 
 pub returns-then-n-ne0 : goal.returns-then-n-ne0
-returns-then-n-ne0 c = ranged_refused _ _ _ c.lengths-n.new.head.1.1.1.1.1.0 (c.lengths-n.ensures.0 1) c.if-n-ne0.true
+returns-then-n-ne0 c = ranged_refused _ _ _ c.lengths-n.new.x (c.lengths-n.ensures.0 1) c.if-n-ne0.true
 
 pub returns : goal.returns
-returns c = ranged_good _ _ _ c.lengths-n.new.head.1.1.1.1.1.0 (c.lengths-n.ensures.0 1) c.if-n-ne0.false c.lengths-n.ensures.1
+returns c = ranged_good _ _ _ c.lengths-n.new.x (c.lengths-n.ensures.0 1) c.if-n-ne0.false c.lengths-n.ensures.1
