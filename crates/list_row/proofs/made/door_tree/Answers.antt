@@ -6,4 +6,7 @@ pub returns : goal.returns
 returns c =
     let new = c.new in
     let args = c.args in
-    (new.ensures, λ el ex eh. door_represents args.leaves.now args.inners.now args.homes.now el ex eh _ _ new.ensures)
+    record {
+      answer_value = new.ensures;
+      represents = λ el ex eh. door_represents args.leaves.now args.inners.now args.homes.now el ex eh _ _ new.ensures;
+    }

@@ -7,20 +7,20 @@ use Rattle.list_row.proofs.made.make_and_run.Goals as goal
 pub returns-in-Done : goal.returns-in-Done
 returns-in-Done c =
     let args = c.args in
-    let good = c.well-formed in
-    let bytes = c.shared_slice_known-1 in
+    let good = c.well_formed in
     let new = c.new-made in
     let words = three_words args.lengths.prepare args.lengths.effect args.lengths.lines (omega (arith, good)) (omega (arith, good)) (omega (arith, good)) in
-    make_done _ _ _ args.leaves.now args.inners.now args.homes.now words args.records.now args.out.now (λ (i : ℕ). omega (arith, bytes.given i)) _ _
+    let all_promised = make_done _ _ _ args.leaves.now args.inners.now args.homes.now words args.records.now args.out.now (λ (i : ℕ). omega (arith, c.type_inv.records i)) _ _
     new.ensures c.in-Done.is _
-    c.run.ensures.0
+    c.run.ensures.out_after in
+    record { out_after = all_promised.0; as_row = all_promised.1 }
 
 pub returns-in-Refused : goal.returns-in-Refused
 returns-in-Refused c =
     let args = c.args in
-    let good = c.well-formed in
-    let bytes = c.shared_slice_known-1 in
+    let good = c.well_formed in
     let new = c.new-made in
     let words = three_words args.lengths.prepare args.lengths.effect args.lengths.lines (omega (arith, good)) (omega (arith, good)) (omega (arith, good)) in
-    make_refused _ _ _ args.leaves.now args.inners.now args.homes.now words args.records.now args.out.now (λ (i : ℕ). omega (arith, bytes.given i)) _ _
-    new.ensures _ c.in-Refused.is
+    let all_promised = make_refused _ _ _ args.leaves.now args.inners.now args.homes.now words args.records.now args.out.now (λ (i : ℕ). omega (arith, c.type_inv.records i)) _ _
+    new.ensures _ c.in-Refused.is in
+    record { out_after = all_promised.0; as_row = all_promised.1 }

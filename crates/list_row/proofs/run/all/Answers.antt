@@ -75,10 +75,10 @@ loop-more-preserved c =
     c.loop-more-test.true in (
       left_after l.at l.more _ l.invariant.0 c.loop-more-test.true,
       l.invariant.1,
-      same_len_mid l.at (l.at + 16 - l.at) l.out p.new.leaves.1.1.1.1.0 p.auto.leaves.1.1.1.1.0 ∙ l.invariant.2,
-      p.auto.leaves.0 ∙ l.invariant.3,
-      p.auto.leaves.1.0 ∙ l.invariant.4,
-      p.auto.leaves.1.1.0 ∙ l.invariant.5,
+      same_len_mid l.at (l.at + 16 - l.at) l.out p.new.out p.auto.out ∙ l.invariant.2,
+      p.auto.leaves ∙ l.invariant.3,
+      p.auto.inners ∙ l.invariant.4,
+      p.auto.homes ∙ l.invariant.5,
       next_turn _ _ _ _ l.at l.more l.invariant.6
           c.loop-more-test.true room _ _ p.ensures,
     )

@@ -8,22 +8,23 @@ use Rattle.list_row.proofs.run.run.Goals as goal
 pub returns-then-records-out : goal.returns-then-records-out
 returns-then-records-out c =
     let args = c.args in
-    run_unequal (state args.head args.leaves.now args.inners.now args.homes.now) args.records.now args.out.now
-    (λ (i : ℕ). omega (arith, c.shared_slice_known-1.given i)) c.if-records-out.true
+    let all_promised = run_unequal (state args.head args.leaves.now args.inners.now args.homes.now) args.records.now args.out.now
+    (λ (i : ℕ). omega (arith, c.type_inv.records i)) c.if-records-out.true in
+    record { out_after = all_promised.0; as_row = all_promised.1 }
 
 pub returns-then-records-ne0 : goal.returns-then-records-ne0
 returns-then-records-ne0 c =
     let args = c.args in
-    let shared-slice-known = c.shared_slice_known-1 in
-    run_uneven (state args.head args.leaves.now args.inners.now args.homes.now) args.records.now args.out.now
-    (λ (i : ℕ). omega (arith, shared-slice-known.given i)) c.if-records-out.false c.if-records-ne0.true
+    let all_promised = run_uneven (state args.head args.leaves.now args.inners.now args.homes.now) args.records.now args.out.now
+    (λ (i : ℕ). omega (arith, c.type_inv.records i)) c.if-records-out.false c.if-records-ne0.true in
+    record { out_after = all_promised.0; as_row = all_promised.1 }
 
 pub returns : goal.returns
 returns c =
     let args = c.args in
-    let shared-slice-known = c.shared_slice_known-1 in
     let if1 = c.if-records-out in
     let if2 = c.if-records-ne0 in
     let all = c.all-after in
-    run_whole (state args.head args.leaves.now args.inners.now args.homes.now) args.records.now args.out.now
-    (λ (i : ℕ). omega (arith, shared-slice-known.given i)) if1.false if2.false _ _ all.ensures
+    let all_promised = run_whole (state args.head args.leaves.now args.inners.now args.homes.now) args.records.now args.out.now
+    (λ (i : ℕ). omega (arith, c.type_inv.records i)) if1.false if2.false _ _ all.ensures in
+    record { out_after = all_promised.0; as_row = all_promised.1 }
