@@ -40,10 +40,10 @@ settle_grown-requires c =
     let a = c.args in
     let e = (good_seated_flag a.head.now _ (sym c.bad_seated_flag.ensures ∙ c.if-bad_seated_flag.false)).0 in
     let r = c.insert-r in
-    let n = r.auto.seats.0 ∙ lent_length a.head.now e in
+    let n = r.auto.seats ∙ lent_length a.head.now e in
     let s = state c.head_from-h.result a.leaves.now a.inners.now a.homes.now in (
-      head_length a.head.now r.new.seats.0 e n,
-      λ _. sizes_since a.head.now (put_mid 19 17 a.head.now r.new.seats.0) (words_there a.head.now r.new.seats.0 e n) c.head_from-h.result _ a.leaves.now a.inners.now a.homes.now _ _ _ _ _ _ c.head_from-h.ensures.0 r.ensures.0
+      head_length a.head.now r.new.seats e n,
+      λ _. sizes_since a.head.now (put_mid 19 17 a.head.now r.new.seats) (words_there a.head.now r.new.seats e n) c.head_from-h.result _ a.leaves.now a.inners.now a.homes.now _ _ _ _ _ _ c.head_from-h.ensures.0 r.ensures.0
           (insert_sizes s (seats_from (take 17 (drop 19 a.head.now))) c.seat_from.result c.target_from-before.result (list_of c.lengths_from-lengths.result)),
     )
 
@@ -59,7 +59,7 @@ returns c =
     let s = state c.head_from-h.result a.leaves.now a.inners.now a.homes.now in
     let b = seats_from (take 17 (drop 19 w)) in
     seated_good inserted_of inserted_answer seated_after _ (given a.head.now a.leaves.now a.inners.now a.homes.now) _ _ _ _ _ _ _ _ _ bad c.inserted_of-a.ensures
-    (words_settled w _ good.0 (r.auto.seats.0 ∙ lent_length w good.0) _ _ _ _ c.settle_grown.ensures number good.1 r.ensures.1
+    (words_settled w _ good.0 (r.auto.seats ∙ lent_length w good.0) _ _ _ _ c.settle_grown.ensures number good.1 r.ensures.1
     (kept_by inserted_answer (insert_seated base s b c.seat_from.result c.target_from-before.result (list_of c.lengths_from-lengths.result)) b
     (insert_kept s b c.seat_from.result c.target_from-before.result (list_of c.lengths_from-lengths.result)) _ _ _ r.ensures.0 _ number))
     (r.ensures.0

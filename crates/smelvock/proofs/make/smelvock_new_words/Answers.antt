@@ -40,7 +40,7 @@ new-r-requires c =
 pub put_head-requires : goal.put_head-requires
 put_head-requires c =
     let e = (good_made c.args.head.now c.args.shares.now (sym c.bad_made.ensures ∙ c.if-bad_made.false)).0 in
-    head_length c.args.head.now c.new-r.new.limit.1.1.0 e (c.new-r.auto.limit.1.1.0 ∙ lent_length c.args.head.now e)
+    head_length c.args.head.now c.new-r.new.seats e (c.new-r.auto.seats ∙ lent_length c.args.head.now e)
 
 pub returns : goal.returns
 unfolding flat.make
@@ -51,5 +51,5 @@ returns c =
     let e = (good_made w a.shares.now bad).0 in
     let r = c.new-r in
     seated_good number_alone outcome_answer made _ (given a.head.now a.leaves.now a.inners.now a.homes.now) _ _ _ _ _ _ _ _ _ bad c.outcome_of.ensures
-    (words_made w _ e (r.auto.limit.1.1.0 ∙ lent_length w e) _ _ c.put_head.ensures r.ensures.1)
+    (words_made w _ e (r.auto.seats ∙ lent_length w e) _ _ c.put_head.ensures r.ensures.1)
     (r.ensures.0 ∙ ap (λ (l : Lengths). make_with base a.fan a.limit a.shares.now (list_of l) a.leaves.now a.inners.now a.homes.now) c.lengths_from.ensures)

@@ -35,7 +35,7 @@ reset-r-requires c = lent_length c.args.head.now (good_seats c.args.head.now (sy
 pub settle-requires : goal.settle-requires
 settle-requires c =
     let e = (good_seats c.args.head.now (sym c.bad_seats.ensures ∙ c.if-bad_seats.false)).0 in
-    head_length c.args.head.now c.reset-r.new.seats.0 e (c.reset-r.auto.seats.0 ∙ lent_length c.args.head.now e)
+    head_length c.args.head.now c.reset-r.new.seats e (c.reset-r.auto.seats ∙ lent_length c.args.head.now e)
 
 pub returns : goal.returns
 unfolding flat.reset
@@ -49,6 +49,6 @@ returns c =
     let b = seats_from (take 17 (drop 19 w)) in
     let l = list_of c.lengths_from.result in
     seated_good number_alone outcome_answer seated_after _ (given a.head.now a.leaves.now a.inners.now a.homes.now) _ _ _ _ _ _ _ _ _ bad c.outcome_of-a.ensures
-    (words_settled w _ good.0 (r.auto.seats.0 ∙ lent_length w good.0) _ _ _ _ c.settle.ensures c.outcome_of-a.ensures good.1 r.ensures.1
+    (words_settled w _ good.0 (r.auto.seats ∙ lent_length w good.0) _ _ _ _ c.settle.ensures c.outcome_of-a.ensures good.1 r.ensures.1
     (kept_by outcome_answer (reset_seated base s b l) b (reset_kept s b l) _ _ _ r.ensures.0 _ c.outcome_of-a.ensures))
     (r.ensures.0 ∙ reset_same a.leaves.now a.inners.now a.homes.now c.head_from-h.ensures.0 (ap seats_from (lent 19 17 w)) c.lengths_from.ensures)

@@ -8,8 +8,7 @@ use Rattle.smelvock_marshal.proofs.answered.divided_of.Goals as goal
 
 pub returns-in-At : goal.returns-in-At
 returns-in-At c =
-    let a = c.a-1 in
-    ap₂ (parts 0 _) c.cursor_of.ensures c.cursor_of-in-At.ensures ∙ ap (λ (x : Divided). divided_of (divided_answer x)) (sym a.given.1)
+    ap₂ (parts 0 _) c.cursor_of.ensures c.cursor_of-in-At.ensures ∙ ap (λ (x : Divided). divided_of (divided_answer x)) (sym c.in-At.is)
 
 pub returns-in-Refused : goal.returns-in-Refused
 returns-in-Refused c = c.refused_divided.ensures ∙ ap (λ (x : Divided). divided_of (divided_answer x)) (sym c.in-Refused.is)
