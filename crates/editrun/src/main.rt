@@ -10,9 +10,18 @@ ghost use Rattle.editrun.specs.Held.{folded, InputHeld, Turned, HoldsInput};
 ghost use Rattle.editrun.specs.Printed.{lines, Answered};
 
 use calls_edits::difference::difference;
-use libc::{STDERR_FILENO, STDIN_FILENO, STDOUT_FILENO};
 use list_stream::line::field;
 use model::answer::Number;
+use std::env::{Env, FillError};
+use std::io::{Read, Stderr, Stdin, Stdout, Write};
+
+// The three streams of the program.
+#[derive(Clone, Copy)]
+struct Streams {
+    input: Stdin,
+    output: Stdout,
+    errors: Stderr,
+}
 
 // An argument: an edit's number, or none.
 #[derive(Clone, Copy)]
@@ -58,10 +67,17 @@ fn number_in(text: &[u8]) -> Argument
 }
 
 // Argument i. One that is missing or has more than ten bytes is read as an empty one.
-fn argument_at(i: usize) -> Argument {
+fn argument_at<R: Env>(rt: &R, i: usize) -> Argument {
     let mut text = [0u8; 10];
-    let n = os::arg(i, &mut text);
-    number_in(&text[..n])
+    match rt.arg(i, &mut text) {
+        Ok(n) => number_in(&text[..n]),
+        Err(_) => number_in(&[]),
+    }
+}
+
+// Whether no argument i is there.
+fn is_missing<R: Env>(rt: &R, i: usize) -> bool {
+    matches!(rt.arg(i, &mut []), Err(FillError::NotPresent))
 }
 
 // How many bytes are held of so many.
@@ -83,15 +99,14 @@ enum Input {
 }
 
 // Once more read, behind what is held.
-fn turn(block: &mut [u8], kept: usize) -> Input
+fn turn(input: Stdin, block: &mut [u8], kept: usize) -> Input
     requires { kept < length block.old }
     ensures { Turned result block.old kept block.new }
 {
-    let got = libc::read(STDIN_FILENO, &mut block[kept..]);
-    if got < 0 {
+    let mut input = input;
+    let Ok(n) = input.read(&mut block[kept..]) else {
         return Input::Failed;
-    }
-    let n = io::count(got, &block[kept..]);
+    };
     if n == 0 {
         return Input::End;
     }
@@ -139,54 +154,74 @@ fn answer(
     }
 }
 
+// A text, on standard error. Nothing can be said of one that fails there.
+fn say(errors: Stderr, text: &[u8]) {
+    let mut errors = errors;
+    let _ = errors.write_all(text);
+}
+
 // The number of a refusal, on standard error.
-fn refuse(n: u32) {
-    io::write_all(STDERR_FILENO, b"editrun: refused by ");
-    io::print_decimal(STDERR_FILENO, n as u64);
-    io::write_all(STDERR_FILENO, b"\n");
+fn refuse(errors: Stderr, n: u32) {
+    let _ = eprintln!(errors; "editrun: refused by {n}");
 }
 
 // The text printed, or the refusal said.
-fn show(block: &[u8], have: usize, first: u32, second: u32, area: &mut [u32], out: &mut [u8])
+fn show(
+    streams: Streams,
+    block: &[u8],
+    have: usize,
+    first: u32,
+    second: u32,
+    area: &mut [u32],
+    out: &mut [u8],
+)
     requires { HoldsInput block.now have × (length area.old ≡ 512) × (length out.old ≡ 5632) }
 {
     match answer(block, have, first, second, area, out) {
         Shown::Text(end) => {
-            if !io::write_all(STDOUT_FILENO, &out[..end]) {
-                io::write_all(
-                    STDERR_FILENO,
+            let mut output = streams.output;
+            if output.write_all(&out[..end]).is_err() {
+                say(
+                    streams.errors,
                     b"editrun: standard output can't be written\n",
                 );
             }
         }
         Shown::Refused(n) => {
-            refuse(n);
+            refuse(streams.errors, n);
         }
     }
 }
 
-fn unreadable() {
-    io::write_all(STDERR_FILENO, b"editrun: standard input can't be read\n");
+fn unreadable(errors: Stderr) {
+    say(errors, b"editrun: standard input can't be read\n");
 }
 
 // Block after block until the input ends, then the list.
-fn run(first: u32, second: u32, block: &mut [u8], area: &mut [u32], out: &mut [u8])
+fn run(
+    streams: Streams,
+    first: u32,
+    second: u32,
+    block: &mut [u8],
+    area: &mut [u32],
+    out: &mut [u8],
+)
     requires { (length block.old ≡ 16384) × (length area.old ≡ 512) × (length out.old ≡ 5632) }
 {
     let mut kept: usize = 0;
     // A proved loop has to end, and nothing says that the input does: no run uses these turns up.
     let mut turns = u64::MAX;
     while turns > 0 {
-        match turn(block, kept) {
+        match turn(streams.input, block, kept) {
             Input::More(next) => {
                 kept = next;
             }
             Input::End => {
-                show(block, kept, first, second, area, out);
+                show(streams, block, kept, first, second, area, out);
                 return;
             }
             Input::Failed => {
-                unreadable();
+                unreadable(streams.errors);
                 return;
             }
         }
@@ -194,28 +229,34 @@ fn run(first: u32, second: u32, block: &mut [u8], area: &mut [u32], out: &mut [u
     }
 }
 
-fn malformed() {
-    io::write_all(
-        STDERR_FILENO,
+fn malformed(errors: Stderr) {
+    say(
+        errors,
         b"editrun: two edits are wanted, each a number from 0 to 4294967295\n",
     );
 }
 
-fn main() {
-    if os::arg_count() != 3 {
-        malformed();
+fn main(rt: HostRuntime) {
+    let streams = Streams {
+        input: rt.stdin(),
+        output: rt.stdout(),
+        errors: rt.stderr(),
+    };
+    // Two arguments and no third: one that is missing is read as an empty one, which is no number.
+    if !is_missing(&rt, 3) {
+        malformed(streams.errors);
         return;
     }
-    let Argument::Edit(first) = argument_at(1) else {
-        malformed();
+    let Argument::Edit(first) = argument_at(&rt, 1) else {
+        malformed(streams.errors);
         return;
     };
-    let Argument::Edit(second) = argument_at(2) else {
-        malformed();
+    let Argument::Edit(second) = argument_at(&rt, 2) else {
+        malformed(streams.errors);
         return;
     };
     let mut block = [0u8; 16384];
     let mut area = [0u32; 512];
     let mut out = [0u8; 5632];
-    run(first, second, &mut block, &mut area, &mut out);
+    run(streams, first, second, &mut block, &mut area, &mut out);
 }

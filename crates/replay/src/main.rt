@@ -3,11 +3,18 @@
 #![tactic(auto)]
 
 use calls_make::begin::new;
-use libc::{STDIN_FILENO, STDOUT_FILENO};
 use list_records::fields::read;
 use list_stream::block::show;
 use model::head::Head;
 use model::length::Lengths;
+use std::io::{Read, Stdin, Stdout, Write};
+
+// The streams that the program reads from and writes to.
+#[derive(Clone, Copy)]
+struct Streams {
+    input: Stdin,
+    output: Stdout,
+}
 
 // Whether the list goes on.
 #[derive(Clone, Copy)]
@@ -16,23 +23,31 @@ enum Input {
     Over,
 }
 
-// The next record of a list: read, played and printed.
-fn turn(head: Head, leaves: &mut [u32], inners: &mut [u32], homes: &mut [u32]) -> Input {
+// The next record of a list: read, played and printed. A line that can't be written is left out.
+fn turn(
+    streams: Streams,
+    head: Head,
+    leaves: &mut [u32],
+    inners: &mut [u32],
+    homes: &mut [u32],
+) -> Input {
+    let mut input = streams.input;
+    let mut output = streams.output;
     let mut bytes = [0u8; 16];
     let mut out = [0u8; 44];
-    let n = io::read_full(STDIN_FILENO, &mut bytes);
-    if n < 16 {
+    if input.read_exact(&mut bytes).is_err() {
         return Input::Over;
     }
     let played = show(head, leaves, inners, homes, &bytes, &mut out);
     let after = played.head;
     let end = played.end;
-    io::write_all(STDOUT_FILENO, &out[..end]);
+    let _ = output.write_all(&out[..end]);
     Input::More(after)
 }
 
 // A list's records; whether the input goes on behind them.
 fn play(
+    streams: Streams,
     head: Head,
     leaves: &mut [u32],
     inners: &mut [u32],
@@ -42,7 +57,7 @@ fn play(
     let mut after = head;
     let mut left = records;
     while left > 0 {
-        match turn(after, leaves, inners, homes) {
+        match turn(streams, after, leaves, inners, homes) {
             Input::More(next) => {
                 after = next;
             }
@@ -56,16 +71,15 @@ fn play(
 }
 
 // A list: its tree, then its records; whether the input goes on behind them.
-fn list(leaves: &mut [u32], inners: &mut [u32], homes: &mut [u32]) -> bool {
+fn list(streams: Streams, leaves: &mut [u32], inners: &mut [u32], homes: &mut [u32]) -> bool {
     // The six numbers as two records: fan, limit and prepare are the words of one, effect, the number of records and line ends of the other.
     let mut first = [0u8; 16];
     let mut second = [0u8; 16];
-    let n = io::read_full(STDIN_FILENO, &mut first);
-    let m = io::read_full(STDIN_FILENO, &mut second);
-    if n < 16 {
+    let mut input = streams.input;
+    if input.read_exact(&mut first).is_err() {
         return false;
     }
-    if m < 16 {
+    if input.read_exact(&mut second).is_err() {
         return false;
     }
     let made_by = read(&first);
@@ -77,24 +91,28 @@ fn list(leaves: &mut [u32], inners: &mut [u32], homes: &mut [u32]) -> bool {
     };
     let made = new(made_by.a, made_by.b, lengths, leaves, inners, homes);
     let head = made.head;
-    play(head, leaves, inners, homes, more.b)
+    play(streams, head, leaves, inners, homes, more.b)
 }
 
 // List after list until the input ends.
-fn run(leaves: &mut [u32], inners: &mut [u32], homes: &mut [u32]) {
+fn run(streams: Streams, leaves: &mut [u32], inners: &mut [u32], homes: &mut [u32]) {
     // A proved loop has to end, and nothing says that the input does: no run uses these turns up.
     let mut turns = u64::MAX;
     while turns > 0 {
-        if !list(leaves, inners, homes) {
+        if !list(streams, leaves, inners, homes) {
             return;
         }
         turns -= 1;
     }
 }
 
-fn main() {
+fn main(rt: HostRuntime) {
+    let streams = Streams {
+        input: rt.stdin(),
+        output: rt.stdout(),
+    };
     let mut leaves = [0u32; 4716];
     let mut inners = [0u32; 4716];
     let mut homes = [0u32; 580];
-    run(&mut leaves, &mut inners, &mut homes);
+    run(streams, &mut leaves, &mut inners, &mut homes);
 }

@@ -10,11 +10,19 @@ ghost use Rattle.list_row.specs.Made.{door_row};
 ghost use Rattle.list_stream.specs.Shown.{fed_of};
 ghost use Rattle.rowrun.specs.Turn.{answered, Turned};
 
-use libc::{STDERR_FILENO, STDIN_FILENO, STDOUT_FILENO};
 use list_row::made::door_tree;
 use list_stream::block::{Fed, feed};
 use list_stream::rest::tail;
 use model::head::Head;
+use std::io::{Read, Stderr, Stdin, Stdout, Write};
+
+// The three streams of the program.
+#[derive(Clone, Copy)]
+struct Streams {
+    input: Stdin,
+    output: Stdout,
+    errors: Stderr,
+}
 
 // Whether the input goes on: with the head, and how many bytes are kept at the block's start.
 #[derive(Clone, Copy)]
@@ -50,8 +58,9 @@ fn answer(
     feed(head, leaves, inners, homes, block, kept + n, out)
 }
 
-// One block: read, answered and printed.
+// One block: read, answered and printed. What it can't do it says on standard error.
 fn turn(
+    streams: Streams,
     head: Head,
     leaves: &mut [u32],
     inners: &mut [u32],
@@ -63,18 +72,19 @@ fn turn(
     requires { (length block.old ≡ 4096) × (length out.old ≡ 11264) × (kept < 16) }
     ensures { Turned result (state head leaves.old inners.old homes.old) block.old kept out.old leaves.new inners.new homes.new block.new out.new }
 {
-    let got = libc::read(STDIN_FILENO, &mut block[kept..]);
-    if got < 0 {
-        io::write_all(STDERR_FILENO, b"rowrun: standard input can't be read\n");
+    let mut input = streams.input;
+    let mut output = streams.output;
+    let mut errors = streams.errors;
+    let Ok(n) = input.read(&mut block[kept..]) else {
+        let _ = errors.write_all(b"rowrun: standard input can't be read\n");
         return Input::Over;
-    }
-    let n = io::count(got, &block[kept..]);
+    };
     let fed = answer(head, leaves, inners, homes, block, kept, n, out);
     let after = fed.head;
     let rest = fed.kept;
     let end = fed.end;
-    if !io::write_all(STDOUT_FILENO, &out[..end]) {
-        io::write_all(STDERR_FILENO, b"rowrun: standard output can't be written\n");
+    if output.write_all(&out[..end]).is_err() {
+        let _ = errors.write_all(b"rowrun: standard output can't be written\n");
         return Input::Over;
     }
     if n == 0 {
@@ -85,6 +95,7 @@ fn turn(
 
 // Block after block until the input ends.
 fn run(
+    streams: Streams,
     head: Head,
     leaves: &mut [u32],
     inners: &mut [u32],
@@ -99,7 +110,7 @@ fn run(
     // A proved loop has to end, and nothing says that the input does: no run uses these turns up.
     let mut turns = u64::MAX;
     while turns > 0 {
-        match turn(after, leaves, inners, homes, block, kept, out) {
+        match turn(streams, after, leaves, inners, homes, block, kept, out) {
             Input::More(next, rest) => {
                 after = next;
                 kept = rest;
@@ -112,7 +123,12 @@ fn run(
     }
 }
 
-fn main() {
+fn main(rt: HostRuntime) {
+    let streams = Streams {
+        input: rt.stdin(),
+        output: rt.stdout(),
+        errors: rt.stderr(),
+    };
     let mut leaves = [0u32; 4480];
     let mut inners = [0u32; 4480];
     let mut homes = [0u32; 512];
@@ -121,6 +137,7 @@ fn main() {
     let made = door_tree(&mut leaves, &mut inners, &mut homes);
     let head = made.head;
     run(
+        streams,
         head,
         &mut leaves,
         &mut inners,

@@ -12,12 +12,20 @@ ghost use Rattle.list_row.specs.Made.{door_row};
 ghost use Rattle.sheetrun.specs.Turn.{BlockPlayed, Turned, ForRow, left_row};
 
 use calls_print::print::print;
-use libc::{STDERR_FILENO, STDIN_FILENO, STDOUT_FILENO};
 use list_row::made::door_tree;
 use list_row::run::run;
 use list_stream::rest::keep;
 use model::answer::Number;
 use model::head::Head;
+use std::io::{Read, Stderr, Stdin, Stdout, Write};
+
+// The three streams of the program.
+#[derive(Clone, Copy)]
+struct Streams {
+    input: Stdin,
+    output: Stdout,
+    errors: Stderr,
+}
 
 // The head after a block, and how many bytes are kept at the block's start.
 #[derive(Clone, Copy)]
@@ -67,6 +75,7 @@ enum Input {
 
 // One block: read and played.
 fn turn(
+    streams: Streams,
     head: Head,
     leaves: &mut [u32],
     inners: &mut [u32],
@@ -78,12 +87,12 @@ fn turn(
     requires { (length block.old ≡ 4096) × (length out.old ≡ 4096) × (kept < 16) }
     ensures { Turned result (state head leaves.old inners.old homes.old) block.old kept leaves.new inners.new homes.new block.new }
 {
-    let got = libc::read(STDIN_FILENO, &mut block[kept..]);
-    if got < 0 {
-        io::write_all(STDERR_FILENO, b"sheetrun: standard input can't be read\n");
+    let mut input = streams.input;
+    let Ok(n) = input.read(&mut block[kept..]) else {
+        let mut errors = streams.errors;
+        let _ = errors.write_all(b"sheetrun: standard input can't be read\n");
         return Input::Failed;
-    }
-    let n = io::count(got, &block[kept..]);
+    };
     if n == 0 {
         return Input::End;
     }
@@ -105,23 +114,31 @@ fn pages(head: Head, leaves: &[u32], inners: &[u32], homes: &[u32], page: &mut [
 }
 
 // The sheet printed; bytes that are no whole record are left out of it, and said to be there.
-fn show(head: Head, leaves: &[u32], inners: &[u32], homes: &[u32], stray: usize, page: &mut [u8])
+fn show(
+    streams: Streams,
+    head: Head,
+    leaves: &[u32],
+    inners: &[u32],
+    homes: &[u32],
+    stray: usize,
+    page: &mut [u8],
+)
     requires { ForRow (state head leaves.now inners.now homes.now) × (length page.old ≡ 30250) }
 {
+    let mut output = streams.output;
+    let mut errors = streams.errors;
     if stray > 0 {
-        io::write_all(STDERR_FILENO, b"sheetrun: the last record isn't whole\n");
+        let _ = errors.write_all(b"sheetrun: the last record isn't whole\n");
     }
     let n = pages(head, leaves, inners, homes, page);
-    if !io::write_all(STDOUT_FILENO, &page[..n]) {
-        io::write_all(
-            STDERR_FILENO,
-            b"sheetrun: standard output can't be written\n",
-        );
+    if output.write_all(&page[..n]).is_err() {
+        let _ = errors.write_all(b"sheetrun: standard output can't be written\n");
     }
 }
 
 // Block after block until the input ends, then the sheet.
 fn run_blocks(
+    streams: Streams,
     head: Head,
     leaves: &mut [u32],
     inners: &mut [u32],
@@ -137,13 +154,13 @@ fn run_blocks(
     // A proved loop has to end, and nothing says that the input does: no run uses these turns up.
     let mut turns = u64::MAX;
     while turns > 0 {
-        match turn(after, leaves, inners, homes, block, kept, out) {
+        match turn(streams, after, leaves, inners, homes, block, kept, out) {
             Input::More(next, rest) => {
                 after = next;
                 kept = rest;
             }
             Input::End => {
-                show(after, leaves, inners, homes, kept, page);
+                show(streams, after, leaves, inners, homes, kept, page);
                 return;
             }
             Input::Failed => {
@@ -154,7 +171,12 @@ fn run_blocks(
     }
 }
 
-fn main() {
+fn main(rt: HostRuntime) {
+    let streams = Streams {
+        input: rt.stdin(),
+        output: rt.stdout(),
+        errors: rt.stderr(),
+    };
     let mut leaves = [0u32; 4480];
     let mut inners = [0u32; 4480];
     let mut homes = [0u32; 512];
@@ -164,6 +186,7 @@ fn main() {
     let made = door_tree(&mut leaves, &mut inners, &mut homes);
     let head = made.head;
     run_blocks(
+        streams,
         head,
         &mut leaves,
         &mut inners,

@@ -20,8 +20,7 @@ list_lines-requires c =
 pub returns-in-Is : goal.returns-in-Is
 returns-in-Is c =
     let difference = c.difference in
-    let n = c.n-1 in
-    λ input held. is_printed _ _ _ _ _ _ _ difference.ensures input held _ _ _ _ n.given.1 c.list_lines.ensures.0 c.list_lines.ensures.1
+    λ input held. is_printed _ _ _ _ _ _ _ difference.ensures input held _ _ _ _ c.in-Is.is c.list_lines.ensures.out_after c.list_lines.ensures.upper_bound
 
 pub returns-in-Refused : goal.returns-in-Refused
 returns-in-Refused c =

@@ -43,4 +43,4 @@ shape_of-out c = c.loop-i.invariant.2
 pub returns : goal.returns
 returns c =
     let args = c.args in
-    (all_lines args.area.now args.out.now c.loop-i.out c.loop-i.i args.n c.loop-i.end (omega arith) c.loop-i.invariant.3, omega (arith, c.loop-i.invariant.0, c.loop-i.invariant.1, c.loop-i.invariant.2))
+    record { out_after = all_lines args.area.now args.out.now c.loop-i.out c.loop-i.i args.n c.loop-i.end (omega arith) c.loop-i.invariant.3; upper_bound = omega (arith, c.loop-i.invariant.0, c.loop-i.invariant.1, c.loop-i.invariant.2) }

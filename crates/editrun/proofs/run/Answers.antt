@@ -11,14 +11,13 @@ loop-turns-init c =
     (refl, refl, refl, pre.0, pre.1, pre.2, held_none args.block.now)
 
 pub turn-requires : goal.turn-requires
-turn-requires c = omega (arith, c.loop-turns.invariant.3, held_small c.loop-turns.invariant.6.input c.loop-turns.block c.loop-turns.auto c.loop-turns.invariant.6.held)
+turn-requires c = omega (arith, c.loop-turns.invariant.3, held_small c.loop-turns.invariant.6.input c.loop-turns.block c.loop-turns.kept c.loop-turns.invariant.6.held)
 
 pub show-requires : goal.show-requires
 show-requires c =
     let turn = c.turn in
-    let the-enum-told = c.enum_told-1 in
     let the-loop = c.loop-turns in
-    (turned_end _ _ _ _ turn.ensures the-enum-told.given.1 the-loop.invariant.6, the-loop.invariant.4, the-loop.invariant.5)
+    (turned_end _ _ _ _ turn.ensures c.in-End.is the-loop.invariant.6, the-loop.invariant.4, the-loop.invariant.5)
 
 pub loop-turns-preserved : goal.loop-turns-preserved
 loop-turns-preserved c =

@@ -1,35 +1,40 @@
 -- `editrun::turn`: what was read stands behind what is held.
-use mathlib.Core.List.{◌++◌}
-use mathlib.Core.Path.{subst, sym}
-use Prim.Native.Nat.{ℕ, ◌-◌}
+use mathlib.Core.List.{List, ◌++◌}
+use mathlib.Core.Path.{◌≡◌, subst, sym}
+use Prim.Native.Nat.{ℕ, ◌+◌, ◌-◌, ◌≤◌}
 use native.Mathlib.Omega.{arith}
-use lib.ListN.{length, drop, length-take, length-drop}
+use lib.ListN.{length, take, drop, length-append, length-drop}
+use lib.Seq.{length-take-le}
 use borrow.Rule.Slice.PartMut.{put_mid, take_put}
 use Rattle.model.specs.Lists.{part}
 use Rattle.editrun.specs.Held.{InputHeld}
 use Rattle.editrun.proofs.HeldLaws.{held_more}
 use Rattle.editrun.proofs.turn.Goals as goal
 
+-- what a read puts behind what is held fits the block
+room : (kept n : ℕ) (block given : List ℕ) → kept ≤ length block → length given ≡ length (take (length block - kept) (drop kept block)) → n ≤ length given → kept + n ≤ length (put_mid kept (length block - kept) block given)
+room kept n block given h l k =
+    let back : length (drop kept block) ≡ length block - kept = length-drop kept block in
+    let same : length (take (length block - kept) (drop kept block)) ≡ length block - kept = length-take-le (length block - kept) (drop kept block) (omega (arith, back)) in
+    omega (arith, l, same, length-append (take kept block) (given ++ drop (length block - kept) (drop kept block)), length-append given (drop (length block - kept) (drop kept block)), length-take-le kept block h)
+
 pub returns-then-n-eq0 : goal.returns-then-n-eq0
 returns-then-n-eq0 c =
     let args = c.args in
-    let pre = c.requires in
-    let read = c.read-got in
-    let back = c.block-1 in
-    (take_put args.kept (length args.block.now - args.kept) args.block.now read.new.buf.0 (omega (arith, pre)), omega (arith, back.given.1, pre))
+    let inside : args.kept ≤ length args.block.now = omega (arith, c.requires) in (
+      take_put args.kept (length args.block.now - args.kept) args.block.now c.read.new.buf inside,
+      omega (arith, room args.kept c.in-Ok.n args.block.now c.read.new.buf inside c.read.auto.buf c.in-Ok.ensures.bound.0),
+    )
 
 pub returns : goal.returns
 returns c =
     let args = c.args in
-    let pre = c.requires in
-    let read = c.read-got in
-    let back = c.block-1 in
-    let count = c.count-n in
-    let given = put_mid args.kept (length args.block.now - args.kept) args.block.now read.new.buf.0 in
-    let same = take_put args.kept (length args.block.now - args.kept) args.block.now read.new.buf.0 (omega (arith, pre)) in (
-      count.result,
+    let inside : args.kept ≤ length args.block.now = omega (arith, c.requires) in
+    let given = put_mid args.kept (length args.block.now - args.kept) args.block.now c.read.new.buf in
+    let same = take_put args.kept (length args.block.now - args.kept) args.block.now c.read.new.buf inside in (
+      c.in-Ok.n,
       omega (arith, c.if-n-eq0.false),
-      λ input held. subst (λ (k : ℕ). InputHeld (input ++ part args.kept count.result given) given k) (sym c.fold.ensures)
-          (held_more input args.block.now args.kept held count.result given same
-          (omega (arith, back.given.1, pre, count.ensures.0.0, length-take (length given - args.kept) (drop args.kept given), length-drop args.kept given))),
+      λ input held. subst (λ (k : ℕ). InputHeld (input ++ part args.kept c.in-Ok.n given) given k) (sym c.fold.ensures)
+          (held_more input args.block.now args.kept held c.in-Ok.n given same
+          (room args.kept c.in-Ok.n args.block.now c.read.new.buf inside c.read.auto.buf c.in-Ok.ensures.bound.0)),
     )

@@ -9,4 +9,4 @@ pub loop-left-preserved : goal.loop-left-preserved
 loop-left-preserved c =
     let turn = c.turn in
     let the-loop = c.loop-left in
-    (turn.auto.leaves.0 ∙ the-loop.invariant.0, turn.auto.leaves.1.0 ∙ the-loop.invariant.1, turn.auto.leaves.1.1.0 ∙ the-loop.invariant.2)
+    (turn.auto.leaves ∙ the-loop.invariant.0, turn.auto.inners ∙ the-loop.invariant.1, turn.auto.homes ∙ the-loop.invariant.2)

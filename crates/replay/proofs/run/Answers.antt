@@ -9,4 +9,4 @@ pub loop-turns-preserved : goal.loop-turns-preserved
 loop-turns-preserved c =
     let list = c.list in
     let the-loop = c.loop-turns in
-    (list.auto.leaves ∙ the-loop.invariant.0, list.auto.inners.0 ∙ the-loop.invariant.1, list.auto.inners.1.0 ∙ the-loop.invariant.2)
+    (list.auto.leaves ∙ the-loop.invariant.0, list.auto.inners ∙ the-loop.invariant.1, list.auto.homes ∙ the-loop.invariant.2)

@@ -12,7 +12,7 @@ returns-then-n-eq0 c =
     let tail = c.tail-end in
     let e = none_read (state args.head args.leaves.now args.inners.now args.homes.now) args.block.now args.kept args.n args.out.now
     c.if-n-eq0.true _ _ tail.ensures in
-    (e, subst (λ (k : ℕ). tail.result ≤ k) (sym tail.auto.out.0) (answered_short _ _ _ _ _ _ args.kept args.n _ _ _ e pre.1 pre.2))
+    record { block_after = e; end_in_bounds = subst (λ (k : ℕ). tail.result ≤ k) (sym tail.auto.out) (answered_short _ _ _ _ _ _ args.kept args.n _ _ _ e pre.1 pre.2) }
 
 pub returns : goal.returns
 returns c =
@@ -21,4 +21,4 @@ returns c =
     let feed = c.feed in
     let e = bytes_read (state args.head args.leaves.now args.inners.now args.homes.now) args.block.now args.kept args.n args.out.now
     c.if-n-eq0.false _ feed.ensures in
-    (e, subst (λ (k : ℕ). feed.result.end ≤ k) (sym feed.auto.leaves.1.1.1.1.1.0) (answered_short _ _ _ _ _ _ args.kept args.n _ _ _ e pre.1 pre.2))
+    record { block_after = e; end_in_bounds = subst (λ (k : ℕ). feed.result.end ≤ k) (sym feed.auto.out) (answered_short _ _ _ _ _ _ args.kept args.n _ _ _ e pre.1 pre.2) }

@@ -13,12 +13,12 @@ pub loop-turns-preserved : goal.loop-turns-preserved
 loop-turns-preserved c =
     let turn = c.turn in
     let the-loop = c.loop-turns in (
-      turn.auto.leaves.0 ∙ the-loop.invariant.0,
-      turn.auto.leaves.1.0 ∙ the-loop.invariant.1,
-      turn.auto.leaves.1.1.0 ∙ the-loop.invariant.2,
-      turn.auto.leaves.1.1.1.0 ∙ the-loop.invariant.3,
-      turn.auto.leaves.1.1.1.1.1.0 ∙ the-loop.invariant.4,
-      turn.auto.leaves.1.1.1.0 ∙ the-loop.invariant.5,
-      turn.auto.leaves.1.1.1.1.1.0 ∙ the-loop.invariant.6,
+      turn.auto.leaves ∙ the-loop.invariant.0,
+      turn.auto.inners ∙ the-loop.invariant.1,
+      turn.auto.homes ∙ the-loop.invariant.2,
+      turn.auto.block ∙ the-loop.invariant.3,
+      turn.auto.out ∙ the-loop.invariant.4,
+      turn.auto.block ∙ the-loop.invariant.5,
+      turn.auto.out ∙ the-loop.invariant.6,
       kept_of _ _ _ _ _ _ _ _ _ _ turn.ensures _ _ c.in-More.is,
     )

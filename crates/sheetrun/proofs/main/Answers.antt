@@ -6,7 +6,7 @@ use Rattle.sheetrun.proofs.main.Goals as goal
 pub run_blocks-requires : goal.run_blocks-requires
 run_blocks-requires c =
     let door-tree = c.door_tree-made in (
-      door-tree.ensures.1 (length-replicate {A = ℕ} 4480 0) (length-replicate {A = ℕ} 4480 0) (length-replicate {A = ℕ} 512 0),
+      door-tree.ensures.represents (length-replicate {A = ℕ} 4480 0) (length-replicate {A = ℕ} 4480 0) (length-replicate {A = ℕ} 512 0),
       length-replicate {A = ℕ} 4096 0,
       length-replicate {A = ℕ} 4096 0,
       length-replicate {A = ℕ} 30250 0,

@@ -24,4 +24,4 @@ returns c =
     let pre = c.requires in
     let run = c.run-ran in
     played _ _ _ args.have args.block.now _ _ _ _ pre.0 (length-take-le (args.have - args.have % 16) args.out.now (omega (arith, pre.0, pre.1)))
-    run.ensures.0 run.ensures.1 c.keep.ensures
+    run.ensures.out_after run.ensures.as_row c.keep.ensures

@@ -13,21 +13,20 @@ pub show-requires : goal.show-requires
 show-requires c =
     let turn = c.turn in
     let the-loop = c.loop-turns in
-    let the-enum-told = c.enum_told-1 in
-    (end_row _ _ _ _ _ _ _ _ turn.ensures the-loop.invariant.10 the-enum-told.given.1, the-loop.invariant.8)
+    (end_row _ _ _ _ _ _ _ _ turn.ensures the-loop.invariant.10 c.in-End.is, the-loop.invariant.8)
 
 pub loop-turns-preserved : goal.loop-turns-preserved
 loop-turns-preserved c =
     let turn = c.turn in
     let the-loop = c.loop-turns in (
-      turn.auto.leaves.0 ∙ the-loop.invariant.0,
-      turn.auto.leaves.1.0 ∙ the-loop.invariant.1,
-      turn.auto.leaves.1.1.0 ∙ the-loop.invariant.2,
-      turn.auto.leaves.1.1.1.0 ∙ the-loop.invariant.3,
-      turn.auto.leaves.1.1.1.1.1.0 ∙ the-loop.invariant.4,
+      turn.auto.leaves ∙ the-loop.invariant.0,
+      turn.auto.inners ∙ the-loop.invariant.1,
+      turn.auto.homes ∙ the-loop.invariant.2,
+      turn.auto.block ∙ the-loop.invariant.3,
+      turn.auto.out ∙ the-loop.invariant.4,
       the-loop.invariant.5,
-      turn.auto.leaves.1.1.1.0 ∙ the-loop.invariant.6,
-      turn.auto.leaves.1.1.1.1.1.0 ∙ the-loop.invariant.7,
+      turn.auto.block ∙ the-loop.invariant.6,
+      turn.auto.out ∙ the-loop.invariant.7,
       the-loop.invariant.8,
       kept_of _ _ _ _ _ _ _ _ turn.ensures _ _ c.in-More.is,
       more_row _ _ _ _ _ _ _ _ turn.ensures the-loop.invariant.10 _ _ c.in-More.is,
