@@ -8,7 +8,7 @@ pub loop-left-init : goal.loop-left-init
 loop-left-init c = (refl, refl, refl, refl, omega arith, omega (arith, c.requires), refl)
 
 pub overflow_add-next : goal.overflow_add-next
-overflow_add-next c = record { fits = omega (arith, c.loop-left.invariant.4, c.well-formed.1.1.1.1.0) }
+overflow_add-next c = record { fits = omega (arith, c.loop-left.invariant.4) }
 
 pub slice_bounds-show_record-count : goal.slice_bounds-show_record-count
 slice_bounds-show_record-count c = omega arith
@@ -35,16 +35,16 @@ loop-left-smaller c = omega arith
 
 pub loop-left-preserved : goal.loop-left-preserved
 loop-left-preserved c = (
-  c.show_record-played.auto.leaves.0
+  c.show_record-played.auto.leaves
       ∙ c.loop-left.invariant.0,
-  c.show_record-played.auto.leaves.1.0
+  c.show_record-played.auto.inners
       ∙ c.loop-left.invariant.1,
-  c.show_record-played.auto.leaves.1.1.0
+  c.show_record-played.auto.homes
       ∙ c.loop-left.invariant.2,
-  c.show_record-played.auto.leaves.1.1.1.1.0
+  c.show_record-played.auto.out
       ∙ c.loop-left.invariant.3,
   omega (arith, c.loop-left.invariant.4),
-  omega (arith, c.loop-left.invariant.5, c.show_record-played.auto.leaves.1.1.1.1.0, one_short _ _ _ c.loop-left.end c.show_record-played.result.end c.loop-left.out _ c.show_record-played.ensures),
+  omega (arith, c.loop-left.invariant.5, c.show_record-played.auto.out, one_short _ _ _ c.loop-left.end c.show_record-played.result.end c.loop-left.out _ c.show_record-played.ensures),
   turn _ _ _ c.args.block.now c.loop-left.out _ c.loop-left.at c.loop-left.left c.loop-left.end c.show_record-played.result.end c.loop-left.invariant.6 (omega arith) c.show_record-played.ensures,
 )
 

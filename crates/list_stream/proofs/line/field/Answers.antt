@@ -21,7 +21,6 @@ bounds-out-next c =
 pub overflow_add-result : goal.overflow_add-result
 overflow_add-result c =
     let args = c.args in
-    let good = c.well-formed in
     let pre = c.requires in
     record {
       fits = omega (
@@ -29,7 +28,6 @@ overflow_add-result c =
         behind args.out.now c.decimal-next.new.out args.at c.decimal-next.result (decimal args.n)
             c.decimal-next.ensures,
         decimal_short args.n,
-        good.0.0,
         pre,
       );
     }

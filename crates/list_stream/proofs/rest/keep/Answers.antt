@@ -10,7 +10,7 @@ pub loop-i-init : goal.loop-i-init
 loop-i-init c = (refl, omega arith, keep_none c.args.block.now c.args.from)
 
 pub overflow_add-block : goal.overflow_add-block
-overflow_add-block c = record { fits = omega (arith, c.well-formed.0.0, c.requires) }
+overflow_add-block c = record { fits = omega (arith, c.requires) }
 
 pub bounds-block-from : goal.bounds-block-from
 bounds-block-from c =
