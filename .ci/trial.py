@@ -150,13 +150,14 @@ class Log:
     def __init__(self, file):
         self.lines = open(file, encoding="utf-8", errors="replace").read().rstrip("\n").split("\n")
         self.last = self.lines[-1]
-        self.errors, self.open, self.proved = [], {}, set()
+        self.errors, self.open, self.open_text, self.proved = [], {}, {}, set()
         for line in self.lines:
             found = ERROR.match(line)
             if found:
                 self.errors.append((found[1], found[2], found[3] or "", found[4], bool(CITES.match(found[4]))))
             found = OPEN.match(line)
             if found:
+                self.open_text[f"{found[1]}::{found[2]}"] = found[4]
                 goals = re.search(r"`search` did not prove (.*)", found[4])
                 self.open[f"{found[1]}::{found[2]}"] = re.findall(r"`([^`]*)`", re.split(r"; |\. ", goals[1])[0]) if goals else []
             found = re.match(r"^fn (\S+): proved", line)
@@ -175,7 +176,10 @@ def crop(file):
 def faults(log):
     """Returns what is refused for a fault of its own, as FILE NAME.., a file once; of a function without answers what the search leaves open."""
     found = {(crop(file), name) for _, file, name, text, cites in log.errors if name and not cites and not NAMES.search(text)}
-    found |= {(name.split("::", 1)[1].replace("::", "/"), goal) for name, goals in log.open.items() for goal in goals}
+    folders = {file.replace("/", "::"): file for file, _ in found}
+    for name, goals in log.open.items():
+        path = name.split("::", 1)[1]
+        found |= {(folders.get(path, path), goal) for goal in goals}
     said = {}
     for file, name in sorted(found):
         said.setdefault(file, []).append(name)
