@@ -107,7 +107,7 @@ def read(edit):
             old = rest
         elif word == "new":
             pairs.append((file, old, rest))
-        elif word in ("refused", "falls", "at", "also"):
+        elif word in ("refused", "falls", "at", "also", "renamed"):
             said[word] = rest
     return lines[0], pairs, said
 

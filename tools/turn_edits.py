@@ -26,7 +26,7 @@ def read(path):
     lines = []
     for line in open(path, encoding="utf-8").read().rstrip("\n").split("\n"):
         word, colon, rest = line.partition(": ")
-        lines.append((word, rest) if colon and word in ("file", "old", "new", "refused", "falls", "at", "also") and lines else (None, line))
+        lines.append((word, rest) if colon and word in ("file", "old", "new", "refused", "falls", "at", "also", "renamed") and lines else (None, line))
     return lines
 
 
@@ -203,7 +203,7 @@ def turn(landed, names):
                             left.append(f"{edit}: {f} declares no {it}")
                     said.append(" ".join([f, *(known.get(it) if f.endswith(".antt") and it in known else goal(goals, it) for it in decls)]))
                 rest = "; ".join(said)
-            if word in ("at", "also"):
+            if word in ("at", "also", "renamed"):
                 where = next(r for w, r in lines if w == "file")[4:-3].replace("/", ".")
                 goals = goals_of(names, crate, (where + "/" if where not in ("lib", "main") else "") + function)
                 said = [goal(goals, it) for it in rest.split(" ")]
