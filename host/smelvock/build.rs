@@ -1,5 +1,5 @@
-//! Links the static libraries that `rt staticlib` writes, and makes them where they are missing or older than the code.
-//! Copies stand in OUT_DIR, so that the build doesn't need the repository's target/ again, which `rt ci` removes.
+//! Links the static libraries that `rt lib` writes, and makes them where they are missing or older than the code.
+//! Copies stand in OUT_DIR, so that the build doesn't need a crate's out/ again, which `rt ci` removes.
 
 use std::path::{Path, PathBuf};
 use std::process::Command;
@@ -24,11 +24,12 @@ fn main() {
 /// Links the library of one crate, made anew where the code is newer. Its tests find it by the crate's name (`SMELVOCK_LIBRARY`).
 fn link(name: &str, root: &Path, copies: &Path, code: SystemTime) {
     let file = format!("lib{name}.a");
-    let library = root.join("target/staticlib").join(&file);
+    let folder = root.join("crates").join(name);
+    let library = folder.join("out").join(&file);
     let copy = copies.join(&file);
     if modified(&library).max(modified(&copy)) < code {
-        let done = Command::new("rt").args(["staticlib", name]).current_dir(root).status();
-        assert!(done.is_ok_and(|status| status.success()), "rt staticlib {name} failed; its log is in target/log");
+        let done = Command::new("rt").arg("lib").current_dir(folder).status();
+        assert!(done.is_ok_and(|status| status.success()), "rt lib failed in crates/{name}");
     }
     if modified(&library) >= modified(&copy) {
         fs::copy(&library, &copy).expect("the library is there");
@@ -47,6 +48,7 @@ fn modified(file: &Path) -> SystemTime {
 fn newest(folder: &Path) -> SystemTime {
     let files = fs::read_dir(folder).expect("the folder is there").map(|file| file.expect("it can be read").path());
     let times = files.map(|path| match path.extension() {
+        _ if path.ends_with("out") => SystemTime::UNIX_EPOCH,
         _ if path.is_dir() => newest(&path),
         Some(kind) if kind == "rt" => modified(&path),
         _ => SystemTime::UNIX_EPOCH,

@@ -1,4 +1,4 @@
-//! A program of the repository, run on bytes. It is the one that `rt check NAME` proved and linked, in the gate `rt ci`.
+//! A program of the repository, run on bytes. It is the one that `rt run` proved and linked, in the gate `rt ci`.
 
 use oracle::record::Record;
 use std::os::fd::OwnedFd;
@@ -10,8 +10,8 @@ use std::process::{Command, Output, Stdio};
 pub const BLOCK: usize = 4_096;
 
 pub fn program(name: &str) -> Command {
-    let path = Path::new(env!("CARGO_MANIFEST_DIR")).join("../../target/bin").join(name);
-    assert!(path.exists(), "target/bin/{name} isn't there: rt check {name}");
+    let path = Path::new(env!("CARGO_MANIFEST_DIR")).join("../../crates").join(name).join("out").join(name);
+    assert!(path.exists(), "crates/{name}/out/{name} isn't there: rt run in crates/{name}");
     let mut program = Command::new(path);
     program.stdout(Stdio::piped()).stderr(Stdio::piped());
     program

@@ -1,4 +1,4 @@
-/* PrepareEffectTree through C linkage: libsmelvock.a, which `rt staticlib smelvock` writes, for x86-64 Linux.
+/* PrepareEffectTree through C linkage: libsmelvock.a, which `rt lib` writes, for x86-64 Linux.
  *
  * The caller lends a head of thirty-six words and three areas of words, each as a pointer and its count. Fan 4 to 32, limit 1 to
  * 65,536. The leaf area and the inner area each need max(1, limit / (fan / 2)) nodes of 3 + 4 * fan words, homes needs limit

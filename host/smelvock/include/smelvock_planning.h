@@ -1,4 +1,4 @@
-/* The planning tree through C linkage: libsmelvock_planning.a, which `rt staticlib smelvock_planning` writes, for x86-64 Linux.
+/* The planning tree through C linkage: libsmelvock_planning.a, which `rt lib` writes, for x86-64 Linux.
  *
  * Its entries' lengths aren't known yet: each has a lowest and a highest one. Calls go by id alone; there are no line ends and no seats.
  * The caller lends a head of thirty-six words and three areas of words, each as a pointer and its count. Fan 4 to 32, limit 1 to 65,536.

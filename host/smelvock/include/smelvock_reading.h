@@ -1,4 +1,4 @@
-/* The reading copy through C linkage: libsmelvock_reading.a, which `rt staticlib smelvock_reading` writes, for x86-64 Linux.
+/* The reading copy through C linkage: libsmelvock_reading.a, which `rt lib` writes, for x86-64 Linux.
  *
  * Its entries have one length each, the effect length of the full tree that it copies (smelvock.h). Calls go by id alone; there are no line
  * ends and no seats. The caller lends a head of thirty-six words and three areas of words, each as a pointer and its count. Fan 4 to 32,
