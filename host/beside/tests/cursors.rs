@@ -15,7 +15,7 @@ use smelvock::raw::{word, Areas};
 use smelvock::{raw, Cursor, PrepareEffectTree, Refusal};
 
 /// Lists of each style at each fan, on the exports and again on `host/smelvock`.
-const LISTS: u64 = 6;
+const LISTS: u64 = if cfg!(debug_assertions) { 3 } else { 6 };
 const CALLS: u64 = 5_000;
 
 /// A tree that fills up and begins anew now and then; one so small that it often has as many entries as before a reset; one that

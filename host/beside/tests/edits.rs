@@ -7,7 +7,8 @@ use oracle::random::Random;
 use smelvock::{edits, raw, Refusal};
 use std::collections::BTreeSet;
 
-const SCALE: u64 = 10;
+/// A debug build plays fewer.
+const SCALE: u64 = if cfg!(debug_assertions) { 1 } else { 10 };
 
 /// The area before a call: words that are no edit's number, each another.
 fn area(words: usize) -> Area {

@@ -1,15 +1,16 @@
 //! lib.rs and the port on the same lists, beside the row, which settles line ends: every answer, each cursor's leaf and slot, every word
-//! of head and areas after every call, and the number of every refused call. More than two million calls.
+//! of head and areas after every call, and the number of every refused call. More than two million calls in a release build.
 
 use beside::lists::{both, runs};
 use oracle::coverage::Coverage;
 use oracle::fans::{Setup, FANS};
 use oracle::patterns::{all_kinds, around_a_split, deep, every_short_list_at_each_fan, fill, handed_on, movers};
 
-const SCALE: u64 = 10;
+/// A debug build plays fewer.
+const SCALE: u64 = if cfg!(debug_assertions) { 1 } else { 10 };
 
 /// Lists of each run at each fan: six are enough for every run to meet all of the finger's ways.
-const LISTS: u64 = 9;
+const LISTS: u64 = if cfg!(debug_assertions) { 6 } else { 9 };
 
 fn at(fan: u32) -> Setup {
     Setup { make: both, fan, check_every: 0 }

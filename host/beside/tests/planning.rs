@@ -13,7 +13,7 @@ use oracle::state::NONE;
 use smelvock::raw::word::LEVELS;
 use smelvock::PlanningTree;
 
-const SCALE: u64 = 6;
+const SCALE: u64 = if cfg!(debug_assertions) { 1 } else { 6 };
 
 /// What the lists have met.
 #[derive(Default, Debug)]

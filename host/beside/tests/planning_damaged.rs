@@ -10,7 +10,7 @@ use oracle::random::Random;
 use oracle::state::NONE;
 use smelvock::raw::word::{ENTRIES, FAN, INNERS, LEAVES, LIMIT, PRESENT};
 
-const SCALE: u64 = 10;
+const SCALE: u64 = if cfg!(debug_assertions) { 1 } else { 10 };
 
 /// How often each number was answered, by 0 to 20, and how often audit said yes and no.
 #[derive(Default, Debug)]

@@ -15,7 +15,8 @@ use smelvock::raw::word::LEVELS;
 use smelvock::{Lengths, PrepareEffectTree, ReadingCopy};
 use std::collections::BTreeMap;
 
-const LISTS: u64 = 8;
+/// A debug build plays fewer.
+const LISTS: u64 = if cfg!(debug_assertions) { 1 } else { 8 };
 
 /// How often both answered a number, how often a call was left out by the numbers there and here, and the most levels of a copy.
 #[derive(Default, Debug)]

@@ -10,7 +10,7 @@ use oracle::at_fan;
 use oracle::fans::FANS;
 use smelvock::raw::word::{ENTRIES, LEAVES, LEVELS};
 
-const SCALE: u64 = 10;
+const SCALE: u64 = if cfg!(debug_assertions) { 1 } else { 10 };
 
 /// Every word of head and areas, the words behind what the limit needs among them, in trees of one, two and three levels.
 #[test]
@@ -74,7 +74,7 @@ fn trees_of_every_height() {
             for with_seats in [false, true] {
                 let tree = at_fan!(fan, N => tree::<N>(entries, true, with_seats));
                 assert_eq!([tree.word(ENTRIES), tree.word(LEVELS)], [entries, levels]);
-                let times = if entries < 1_000 { 2 } else { 1 };
+                let times = if entries < 1_000 { 2 * SCALE as u32 } else { 1 };
                 every_kind(export, &tree, times, levels as u64, &mut met).unwrap();
             }
         }

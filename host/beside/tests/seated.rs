@@ -19,7 +19,7 @@ use oracle::state::NONE;
 use smelvock::raw::word::{CHARGES, SEATED, SHARES};
 use smelvock::PrepareEffectTree;
 
-const SCALE: u64 = 4;
+const SCALE: u64 = if cfg!(debug_assertions) { 1 } else { 4 };
 const CALLS: u64 = 5_000;
 
 /// Limits and shares: some kept for seats that call seldom, all given away, none, and all to one seat.

@@ -18,7 +18,8 @@ use smelvock::raw::word::{ENTRIES, FAN, LEAVES};
 use smelvock::{PrepareEffectTree, Refusal, PAGE_BYTES};
 use std::collections::BTreeSet;
 
-const SCALE: u64 = 10;
+/// A debug build plays fewer.
+const SCALE: u64 = if cfg!(debug_assertions) { 1 } else { 10 };
 
 const SIZES: [Sizes; 3] = [Sizes::Small, Sizes::Zeros, Sizes::NearEnd];
 

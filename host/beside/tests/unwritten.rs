@@ -164,7 +164,7 @@ fn copied<const N: usize>(seed: u64) -> u32 {
 #[test]
 fn whatever_the_memory_held() {
     let style = Style { weights: with_resets(GROWING), sizes: Sizes::Small, close: 50, miss: 4 };
-    let lists = 3;
+    let lists = if cfg!(debug_assertions) { 1 } else { 3 };
     let run = Run { name: "unwritten", style, limit: 900, first: [2, 1, 1], lists, calls: 5_000, check_every: 500 };
     let (mut met, mut most_levels) = (Coverage::default(), 0);
     for (garbage, seed) in [0xdead_beef, u32::MAX, 1, 3, 0].into_iter().zip(0..) {

@@ -79,7 +79,12 @@ fn parted(row: &mut Row, list: &[Bounds]) -> Option<String> {
 #[test]
 fn every_choice_of_every_small_row() {
     let (mut rows, mut choices) = (0, 0);
-    for (entries, most) in [(1, 9), (2, 6), (3, 4), (4, 3), (5, 2)] {
+    let sizes: &[(usize, u32)] = if cfg!(debug_assertions) {
+        &[(1, 5), (2, 4), (3, 3), (4, 2)]
+    } else {
+        &[(1, 9), (2, 6), (3, 4), (4, 3), (5, 2)]
+    };
+    for &(entries, most) in sizes {
         every_list(entries, most, &mut |list| {
             assert_eq!(parted(&mut row(9, list), list), None);
             choices += Choices::of(list).count;
