@@ -2,7 +2,7 @@
 -- order. Assumes nothing.
 use Rattle.std.specs.Prelude.{◌≡◌, ◌≢◌, Bool, cond, ◌&&◌, ◌||◌, not, ℕ, zero, suc, ◌+◌, ◌*◌, ◌/◌, ◌%◌, length, ltb, leb, eqb}
 use mathlib.Core.List.{List, [], ◌∷◌, ◌++◌, flat_map}
-use Rattle.model.specs.Lists.{range, put_at, Cause, cause, refusal}
+use Rattle.model.specs.Lists.{range, put_at, Cause, cause}
 use Rattle.model.specs.Record.{word_at}
 use Rattle.model.specs.Calls.{unless}
 use Rattle.model.specs.declared.answer.Outcome.{Outcome}

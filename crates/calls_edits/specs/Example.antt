@@ -1,6 +1,6 @@
 -- Files that meet the premises of what is promised: one of five edits with the lists of two differences, two whose record 1 is bad, and every number of a
 -- refusal. Assumes nothing.
-use Rattle.std.specs.Prelude.{◌≡◌, refl, ℕ, ◌+◌, length, take, replicate}
+use Rattle.std.specs.Prelude.{◌≡◌, refl, ℕ, length, take, replicate}
 use Rattle.std.proofs.Common.{subst, arith, leb-true}
 use mathlib.Core.List.{List, [], ◌∷◌, ◌++◌, flat_map}
 use Rattle.std.proofs.lemmas.Bool.{eqb-false}

@@ -7,7 +7,7 @@ use native.Mathlib.Omega.{arith}
 use lib.ListN.{length, get_or, replicate}
 use lib.Dec.{leb}
 use borrow.Author.Tests.{leb-true}
-use Rattle.model.specs.Kind.{stride, kind_of}
+use Rattle.model.specs.Kind.{kind_of}
 use Rattle.model.specs.Lists.{part, range}
 use Rattle.model.specs.Node.{child, used}
 use Rattle.model.specs.State.{State, state, shape, node_at}
@@ -21,7 +21,6 @@ use Rattle.model.specs.declared.head.Head.{Head}
 use Rattle.model_laws.specs.Lists.{all_at_at, and_true}
 use Rattle.model_laws.specs.Words.{get_d_part, length_part}
 use Rattle.tree_area.specs.Area.{AreaHolds}
-use Rattle.calls_audit.proofs.Every.{every_same}
 use Rattle.calls_repair_test.specs.Queue.{kids_of, level_in, Lens}
 use Rattle.calls_repair_test.specs.Reach as reach
 use Rattle.calls_repair_test.specs.Reach.{Marks, QueueReached}

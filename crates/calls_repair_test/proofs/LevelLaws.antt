@@ -2,14 +2,13 @@
 use mathlib.Core.Path.{◌≡◌, refl, sym, ap, subst, ◌∙◌}
 use mathlib.Core.Bool.{Bool, true, false, cond, ◌&&◌}
 use mathlib.Core.List.{List, [], ◌∷◌, ◌++◌, flat_map}
-use Prim.Native.Nat.{ℕ, zero, suc, ◌+◌, ◌-◌, ◌<◌, ◌≤◌}
+use Prim.Native.Nat.{ℕ, suc, ◌+◌, ◌-◌, ◌<◌, ◌≤◌}
 use native.Mathlib.Numerals.{add-one}
 use native.Mathlib.Omega.{arith}
 use lib.ListN.{length, get_or, set, length-set}
 use lib.Dec.{ltb, eqb}
 use borrow.Author.Tests.{ltb-true}
 use Rattle.model.specs.Lists.{All, part, put_at, range}
-use Rattle.model.specs.State.{node_at}
 use Rattle.model.specs.declared.shape.Shape.{Shape}
 use Rattle.model_laws.specs.Lists.{all_at_at, and_true}
 use Rattle.model_laws.specs.Words.{get_d_part, length_part, part_none, part_front, part_same, put_none, put_next, set_put}

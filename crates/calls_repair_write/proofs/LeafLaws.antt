@@ -2,18 +2,17 @@
 use mathlib.Core.Path.{◌≡◌, refl, sym, ap, subst, ◌∙◌}
 use mathlib.Core.Bool.{Bool, true, false}
 use mathlib.Core.List.{List, [], ◌∷◌}
-use Prim.Native.Nat.{ℕ, suc, ◌+◌, ◌-◌, ◌*◌, ◌<◌, ◌≤◌}
+use Prim.Native.Nat.{ℕ, ◌+◌, ◌-◌, ◌*◌, ◌<◌, ◌≤◌}
 use native.Mathlib.Omega.{arith}
 use lib.ListN.{length, get_or}
 use lib.Dec.{ltb}
 use borrow.Author.Tests.{ltb-true, ltb-false}
-use Rattle.model.specs.Lists.{part}
 use Rattle.model.specs.declared.shape.Shape.{Shape}
 use Rattle.model.specs.Node.{empty_slots}
 use Rattle.model_laws.specs.Slots.{flat}
 use Rattle.tree_node.specs.Shaped.{Shaped}
 use Rattle.tree_words.specs.Tally.{tallied}
-use Rattle.calls_repair_write.specs.Toward.{WordsRight, Nearer, Goal, NearGoal, slot_at, Empty}
+use Rattle.calls_repair_write.specs.Toward.{WordsRight, Goal, slot_at, Empty}
 use Rattle.calls_repair_write.specs.Leaves.{id_in, HomesGoal, HomesDone, LeafGoal, LeafDone, len_of, LeavesGoal, LeavesDone}
 use Rattle.calls_repair_write.proofs.NearLaws.{PutRight, put_by, put_long, kept_same, near_none, near_on, near_leaves, near_beside, nearer_none, nearer_on, part_one}
 use Rattle.calls_repair_write.proofs.SlotLaws.{long_on, empty_put}

@@ -11,7 +11,7 @@ use lib.Seq.{ext_get_or}
 use lib.Dec.{ltb}
 use borrow.Author.Tests.{ltb-true, ltb-false}
 use Rattle.model.specs.Lists.{part, put_at}
-use Rattle.model.specs.Node.{Node, slots_from, node_of, totals_from, slot_for}
+use Rattle.model.specs.Node.{slots_from, node_of, totals_from, slot_for}
 use Rattle.model.specs.State.{node_at}
 use Rattle.model.specs.Repair.{differ}
 use Rattle.model.specs.declared.shape.Shape.{Shape}

@@ -1,17 +1,17 @@
 -- The inner nodes of a queue, one turn of the way back over it. Assumes nothing.
-use mathlib.Core.Path.{◌≡◌, refl, sym, ap, subst, ◌∙◌}
+use mathlib.Core.Path.{◌≡◌, refl, sym, subst, ◌∙◌}
 use mathlib.Core.Bool.{Bool, true, false}
 use mathlib.Core.List.{List}
 use Prim.Native.Nat.{ℕ, suc, ◌+◌, ◌*◌, ◌<◌, ◌≤◌}
 use native.Mathlib.Omega.{arith}
-use lib.ListN.{length, get_or}
+use lib.ListN.{get_or}
 use lib.Dec.{ltb, leb}
 use borrow.Author.Tests.{ltb-true, ltb-false, leb-true, leb-false}
 use Rattle.model.specs.State.{node_at}
 use Rattle.model.specs.declared.shape.Shape.{Shape}
 use Rattle.model_laws.specs.Areas.{len_at}
 use Rattle.tree_node.specs.Shaped.{Shaped}
-use Rattle.calls_repair_write.specs.Toward.{WordsRight, Goal, NearGoal, side, aim, slot_at, SlotsRight, Empty, LinkRight}
+use Rattle.calls_repair_write.specs.Toward.{Goal, side, aim, slot_at, SlotsRight, Empty, LinkRight}
 use Rattle.calls_repair_write.specs.Nodes.{child_in, SlotsGoal, SlotsAimed, NodeDone, node_on, len_on, BehindInQueue, NodesGoal, NodesDone}
 use Rattle.calls_repair_write.proofs.NearLaws.{kept_same, near_none, near_on}
 use Rattle.calls_repair_write.proofs.SlotLaws.{long_on, side_kept}

@@ -1,8 +1,8 @@
 -- One slot with its child's link, the slots of a node, and its unused ones. Assumes nothing.
 use mathlib.Core.Path.{◌≡◌, refl, sym, ap, subst, ◌∙◌}
-use mathlib.Core.Bool.{Bool, true, false, cond}
+use mathlib.Core.Bool.{Bool, true, false}
 use mathlib.Core.List.{List, [], ◌∷◌}
-use Prim.Native.Nat.{ℕ, suc, ◌+◌, ◌-◌, ◌*◌, ◌<◌, ◌≤◌}
+use Prim.Native.Nat.{ℕ, ◌+◌, ◌-◌, ◌*◌, ◌<◌, ◌≤◌}
 use native.Mathlib.Omega.{arith}
 use lib.ListN.{length, get_or}
 use lib.Dec.{ltb}
@@ -11,16 +11,15 @@ use Rattle.model.specs.Lists.{part}
 use Rattle.model.specs.Node.{child, empty_slots, slot_for}
 use Rattle.model.specs.State.{node_at}
 use Rattle.model.specs.declared.shape.Shape.{Shape}
-use Rattle.model_laws.specs.Lists.{row_end, rows_le, rows_between}
-use Rattle.model_laws.specs.Words.{length_part, part_same}
-use Rattle.model_laws.specs.Slots.{flat, length_flat}
-use Rattle.model_laws.specs.Formed.{empty_wide}
+use Rattle.model_laws.specs.Lists.{row_end, rows_between}
+use Rattle.model_laws.specs.Words.{length_part}
+use Rattle.model_laws.specs.Slots.{flat}
 use Rattle.model_laws.specs.Areas.{column_at}
 use Rattle.model_laws.specs.AreaRead.{node_end}
 use Rattle.tree_node.specs.Shaped.{Shaped}
 use Rattle.tree_area.specs.Area.{AreaHolds}
 use Rattle.tree_words.specs.Tally.{tallied}
-use Rattle.calls_repair_write.specs.Toward.{WordsRight, WordsToward, Nearer, Goal, NearGoal, LongGoal, side, aim, slot_at, SlotAim, SlotsRight, Empty, LinkRight, SlotGoal, SlotDone}
+use Rattle.calls_repair_write.specs.Toward.{WordsRight, WordsToward, Goal, NearGoal, LongGoal, side, aim, slot_at, SlotAim, SlotsRight, Empty, LinkRight, SlotGoal, SlotDone}
 use Rattle.calls_repair_write.specs.Nodes.{child_in, SlotsGoal, SlotsDone, NodeDone}
 use Rattle.calls_repair_write.proofs.NearLaws.{PutRight, put_by, put_long, kept_same, near_none, near_on, near_leaves, near_beside, part_two, slot_same, same_rows}
 

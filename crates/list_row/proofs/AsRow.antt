@@ -1,17 +1,17 @@
 -- Records on a tree that stands for a row: the list theorem, read on bytes. Assumes nothing.
-use mathlib.Core.Path.{◌≡◌, refl, sym, ap, ◌∙◌, subst}
-use mathlib.Core.Bool.{Bool, true, false, cond}
+use mathlib.Core.Path.{◌≡◌, ap}
+use mathlib.Core.Bool.{true}
 use mathlib.Core.List.{List}
 use Prim.Native.Nat.{ℕ, ◌/◌}
 use native.Mathlib.Omega.{arith}
 use lib.ListN.{length}
 use Rattle.model.specs.Kind.{base}
-use Rattle.model.specs.Row.{Row, Answer, row_step}
+use Rattle.model.specs.Row.{Row, row_step}
 use Rattle.model.specs.State.{State}
 use Rattle.model.specs.ById.{tree_step}
 use Rattle.model.specs.Promise.{Represents}
 use Rattle.model_theory.specs.TopById.{runs_alike, fan_kept, invariant_of}
-use Rattle.list_row.specs.Run.{records_of, calls_of, written, left, fit, Ran, run_on, AsRow}
+use Rattle.list_row.specs.Run.{records_of, calls_of, written, left, fit, run_on, AsRow}
 use Rattle.list_row.proofs.Words.{Bytes, calls_words}
 
 pub as_row : (s : State) (bs out : List ℕ) (r : Row) → Bytes bs → fit bs out ≡ true → Represents base s r → AsRow bs (run_on s bs out) s.head.fan r

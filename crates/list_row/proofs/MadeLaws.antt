@@ -1,6 +1,6 @@
 -- What make leaves stands for the row that it begins, so records on it get that row's answers. Assumes nothing.
 use mathlib.Core.Path.{◌≡◌, refl, sym, ap, ◌∙◌, subst}
-use mathlib.Core.Bool.{Bool, true}
+use mathlib.Core.Bool.{true}
 use mathlib.Core.List.{List, []}
 use Prim.Native.Nat.{ℕ, ◌<◌}
 use native.Mathlib.Omega.{arith}
@@ -8,7 +8,7 @@ use lib.ListN.{length}
 use Rattle.model.specs.Kind.{base}
 use Rattle.model.specs.Length.{list_of}
 use Rattle.model.specs.Lists.{All, refusal}
-use Rattle.model.specs.Row.{Row, made_row}
+use Rattle.model.specs.Row.{made_row}
 use Rattle.model.specs.State.{State}
 use Rattle.model.specs.Calls.{Reply, reply, make}
 use Rattle.model.specs.Promise.{Words, finally, Represents, Invariant}

@@ -1,5 +1,5 @@
 -- Records as a list of bytes, played on a tree or on the row, and their answer records (document 01, "Door and program"). Assumes nothing.
-use Rattle.std.specs.Prelude.{◌≡◌, Bool, true, false, cond, ◌&&◌, List, [], ◌∷◌, ◌++◌, map, ℕ, zero, suc, ◌%◌, ◌/◌, length, take, drop, eqb}
+use Rattle.std.specs.Prelude.{◌≡◌, Bool, cond, ◌&&◌, List, [], ◌∷◌, ◌++◌, map, ℕ, zero, suc, ◌%◌, ◌/◌, length, take, drop, eqb}
 use Rattle.model.specs.Kind.{base}
 use Rattle.model.specs.Row.{Row, Call, Answer, Moved, row_step}
 use Rattle.model.specs.Record.{fields_of, decode, encode}

@@ -1,5 +1,5 @@
 -- Calls on a tree with their answers as lines of text (document 01, "Door and program"). Assumes nothing.
-use Rattle.std.specs.Prelude.{cond, List, [], ◌∷◌, ◌++◌, ℕ, ◌+◌, ◌-◌, ◌%◌, take, eqb}
+use Rattle.std.specs.Prelude.{cond, List, [], ◌∷◌, ◌++◌, ℕ, ◌-◌, ◌%◌, take, eqb}
 use Rattle.model.specs.Kind.{base}
 use Rattle.model.specs.Row.{Call, Answer, refused}
 use Rattle.model.specs.Lists.{part}

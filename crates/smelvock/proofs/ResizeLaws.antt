@@ -1,7 +1,6 @@
 -- Other lengths, as the one call with its position asked for or not: `update` and `set_lengths`. Assumes nothing.
 use mathlib.Core.Path.{◌≡◌, refl}
 use mathlib.Core.Bool.{Bool, true, false, cond, ◌||◌}
-use mathlib.Core.List.{List}
 use Prim.Native.Nat.{ℕ}
 use lib.Dec.{ltb, eqb}
 use Rattle.model.specs.Length.{list_of}
@@ -14,13 +13,10 @@ use Rattle.model.specs.Calls as calls
 use Rattle.model.specs.Calls.{Reply, reply}
 use Rattle.model.specs.declared.head.Cursor.{Cursor}
 use Rattle.model.specs.declared.length.Lengths.{Lengths}
-use Rattle.model.specs.declared.answer.Number.{Number}
 use Rattle.model.specs.declared.answer.Number.TheVariants as number
-use Rattle.model.specs.declared.answer.Outcome.{Outcome}
 use Rattle.model.specs.declared.answer.Outcome.TheVariants as outcome
 use Rattle.smelvock_marshal.specs.Flat.{bad_head, head_after, number_of}
 use Rattle.smelvock_marshal.specs.Lent.{Given, state_of}
-use Rattle.smelvock_marshal.specs.declared.flat.FlatNumber.{FlatNumber}
 use Rattle.calls_size.specs.Size as size
 use Rattle.smelvock.specs.Changes as flat
 use Rattle.smelvock.specs.Changes.{left_by}

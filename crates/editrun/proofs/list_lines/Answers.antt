@@ -1,6 +1,5 @@
 -- `editrun::list_lines`: the lines of the numbers before i stand in the buffer, and one more goes behind them.
 use mathlib.Core.Path.{refl, ◌∙◌}
-use Prim.Native.Nat.{◌-◌}
 use native.Mathlib.Omega.{arith}
 use lib.ListN.{get_or}
 use Rattle.list_stream.proofs.TextLaws.{field_short}

@@ -1,6 +1,5 @@
 -- `editrun::number_in`: what the digits from here on say behind those that say n is what all of them say.
 use mathlib.Core.Path.{refl}
-use Prim.Native.Nat.{◌-◌}
 use native.Mathlib.Omega.{arith}
 use Rattle.editrun.proofs.AskedLaws.{empty, long, no_digits, by_digits, too_low, too_high_law, more_digits, more_said, all_digits, all_said, said_less, few_said}
 use Rattle.editrun.proofs.number_in.Goals as goal

@@ -1,5 +1,4 @@
 -- `calls_edits::check::records_cause`: the records from e on decide as all do, for those before are good.
-use Prim.Native.Nat.{◌-◌}
 use native.Mathlib.Omega.{arith}
 use Rattle.calls_edits.proofs.RecordLaws.{no_record_yet, bad_record, good_record, no_record}
 use Rattle.calls_edits.proofs.check.records_cause.Goals as goal

@@ -1,6 +1,5 @@
 -- `calls_edits::difference::write`: what is left to list, written behind what is listed, makes the whole list.
 use mathlib.Core.Path.{refl, ◌∙◌}
-use Prim.Native.Nat.{◌-◌}
 use native.Mathlib.Omega.{arith}
 use Rattle.calls_edits.proofs.ListLaws.{write_none, write_turn, write_all, placed_count}
 use Rattle.calls_edits.proofs.difference.write.Goals as goal

@@ -1,6 +1,5 @@
 -- The test of the slots from here on is the test of all.
 use mathlib.Core.Path.{sym, ◌∙◌}
-use Prim.Native.Nat.{◌-◌}
 use native.Mathlib.Omega.{arith}
 use native.Mathlib.Nat.{lt_of_lt_of_le}
 use Rattle.calls_audit.proofs.Every.{every_all, every_stop, every_on, every_end}

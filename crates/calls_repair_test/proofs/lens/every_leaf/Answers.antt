@@ -1,7 +1,6 @@
 -- The test of the leaves from here on is the test of all.
 use mathlib.Core.Path.{sym, ◌∙◌}
 use mathlib.Core.List.{[]}
-use Prim.Native.Nat.{◌-◌}
 use native.Mathlib.Omega.{arith}
 use native.Mathlib.Nat.{lt_of_lt_of_le}
 use Rattle.model.specs.Kind.{kind_of}

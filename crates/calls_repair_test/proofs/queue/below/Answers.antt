@@ -1,6 +1,5 @@
 -- Each turn notes a level more, which are the children of the level that the turn before noted.
 use mathlib.Core.Path.{refl, ◌∙◌}
-use Prim.Native.Nat.{◌-◌}
 use native.Mathlib.Omega.{arith}
 use borrow.Author.Tests.{not-true, not-false}
 use Rattle.calls_repair_test.specs.Queue.{kids_of}

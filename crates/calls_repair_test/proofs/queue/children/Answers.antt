@@ -1,7 +1,5 @@
 -- Each turn notes one child more; a child that can't be noted ends the loop with what the rest would leave.
 use mathlib.Core.Path.{refl, ◌∙◌}
-use mathlib.Core.Bool.{true}
-use Prim.Native.Nat.{◌-◌}
 use native.Mathlib.Omega.{arith}
 use borrow.Author.Tests.{not-true, not-false}
 use Rattle.model.specs.State.{node_at}

@@ -1,6 +1,5 @@
 -- Each turn notes the children of one node more; the part of the queue that is read stays, for what is noted comes behind it.
 use mathlib.Core.Path.{refl, ◌∙◌}
-use Prim.Native.Nat.{◌-◌}
 use native.Mathlib.Omega.{arith}
 use borrow.Author.Tests.{not-true, not-false}
 use Rattle.calls_repair_test.specs.Queue.{kids_of}

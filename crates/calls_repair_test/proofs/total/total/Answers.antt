@@ -1,5 +1,4 @@
 -- Each turn adds one leaf more, and the sum with what is left is the whole.
-use Prim.Native.Nat.{◌-◌}
 use native.Mathlib.Omega.{arith}
 use Rattle.calls_repair_test.proofs.TotalLaws.{total_on, total_end}
 use Rattle.calls_repair_test.proofs.total.total.Goals as goal

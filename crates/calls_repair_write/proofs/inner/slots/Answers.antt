@@ -1,6 +1,5 @@
 -- Each turn puts one slot more right, and its child is the one aimed at, for no right word goes wrong.
 use mathlib.Core.Path.{refl, ◌∙◌}
-use Prim.Native.Nat.{◌-◌}
 use native.Mathlib.Omega.{arith}
 use Rattle.calls_repair_write.proofs.SlotLaws.{area_now, child_word, child_below, slots_none, slots_on, child_now, slots_all}
 use Rattle.calls_repair_write.proofs.inner.slots.Goals as goal

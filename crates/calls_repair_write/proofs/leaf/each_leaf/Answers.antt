@@ -1,6 +1,5 @@
 -- Each turn does one leaf more.
 use mathlib.Core.Path.{refl, ◌∙◌}
-use Prim.Native.Nat.{◌-◌}
 use native.Mathlib.Omega.{arith}
 use native.Mathlib.Nat.{lt_of_lt_of_le}
 use Rattle.calls_repair_write.proofs.SlotLaws.{area_now}

@@ -1,6 +1,5 @@
 -- Each turn writes one home more.
 use mathlib.Core.Path.{refl, ◌∙◌}
-use Prim.Native.Nat.{◌-◌}
 use native.Mathlib.Omega.{arith}
 use Rattle.calls_repair_write.proofs.SlotLaws.{child_word}
 use Rattle.calls_repair_write.proofs.LeafLaws.{word_long, id_in_law, id_now_in, homes_none, homes_on, homes_all}

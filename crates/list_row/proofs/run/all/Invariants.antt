@@ -1,6 +1,6 @@
 -- `list_row::run::all`: what is written so far, with what the records left will give, is what all of them give.
 use mathlib.Core.Path.{◌≡◌}
-use Prim.Native.Nat.{◌+◌, ◌-◌, ◌*◌}
+use Prim.Native.Nat.{◌+◌, ◌*◌}
 use lib.ListN.{length}
 use Rattle.model.specs.State.{state}
 use Rattle.list_row.specs.Run.{records_of, turns}

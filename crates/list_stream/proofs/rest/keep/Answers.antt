@@ -1,5 +1,4 @@
 -- `list_stream::rest::keep`: each turn moves one byte more, from behind all that were written.
-use Prim.Native.Nat.{◌-◌}
 use mathlib.Core.Path.{refl, ◌∙◌}
 use native.Mathlib.Omega.{arith}
 use lib.ListN.{length-set}
