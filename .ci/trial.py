@@ -8,7 +8,7 @@ import sys
 ROOT = os.path.dirname(os.path.dirname(os.path.realpath(__file__)))
 KIT = os.path.dirname(os.path.dirname(os.path.realpath(shutil.which("rt") or "/opt/rattle/bin/rt")))
 # an answer for a goal, or a fact of the code, that the edited code no longer has under that name: it says nothing of the contract
-NAMES = re.compile(r"that can be named from here|has no field|no fields? `|is not in scope|is no name|has no `|does not stand for|nothing here is named|not exported|cannot be named")
+NAMES = re.compile(r"that can be named from here|\(nearest: |has no field|no fields? `|is not in scope|is no name|has no `|does not stand for|nothing here is named|not exported|cannot be named")
 CITES = re.compile(r"^(?:\d+ declarations? that depends? on|.*was not admitted|.*was rejected, w(?:as|ere) not checked)")
 
 
