@@ -2,8 +2,8 @@
 """Brings the must-fail edits (docs/edits, docs/rounds, crates/*/must-fail) to today's spelling. Run once, in two steps:
 
     turn_edits.py write LANDED   in a clone at the last commit before the port: puts beside each .antt file that an edit changes the file
-                                 as the edit makes it (specs/Zq0.antt, ..), and a list of these in turn_edits.json. Commit, run port.py and
-                                 tools/respell.py there, and commit.
+                                 as the edit makes it (specs/Zq0.antt, ..), and a list of these in turn_edits.json. Commit, run port.py, commit, run
+                                 tools/respell.py there, and commit: HEAD~2 is what write wrote.
     turn_edits.py read LANDED NAMES   here: takes an edit's texts from what the scripts made of both files, names of declarations from the
                                  declarations of the files before and after them, and a function's goals from NAMES-CRATE/names.json, which
                                  `rt check --generated .. --old-names` writes. Says what has to be mended by hand.
