@@ -1,5 +1,7 @@
 -- What a host lends to a call by id and what it has afterwards: head and areas before and after, and the reply's words. Assumes nothing.
 use Rattle.std.specs.Prelude.{Bool, cond, not, List, ◌++◌, ℕ, length, replicate, eqb}
+use Rattle.std.specs.Borrow.{Bor}
+use denote.Triple.Both.{Both}
 use Rattle.model.specs.Row.{Answer, refused, Moved}
 use Rattle.model.specs.State.{State, state}
 use Rattle.model.specs.Answer.{outcome_answer}
@@ -19,6 +21,10 @@ pub record Given : Type 0 where
 abbrev pub given : List ℕ → List ℕ → List ℕ → List ℕ → Given
 given w ls xs hs = record { head = w; leaves = ls; inners = xs; homes = hs }
 
+-- the same from the four that an export is lent, as it finds them
+abbrev pub given_at_entry : {W X Y Z : Type 0} → Both (Bor (List ℕ)) W → Both (Bor (List ℕ)) X → Both (Bor (List ℕ)) Y → Both (Bor (List ℕ)) Z → Given
+given_at_entry head leaves inners homes = given head.entry.now leaves.entry.now inners.entry.now homes.entry.now
+
 abbrev pub state_of : Given → State
 state_of g = state (head_from g.head) g.leaves g.inners g.homes
 
@@ -32,6 +38,10 @@ pub record Left (R : Type 0) : Type 0 where
 
 abbrev pub left : {R : Type 0} → R → List ℕ → List ℕ → List ℕ → List ℕ → Left R
 left r w ls xs hs = record { reply = r; head = w; leaves = ls; inners = xs; homes = hs }
+
+-- the same from the four, as an export leaves them
+abbrev pub left_at_exit : {R W X Y Z : Type 0} → R → Both W (Bor (List ℕ)) → Both X (Bor (List ℕ)) → Both Y (Bor (List ℕ)) → Both Z (Bor (List ℕ)) → Left R
+left_at_exit r head leaves inners homes = left r head.exit.now leaves.exit.now inners.exit.now homes.exit.now
 
 abbrev pub number_alone : Answer → ℕ
 number_alone a = a.number
