@@ -1,12 +1,11 @@
 -- The test of an inner node, by what its parts answer. Assumes nothing.
-use mathlib.Core.Path.{◌≡◌, refl, sym, ap, ◌∙◌}
+use mathlib.Core.Path.{◌≡◌, refl, ap, ◌∙◌}
 use mathlib.Core.Bool.{Bool, true, false, cond, ◌&&◌}
 use mathlib.Core.List.{List, []}
-use Prim.Native.Nat.{ℕ, zero, suc, ◌-◌, ◌<◌, ◌≤◌}
+use Prim.Native.Nat.{ℕ, zero, suc, ◌-◌}
 use native.Mathlib.Omega.{arith}
 use lib.ListN.{get_or}
 use lib.Dec.{leb, eqb}
-use borrow.Author.Tests.{le-leb, lt-leb, eq-eqb, ne_eqb}
 use Rattle.model.specs.Kind.{stride}
 use Rattle.model.specs.State.{state, node_at}
 use Rattle.model.specs.Refuse.{shape_of}
@@ -53,37 +52,6 @@ module _ (K : Kind) (h : Head) (ls xs hs : List ℕ) where
   unfolding is_inner is_filled root_by held_by is_held
   whole k d e = rw (← e, ← swap k (eqb d h.levels))
 
-  module _ (g : Shape) (e : g ≡ shape_of K h) (k d : ℕ) (ed : d ≡ depth_by g h.inners xs h.levels k) where
-    pub inner_by_law : inner_by g d k ≡ is_inner K (state h ls xs hs) k
-    inner_by_law =
-        ap (λ (x : Shape). inner_by x d k) e ∙ whole k d (ed ∙ ap (λ (x : Shape). depth_by x h.inners xs h.levels k) e ∙ depth_same h.levels k)
-
-    pub inner_low : d < 1 → false ≡ is_inner K (state h ls xs hs) k
-    inner_low f = sym (rw (lt-leb 1 d f) at (sym inner_by_law))
-
-    module _ (low : 1 ≤ d) where
-      pub inner_deep : h.levels < d → false ≡ is_inner K (state h ls xs hs) k
-      inner_deep f = sym (rw (le-leb 1 d low, lt-leb d h.levels f) at (sym inner_by_law))
-
-      module _ (high : d ≤ h.levels) (least : ℕ) (el : least ≡ least_inner (stride K) (state h [] [] []) k) (f : Bool) (ef : f ≡ is_filled K (state h [] [] []) least (node_at g k xs)) where
-        filled : f ≡ filled_part g k
-        filled = ef ∙ ap (λ (m : ℕ). is_filled K (state h [] [] []) m (node_at g k xs)) el
-
-        pub inner_unfilled : f ≡ false → false ≡ is_inner K (state h ls xs hs) k
-        inner_unfilled n = sym (rw (le-leb 1 d low, le-leb d h.levels high, sym filled ∙ n) at (sym inner_by_law))
-
-        module _ (nf : f ≡ true) (b : Bool) (eb : b ≡ root_by g h xs k) where
-          pub inner_misplaced : b ≡ false → false ≡ is_inner K (state h ls xs hs) k
-          inner_misplaced n =
-              sym (rw (le-leb 1 d low, le-leb d h.levels high, sym filled ∙ nf, sym eb ∙ n) at (sym inner_by_law))
-
-          module _ (nb : b ≡ true) (len : ℕ) (en : len ≡ (node_at g k xs).len) (r : Bool) where
-            pub inner_lowest : d ≡ h.levels → r ≡ every (child_by g h.leaves ls xs k) 0 len → r ≡ is_inner K (state h ls xs hs) k
-            inner_lowest q er =
-                er ∙ ap (every (child_by g h.leaves ls xs k) 0) en
-                ∙ sym (rw (le-leb 1 d low, le-leb d h.levels high, sym filled ∙ nf, sym eb ∙ nb, eq-eqb d h.levels q) at (sym inner_by_law))
-
-            pub inner_higher : (d ≡ h.levels → ⊥) → r ≡ every (child_by g h.inners xs xs k) 0 len → r ≡ is_inner K (state h ls xs hs) k
-            inner_higher q er =
-                er ∙ ap (every (child_by g h.inners xs xs k) 0) en
-                ∙ sym (rw (le-leb 1 d low, le-leb d h.levels high, sym filled ∙ nf, sym eb ∙ nb, ne_eqb d h.levels q) at (sym inner_by_law))
+  -- the test by the sizes g
+  pub inner_by_law : (g : Shape) (k : ℕ) → g ≡ shape_of K h → inner_by g (depth_by g h.inners xs h.levels k) k ≡ is_inner K (state h ls xs hs) k
+  inner_by_law g k e = ap (λ (x : Shape). inner_by x (depth_by x h.inners xs h.levels k) k) e ∙ whole k _ (depth_same h.levels k)

@@ -5,4 +5,3 @@ pub mod LeafLaws
 pub mod LinkLaws
 pub mod SoundLaws
 pub mod TreeLaws
-pub mod FairLaws

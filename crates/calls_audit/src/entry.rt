@@ -24,14 +24,7 @@ fn is_new(leaves: &[u32], g: Shape, k: LeafNo, i: u32, id: EntryId) -> bool
     requires { AreaHolds g (length leaves.now) × (k.0 < g.nodes) × (i < g.fan) }
     ensures { result ≡ every (is_other (node_at g k.0 leaves.now) id.0) 0 i }
 {
-    let mut j: u32 = 0;
-    while j < i {
-        if child_of(leaves, g, k.0, j as usize) == id.0 {
-            return false;
-        }
-        j += 1;
-    }
-    true
+    (0..i).all(|j| child_of(leaves, g, k.0, j as usize) != id.0)
 }
 
 // Whether slot i of leaf k has a lowest above a highest length, where they are ordered.
@@ -39,11 +32,9 @@ fn is_crossed(leaves: &[u32], g: Shape, ordered: bool, k: LeafNo, i: u32) -> boo
     requires { AreaHolds g (length leaves.now) × (k.0 < g.nodes) × (i < g.fan) }
     ensures { result ≡ crossed (kind_of (g.stride - 1) 0 ordered) (lengths (get_or (node_at g k.0 leaves.now).slots i [])) }
 {
-    let stride = g.stride;
-    let views = stride - 1;
-    let mut x: [u32; 4] = [0; 4];
+    let mut x = [0; 4];
     lengths_at(leaves, g, k, i, &mut x);
-    crossed(views, ordered, &x)
+    crossed(g.stride - 1, ordered, &x)
 }
 
 // Whether the id in slot i of leaf k is below the count, lives in leaf k, and stands in no earlier slot, its line ends aren't too many, and
@@ -60,23 +51,12 @@ fn is_entry(
     requires { AreaHolds g (length leaves.now) × (entries ≤ length homes.now) × (k.0 < g.nodes) × (i < g.fan) }
     ensures { result ≡ entry_by g ordered entries leaves.now homes.now k.0 i }
 {
-    let stride = g.stride;
     let id = child_of(leaves, g, k.0, i as usize);
-    if id >= entries {
-        return false;
-    }
-    if homes[id as usize] != k.0 {
-        return false;
-    }
-    if 3 < stride {
-        if 65535 < length_of(leaves, g, 2, k.0, i as usize) {
-            return false;
-        }
-    }
-    if is_crossed(leaves, g, ordered, k, i) {
-        return false;
-    }
-    is_new(leaves, g, k, i, EntryId(id))
+    id < entries
+        && homes[id as usize] == k.0
+        && (g.stride <= 3 || length_of(leaves, g, 2, k.0, i as usize) <= 65535)
+        && !is_crossed(leaves, g, ordered, k, i)
+        && is_new(leaves, g, k, i, EntryId(id))
 }
 
 // The same of each slot in use.
@@ -92,24 +72,14 @@ fn are_entries(
     requires { AreaHolds g (length leaves.now) × (entries ≤ length homes.now) × (k.0 < g.nodes) × (len ≤ g.fan) }
     ensures { result ≡ every (entry_by g ordered entries leaves.now homes.now k.0) 0 len }
 {
-    let mut i: u32 = 0;
-    while i < len {
-        if !is_entry(leaves, homes, g, ordered, entries, k, i) {
-            return false;
-        }
-        i += 1;
-    }
-    true
+    (0..len).all(|i| is_entry(leaves, homes, g, ordered, entries, k, i))
 }
 
 // How few slots a leaf may use.
 fn least_leaf(head: Head) -> u32
     ensures { (s : ℕ) → result ≡ least_leaf s (state head [] [] []) }
 {
-    if head.leaves == 1 {
-        return 1;
-    }
-    head.fan / 2
+    if head.leaves == 1 { 1 } else { head.fan / 2 }
 }
 
 pub fn is_leaf(
@@ -124,21 +94,11 @@ pub fn is_leaf(
     requires { Known head g (length leaves.now) (length inners.now) × (head.entries ≤ length homes.now) × (k.0 < head.leaves) }
     ensures { (K : Kind) → g ≡ shape_of K head → K.ordered ≡ ordered → result ≡ is_leaf K (state head leaves.now inners.now homes.now) k.0 }
 {
-    let levels = head.levels;
-    let used = head.inners;
-    let entries = head.entries;
-    let least = least_leaf(head);
-    if !is_filled(head, leaves, g, k.0, least) {
-        return false;
-    }
     let parent = parent_of(leaves, g, k.0);
     let at = at_of(leaves, g, k.0);
-    if !is_held(inners, g, used, k.0, NodeNo(parent), at) {
-        return false;
-    }
-    if depth(inners, g, used, levels, NodeNo(parent)) != levels {
-        return false;
-    }
     let len = len_of(leaves, g, k.0);
-    are_entries(leaves, homes, g, ordered, entries, k, len)
+    is_filled(head, leaves, g, k.0, least_leaf(head))
+        && is_held(inners, g, head.inners, k.0, NodeNo(parent), at)
+        && depth(inners, g, head.inners, head.levels, NodeNo(parent)) == head.levels
+        && are_entries(leaves, homes, g, ordered, head.entries, k, len)
 }

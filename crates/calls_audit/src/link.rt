@@ -21,26 +21,21 @@ pub fn depth(inners: &[u32], g: Shape, used: u32, levels: u32, k: NodeNo) -> u32
     requires { AreaHolds g (length inners.now) × (used ≤ g.nodes) × (levels ≤ 15) }
     ensures { result ≡ depth_by g used inners.now levels k.0 }
 {
-    let empty = Slot::EMPTY;
-    let none = empty.child;
-    let mut n = levels;
-    let mut passed: u32 = 0;
     let mut node = k.0;
-    while 0 < n {
-        if node == none {
+    for passed in 0..levels {
+        if node == Slot::EMPTY.child {
             return passed;
         }
         if node >= used {
-            return passed + n + 1;
+            return levels + 1;
         }
         node = parent_of(inners, g, node);
-        passed += 1;
-        n -= 1;
     }
-    if node == none {
-        return passed;
+    if node == Slot::EMPTY.child {
+        levels
+    } else {
+        levels + 1
     }
-    passed + 1
 }
 
 // Whether inner node parent holds k, a leaf or an inner node, in its slot at.
@@ -48,19 +43,11 @@ pub fn is_held(inners: &[u32], g: Shape, used: u32, k: u32, parent: NodeNo, at: 
     requires { AreaHolds g (length inners.now) × (used ≤ g.nodes) }
     ensures { result ≡ held_by g used inners.now k parent.0 at }
 {
-    let fan = g.fan;
-    let p = parent.0;
-    if p >= used {
+    if parent.0 >= used {
         return false;
     }
-    let len = len_of(inners, g, p);
-    if at >= len {
-        return false;
-    }
-    if len as usize > fan {
-        return false;
-    }
-    child_of(inners, g, p, at as usize) == k
+    let len = len_of(inners, g, parent.0);
+    at < len && len as usize <= g.fan && child_of(inners, g, parent.0, at as usize) == k
 }
 
 // Whether slot i of inner node k has the totals of node child of low, in every view.
@@ -68,16 +55,9 @@ fn has_totals(inners: &[u32], low: &[u32], g: Shape, k: NodeNo, i: u32, child: u
     requires { AreaHolds g (length inners.now) × AreaHolds g (length low.now) × (k.0 < g.nodes) × (i < g.fan) × (child < g.nodes) }
     ensures { result ≡ totals_by g low.now inners.now k.0 i child }
 {
-    let stride = g.stride;
-    let mut v: usize = 0;
-    while v + 1 < stride {
-        let here = length_of(inners, g, v, k.0, i as usize) as u64;
-        if here != total_in(low, g, v, child) {
-            return false;
-        }
-        v += 1;
-    }
-    true
+    (0..g.stride - 1).all(|v| {
+        u64::from(length_of(inners, g, v, k.0, i as usize)) == total_in(low, g, v, child)
+    })
 }
 
 // Whether the child in slot i of inner node k, a node of low, is in use, knows its parent and place, and the slot has its totals.
@@ -86,31 +66,19 @@ fn is_child(inners: &[u32], low: &[u32], g: Shape, used: u32, k: NodeNo, i: u32)
     ensures { result ≡ child_by g used low.now inners.now k.0 i }
 {
     let child = child_of(inners, g, k.0, i as usize);
-    if child >= used {
-        return false;
-    }
-    if parent_of(low, g, child) != k.0 {
-        return false;
-    }
-    if at_of(low, g, child) != i {
-        return false;
-    }
-    has_totals(inners, low, g, k, i, child)
+    child < used
+        && parent_of(low, g, child) == k.0
+        && at_of(low, g, child) == i
+        && has_totals(inners, low, g, k, i, child)
 }
 
 // The same of each slot in use.
+#[inline(never)]
 fn are_children(inners: &[u32], low: &[u32], g: Shape, used: u32, k: NodeNo, len: u32) -> bool
     requires { AreaHolds g (length inners.now) × AreaHolds g (length low.now) × (used ≤ g.nodes) × (k.0 < g.nodes) × (len ≤ g.fan) }
     ensures { result ≡ every (child_by g used low.now inners.now k.0) 0 len }
 {
-    let mut i: u32 = 0;
-    while i < len {
-        if !is_child(inners, low, g, used, k, i) {
-            return false;
-        }
-        i += 1;
-    }
-    true
+    (0..len).all(|i| is_child(inners, low, g, used, k, i))
 }
 
 // How few slots inner node k may use.
@@ -118,12 +86,12 @@ fn least_inner(head: Head, k: NodeNo) -> u32
     ensures { (s : ℕ) → result ≡ least_inner s (state head [] [] []) k.0 }
 {
     if k.0 != head.root.0 {
-        return head.fan / 2;
+        head.fan / 2
+    } else if head.levels == 1 {
+        1
+    } else {
+        2
     }
-    if head.levels == 1 {
-        return 1;
-    }
-    2
 }
 
 // Whether inner node k stands where it must: the root below nothing, any other node in its parent.
@@ -131,40 +99,31 @@ fn is_below(head: Head, inners: &[u32], g: Shape, k: NodeNo) -> bool
     requires { AreaHolds g (length inners.now) × (head.inners ≤ g.nodes) × (k.0 < g.nodes) }
     ensures { result ≡ root_by g head inners.now k.0 }
 {
-    let empty = Slot::EMPTY;
     let parent = parent_of(inners, g, k.0);
     let at = at_of(inners, g, k.0);
-    if k.0 != head.root.0 {
-        return is_held(inners, g, head.inners, k.0, NodeNo(parent), at);
+    if k.0 == head.root.0 {
+        parent == Slot::EMPTY.child && at == 0
+    } else {
+        is_held(inners, g, head.inners, k.0, NodeNo(parent), at)
     }
-    if parent != empty.child {
-        return false;
-    }
-    at == 0
 }
 
 pub fn is_inner(head: Head, leaves: &[u32], inners: &[u32], g: Shape, k: NodeNo) -> bool
     requires { Known head g (length leaves.now) (length inners.now) × (k.0 < head.inners) }
     ensures { (K : Kind) → g ≡ shape_of K head → result ≡ is_inner K (state head leaves.now inners.now []) k.0 }
 {
-    let levels = head.levels;
-    let d = depth(inners, g, head.inners, levels, k);
-    if d < 1 {
-        return false;
-    }
-    if d > levels {
+    let d = depth(inners, g, head.inners, head.levels, k);
+    if d < 1 || d > head.levels {
         return false;
     }
     let least = least_inner(head, k);
-    if !is_filled(head, inners, g, k.0, least) {
-        return false;
-    }
-    if !is_below(head, inners, g, k) {
+    if !is_filled(head, inners, g, k.0, least) || !is_below(head, inners, g, k) {
         return false;
     }
     let len = len_of(inners, g, k.0);
-    if d == levels {
-        return are_children(inners, leaves, g, head.leaves, k, len);
+    if d == head.levels {
+        are_children(inners, leaves, g, head.leaves, k, len)
+    } else {
+        are_children(inners, inners, g, head.inners, k, len)
     }
-    are_children(inners, inners, g, head.inners, k, len)
 }

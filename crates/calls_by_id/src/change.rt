@@ -1,4 +1,5 @@
 // The calls by id that change lengths or add an entry.
+ghost use Rattle.model.specs.Numbered.{numbered};
 ghost use Rattle.std.specs.Prelude.{◌≡◌, ℕ, ◌<◌, ◌≤◌, length, get_or};
 ghost use Rattle.model.specs.State.{state};
 ghost use Rattle.model.specs.Length.{lengths_in};
@@ -12,11 +13,10 @@ ghost use Rattle.calls_by_id.specs.Place.{place_of};
 use crate::target::target;
 use calls_read::any::cursor;
 use calls_size::size::unnumbered;
-use model::answer::{
-    Divided, DividedReply, Inserted, InsertedReply, Outcome, OutcomeReply, Standing,
-};
+use model::answer::Reply;
 use model::head::{Cursor, Head};
 use model::number::{EntryId, LeafNo, NONE};
+use model::refusal::Refusal;
 use tree_seats::rule::without;
 
 // The cursor of the entry before which a new one comes; at the end there is none, and one of no account stands for it.
@@ -27,13 +27,13 @@ fn place(
     inners: &[u32],
     homes: &[u32],
     id: EntryId,
-) -> Standing
+) -> Result<Cursor, Refusal>
     requires { (1 ≤ views) × (views ≤ 3) }
-    ensures { (effect : ℕ) → result ≡ place_of (kind views effect) (state head leaves.now inners.now homes.now) id.0 }
+    ensures { (effect : ℕ) → numbered result ≡ place_of (kind views effect) (state head leaves.now inners.now homes.now) id.0 }
 {
     let i = id.0;
     if i == NONE {
-        return Standing::At(Cursor {
+        return Ok(Cursor {
             leaf: LeafNo(0),
             slot: 0,
             stamp: 0,
@@ -53,16 +53,16 @@ pub fn insert(
     homes: &mut [u32],
     id: EntryId,
     x: &[u32; 4],
-) -> InsertedReply
+) -> Reply<(EntryId, u32)>
     requires { (1 ≤ views) × (views ≤ 3) × (effect < views) × (get_or x.now 0 0 ≡ head.entries) × (length x.now ≡ 4) }
-    ensures { moved (state result.head leaves.new inners.new homes.new) (inserted_answer result.answer) ≡ tree_move (kind_of views effect ordered) (state head leaves.old inners.old homes.old) (row.insert id.0 (lengths_in views x.now)) }
+    ensures { moved (state result.head leaves.new inners.new homes.new) (inserted_answer (numbered result.answer)) ≡ tree_move (kind_of views effect ordered) (state head leaves.old inners.old homes.old) (row.insert id.0 (lengths_in views x.now)) }
 {
     match place(views, head, leaves, inners, homes, id) {
-        Standing::Refused(n) => InsertedReply {
-            head: head,
-            answer: Inserted::Refused(n),
+        Err(why) => Reply {
+            head,
+            answer: Err(why),
         },
-        Standing::At(c) => {
+        Ok(c) => {
             let to = target(id, c);
             let room = without(head.limit, head.entries);
             calls_insert::any::insert(
@@ -83,16 +83,16 @@ pub fn split_entry(
     id: EntryId,
     x: &[u32; 4],
     before: bool,
-) -> DividedReply
+) -> Reply<(EntryId, Cursor, Cursor)>
     requires { (1 ≤ views) × (views ≤ 3) × (get_or x.now 0 0 ≡ head.entries) × (length x.now ≡ 4) }
-    ensures { (effect : ℕ) → moved (state result.head leaves.new inners.new homes.new) (divided_id_answer result.answer) ≡ tree_move (kind_of views effect ordered) (state head leaves.old inners.old homes.old) (row.split before id.0 (lengths_in views x.now)) }
+    ensures { (effect : ℕ) → moved (state result.head leaves.new inners.new homes.new) (divided_id_answer (numbered result.answer)) ≡ tree_move (kind_of views effect ordered) (state head leaves.old inners.old homes.old) (row.split before id.0 (lengths_in views x.now)) }
 {
     match cursor(views, head, leaves, inners, homes, id) {
-        Standing::Refused(n) => DividedReply {
-            head: head,
-            answer: Divided::Refused(n),
+        Err(why) => Reply {
+            head,
+            answer: Err(why),
         },
-        Standing::At(c) => {
+        Ok(c) => {
             let room = without(head.limit, head.entries);
             calls_split::any::split_entry(
                 views, ordered, room, head, leaves, inners, homes, c, x, before,
@@ -112,24 +112,22 @@ pub fn set_lengths(
     homes: &[u32],
     id: EntryId,
     new: &[u32; 4],
-) -> OutcomeReply
+) -> Reply<()>
     requires { (1 ≤ views) × (views ≤ 3) × (effect < views) × (length new.now ≡ 4) }
-    ensures { moved (state result.head leaves.new inners.new homes.now) (outcome_answer result.answer) ≡ tree_move (kind_of views effect ordered) (state head leaves.old inners.old homes.now) (row.set_lengths id.0 (lengths_in views new.now)) }
+    ensures { moved (state result.head leaves.new inners.new homes.now) (outcome_answer (numbered result.answer)) ≡ tree_move (kind_of views effect ordered) (state head leaves.old inners.old homes.now) (row.set_lengths id.0 (lengths_in views new.now)) }
 {
     match cursor(views, head, leaves, inners, homes, id) {
-        Standing::Refused(n) => OutcomeReply {
-            head: head,
-            answer: Outcome::Refused(n),
+        Err(why) => Reply {
+            head,
+            answer: Err(why),
         },
-        Standing::At(c) => {
+        Ok(c) => {
             let r = calls_size::any::resize(
                 views, effect, ordered, head, leaves, inners, homes, c, new, false,
             );
-            let after = r.head;
-            let answer = r.answer;
-            OutcomeReply {
-                head: after,
-                answer: unnumbered(answer),
+            Reply {
+                head: r.head,
+                answer: unnumbered(r.answer),
             }
         }
     }

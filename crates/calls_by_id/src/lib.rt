@@ -4,7 +4,6 @@
 // Stands on model and tree, and in its own layer on calls_read, calls_size, calls_insert and calls_split.
 #![tactic(auto)]
 
-pub mod answer;
 pub mod any;
 pub mod change;
 pub mod iterate;

@@ -1,4 +1,5 @@
 // The calls by id that follow the order of the entries.
+ghost use Rattle.model.specs.Numbered.{numbered};
 ghost use Rattle.std.specs.Prelude.{◌≡◌, ℕ, ◌<◌, ◌≤◌};
 ghost use Rattle.model.specs.State.{state};
 ghost use Rattle.model.specs.Kind.{kind};
@@ -8,11 +9,11 @@ ghost use Rattle.model.specs.Answer.{number_answer, compared_answer};
 ghost use Rattle.model.specs.ById.{tree_move};
 ghost use Rattle.calls_by_id.specs.Answer.{following_answer};
 
-use crate::answer::Following;
 use calls_read::any::cursor;
-use model::answer::{Compared, Number, Standing};
 use model::head::Head;
 use model::number::EntryId;
+use model::refusal::Refusal;
+use std::cmp::Ordering;
 
 // The position in a view of the entry id: the lengths before it.
 pub fn rank(
@@ -23,16 +24,12 @@ pub fn rank(
     homes: &[u32],
     view: usize,
     id: EntryId,
-) -> Number
+) -> Result<u32, Refusal>
     requires { (1 ≤ views) × (views ≤ 3) × (view < views) }
-    ensures { (effect : ℕ) → moved (state head leaves.now inners.now homes.now) (number_answer result) ≡ tree_move (kind views effect) (state head leaves.now inners.now homes.now) (row.rank view id.0) }
+    ensures { (effect : ℕ) → moved (state head leaves.now inners.now homes.now) (number_answer (numbered result)) ≡ tree_move (kind views effect) (state head leaves.now inners.now homes.now) (row.rank view id.0) }
 {
-    match cursor(views, head, leaves, inners, homes, id) {
-        Standing::Refused(n) => Number::Refused(n),
-        Standing::At(c) => {
-            calls_read::any::entry_to_char_index(views, head, leaves, inners, homes, view, c)
-        }
-    }
+    let c = cursor(views, head, leaves, inners, homes, id)?;
+    calls_read::any::entry_to_char_index(views, head, leaves, inners, homes, view, c)
 }
 
 // The entry after the entry id, or nothing after the last.
@@ -43,14 +40,12 @@ pub fn next(
     inners: &[u32],
     homes: &[u32],
     id: EntryId,
-) -> Following
+) -> Result<Option<EntryId>, Refusal>
     requires { (1 ≤ views) × (views ≤ 3) }
-    ensures { (effect : ℕ) → moved (state head leaves.now inners.now homes.now) (following_answer result) ≡ tree_move (kind views effect) (state head leaves.now inners.now homes.now) (row.next id.0) }
+    ensures { (effect : ℕ) → moved (state head leaves.now inners.now homes.now) (following_answer (numbered result)) ≡ tree_move (kind views effect) (state head leaves.now inners.now homes.now) (row.next id.0) }
 {
-    match cursor(views, head, leaves, inners, homes, id) {
-        Standing::Refused(n) => Following::Refused(n),
-        Standing::At(c) => crate::any::next(views, head, leaves, inners, homes, c),
-    }
+    let c = cursor(views, head, leaves, inners, homes, id)?;
+    crate::any::next(views, head, leaves, inners, homes, c)
 }
 
 // How the entry id stands to the entry other.
@@ -62,15 +57,11 @@ pub fn cmp(
     homes: &[u32],
     id: EntryId,
     other: EntryId,
-) -> Compared
+) -> Result<Ordering, Refusal>
     requires { (1 ≤ views) × (views ≤ 3) }
-    ensures { (effect : ℕ) → moved (state head leaves.now inners.now homes.now) (compared_answer result) ≡ tree_move (kind views effect) (state head leaves.now inners.now homes.now) (row.compare id.0 other.0) }
+    ensures { (effect : ℕ) → moved (state head leaves.now inners.now homes.now) (compared_answer (numbered result)) ≡ tree_move (kind views effect) (state head leaves.now inners.now homes.now) (row.compare id.0 other.0) }
 {
-    match cursor(views, head, leaves, inners, homes, id) {
-        Standing::Refused(n) => Compared::Refused(n),
-        Standing::At(a) => match cursor(views, head, leaves, inners, homes, other) {
-            Standing::Refused(n) => Compared::Refused(n),
-            Standing::At(b) => calls_read::any::cmp(views, head, leaves, inners, homes, a, b),
-        },
-    }
+    let a = cursor(views, head, leaves, inners, homes, id)?;
+    let b = cursor(views, head, leaves, inners, homes, other)?;
+    calls_read::any::cmp(views, head, leaves, inners, homes, a, b)
 }

@@ -2,17 +2,16 @@
 ghost use Rattle.std.specs.Prelude.{◌≡◌};
 ghost use Rattle.calls_by_id.specs.Target.{target_of};
 
-use model::answer::Target;
 use model::head::Cursor;
 use model::number::{EntryId, NONE};
 
 // At the end for the id that no entry has, else before the one found.
-pub fn target(id: EntryId, at: Cursor) -> Target
+pub fn target(id: EntryId, at: Cursor) -> Option<Cursor>
     ensures { result ≡ target_of id.0 at }
 {
     let i = id.0;
     if i == NONE {
-        return Target::End;
+        return None;
     }
-    Target::Before(at)
+    Some(at)
 }

@@ -1,17 +1,18 @@
 -- Numbers written to the front of the list area, one after the other, are the list of the difference. Assumes nothing.
+use Rattle.model.specs.Numbered.{Numbered}
+use Rattle.std.specs.Prelude.{Ok}
 use mathlib.Core.Path.{◌≡◌, refl, sym, ap, subst, ◌∙◌}
 use mathlib.Core.Logic.{◌≢◌}
 use mathlib.Core.Bool.{Bool, true, false, cond, ◌&&◌, not}
 use mathlib.Core.List.{List, [], ◌∷◌}
-use Prim.Native.Nat.{ℕ, zero, suc, ◌+◌, ◌-◌, ◌<◌, ◌≤◌}
+use Prim.Native.Nat.{ℕ, suc, ◌+◌, ◌-◌, ◌<◌, ◌≤◌}
 use native.Mathlib.Omega.{arith}
+use native.Mathlib.Numerals.{add-one}
 use lib.ListN.{length, get_or, set}
 use lib.Dec.{eqb}
 use borrow.Author.Tests.{eq-eqb, ne_eqb}
 use Rattle.model.specs.Lists.{range, put_at}
 use Rattle.model_laws.specs.Words.{put_none, set_put, put_next}
-use Rattle.model.specs.declared.answer.Number.{Number}
-use Rattle.model.specs.declared.answer.Number.TheVariants as number
 use Rattle.calls_edits.specs.Edits.{edits, rests_on, picked, beyond}
 use Rattle.calls_edits.specs.Walk.{listed, placed, written_from, written}
 use Rattle.calls_edits.specs.Exactly.{length_picked}
@@ -66,28 +67,21 @@ step q k m count now area after h e = go (q k) e
         let a : after ≡ area = ap (λ (p : ℕ × List ℕ). p.1) e in
         rw (n, a)
 
--- a turn of the loop, with `left` edits to go
-pub write_turn : (q : ℕ → Bool) (n left count now : ℕ) (b : Bool) (area after : List ℕ) (all : ℕ × List ℕ) → 0 < left → left ≤ n → count ≤ n - left → n ≤ length area
-    → b ≡ q (n - left) → ◌≡◌ {A = ℕ × List ℕ} (now, after) (placed b (n - left) count area) → written_from q (n - left) left count area ≡ all
-    → written_from q (n - (left - 1)) (left - 1) now after ≡ all
-write_turn q n left count now b area after all pos h g l eb e inv =
-    let s : left ≡ suc (left - 1) = omega arith in
-    let t : n - (left - 1) ≡ suc (n - left) = omega arith in
-    let e' : ◌≡◌ {A = ℕ × List ℕ} (now, after) (placed (q (n - left)) (n - left) count area) = subst (λ (x : Bool). ◌≡◌ {A = ℕ × List ℕ} (now, after) (placed x (n - left) count area)) eb e in
-    ap (λ (x : ℕ). written_from q x (left - 1) now after) t
-    ∙ (step q (n - left) (left - 1) count now area after (omega arith) e' ∙ (ap (λ (x : ℕ). written_from q (n - left) x count area) (sym s) ∙ inv))
+-- a turn of the loop, at edit k
+pub write_turn : (q : ℕ → Bool) (n k count now : ℕ) (b : Bool) (area after : List ℕ) (all : ℕ × List ℕ) → k < n → count ≤ k → n ≤ length area
+    → b ≡ q k → ◌≡◌ {A = ℕ × List ℕ} (now, after) (placed b k count area) → written_from q k (n - k) count area ≡ all
+    → written_from q (k + 1) (n - (k + 1)) now after ≡ all
+write_turn q n k count now b area after all h l s eb e inv =
+    let t : n - k ≡ suc (n - suc k) = omega arith in
+    let e' : ◌≡◌ {A = ℕ × List ℕ} (now, after) (placed (q k) k count area) = subst (λ (x : Bool). ◌≡◌ {A = ℕ × List ℕ} (now, after) (placed x k count area)) eb e in
+    rw (add-one k) (step q k (n - suc k) count now area after (omega arith) e' ∙ (ap (λ (x : ℕ). written_from q k x count area) (sym t) ∙ inv))
 
-pub write_none : (q : ℕ → Bool) (n : ℕ) (area : List ℕ) → written_from q (n - n) n 0 area ≡ written q n area
-write_none q n area =
-    let e : n - n ≡ 0 = omega arith in
-    ap (λ (x : ℕ). written_from q x n 0 area) e
-
-pub write_all : (q : ℕ → Bool) (n left count : ℕ) (area : List ℕ) (all : ℕ × List ℕ) → left ≤ 0 → written_from q (n - left) left count area ≡ all → ◌≡◌ {A = ℕ × List ℕ} (count, area) all
+pub write_all : (q : ℕ → Bool) (n k count : ℕ) (area : List ℕ) (all : ℕ × List ℕ) → n ≤ k → written_from q k (n - k) count area ≡ all → ◌≡◌ {A = ℕ × List ℕ} (count, area) all
 unfolding written_from picked range
-write_all q n zero count area all h inv =
+write_all q n k count area all h inv =
+    let s : n - k ≡ 0 = omega arith in
     let z : count + 0 ≡ count = omega arith in
-    rw (z, put_none count area) at inv
-write_all q n (suc left) count area all h inv = absurd (omega arith)
+    rw (s, z, put_none count area) at inv
 
 -- what is listed is what one rests on and the other doesn't -----------------------------------------------------------------------------------
 
@@ -98,7 +92,7 @@ picked_same p q h (k ∷ ks) = rw (h k, picked_same p q h ks)
 
 pub the_difference : (file : List ℕ) (a b r : ℕ) (one two area after : List ℕ) → ((k : ℕ) → eqb (get_or one k 0) 1 ≡ rests_on file a k) → ((k : ℕ) → eqb (get_or two k 0) 1 ≡ rests_on file b k)
     → ◌≡◌ {A = ℕ × List ℕ} (r, after) (written (listed one two) (edits file) area)
-    → ◌≡◌ {A = Number × List ℕ} (number.Is r, after) (number.Is (length (beyond file a b)), put_at 0 (beyond file a b) area)
+    → ◌≡◌ {A = (Numbered ℕ) × List ℕ} (Ok r, after) (Ok (length (beyond file a b)), put_at 0 (beyond file a b) area)
 unfolding written_from beyond listed
 the_difference file a b r one two area after ha hb e =
     let s : picked (listed one two) (range 0 (edits file)) ≡ picked (λ k. rests_on file a k && not (rests_on file b k)) (range 0 (edits file)) =

@@ -1,34 +1,19 @@
 -- One record's number by its words, and that of the records in order. Assumes nothing.
-use mathlib.Core.Path.{◌≡◌, sym, ap, ◌∙◌}
+use mathlib.Core.Path.{◌≡◌, refl, sym, ap, ◌∙◌}
 use mathlib.Core.Logic.{◌≢◌}
-use mathlib.Core.Bool.{Bool, true, false, ◌||◌, not}
 use mathlib.Core.List.{List, flat_map}
 use Prim.Native.Nat.{ℕ, suc, ◌+◌, ◌-◌, ◌<◌, ◌≤◌}
 use native.Mathlib.Omega.{arith}
 use native.Mathlib.Numerals.{add-one}
-use lib.Dec.{eqb}
 use borrow.Author.Tests.{eq-eqb, ne_eqb}
+use Rattle.std.specs.Prelude.{Result, Ok, Err, length, ◌%◌}
+use Rattle.model.specs.Numbered.{refusal_number, number_of, numbered}
+use Rattle.model.specs.declared.refusal.Refusal.{Refusal}
+use Rattle.model.specs.declared.refusal.Refusal.TheVariants as refusal
 use Rattle.model.specs.Lists.{range, refusal}
-use Rattle.calls_edits.specs.Edits.{left, right, third, fourth, late, causes_of, record_causes, records_causes}
+use Rattle.calls_edits.specs.Edits.{edits, left, right, third, fourth, causes_of, record_causes, records_causes, check}
 use Rattle.calls_edits.specs.Causes.{after, one_more}
-
--- 10, 15 or 0 by the code's two tests
-module _ (e p q x y : ℕ) (filled : Bool) (ef : filled ≡ (not (eqb x 0) || not (eqb y 0))) where
-  pub ten : filled ≡ true → 10 ≡ refusal (causes_of e p q x y)
-  unfolding causes_of refusal
-  ten h = rw (sym ef ∙ h)
-
-  module _ (empty : filled ≡ false) (l r is_late : Bool) (el : l ≡ late e p) (er : r ≡ late e q) (ei : is_late ≡ (l || r)) where
-    either_late : (late e p || late e q) ≡ is_late
-    either_late = rw (sym el, sym er) (sym ei)
-
-    pub fifteen : is_late ≡ true → 15 ≡ refusal (causes_of e p q x y)
-    unfolding causes_of refusal
-    fifteen h = rw (sym ef ∙ empty, either_late ∙ h)
-
-    pub nought : is_late ≡ false → 0 ≡ refusal (causes_of e p q x y)
-    unfolding causes_of refusal
-    nought h = rw (sym ef ∙ empty, either_late ∙ h)
+use Rattle.calls_edits.specs.Answered.{by_records, by_none}
 
 pub by_words : (file : List ℕ) (e p q x y r : ℕ) → p ≡ left file e → q ≡ right file e → x ≡ third file e → y ≡ fourth file e → r ≡ refusal (causes_of e p q x y) → r ≡ refusal (record_causes file e)
 unfolding record_causes
@@ -59,3 +44,32 @@ module _ (file : List ℕ) where
   no_record e n h inv =
       let s : n - e ≡ 0 = omega arith in
       rw s at inv
+
+-- no refusal has the number of an answer
+pub above_zero : (why : Refusal) → refusal_number why ≢ 0
+above_zero refusal.Size = λ z. omega arith
+above_zero refusal.Area = λ z. omega arith
+above_zero refusal.Stamp = λ z. omega arith
+above_zero refusal.Id = λ z. omega arith
+above_zero refusal.Position = λ z. omega arith
+above_zero refusal.Split = λ z. omega arith
+above_zero refusal.Total = λ z. omega arith
+above_zero refusal.Full = λ z. omega arith
+above_zero refusal.Link = λ z. omega arith
+above_zero refusal.Field = λ z. omega arith
+above_zero refusal.Records = λ z. omega arith
+above_zero refusal.Buffer = λ z. omega arith
+above_zero refusal.Leaf = λ z. omega arith
+above_zero refusal.Slot = λ z. omega arith
+above_zero refusal.Parent = λ z. omega arith
+above_zero refusal.Edits = λ z. omega arith
+above_zero refusal.Hollow = λ z. omega arith
+above_zero refusal.Over = λ z. omega arith
+above_zero refusal.Shares = λ z. omega arith
+above_zero refusal.Bounds = λ z. omega arith
+above_zero refusal.Unsound = λ z. omega arith
+
+-- the whole file's answer, by the records' number
+pub by_answer : (file : List ℕ) → length file % 16 ≡ 0 → edits file ≤ 512 → (r : Result (Unit {0}) Refusal) → number_of r ≡ refusal (records_causes file (edits file)) → check file ≡ numbered r
+by_answer file whole few (Ok _) e = by_none file whole few 0 e refl
+by_answer file whole few (Err why) e = by_records file whole few (refusal_number why) e (above_zero why)

@@ -1,7 +1,8 @@
 -- What is promised of the two calls (Promised.antt) is so, of every file, area and pair of edits. Assumes nothing.
+use Rattle.model.specs.Numbered.{Numbered}
 use Rattle.std.proofs.Math.Path.{◌≡◌, refl, ap}
 use Rattle.std.proofs.Common.{sym, subst, ◌∙◌}
-use Rattle.std.specs.Prelude.{◌≢◌, ◌⊎◌, Bool, ◌&&◌, List, [], ◌∷◌, ℕ, ◌+◌, ◌%◌, ◌<◌, ◌≤◌, take, ltb, leb}
+use Rattle.std.specs.Prelude.{◌≢◌, ◌⊎◌, Bool, ◌&&◌, List, [], ◌∷◌, ℕ, ◌+◌, ◌%◌, ◌<◌, ◌≤◌, take, ltb, leb, Ok, Err}
 use Rattle.std.proofs.Math.Logic.{⊎_elim}
 use Rattle.std.proofs.Math.Bool.{true, false, cond, not}
 use native.Mathlib.Omega.{arith}
@@ -10,9 +11,6 @@ use Rattle.std.proofs.Math.Seq.{take_at, drop_at}
 use Rattle.std.proofs.Math.Dec.{eqb}
 use borrow.Author.Tests.{eq-eqb, ne_eqb, eqb-true, eqb-false, lt-ltb, le-ltb, ltb-true, ltb-false, le-leb, lt-leb, leb-false}
 use Rattle.model.specs.Lists.{put_at, refusal}
-use Rattle.model.specs.declared.answer.Outcome.TheVariants as outcome
-use Rattle.model.specs.declared.answer.Number.{Number}
-use Rattle.model.specs.declared.answer.Number.TheVariants as number
 use Rattle.model_laws.specs.Words.{length_put}
 use Rattle.calls_edits.specs.Edits.{edits, rests_on, beyond, record_causes, records_causes, absent, check_causes, difference_causes, check, difference}
 use Rattle.calls_edits.specs.Promised.{In, Accepted, GoodBefore, Checks, Listed, Differs}
@@ -22,15 +20,15 @@ use Rattle.calls_edits.specs.Exactly.{length_picked, exactly}
 -- the checker -----------------------------------------------------------------------------------------------------------------------------
 
 module _ (file : List ℕ) where
-  refused_by : (n : ℕ) → refusal (check_causes file) ≡ n → n ≢ 0 → check file ≡ outcome.Refused n
+  refused_by : (n : ℕ) → refusal (check_causes file) ≡ n → n ≢ 0 → check file ≡ Err n
   unfolding check
-  refused_by n e h = refuse outcome.Refused outcome.Done (check_causes file) n e h
+  refused_by n e h = refuse Err (Ok tt) (check_causes file) n e h
 
-  number_of_law : (n : ℕ) → check file ≡ outcome.Refused n → (refusal (check_causes file) ≡ n) × (refusal (check_causes file) ≢ 0)
+  number_of_law : (n : ℕ) → check file ≡ Err n → (refusal (check_causes file) ≡ n) × (refusal (check_causes file) ≢ 0)
   unfolding check
   number_of_law n e = is_refused (check_causes file) n e
 
-  no_number : check file ≡ outcome.Done → refusal (check_causes file) ≡ 0
+  no_number : check file ≡ Ok tt → refusal (check_causes file) ≡ 0
   unfolding check
   no_number e = is_done (check_causes file) e
 
@@ -45,22 +43,22 @@ module _ (file : List ℕ) where
       go true q true r e = absurd (omega arith)
       go true q false r e = record { whole = eqb-true (length file % 16) 0 q; few = ltb-false 512 (edits file) r; records = every_good file (edits file) e }
 
-  pub accepted : check file ≡ outcome.Done → Accepted file
+  pub accepted : check file ≡ Ok tt → Accepted file
   accepted e = without (no_number e)
 
   -- the number of the records decides where no earlier cause applies
   module _ (whole : length file % 16 ≡ 0) (few : edits file ≤ 512) (n : ℕ) (e : n ≡ refusal (records_causes file (edits file))) where
-    pub by_records : n ≢ 0 → check file ≡ outcome.Refused n
+    pub by_records : n ≢ 0 → check file ≡ Err n
     by_records h = refused_by n (of_records whole few ∙ sym e) h
 
-    pub by_none : n ≡ 0 → check file ≡ outcome.Done
+    pub by_none : n ≡ 0 → check file ≡ Ok tt
     unfolding check
-    by_none z = grant outcome.Refused outcome.Done (check_causes file) (of_records whole few ∙ (sym e ∙ z))
+    by_none z = grant Err (Ok tt) (check_causes file) (of_records whole few ∙ (sym e ∙ z))
 
-  bad : (n e : ℕ) → GoodBefore file e → refusal (record_causes file e) ≡ n → n ≢ 0 → check file ≡ outcome.Refused n
+  bad : (n e : ℕ) → GoodBefore file e → refusal (record_causes file e) ≡ n → n ≢ 0 → check file ≡ Err n
   bad n e f q h = by_records f.whole f.few n (sym (first_bad file (edits file) e f.inside f.before (λ z. h (sym q ∙ z)) ∙ q)) h
 
-  numbers : (n : ℕ) → check file ≡ outcome.Refused n → In n (11 ∷ 16 ∷ 10 ∷ 15 ∷ [])
+  numbers : (n : ℕ) → check file ≡ Err n → In n (11 ∷ 16 ∷ 10 ∷ 15 ∷ [])
   numbers n e = let t = number_of_law n e in subst (λ (k : ℕ). In k (11 ∷ 16 ∷ 10 ∷ 15 ∷ [])) t.0 (check_numbers file t.1)
 
   pub checks : Checks file
@@ -80,18 +78,18 @@ module _ (file area : List ℕ) (a b : ℕ) where
   abbrev causes : ℕ
   causes = refusal (difference_causes file area a b)
 
-  abbrev refused : ℕ → Number × List ℕ
-  refused n = (number.Refused n, area)
+  abbrev refused : ℕ → (Numbered ℕ) × List ℕ
+  refused n = (Err n, area)
 
-  abbrev reply : Number × List ℕ
-  reply = (number.Is (length (beyond file a b)), put_at 0 (beyond file a b) area)
+  abbrev reply : Numbered ℕ × List ℕ
+  reply = (Ok (length (beyond file a b)), put_at 0 (beyond file a b) area)
 
   refused_with : (n : ℕ) → causes ≡ n → n ≢ 0 → difference file area a b ≡ refused n
   unfolding difference
   refused_with n e h = refuse refused reply (difference_causes file area a b) n e h
 
   module _ (wide : 512 ≤ length area) where
-    same_number : (n : ℕ) → check file ≡ outcome.Refused n → causes ≡ n
+    same_number : (n : ℕ) → check file ≡ Err n → causes ≡ n
     same_number n e = go (eqb (length file % 16) 0) refl
       where
         at_check : refusal (check_causes file) ≡ n
@@ -103,10 +101,10 @@ module _ (file area : List ℕ) (a b : ℕ) where
             let h : length file % 16 ≢ 0 = eqb-false (length file % 16) 0 q in
             cut_first file area a b h ∙ (sym (check_number file ∙ rw (ne_eqb (length file % 16) 0 h)) ∙ at_check)
 
-    asked : check file ≡ outcome.Done → causes ≡ refusal (absent file a ∷ absent file b ∷ [])
+    asked : check file ≡ Ok tt → causes ≡ refusal (absent file a ∷ absent file b ∷ [])
     asked e = from_check file area a b (accepted file e).whole wide ∙ rw (no_number file e)
 
-    no_edit : check file ≡ outcome.Done → (edits file ≤ a) ⊎ (edits file ≤ b) → causes ≡ 4
+    no_edit : check file ≡ Ok tt → (edits file ≤ a) ⊎ (edits file ≤ b) → causes ≡ 4
     unfolding refusal
     no_edit e h = asked e ∙ ⊎_elim (λ l. rw (le-leb (edits file) a l)) (λ l. rw (le-leb (edits file) b l) (go (leb (edits file) a))) h
       where
@@ -114,11 +112,11 @@ module _ (file area : List ℕ) (a b : ℕ) where
         go true = refl
         go false = refl
 
-    both_there : check file ≡ outcome.Done → a < edits file → b < edits file → causes ≡ 0
+    both_there : check file ≡ Ok tt → a < edits file → b < edits file → causes ≡ 0
     unfolding refusal
     both_there e l m = asked e ∙ rw (lt-leb (edits file) a l, lt-leb (edits file) b m)
 
-    pub granted : check file ≡ outcome.Done → a < edits file → b < edits file → difference file area a b ≡ reply
+    pub granted : check file ≡ Ok tt → a < edits file → b < edits file → difference file area a b ≡ reply
     unfolding difference
     granted e l m = grant refused reply (difference_causes file area a b) (both_there e l m)
 
@@ -178,7 +176,7 @@ module _ (file area : List ℕ) (a b : ℕ) where
       }
 
   -- the call by its two cases
-  by_case : (P : Number × List ℕ → Type 0) → (causes ≡ 0 → P reply) → (causes ≢ 0 → P (refused causes)) → P (difference file area a b)
+  by_case : (P : Numbered ℕ × List ℕ → Type 0) → (causes ≡ 0 → P reply) → (causes ≢ 0 → P (refused causes)) → P (difference file area a b)
   unfolding difference
   by_case P f g = go (eqb causes 0) refl
     where
@@ -192,11 +190,11 @@ module _ (file area : List ℕ) (a b : ℕ) where
     narrow = λ e h. refused_with 12 (narrow_next file area a b e h) (λ z. omega arith);
     same = λ w n e. refused_with n (same_number w n e) (λ z. (number_of_law file n e).1 ((number_of_law file n e).0 ∙ z));
     absent = λ w e h. refused_with 4 (no_edit w e h) (λ z. omega arith);
-    refused = by_case (λ r. (n : ℕ) → r.0 ≡ number.Refused n → (r.1 ≡ area) × In n (11 ∷ 12 ∷ 16 ∷ 10 ∷ 15 ∷ 4 ∷ []))
+    refused = by_case (λ r. (n : ℕ) → r.0 ≡ Err n → (r.1 ≡ area) × In n (11 ∷ 12 ∷ 16 ∷ 10 ∷ 15 ∷ 4 ∷ []))
         (λ z n e. let d : ◌≡◌ {A = ℕ} 0 1 = cc in absurd (omega arith))
         (λ z n e. let s : causes ≡ n = cc in (refl, subst (λ (k : ℕ). In k (11 ∷ 12 ∷ 16 ∷ 10 ∷ 15 ∷ 4 ∷ [])) s (difference_numbers file area a b z)));
-    listed = by_case (λ r. (n : ℕ) → r.0 ≡ number.Is n → Listed file area a b n r.1)
+    listed = by_case (λ r. (n : ℕ) → r.0 ≡ Ok n → Listed file area a b n r.1)
         (λ z n e. let s : n ≡ length (beyond file a b) = cc in in_list z n s)
         (λ z n e. let d : ◌≡◌ {A = ℕ} 0 1 = cc in absurd (omega arith));
-    served = λ w e l m. (length (beyond file a b), ap (λ (r : Number × List ℕ). r.0) (granted w e l m));
+    served = λ w e l m. (length (beyond file a b), ap (λ (r : Numbered ℕ × List ℕ). r.0) (granted w e l m));
   }

@@ -1,5 +1,6 @@
 -- Which cause decides: of one record, of the records in order, and of the two calls. Assumes nothing.
-use Rattle.std.specs.Prelude.{◌≡◌, ◌≢◌, Bool, ◌&&◌, ◌||◌, not, length, ltb, leb}
+use Rattle.model.specs.Numbered.{Numbered}
+use Rattle.std.specs.Prelude.{◌≡◌, ◌≢◌, Bool, ◌&&◌, ◌||◌, not, length, ltb, leb, Ok, Err}
 use Rattle.std.proofs.Math.Path.{refl, ap}
 use Rattle.std.proofs.Common.{sym, subst, ◌∙◌}
 use Rattle.std.proofs.Math.Bool.{true, false, cond}
@@ -10,7 +11,6 @@ use Rattle.std.proofs.Math.Dec.{eqb}
 use borrow.Author.Tests.{eq-eqb, ne_eqb, eqb-true, eqb-false, lt-ltb, le-ltb, le-leb, lt-leb, leb-false}
 use Rattle.model.specs.Lists.{All, range, Cause, cause, refusal}
 use Rattle.model.specs.Calls.{unless}
-use Rattle.model.specs.declared.answer.Outcome.TheVariants as outcome
 use Rattle.model_laws.specs.Lists.{all_append}
 use Rattle.calls_edits.specs.Edits.{none, edits, left, right, third, fourth, Parent, by_left, by_right, late, causes_of, record_causes, records_causes, absent, check_causes, difference_causes}
 use Rattle.calls_edits.specs.Promised.{In, here, later, Good}
@@ -24,28 +24,35 @@ module _ {A : Type 0} (f : ℕ → A) (a : A) (cs : List Cause) where
   pub grant : refusal cs ≡ 0 → unless cs f a ≡ a
   grant e = rw e
 
-pub is_done : (cs : List Cause) → unless cs outcome.Refused outcome.Done ≡ outcome.Done → refusal cs ≡ 0
+-- nothing said, or the number of a refusal
+abbrev pub Verdict : Type 0
+Verdict = Numbered (Unit {0})
+
+abbrev pub verdict : List Cause → Verdict
+verdict cs = unless cs Err (Ok tt)
+
+pub is_done : (cs : List Cause) → verdict cs ≡ Ok tt → refusal cs ≡ 0
 is_done cs = go (eqb (refusal cs) 0) refl
   where
-    go : (b : Bool) → eqb (refusal cs) 0 ≡ b → cond b outcome.Done (outcome.Refused (refusal cs)) ≡ outcome.Done → refusal cs ≡ 0
+    go : (b : Bool) → eqb (refusal cs) 0 ≡ b → ◌≡◌ {A = Verdict} (cond b (Ok tt) (Err (refusal cs))) (Ok tt) → refusal cs ≡ 0
     go true q e = eqb-true (refusal cs) 0 q
     go false q e = let z : ◌≡◌ {A = ℕ} 0 1 = cc in absurd (omega arith)
 
-pub is_refused : (cs : List Cause) (n : ℕ) → unless cs outcome.Refused outcome.Done ≡ outcome.Refused n → (refusal cs ≡ n) × (refusal cs ≢ 0)
+pub is_refused : (cs : List Cause) (n : ℕ) → verdict cs ≡ Err n → (refusal cs ≡ n) × (refusal cs ≢ 0)
 is_refused cs n = go (eqb (refusal cs) 0) refl
   where
-    go : (b : Bool) → eqb (refusal cs) 0 ≡ b → cond b outcome.Done (outcome.Refused (refusal cs)) ≡ outcome.Refused n → (refusal cs ≡ n) × (refusal cs ≢ 0)
+    go : (b : Bool) → eqb (refusal cs) 0 ≡ b → ◌≡◌ {A = Verdict} (cond b (Ok tt) (Err (refusal cs))) (Err n) → (refusal cs ≡ n) × (refusal cs ≢ 0)
     go true q e = let z : ◌≡◌ {A = ℕ} 0 1 = cc in absurd (omega arith)
     go false q e = let r : refusal cs ≡ n = cc in (r, eqb-false (refusal cs) 0 q)
 
 -- the numbers that causes have
-abbrev pub Numbered : List ℕ → Cause → Type 0
-Numbered ns c = In c.number ns
+abbrev pub OneOf : List ℕ → Cause → Type 0
+OneOf ns c = In c.number ns
 
-pub numbered : (ns : List ℕ) (cs : List Cause) → All (Numbered ns) cs → refusal cs ≢ 0 → In (refusal cs) ns
+pub one_of : (ns : List ℕ) (cs : List Cause) → All (OneOf ns) cs → refusal cs ≢ 0 → In (refusal cs) ns
 unfolding refusal All
-numbered ns [] h n = absurd (n refl)
-numbered ns (c ∷ cs) h n = go c.applies (numbered ns cs h.1) n
+one_of ns [] h n = absurd (n refl)
+one_of ns (c ∷ cs) h n = go c.applies (one_of ns cs h.1) n
   where
     go : (b : Bool) → (refusal cs ≢ 0 → In (refusal cs) ns) → cond b c.number (refusal cs) ≢ 0 → In (cond b c.number (refusal cs)) ns
     go true f m = h.0
@@ -202,7 +209,7 @@ module _ (file : List ℕ) where
       go x true e = rw e
       go x false e = rw (e, e)
 
-  records_numbered : (ns : List ℕ) → In 10 ns → In 15 ns → (i m : ℕ) → All (Numbered ns) (flat_map (record_causes file) (range i m))
+  records_numbered : (ns : List ℕ) → In 10 ns → In 15 ns → (i m : ℕ) → All (OneOf ns) (flat_map (record_causes file) (range i m))
   unfolding range flat_map record_causes causes_of All
   records_numbered ns a b i zero = tt
   records_numbered ns a b i (suc m) = (a, (b, records_numbered ns a b (suc i) m))
@@ -216,7 +223,7 @@ module _ (file : List ℕ) where
 
   pub check_numbers : refusal (check_causes file) ≢ 0 → In (refusal (check_causes file)) (11 ∷ 16 ∷ 10 ∷ 15 ∷ [])
   unfolding All records_causes
-  check_numbers = numbered (11 ∷ 16 ∷ 10 ∷ 15 ∷ []) (check_causes file) (here, (later here, records_numbered file (11 ∷ 16 ∷ 10 ∷ 15 ∷ []) (later (later here)) (later (later (later here))) 0 (edits file)))
+  check_numbers = one_of (11 ∷ 16 ∷ 10 ∷ 15 ∷ []) (check_causes file) (here, (later here, records_numbered file (11 ∷ 16 ∷ 10 ∷ 15 ∷ []) (later (later here)) (later (later (later here))) 0 (edits file)))
 
   module _ (area : List ℕ) (a b : ℕ) where
     pub difference_numbers : refusal (difference_causes file area a b) ≢ 0 → In (refusal (difference_causes file area a b)) (11 ∷ 12 ∷ 16 ∷ 10 ∷ 15 ∷ 4 ∷ [])
@@ -224,8 +231,8 @@ module _ (file : List ℕ) where
     difference_numbers =
         let ns : List ℕ = 11 ∷ 12 ∷ 16 ∷ 10 ∷ 15 ∷ 4 ∷ [] in
         let four : In 4 (11 ∷ 12 ∷ 16 ∷ 10 ∷ 15 ∷ 4 ∷ []) = later (later (later (later (later here)))) in
-        numbered ns (difference_causes file area a b)
-        (here, (later here, (later (later here), all_append (Numbered ns) (flat_map (record_causes file) (range 0 (edits file))) _ (records_numbered file ns (later (later (later here))) (later (later (later (later here)))) 0 (edits file)) (four, (four, tt)))))
+        one_of ns (difference_causes file area a b)
+        (here, (later here, (later (later here), all_append (OneOf ns) (flat_map (record_causes file) (range 0 (edits file))) _ (records_numbered file ns (later (later (later here))) (later (later (later (later here)))) 0 (edits file)) (four, (four, tt)))))
 
     pub cut_first : length file % 16 ≢ 0 → refusal (difference_causes file area a b) ≡ 11
     unfolding refusal

@@ -1,14 +1,11 @@
 -- Edits that name their forerunners (change request 5): a file of 16-byte records, what an edit rests on, and the two calls, each with its causes in
 -- order. Assumes nothing.
-use Rattle.std.specs.Prelude.{◌≡◌, ◌≢◌, Bool, cond, ◌&&◌, ◌||◌, not, ℕ, zero, suc, ◌+◌, ◌*◌, ◌/◌, ◌%◌, length, ltb, leb, eqb}
+use Rattle.model.specs.Numbered.{Numbered}
+use Rattle.std.specs.Prelude.{◌≡◌, ◌≢◌, Bool, cond, ◌&&◌, ◌||◌, not, ℕ, zero, suc, ◌+◌, ◌*◌, ◌/◌, ◌%◌, length, ltb, leb, eqb, Ok, Err}
 use mathlib.Core.List.{List, [], ◌∷◌, ◌++◌, flat_map}
 use Rattle.model.specs.Lists.{range, put_at, Cause, cause}
 use Rattle.model.specs.Record.{word_at}
 use Rattle.model.specs.Calls.{unless}
-use Rattle.model.specs.declared.answer.Outcome.{Outcome}
-use Rattle.model.specs.declared.answer.Outcome.TheVariants as outcome
-use Rattle.model.specs.declared.answer.Number.{Number}
-use Rattle.model.specs.declared.answer.Number.TheVariants as number
 
 -- the parent that says that there is none
 abbrev pub none : ℕ
@@ -103,10 +100,10 @@ check_causes file = cut file ∷ crowded file ∷ records_causes file (edits fil
 abbrev pub difference_causes : List ℕ → List ℕ → ℕ → ℕ → List Cause
 difference_causes file area a b = cut file ∷ narrow area ∷ crowded file ∷ (records_causes file (edits file) ++ (absent file a ∷ absent file b ∷ []))
 
-unfoldable pub check : List ℕ → Outcome
-check file = unless (check_causes file) outcome.Refused outcome.Done
+unfoldable pub check : List ℕ → Numbered (Unit {0})
+check file = unless (check_causes file) Err (Ok tt)
 
 -- the count of the edits that a rests on and b doesn't, and the list area with these in front
-unfoldable pub difference : List ℕ → List ℕ → ℕ → ℕ → Number × List ℕ
+unfoldable pub difference : List ℕ → List ℕ → ℕ → ℕ → (Numbered ℕ) × List ℕ
 difference file area a b =
-    unless (difference_causes file area a b) (λ n. (number.Refused n, area)) (number.Is (length (beyond file a b)), put_at 0 (beyond file a b) area)
+    unless (difference_causes file area a b) (λ n. (Err n, area)) (Ok (length (beyond file a b)), put_at 0 (beyond file a b) area)

@@ -1,7 +1,5 @@
 -- What is promised of the two calls on files of edits (change request 5). The theorems are `checks` and `differs` of Answered.antt. Assumes nothing.
-use Rattle.std.specs.Prelude.{◌≡◌, ◌≢◌, ◌⊎◌, List, [], ◌∷◌, ℕ, suc, ◌%◌, ◌<◌, ◌≤◌, length, take, drop}
-use Rattle.model.specs.declared.answer.Outcome.TheVariants as outcome
-use Rattle.model.specs.declared.answer.Number.TheVariants as number
+use Rattle.std.specs.Prelude.{◌≡◌, ◌≢◌, ◌⊎◌, List, [], ◌∷◌, ℕ, suc, ◌%◌, ◌<◌, ◌≤◌, length, take, drop, Ok, Err}
 use Rattle.calls_edits.specs.Edits.{edits, third, fourth, Parent, Rests, check, difference}
 
 -- k stands in a list
@@ -42,13 +40,13 @@ pub record GoodBefore (file : List ℕ) (e : ℕ) : Type 0 where
 
 -- done exactly for accepted files; else 11, 16 or the number of the first bad record, 10 before 15, and no other number
 pub record Checks (file : List ℕ) : Type 0 where
-  pub accepted : check file ≡ outcome.Done → Accepted file
-  pub accepts : Accepted file → check file ≡ outcome.Done
-  pub cut : length file % 16 ≢ 0 → check file ≡ outcome.Refused 11
-  pub crowded : length file % 16 ≡ 0 → 512 < edits file → check file ≡ outcome.Refused 16
-  pub rest : (e : ℕ) → GoodBefore file e → (third file e ≡ 0 → fourth file e ≢ 0) → check file ≡ outcome.Refused 10
-  pub late : (e p : ℕ) → GoodBefore file e → third file e ≡ 0 → fourth file e ≡ 0 → Parent file e p → e ≤ p → check file ≡ outcome.Refused 15
-  pub numbers : (n : ℕ) → check file ≡ outcome.Refused n → In n (11 ∷ 16 ∷ 10 ∷ 15 ∷ [])
+  pub accepted : check file ≡ Ok tt → Accepted file
+  pub accepts : Accepted file → check file ≡ Ok tt
+  pub cut : length file % 16 ≢ 0 → check file ≡ Err 11
+  pub crowded : length file % 16 ≡ 0 → 512 < edits file → check file ≡ Err 16
+  pub rest : (e : ℕ) → GoodBefore file e → (third file e ≡ 0 → fourth file e ≢ 0) → check file ≡ Err 10
+  pub late : (e p : ℕ) → GoodBefore file e → third file e ≡ 0 → fourth file e ≡ 0 → Parent file e p → e ≤ p → check file ≡ Err 15
+  pub numbers : (n : ℕ) → check file ≡ Err n → In n (11 ∷ 16 ∷ 10 ∷ 15 ∷ [])
 
 -- the difference --------------------------------------------------------------------------------------------------------------------------
 
@@ -64,10 +62,10 @@ pub record Listed (file area : List ℕ) (a b n : ℕ) (after : List ℕ) : Type
 -- 11 before all else, 12 directly after; where neither applies a refused file gets check's number, and then a missing edit 4. Any refusal leaves the
 -- area, and has one of six numbers; any other reply is the count of a list as above, and there is one exactly where no cause applies
 pub record Differs (file area : List ℕ) (a b : ℕ) : Type 0 where
-  pub cut : length file % 16 ≢ 0 → difference file area a b ≡ (number.Refused 11, area)
-  pub narrow : length file % 16 ≡ 0 → length area < 512 → difference file area a b ≡ (number.Refused 12, area)
-  pub same : 512 ≤ length area → (n : ℕ) → check file ≡ outcome.Refused n → difference file area a b ≡ (number.Refused n, area)
-  pub absent : 512 ≤ length area → check file ≡ outcome.Done → (edits file ≤ a) ⊎ (edits file ≤ b) → difference file area a b ≡ (number.Refused 4, area)
-  pub refused : (n : ℕ) → (difference file area a b).0 ≡ number.Refused n → ((difference file area a b).1 ≡ area) × In n (11 ∷ 12 ∷ 16 ∷ 10 ∷ 15 ∷ 4 ∷ [])
-  pub listed : (n : ℕ) → (difference file area a b).0 ≡ number.Is n → Listed file area a b n (difference file area a b).1
-  pub served : 512 ≤ length area → check file ≡ outcome.Done → a < edits file → b < edits file → (n : ℕ) × ((difference file area a b).0 ≡ number.Is n)
+  pub cut : length file % 16 ≢ 0 → difference file area a b ≡ (Err 11, area)
+  pub narrow : length file % 16 ≡ 0 → length area < 512 → difference file area a b ≡ (Err 12, area)
+  pub same : 512 ≤ length area → (n : ℕ) → check file ≡ Err n → difference file area a b ≡ (Err n, area)
+  pub absent : 512 ≤ length area → check file ≡ Ok tt → (edits file ≤ a) ⊎ (edits file ≤ b) → difference file area a b ≡ (Err 4, area)
+  pub refused : (n : ℕ) → (difference file area a b).0 ≡ Err n → ((difference file area a b).1 ≡ area) × In n (11 ∷ 12 ∷ 16 ∷ 10 ∷ 15 ∷ 4 ∷ [])
+  pub listed : (n : ℕ) → (difference file area a b).0 ≡ Ok n → Listed file area a b n (difference file area a b).1
+  pub served : 512 ≤ length area → check file ≡ Ok tt → a < edits file → b < edits file → (n : ℕ) × ((difference file area a b).0 ≡ Ok n)

@@ -1,22 +1,19 @@
 // The edits that one edit rests on and another doesn't.
+ghost use Rattle.model.specs.Numbered.{numbered};
 ghost use Rattle.std.specs.Prelude.{◌≡◌, ◌<◌, ◌≤◌, length};
-ghost use Rattle.model.specs.declared.answer.Outcome.TheVariants as outcome;
 ghost use Rattle.calls_edits.specs.Edits.{check, difference};
 ghost use Rattle.calls_edits.specs.Walk.{listed, placed, written};
 
 use crate::check::check;
 use crate::walk::reached;
-use model::answer::{Number, Outcome};
+use model::refusal::Refusal;
 
 // Whether edit k is marked in one and not in two.
 fn is_listed(one: &[u8; 512], two: &[u8; 512], k: usize) -> bool
     requires { k < 512 }
     ensures { result ≡ listed one.now two.now k }
 {
-    if one[k] != 1 {
-        return false;
-    }
-    two[k] != 1
+    one[k] == 1 && two[k] != 1
 }
 
 // The number k put behind the count of numbers that the area holds, if it is listed; how many it holds then.
@@ -37,48 +34,40 @@ fn write(area: &mut [u32], one: &[u8; 512], two: &[u8; 512], n: usize) -> u32
     ensures { (result, area.new) ≡ written (listed one.now two.now) n area.old }
 {
     let mut count: usize = 0;
-    let mut left = n;
-    while left > 0 {
-        let k = n - left;
+    for k in 0..n {
         let yes = is_listed(one, two, k);
         count = put(area, count, k, yes);
-        left -= 1;
     }
     count as u32
 }
 
 // The call on an accepted file and an area that is long enough.
-fn list(file: &[u8], area: &mut [u32], first: u32, second: u32) -> Number
-    requires { (check file.now ≡ outcome.Done) × (512 ≤ length area.old) }
-    ensures { (result, area.new) ≡ difference file.now area.old first second }
+fn list(file: &[u8], area: &mut [u32], first: u32, second: u32) -> Result<u32, Refusal>
+    requires { (check file.now ≡ Ok tt) × (512 ≤ length area.old) }
+    ensures { (numbered result, area.new) ≡ difference file.now area.old first second }
 {
     let n = file.len() / 16;
     let a = first as usize;
     let b = second as usize;
-    if a >= n {
-        return Number::Refused(4);
-    }
-    if b >= n {
-        return Number::Refused(4);
+    if a >= n || b >= n {
+        return Err(Refusal::Id);
     }
     let one = reached(file, a);
     let two = reached(file, b);
-    Number::Is(write(area, &one, &two, n))
+    Ok(write(area, &one, &two, n))
 }
 
-// The edits that the first rests on and the second doesn't, each once, in rising number, at the front of the area; how many they are, or 11, 12, 16,
-// 10, 15 or 4.
-pub fn difference(file: &[u8], area: &mut [u32], first: u32, second: u32) -> Number
-    ensures { (result, area.new) ≡ difference file.now area.old first second }
+// The edits that the first rests on and the second doesn't, each once, in rising number, at the front of the area; how many they are, or
+// Records, Buffer, Edits, Field, Parent or Id.
+pub fn difference(file: &[u8], area: &mut [u32], first: u32, second: u32) -> Result<u32, Refusal>
+    ensures { (numbered result, area.new) ≡ difference file.now area.old first second }
 {
     if file.len() % 16 != 0 {
-        return Number::Refused(11);
+        return Err(Refusal::Records);
     }
     if area.len() < 512 {
-        return Number::Refused(12);
+        return Err(Refusal::Buffer);
     }
-    match check(file) {
-        Outcome::Done => list(file, area, first, second),
-        Outcome::Refused(n) => Number::Refused(n),
-    }
+    check(file)?;
+    list(file, area, first, second)
 }

@@ -1,6 +1,5 @@
 // The edits that an edit rests on, marked by a walk down from it: in an accepted file parents are smaller.
 ghost use Rattle.std.specs.Prelude.{◌≡◌, ℕ, ◌+◌, ◌*◌, ◌<◌, ◌≤◌, length, get_or, set, eqb};
-ghost use Rattle.model.specs.declared.answer.Outcome.TheVariants as outcome;
 ghost use Rattle.calls_edits.specs.Edits.{edits, rests_on, check};
 ghost use Rattle.calls_edits.specs.Walk.{stepped, walked};
 
@@ -36,16 +35,14 @@ fn walk(file: &[u8], marks: &mut [u8], n: usize)
     requires { (16 * n ≤ length file.now) × (n ≤ length marks.old) }
     ensures { marks.new ≡ walked file.now n marks.old }
 {
-    let mut k: usize = n;
-    while 0 < k {
-        k -= 1;
+    for k in (0..n).rev() {
         step(file, marks, k);
     }
 }
 
 // 1 for each edit that edit e of an accepted file rests on.
 pub fn reached(file: &[u8], e: usize) -> [u8; 512]
-    requires { (check file.now ≡ outcome.Done) × (e < edits file.now) }
+    requires { (check file.now ≡ Ok tt) × (e < edits file.now) }
     ensures { (k : ℕ) → eqb (get_or result k 0) 1 ≡ rests_on file.now e k }
 {
     let mut marks: [u8; 512] = [0; 512];

@@ -1,5 +1,6 @@
 // The calls that begin a tree with views lengths an entry, the first two a lowest and a highest one where they are ordered: one leaf with
 // the entry 0, and one inner node above it.
+ghost use Rattle.model.specs.Numbered.{numbered, number_of};
 ghost use Rattle.std.specs.Prelude.{◌≡◌, ℕ, suc, ◌<◌, ◌≤◌, List, [], ◌∷◌, ◌++◌, length, take, slice_index};
 ghost use Rattle.model.specs.Length.{lengths_in};
 ghost use Rattle.model.specs.Lists.{Cause, refusal};
@@ -13,23 +14,22 @@ ghost use Rattle.tree_node.specs.Shaped.{Shaped};
 ghost use Rattle.tree_open.specs.Open.{opened_by};
 ghost use Rattle.calls_make.specs.Made.{make_by};
 
-use model::answer::{Outcome, OutcomeReply};
-use model::head::{Head, Held};
+use model::answer::Reply;
+use model::head::Head;
 use model::length::Slot;
 use model::number::NodeNo;
+use model::refusal::Refusal;
 use model::shape::Shape;
 use tree_node::split::new_one;
 use tree_open::lengths::{crossed, too_many_lines};
-use tree_open::open::{Opened, open_areas};
+use tree_open::open::open_areas;
 
 // Node 0 of an area written anew with the slot x.
 fn write_first(area: &mut [u32], g: Shape, parent: u32, x: &[u32; 4])
     requires { Shaped g × (g.size ≤ length area.old) × (length x.now ≡ 4) }
     ensures { area.new ≡ put_node g 0 (new_node g.stride g.fan parent (take g.stride x.now ∷ [])) area.old }
 {
-    let a: usize = 0;
-    let e = g.size;
-    new_one(&mut area[a..e], g, parent, x);
+    new_one(&mut area[..g.size], g, parent, x);
 }
 
 // The tree's first words, and its head. x: the entry 0.
@@ -51,15 +51,15 @@ fn begin(
     write_first(inners, g, empty.child, x);
     homes[0] = 0;
     Head {
-        fan: fan,
-        limit: limit,
+        fan,
+        limit,
         root: NodeNo(0),
         levels: 1,
         leaves: 1,
         inners: 1,
         entries: 1,
-        stamp: stamp,
-        finger: Held::Absent,
+        stamp,
+        finger: None,
     }
 }
 
@@ -73,68 +73,57 @@ fn open_make(
     leaves: &[u32],
     inners: &[u32],
     homes: &[u32],
-) -> Opened
+) -> Result<Shape, Refusal>
     requires { (1 ≤ views) × (views ≤ 3) × (length x.now ≡ 4) }
-    ensures { (effect : ℕ) → result ≡ opened_by (make_causes (kind_of views effect ordered) fan limit (lengths_in views x.now) leaves.now inners.now homes.now) (shape (suc views) fan limit) }
+    ensures { (effect : ℕ) → numbered result ≡ opened_by (make_causes (kind_of views effect ordered) fan limit (lengths_in views x.now) leaves.now inners.now homes.now) (shape (suc views) fan limit) }
 {
     if too_many_lines(views, x) {
-        return Opened::Refused(10);
+        return Err(Refusal::Field);
     }
-    match open_areas(views, fan, limit, leaves, inners, homes) {
-        Opened::Refused(n) => Opened::Refused(n),
-        Opened::Good(g) => {
-            if crossed(views, ordered, x) {
-                return Opened::Refused(20);
-            }
-            Opened::Good(g)
-        }
+    let g = open_areas(views, fan, limit, leaves, inners, homes)?;
+    if crossed(views, ordered, x) {
+        return Err(Refusal::Bounds);
     }
+    Ok(g)
 }
 
-// The same of a new tree, and behind all that high, the number for shares that sum too high.
+// The same of a new tree, and behind all that whether the shares fit.
 fn open_new(
     views: usize,
     ordered: bool,
-    high: u32,
+    shared: Result<(), Refusal>,
     fan: u32,
     limit: u32,
     x: &[u32; 4],
     leaves: &[u32],
     inners: &[u32],
     homes: &[u32],
-) -> Opened
+) -> Result<Shape, Refusal>
     requires { (1 ≤ views) × (views ≤ 3) × (length x.now ≡ 4) }
-    ensures { (effect : ℕ) (more : List Cause) → refusal more ≡ high → result ≡ opened_by (make_causes (kind_of views effect ordered) fan limit (lengths_in views x.now) leaves.now inners.now homes.now ++ more) (shape (suc views) fan limit) }
+    ensures { (effect : ℕ) (more : List Cause) → refusal more ≡ number_of shared → numbered result ≡ opened_by (make_causes (kind_of views effect ordered) fan limit (lengths_in views x.now) leaves.now inners.now homes.now ++ more) (shape (suc views) fan limit) }
 {
-    match open_make(views, ordered, fan, limit, x, leaves, inners, homes) {
-        Opened::Refused(n) => Opened::Refused(n),
-        Opened::Good(g) => {
-            if high != 0 {
-                return Opened::Refused(high);
-            }
-            Opened::Good(g)
-        }
-    }
+    let g = open_make(views, ordered, fan, limit, x, leaves, inners, homes)?;
+    shared?;
+    Ok(g)
 }
 
-// A new tree with the entry x, 0; a refused one is a head of zeros without finger. high: the number for shares that sum too high, 0 where
-// there are none.
+// A new tree with the entry x, 0; a refused one is a head of zeros without finger. shared: whether the shares fit.
 pub fn new(
     views: usize,
     ordered: bool,
-    high: u32,
+    shared: Result<(), Refusal>,
     fan: u32,
     limit: u32,
     x: &[u32; 4],
     leaves: &mut [u32],
     inners: &mut [u32],
     homes: &mut [u32],
-) -> OutcomeReply
+) -> Reply<()>
     requires { (1 ≤ views) × (views ≤ 3) × (slice_index x.now 0 ≡ 0) × (length x.now ≡ 4) }
-    ensures { (effect : ℕ) (more : List Cause) → refusal more ≡ high → reply (state result.head leaves.new inners.new homes.new) result.answer ≡ make_by (kind_of views effect ordered) more fan limit (lengths_in views x.now) leaves.old inners.old homes.old }
+    ensures { (effect : ℕ) (more : List Cause) → refusal more ≡ number_of shared → reply (state result.head leaves.new inners.new homes.new) (numbered result.answer) ≡ make_by (kind_of views effect ordered) more fan limit (lengths_in views x.now) leaves.old inners.old homes.old }
 {
-    match open_new(views, ordered, high, fan, limit, x, leaves, inners, homes) {
-        Opened::Refused(n) => {
+    match open_new(views, ordered, shared, fan, limit, x, leaves, inners, homes) {
+        Err(why) => {
             let zeros = Head {
                 fan: 0,
                 limit: 0,
@@ -144,16 +133,16 @@ pub fn new(
                 inners: 0,
                 entries: 0,
                 stamp: 0,
-                finger: Held::Absent,
+                finger: None,
             };
-            OutcomeReply {
+            Reply {
                 head: zeros,
-                answer: Outcome::Refused(n),
+                answer: Err(why),
             }
         }
-        Opened::Good(g) => OutcomeReply {
+        Ok(g) => Reply {
             head: begin(fan, limit, 1, g, x, leaves, inners, homes),
-            answer: Outcome::Done,
+            answer: Ok(()),
         },
     }
 }
@@ -167,21 +156,21 @@ pub fn reset(
     leaves: &mut [u32],
     inners: &mut [u32],
     homes: &mut [u32],
-) -> OutcomeReply
+) -> Reply<()>
     requires { (1 ≤ views) × (views ≤ 3) × (slice_index x.now 0 ≡ 0) × (length x.now ≡ 4) }
-    ensures { (effect : ℕ) → reply (state result.head leaves.new inners.new homes.new) result.answer ≡ calls.reset (kind_of views effect ordered) (state head leaves.old inners.old homes.old) (lengths_in views x.now) }
+    ensures { (effect : ℕ) → reply (state result.head leaves.new inners.new homes.new) (numbered result.answer) ≡ calls.reset (kind_of views effect ordered) (state head leaves.old inners.old homes.old) (lengths_in views x.now) }
 {
     let fan = head.fan;
     let limit = head.limit;
-    let stamp = std::num::wrapping_add_u64(head.stamp, 1);
+    let stamp = head.stamp.wrapping_add(1);
     match open_make(views, ordered, fan, limit, x, leaves, inners, homes) {
-        Opened::Refused(n) => OutcomeReply {
-            head: head,
-            answer: Outcome::Refused(n),
+        Err(why) => Reply {
+            head,
+            answer: Err(why),
         },
-        Opened::Good(g) => OutcomeReply {
+        Ok(g) => Reply {
             head: begin(fan, limit, stamp, g, x, leaves, inners, homes),
-            answer: Outcome::Done,
+            answer: Ok(()),
         },
     }
 }

@@ -1,4 +1,5 @@
 // The calls that begin a tree: one leaf with the entry 0, and one inner node above it.
+ghost use Rattle.model.specs.Numbered.{numbered};
 ghost use Rattle.std.specs.Prelude.{◌≡◌};
 ghost use Rattle.model.specs.State.{state};
 ghost use Rattle.model.specs.Length.{list_of};
@@ -6,7 +7,7 @@ ghost use Rattle.model.specs.Kind.{base};
 ghost use Rattle.model.specs.Calls as calls;
 ghost use Rattle.model.specs.Calls.{reply};
 
-use model::answer::OutcomeReply;
+use model::answer::Reply;
 use model::head::Head;
 use model::length::{Lengths, Slot};
 
@@ -18,8 +19,8 @@ pub fn new(
     leaves: &mut [u32],
     inners: &mut [u32],
     homes: &mut [u32],
-) -> OutcomeReply
-    ensures { reply (state result.head leaves.new inners.new homes.new) result.answer ≡ calls.make base fan limit (list_of lengths) leaves.old inners.old homes.old }
+) -> Reply<()>
+    ensures { reply (state result.head leaves.new inners.new homes.new) (numbered result.answer) ≡ calls.make base fan limit (list_of lengths) leaves.old inners.old homes.old }
 {
     let slot = Slot::new(0, lengths);
     let x: [u32; 4] = [
@@ -28,7 +29,7 @@ pub fn new(
         slot.effect_len,
         slot.line_ends,
     ];
-    crate::any::new(3, false, 0, fan, limit, &x, leaves, inners, homes)
+    crate::any::new(3, false, Ok(()), fan, limit, &x, leaves, inners, homes)
 }
 
 // The tree begun anew, with its own fan and limit.
@@ -38,8 +39,8 @@ pub fn reset(
     leaves: &mut [u32],
     inners: &mut [u32],
     homes: &mut [u32],
-) -> OutcomeReply
-    ensures { reply (state result.head leaves.new inners.new homes.new) result.answer ≡ calls.reset base (state head leaves.old inners.old homes.old) (list_of lengths) }
+) -> Reply<()>
+    ensures { reply (state result.head leaves.new inners.new homes.new) (numbered result.answer) ≡ calls.reset base (state head leaves.old inners.old homes.old) (list_of lengths) }
 {
     let slot = Slot::new(0, lengths);
     let x: [u32; 4] = [

@@ -1,4 +1,5 @@
 // The calls that begin a tree whose seats stand in seventeen lent words.
+ghost use Rattle.model.specs.Numbered.{numbered, number_of};
 ghost use Rattle.std.specs.Prelude.{◌≡◌, ◌≤◌, length, ◌≢◌, slice_index};
 ghost use Rattle.model.specs.State.{state};
 ghost use Rattle.model.specs.Lists.{refusal};
@@ -9,21 +10,22 @@ ghost use Rattle.model.specs.SeatedCalls.{seated_reply, after_reset, reset_seate
 ghost use Rattle.tree_seats.specs.Words.{seats_from};
 ghost use Rattle.calls_make.specs.Made.{shares_causes, seats_given, seats_made, make_with};
 
-use model::answer::{Outcome, OutcomeReply};
+use model::answer::Reply;
 use model::head::Head;
 use model::length::{Lengths, Slot};
-use tree_seats::rule::too_high;
+use model::refusal::Refusal;
+use tree_seats::rule::within;
 use tree_seats::write::{begin, clear};
 
-// 19 where there are shares and they sum too high, else 0.
-fn high_for(limit: u32, shares: &[u32]) -> u32
+// Whether shares, where there are some, sum to less than the limit.
+fn fit(limit: u32, shares: &[u32]) -> Result<(), Refusal>
     requires { (length shares.now ≢ 0) → length shares.now ≡ 8 }
-    ensures { refusal (shares_causes limit shares.now) ≡ result }
+    ensures { refusal (shares_causes limit shares.now) ≡ number_of result }
 {
-    if shares.len() == 0 {
-        return 0;
+    if shares.is_empty() {
+        return Ok(());
     }
-    too_high(limit, shares)
+    within(limit, shares)
 }
 
 // No seats.
@@ -31,8 +33,7 @@ fn put_none(seats: &mut [u32])
     requires { length seats.old ≡ 17 }
     ensures { (seats_from seats.new ≡ no_seats) × (slice_index seats.new 0 ≤ 1) }
 {
-    let none: [u32; 8] = [0; 8];
-    begin(seats, 0, &none);
+    begin(seats, 0, &[0; 8]);
 }
 
 // The seats of a new tree with these shares, or none where there are none.
@@ -40,20 +41,20 @@ fn put_seats(seats: &mut [u32], shares: &[u32])
     requires { (length seats.old ≡ 17) × ((length shares.now ≢ 0) → length shares.now ≡ 8) }
     ensures { (seats_from seats.new ≡ seats_given shares.now) × (slice_index seats.new 0 ≤ 1) }
 {
-    if shares.len() == 0 {
+    if shares.is_empty() {
         return put_none(seats);
     }
     begin(seats, 1, shares);
 }
 
 // The same of a tree that was made, and none where that was refused.
-fn put_made(seats: &mut [u32], shares: &[u32], answer: Outcome)
+fn put_made(seats: &mut [u32], shares: &[u32], answer: Result<(), Refusal>)
     requires { (length seats.old ≡ 17) × ((length shares.now ≢ 0) → length shares.now ≡ 8) }
-    ensures { (seats_from seats.new ≡ seats_made (seats_given shares.now) answer) × (slice_index seats.new 0 ≤ 1) }
+    ensures { (seats_from seats.new ≡ seats_made (seats_given shares.now) (numbered answer)) × (slice_index seats.new 0 ≤ 1) }
 {
     match answer {
-        Outcome::Done => put_seats(seats, shares),
-        Outcome::Refused(n) => put_none(seats),
+        Ok(()) => put_seats(seats, shares),
+        Err(_) => put_none(seats),
     }
 }
 
@@ -67,11 +68,11 @@ pub fn new(
     leaves: &mut [u32],
     inners: &mut [u32],
     homes: &mut [u32],
-) -> OutcomeReply
+) -> Reply<()>
     requires { (length seats.old ≡ 17) × ((length shares.now ≢ 0) → length shares.now ≡ 8) }
-    ensures { (seated_reply (state result.head leaves.new inners.new homes.new) (seats_from seats.new) result.answer ≡ make_with base fan limit shares.now (list_of lengths) leaves.old inners.old homes.old) × (slice_index seats.new 0 ≤ 1) }
+    ensures { (seated_reply (state result.head leaves.new inners.new homes.new) (seats_from seats.new) (numbered result.answer) ≡ make_with base fan limit shares.now (list_of lengths) leaves.old inners.old homes.old) × (slice_index seats.new 0 ≤ 1) }
 {
-    let high = high_for(limit, shares);
+    let shared = fit(limit, shares);
     let slot = Slot::new(0, lengths);
     let x: [u32; 4] = [
         slot.child,
@@ -79,24 +80,19 @@ pub fn new(
         slot.effect_len,
         slot.line_ends,
     ];
-    let r = crate::any::new(3, false, high, fan, limit, &x, leaves, inners, homes);
-    let after = r.head;
-    let answer = r.answer;
-    put_made(seats, shares, answer);
-    OutcomeReply {
-        head: after,
-        answer: answer,
-    }
+    let r = crate::any::new(3, false, shared, fan, limit, &x, leaves, inners, homes);
+    put_made(seats, shares, r.answer);
+    r
 }
 
 // A tree begun anew has no charges.
-fn clear_for(seats: &mut [u32], answer: Outcome)
+fn clear_for(seats: &mut [u32], answer: Result<(), Refusal>)
     requires { length seats.old ≡ 17 }
-    ensures { (seats_from seats.new ≡ after_reset (seats_from seats.old) answer) × (slice_index seats.new 0 ≡ slice_index seats.old 0) }
+    ensures { (seats_from seats.new ≡ after_reset (seats_from seats.old) (numbered answer)) × (slice_index seats.new 0 ≡ slice_index seats.old 0) }
 {
     match answer {
-        Outcome::Done => clear(seats),
-        Outcome::Refused(n) => {}
+        Ok(()) => clear(seats),
+        Err(_) => {}
     }
 }
 
@@ -108,9 +104,9 @@ pub fn reset(
     leaves: &mut [u32],
     inners: &mut [u32],
     homes: &mut [u32],
-) -> OutcomeReply
+) -> Reply<()>
     requires { length seats.old ≡ 17 }
-    ensures { (seated_reply (state result.head leaves.new inners.new homes.new) (seats_from seats.new) result.answer ≡ reset_seated base (state head leaves.old inners.old homes.old) (seats_from seats.old) (list_of lengths)) × (slice_index seats.new 0 ≡ slice_index seats.old 0) }
+    ensures { (seated_reply (state result.head leaves.new inners.new homes.new) (seats_from seats.new) (numbered result.answer) ≡ reset_seated base (state head leaves.old inners.old homes.old) (seats_from seats.old) (list_of lengths)) × (slice_index seats.new 0 ≡ slice_index seats.old 0) }
 {
     let slot = Slot::new(0, lengths);
     let x: [u32; 4] = [
@@ -120,11 +116,6 @@ pub fn reset(
         slot.line_ends,
     ];
     let r = crate::any::reset(3, false, head, &x, leaves, inners, homes);
-    let after = r.head;
-    let answer = r.answer;
-    clear_for(seats, answer);
-    OutcomeReply {
-        head: after,
-        answer: answer,
-    }
+    clear_for(seats, r.answer);
+    r
 }

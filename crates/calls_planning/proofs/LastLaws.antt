@@ -1,5 +1,8 @@
 -- The last entry that could hold a position: by the lowest lengths, or past their total by the highest; and where the tree's tests refuse a lookup, they
 -- refuse every lookup alike. Assumes nothing.
+use Rattle.model.specs.declared.head.Cursor.{Cursor}
+use Rattle.model.specs.Numbered.{Numbered}
+use Rattle.std.specs.Prelude.{Err}
 use mathlib.Core.Path.{◌≡◌, refl, sym, ap, ◌∙◌}
 use mathlib.Core.Bool.{Bool, true, false, cond}
 use Prim.Native.Nat.{ℕ, ◌-◌, ◌<◌, ◌≤◌}
@@ -17,14 +20,10 @@ use Rattle.model.specs.ById.{located_answer, tree_move, tree_step}
 use Rattle.model.specs.Plan as plan
 use Rattle.model.specs.Plan.{tree_plan}
 use Rattle.model.specs.declared.shape.Shape.{Shape}
-use Rattle.model.specs.declared.answer.Located.{Located}
-use Rattle.model.specs.declared.answer.Located.TheVariants as located
 use Rattle.tree_open.proofs.Causes.{call_refused}
 use Rattle.tree_open.proofs.CursorLaws.{open_ordered}
 use Rattle.tree_open.specs.Lengths.{TotalsIn}
 use Rattle.tree_open.specs.Open.{opened_by}
-use Rattle.tree_open.specs.declared.open.Opened.{Opened}
-use Rattle.tree_open.specs.declared.open.Opened.TheVariants.{Refused}
 use Rattle.calls_planning.specs.Bounds.{id_move}
 
 -- the totals that are read are the root's
@@ -37,16 +36,16 @@ totals_are s g e a b c t = (
 
 module _ (s : State) where
   -- what a lookup does behind the tests
-  abbrev searched : ℕ → ℕ → Shape → Reply Located
+  abbrev searched : ℕ → ℕ → Shape → Reply (Numbered (Cursor × ℕ × ℕ × ℕ))
   searched v index g =
       by_finger s (served_by v 1 g s.head.finger s.head.leaves index s.leaves) (from_root v 1 g s.head.levels s.head.root.0 s.head.leaves index s.leaves s.inners)
 
-  lookup_shut : (o : Opened) → o ≡ opened_by (opening planning s) (shape_of planning s.head) → (n : ℕ) → o ≡ Refused n → (v index : ℕ)
+  lookup_shut : (o : Numbered Shape) → o ≡ opened_by (opening planning s) (shape_of planning s.head) → (n : ℕ) → o ≡ Err n → (v index : ℕ)
       → moved s (refused n) ≡ id_move (tree_step planning s (row.lookup v index))
   unfolding tree_step tree_move locate
   lookup_shut o e n d v index =
-      ap (λ (r : Reply Located). id_move (moved r.after (located_answer planning r.after r.answer)))
-      (call_refused (λ (m : ℕ). reply s (located.Refused m)) (searched v index) (opening planning s) (shape_of planning s.head) o e n d)
+      ap (λ (r : Reply (Numbered (Cursor × ℕ × ℕ × ℕ))). id_move (moved r.after (located_answer planning r.after r.answer)))
+      (call_refused (λ (m : ℕ). reply s (Err m)) (searched v index) (opening planning s) (shape_of planning s.head) o e n d)
 
   module _ (p : ℕ) where
     -- by whether the position is below the total of the lowest lengths
@@ -57,7 +56,7 @@ module _ (s : State) where
     unfolding tree_plan
     last_is = refl
 
-    pub last_shut : (o : Opened) → o ≡ opened_by (opening (kind 2 1) s) (shape_of (kind 2 1) s.head) → (n : ℕ) → o ≡ Refused n → moved s (refused n) ≡ tree_plan s (plan.last_at p)
+    pub last_shut : (o : Numbered Shape) → o ≡ opened_by (opening (kind 2 1) s) (shape_of (kind 2 1) s.head) → (n : ℕ) → o ≡ Err n → moved s (refused n) ≡ tree_plan s (plan.last_at p)
     last_shut o e n d = go (ltb p (total_of planning s 0)) ∙ last_is
       where
         go : (b : Bool) → moved s (refused n) ≡ last_by b

@@ -1,4 +1,7 @@
 -- The planning tree's calls are those that they come to: it has no line ends, and what takes no lengths doesn't ask for their order. Assumes nothing.
+use Rattle.model.specs.declared.number.EntryId.{EntryId}
+use Rattle.model.specs.Numbered.{Numbered}
+use Rattle.std.specs.Prelude.{Ok, Err, Some, None, Option}
 use mathlib.Core.Path.{◌≡◌, refl, sym, ap, ◌∙◌}
 use mathlib.Core.Bool.{Bool}
 use mathlib.Core.List.{List, [], ◌∷◌}
@@ -18,24 +21,14 @@ use Rattle.model.specs.ById.{with_cursor, next_answer, located_answer, told, tre
 use Rattle.model.specs.Plan as plan
 use Rattle.model.specs.Plan.{id_only, tree_plan}
 use Rattle.model.specs.declared.head.Cursor.{Cursor}
-use Rattle.model.specs.declared.answer.Outcome.{Outcome}
-use Rattle.model.specs.declared.answer.Standing.{Standing}
-use Rattle.model.specs.declared.answer.Standing.TheVariants as standing
-use Rattle.model.specs.declared.answer.Named.{Named}
-use Rattle.model.specs.declared.answer.Next.{Next}
-use Rattle.model.specs.declared.answer.Next.TheVariants as next'
-use Rattle.model.specs.declared.answer.Located.{Located}
-use Rattle.model.specs.declared.answer.Located.TheVariants as located
 use Rattle.calls_read.specs.Read.{lengths_by}
 use Rattle.calls_by_id.specs.Answer.{looked_answer}
-use Rattle.calls_by_id.specs.declared.answer.Looked.{Looked}
-use Rattle.calls_by_id.specs.declared.answer.Looked.TheVariants as looked
 use Rattle.calls_planning.specs.Bounds.{id_move, named_of}
 
 -- calls that take lengths
-pub reset_plan : (s t : State) (l : List ℕ) (a : Outcome) → reply t a ≡ reset planning s l → moved t (outcome_answer a) ≡ tree_plan s (plan.reset l)
+pub reset_plan : (s t : State) (l : List ℕ) (a : Numbered (Unit {0})) → reply t a ≡ reset planning s l → moved t (outcome_answer a) ≡ tree_plan s (plan.reset l)
 unfolding tree_plan tree_step tree_move
-reset_plan s t l a e = ap (λ (r : Reply Outcome). told r outcome_answer) e
+reset_plan s t l a e = ap (λ (r : Reply (Numbered (Unit {0}))). told r outcome_answer) e
 
 pub insert_plan : (s : State) (i : ℕ) (l : List ℕ) → tree_move planning s (row.insert i l) ≡ tree_plan s (plan.insert i l)
 unfolding tree_plan tree_step
@@ -54,19 +47,19 @@ pub count_plan : (s : State) → tree_move (kind 2 1) s row.count ≡ tree_plan 
 unfolding tree_plan tree_step tree_move
 count_plan s = refl
 
-next_same : (s : State) (n : Next) → next_answer (kind 2 1) s n ≡ next_answer planning s n
+next_same : (s : State) (n : Numbered (Option Cursor)) → next_answer (kind 2 1) s n ≡ next_answer planning s n
 unfolding id opening
-next_same s (next'.At c) = refl
-next_same s next'.Nothing = refl
-next_same s (next'.Refused n) = refl
+next_same s (Ok (Some c)) = refl
+next_same s (Ok None) = refl
+next_same s (Err n) = refl
 
 pub next_plan : (s : State) (i : ℕ) → tree_move (kind 2 1) s (row.next i) ≡ tree_plan s (plan.next i)
 unfolding tree_plan tree_step tree_move cursor next_after opening
 next_plan s i = go (cursor planning s i)
   where
-    go : (t : Standing) → with_cursor s t (λ c. moved s (next_answer (kind 2 1) s (next_after (kind 2 1) s c))) ≡ with_cursor s t (λ c. moved s (next_answer planning s (next_after planning s c)))
-    go (standing.At c) = ap (moved s) (next_same s (next_after (kind 2 1) s c))
-    go (standing.Refused n) = refl
+    go : (t : Numbered Cursor) → with_cursor s t (λ c. moved s (next_answer (kind 2 1) s (next_after (kind 2 1) s c))) ≡ with_cursor s t (λ c. moved s (next_answer planning s (next_after planning s c)))
+    go (Ok c) = ap (moved s) (next_same s (next_after (kind 2 1) s c))
+    go (Err n) = refl
 
 pub earliest_plan : (s : State) (i : ℕ) → tree_move (kind 2 1) s (row.rank 0 i) ≡ tree_plan s (plan.earliest i)
 unfolding tree_plan tree_step tree_move cursor entry_to_char_index opening
@@ -76,10 +69,10 @@ pub latest_plan : (s : State) (i : ℕ) → tree_move (kind 2 1) s (row.rank 1 i
 unfolding tree_plan tree_step tree_move cursor entry_to_char_index opening
 latest_plan s i = refl
 
-looked_same : (s : State) (a : Located) → located_answer (kind 2 1) s a ≡ located_answer planning s a
+looked_same : (s : State) (a : Numbered (Cursor × ℕ × ℕ × ℕ)) → located_answer (kind 2 1) s a ≡ located_answer planning s a
 unfolding id opening
-looked_same s (located.At c offset effect prepare) = refl
-looked_same s (located.Refused n) = refl
+looked_same s (Ok (c, offset, effect, prepare)) = refl
+looked_same s (Err n) = refl
 
 lookup_plan : (s : State) (v index : ℕ) → tree_move (kind 2 1) s (row.lookup v index) ≡ tree_step planning s (row.lookup v index)
 unfolding tree_step tree_move locate opening
@@ -108,25 +101,25 @@ module _ (s : State) (c : Cursor) (n : ℕ) (x : List ℕ) (e : lengths_by n (le
       two (p ∷ q ∷ r ∷ y) f = refl
 
 -- and by the cursor of an entry
-module _ (s : State) (i : ℕ) (t : Standing) (e : t ≡ cursor (kind 2 1) s i) where
-  abbrev lengths_behind : Standing → Moved State
+module _ (s : State) (i : ℕ) (t : Numbered Cursor) (e : t ≡ cursor (kind 2 1) s i) where
+  abbrev lengths_behind : Numbered Cursor → Moved State
   lengths_behind x = with_cursor s x (λ c. moved s (entry_lengths planning s c))
 
-  lengths_by_law : (x : Standing) → t ≡ x → lengths_behind x ≡ tree_plan s (plan.lengths i)
+  lengths_by_law : (x : Numbered Cursor) → t ≡ x → lengths_behind x ≡ tree_plan s (plan.lengths i)
   unfolding tree_plan tree_step tree_move cursor opening
   lengths_by_law x d = ap lengths_behind (sym d ∙ e)
 
-  pub lengths_stops : (n : ℕ) → t ≡ standing.Refused n → moved s (refused n) ≡ tree_plan s (plan.lengths i)
-  lengths_stops n d = lengths_by_law (standing.Refused n) d
+  pub lengths_stops : (n : ℕ) → t ≡ Err n → moved s (refused n) ≡ tree_plan s (plan.lengths i)
+  lengths_stops n d = lengths_by_law (Err n) d
 
-  pub lengths_goes : (c : Cursor) → t ≡ standing.At c → (a : Answer) → a ≡ entry_lengths planning s c → moved s a ≡ tree_plan s (plan.lengths i)
-  lengths_goes c d a q = ap (moved s) q ∙ lengths_by_law (standing.At c) d
+  pub lengths_goes : (c : Cursor) → t ≡ Ok c → (a : Answer) → a ≡ entry_lengths planning s c → moved s a ≡ tree_plan s (plan.lengths i)
+  lengths_goes c d a q = ap (moved s) q ∙ lengths_by_law (Ok c) d
 
 -- a lookup's answer without offset and positions
-id_only_law : (a : Looked) → named_answer (named_of a) ≡ id_only (looked_answer a)
-id_only_law (looked.At i offset effect prepare) = refl
-id_only_law (looked.Refused n) = refl
+id_only_law : (a : Numbered (EntryId × ℕ × ℕ × ℕ)) → named_answer (named_of a) ≡ id_only (looked_answer a)
+id_only_law (Ok (i, offset, effect, prepare)) = refl
+id_only_law (Err n) = refl
 
-pub held_is : (s t : State) (v index : ℕ) (a : Looked) → moved t (looked_answer a) ≡ tree_move (kind 2 1) s (row.lookup v index) → (r : Named) → r ≡ named_of a
+pub held_is : (s t : State) (v index : ℕ) (a : Numbered (EntryId × ℕ × ℕ × ℕ)) → moved t (looked_answer a) ≡ tree_move (kind 2 1) s (row.lookup v index) → (r : Numbered EntryId) → r ≡ named_of a
     → moved t (named_answer r) ≡ id_move (tree_step planning s (row.lookup v index))
-held_is s t v index a e r er = ap (λ (y : Named). moved t (named_answer y)) er ∙ ap (moved t) (id_only_law a) ∙ ap id_move (e ∙ lookup_plan s v index)
+held_is s t v index a e r er = ap (λ (y : Numbered EntryId). moved t (named_answer y)) er ∙ ap (moved t) (id_only_law a) ∙ ap id_move (e ∙ lookup_plan s v index)

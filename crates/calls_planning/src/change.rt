@@ -1,4 +1,5 @@
 // The calls that change lengths of a planning tree or add an entry.
+ghost use Rattle.model.specs.Numbered.{numbered};
 ghost use Rattle.std.specs.Prelude.{◌≡◌};
 ghost use Rattle.model.specs.State.{state};
 ghost use Rattle.model.specs.Row.{moved};
@@ -9,8 +10,8 @@ ghost use Rattle.model.specs.Plan.{tree_plan};
 ghost use Rattle.calls_planning.specs.Bounds.{bounds_of};
 
 use crate::bounds::Bounds;
-use model::answer::{DividedReply, InsertedReply, OutcomeReply};
-use model::head::Head;
+use model::answer::Reply;
+use model::head::{Cursor, Head};
 use model::number::EntryId;
 
 // An entry before the entry id or at the end: its id and its latest position.
@@ -21,8 +22,8 @@ pub fn insert(
     homes: &mut [u32],
     id: EntryId,
     bounds: Bounds,
-) -> InsertedReply
-    ensures { moved (state result.head leaves.new inners.new homes.new) (inserted_answer result.answer) ≡ tree_plan (state head leaves.old inners.old homes.old) (plan.insert id.0 (bounds_of bounds)) }
+) -> Reply<(EntryId, u32)>
+    ensures { moved (state result.head leaves.new inners.new homes.new) (inserted_answer (numbered result.answer)) ≡ tree_plan (state head leaves.old inners.old homes.old) (plan.insert id.0 (bounds_of bounds)) }
 {
     let next = head.entries;
     let x: [u32; 4] = [next, bounds.lowest, bounds.highest, 0];
@@ -38,8 +39,8 @@ pub fn split(
     id: EntryId,
     bounds: Bounds,
     before: bool,
-) -> DividedReply
-    ensures { moved (state result.head leaves.new inners.new homes.new) (divided_id_answer result.answer) ≡ tree_plan (state head leaves.old inners.old homes.old) (plan.split before id.0 (bounds_of bounds)) }
+) -> Reply<(EntryId, Cursor, Cursor)>
+    ensures { moved (state result.head leaves.new inners.new homes.new) (divided_id_answer (numbered result.answer)) ≡ tree_plan (state head leaves.old inners.old homes.old) (plan.split before id.0 (bounds_of bounds)) }
 {
     let next = head.entries;
     let x: [u32; 4] = [next, bounds.lowest, bounds.highest, 0];
@@ -54,8 +55,8 @@ pub fn set(
     homes: &[u32],
     id: EntryId,
     bounds: Bounds,
-) -> OutcomeReply
-    ensures { moved (state result.head leaves.new inners.new homes.now) (outcome_answer result.answer) ≡ tree_plan (state head leaves.old inners.old homes.now) (plan.set_lengths id.0 (bounds_of bounds)) }
+) -> Reply<()>
+    ensures { moved (state result.head leaves.new inners.new homes.now) (outcome_answer (numbered result.answer)) ≡ tree_plan (state head leaves.old inners.old homes.now) (plan.set_lengths id.0 (bounds_of bounds)) }
 {
     let x: [u32; 4] = [0, bounds.lowest, bounds.highest, 0];
     calls_by_id::change::set_lengths(2, 1, true, head, leaves, inners, homes, id, &x)

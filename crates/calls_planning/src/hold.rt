@@ -1,4 +1,5 @@
 // The first and the last entry that could hold a position. The lookups keep the finger found.
+ghost use Rattle.model.specs.Numbered.{numbered};
 ghost use Rattle.std.specs.Prelude.{◌≡◌, cond, ◌-◌, ◌<◌, ltb};
 ghost use Rattle.model.specs.State.{state};
 ghost use Rattle.model.specs.Kind.{planning};
@@ -11,21 +12,19 @@ ghost use Rattle.model.specs.Plan as plan;
 ghost use Rattle.model.specs.Plan.{tree_plan};
 ghost use Rattle.calls_planning.specs.Bounds.{id_move, named_of};
 
-use crate::bounds::NamedReply;
-use calls_by_id::answer::Looked;
-use model::answer::Named;
+use model::answer::Reply;
 use model::head::Head;
+use model::number::EntryId;
+use model::refusal::Refusal;
 use tree_open::lengths::totals_in;
-use tree_open::open::{Opened, open};
+use tree_open::open::open;
 
 // The id of what a lookup found.
-fn named(answer: Looked) -> Named
-    ensures { result ≡ named_of answer }
+fn named(answer: Result<(EntryId, u32, u32, u32), Refusal>) -> Result<EntryId, Refusal>
+    ensures { numbered result ≡ named_of (numbered answer) }
 {
-    match answer {
-        Looked::At(id, offset, effect, prepare) => Named::Entry(id),
-        Looked::Refused(n) => Named::Refused(n),
-    }
+    let (id, offset, effect, prepare) = answer?;
+    Ok(id)
 }
 
 // The entry that holds a position in the lowest lengths (0) or in the highest (1).
@@ -36,14 +35,14 @@ fn held(
     homes: &[u32],
     view: usize,
     index: u32,
-) -> NamedReply
+) -> Reply<EntryId>
     requires { view < 2 }
-    ensures { moved (state result.head leaves.now inners.now homes.now) (named_answer result.answer) ≡ id_move (tree_step planning (state head leaves.now inners.now homes.now) (row.lookup view index)) }
+    ensures { moved (state result.head leaves.now inners.now homes.now) (named_answer (numbered result.answer)) ≡ id_move (tree_step planning (state head leaves.now inners.now homes.now) (row.lookup view index)) }
 {
     let r = calls_by_id::any::locate(2, 1, head, leaves, inners, homes, view, index);
     let after = r.head;
     let answer = r.answer;
-    NamedReply {
+    Reply {
         head: after,
         answer: named(answer),
     }
@@ -67,8 +66,8 @@ pub fn first_at(
     inners: &[u32],
     homes: &[u32],
     position: u32,
-) -> NamedReply
-    ensures { moved (state result.head leaves.now inners.now homes.now) (named_answer result.answer) ≡ tree_plan (state head leaves.now inners.now homes.now) (plan.first_at position) }
+) -> Reply<EntryId>
+    ensures { moved (state result.head leaves.now inners.now homes.now) (named_answer (numbered result.answer)) ≡ tree_plan (state head leaves.now inners.now homes.now) (plan.first_at position) }
 {
     held(head, leaves, inners, homes, 1, position)
 }
@@ -80,15 +79,15 @@ pub fn last_at(
     inners: &[u32],
     homes: &[u32],
     position: u32,
-) -> NamedReply
-    ensures { moved (state result.head leaves.now inners.now homes.now) (named_answer result.answer) ≡ tree_plan (state head leaves.now inners.now homes.now) (plan.last_at position) }
+) -> Reply<EntryId>
+    ensures { moved (state result.head leaves.now inners.now homes.now) (named_answer (numbered result.answer)) ≡ tree_plan (state head leaves.now inners.now homes.now) (plan.last_at position) }
 {
     match open(2, head, leaves, inners, homes) {
-        Opened::Refused(n) => NamedReply {
+        Err(n) => Reply {
             head: head,
-            answer: Named::Refused(n),
+            answer: Err(n),
         },
-        Opened::Good(g) => {
+        Ok(g) => {
             let t = totals_in(inners, g, head.root);
             if (position as u64) < t.first {
                 return held(head, leaves, inners, homes, 0, position);

@@ -1,4 +1,5 @@
 // The calls that begin a planning tree.
+ghost use Rattle.model.specs.Numbered.{numbered};
 ghost use Rattle.std.specs.Prelude.{◌≡◌};
 ghost use Rattle.model.specs.State.{state};
 ghost use Rattle.model.specs.Kind.{planning};
@@ -11,7 +12,7 @@ ghost use Rattle.model.specs.Plan.{tree_plan};
 ghost use Rattle.calls_planning.specs.Bounds.{bounds_of};
 
 use crate::bounds::Bounds;
-use model::answer::OutcomeReply;
+use model::answer::Reply;
 use model::head::Head;
 
 // A new tree with the entry 0; a refused one is a head of zeros without finger.
@@ -22,11 +23,11 @@ pub fn new(
     leaves: &mut [u32],
     inners: &mut [u32],
     homes: &mut [u32],
-) -> OutcomeReply
-    ensures { reply (state result.head leaves.new inners.new homes.new) result.answer ≡ calls.make planning fan limit (bounds_of bounds) leaves.old inners.old homes.old }
+) -> Reply<()>
+    ensures { reply (state result.head leaves.new inners.new homes.new) (numbered result.answer) ≡ calls.make planning fan limit (bounds_of bounds) leaves.old inners.old homes.old }
 {
     let x: [u32; 4] = [0, bounds.lowest, bounds.highest, 0];
-    calls_make::any::new(2, true, 0, fan, limit, &x, leaves, inners, homes)
+    calls_make::any::new(2, true, Ok(()), fan, limit, &x, leaves, inners, homes)
 }
 
 // The tree begun anew, with its own fan and limit.
@@ -36,8 +37,8 @@ pub fn reset(
     inners: &mut [u32],
     homes: &mut [u32],
     bounds: Bounds,
-) -> OutcomeReply
-    ensures { moved (state result.head leaves.new inners.new homes.new) (outcome_answer result.answer) ≡ tree_plan (state head leaves.old inners.old homes.old) (plan.reset (bounds_of bounds)) }
+) -> Reply<()>
+    ensures { moved (state result.head leaves.new inners.new homes.new) (outcome_answer (numbered result.answer)) ≡ tree_plan (state head leaves.old inners.old homes.old) (plan.reset (bounds_of bounds)) }
 {
     let x: [u32; 4] = [0, bounds.lowest, bounds.highest, 0];
     calls_make::any::reset(2, true, head, &x, leaves, inners, homes)

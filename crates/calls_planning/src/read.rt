@@ -1,4 +1,5 @@
 // The calls that read a planning tree.
+ghost use Rattle.model.specs.Numbered.{numbered};
 ghost use Rattle.std.specs.Prelude.{◌≡◌};
 ghost use Rattle.model.specs.State.{state};
 ghost use Rattle.model.specs.Kind.{planning};
@@ -11,70 +12,94 @@ ghost use Rattle.model.specs.Plan.{tree_plan};
 ghost use Rattle.calls_by_id.specs.Answer.{following_answer};
 ghost use Rattle.calls_planning.specs.Bounds.{ranged_answer};
 
-use crate::bounds::{Bounds, Ranged};
-use calls_by_id::answer::Following;
+use crate::bounds::Bounds;
 use calls_by_id::order::rank;
 use calls_read::any::cursor;
-use model::answer::{Number, Standing, Verdict};
 use model::head::{Cursor, Head};
 use model::number::EntryId;
+use model::refusal::Refusal;
 
 // The lengths of the entry at a cursor.
-fn lengths_of(head: Head, leaves: &[u32], inners: &[u32], homes: &[u32], at: Cursor) -> Ranged
-    ensures { ranged_answer result ≡ entry_lengths planning (state head leaves.now inners.now homes.now) at }
+fn lengths_of(
+    head: Head,
+    leaves: &[u32],
+    inners: &[u32],
+    homes: &[u32],
+    at: Cursor,
+) -> Result<Bounds, Refusal>
+    ensures { ranged_answer (numbered result) ≡ entry_lengths planning (state head leaves.now inners.now homes.now) at }
 {
     let mut x: [u32; 4] = [0; 4];
-    let n = calls_read::any::lengths(2, head, leaves, inners, homes, at, &mut x);
-    if n != 0 {
-        return Ranged::Refused(n);
-    }
-    Ranged::Are(Bounds {
+    calls_read::any::lengths(2, head, leaves, inners, homes, at, &mut x)?;
+    Ok(Bounds {
         lowest: x[1],
         highest: x[2],
     })
 }
 
 // The lengths of the entry id.
-pub fn lengths(head: Head, leaves: &[u32], inners: &[u32], homes: &[u32], id: EntryId) -> Ranged
-    ensures { moved (state head leaves.now inners.now homes.now) (ranged_answer result) ≡ tree_plan (state head leaves.now inners.now homes.now) (plan.lengths id.0) }
+pub fn lengths(
+    head: Head,
+    leaves: &[u32],
+    inners: &[u32],
+    homes: &[u32],
+    id: EntryId,
+) -> Result<Bounds, Refusal>
+    ensures { moved (state head leaves.now inners.now homes.now) (ranged_answer (numbered result)) ≡ tree_plan (state head leaves.now inners.now homes.now) (plan.lengths id.0) }
 {
-    match cursor(2, head, leaves, inners, homes, id) {
-        Standing::Refused(n) => Ranged::Refused(n),
-        Standing::At(c) => lengths_of(head, leaves, inners, homes, c),
-    }
+    let c = cursor(2, head, leaves, inners, homes, id)?;
+    lengths_of(head, leaves, inners, homes, c)
 }
 
 // How many entries the tree has.
-pub fn count(head: Head, leaves: &[u32], inners: &[u32], homes: &[u32]) -> Number
-    ensures { moved (state head leaves.now inners.now homes.now) (number_answer result) ≡ tree_plan (state head leaves.now inners.now homes.now) plan.count }
+pub fn count(head: Head, leaves: &[u32], inners: &[u32], homes: &[u32]) -> Result<u32, Refusal>
+    ensures { moved (state head leaves.now inners.now homes.now) (number_answer (numbered result)) ≡ tree_plan (state head leaves.now inners.now homes.now) plan.count }
 {
     calls_by_id::any::len(2, head, leaves, inners, homes)
 }
 
 // The entry after the entry id, or nothing after the last.
-pub fn next(head: Head, leaves: &[u32], inners: &[u32], homes: &[u32], id: EntryId) -> Following
-    ensures { moved (state head leaves.now inners.now homes.now) (following_answer result) ≡ tree_plan (state head leaves.now inners.now homes.now) (plan.next id.0) }
+pub fn next(
+    head: Head,
+    leaves: &[u32],
+    inners: &[u32],
+    homes: &[u32],
+    id: EntryId,
+) -> Result<Option<EntryId>, Refusal>
+    ensures { moved (state head leaves.now inners.now homes.now) (following_answer (numbered result)) ≡ tree_plan (state head leaves.now inners.now homes.now) (plan.next id.0) }
 {
     calls_by_id::order::next(2, head, leaves, inners, homes, id)
 }
 
 // The least position that the entry id can have: the lowest lengths before it.
-pub fn earliest(head: Head, leaves: &[u32], inners: &[u32], homes: &[u32], id: EntryId) -> Number
-    ensures { moved (state head leaves.now inners.now homes.now) (number_answer result) ≡ tree_plan (state head leaves.now inners.now homes.now) (plan.earliest id.0) }
+pub fn earliest(
+    head: Head,
+    leaves: &[u32],
+    inners: &[u32],
+    homes: &[u32],
+    id: EntryId,
+) -> Result<u32, Refusal>
+    ensures { moved (state head leaves.now inners.now homes.now) (number_answer (numbered result)) ≡ tree_plan (state head leaves.now inners.now homes.now) (plan.earliest id.0) }
 {
     rank(2, head, leaves, inners, homes, 0, id)
 }
 
 // The greatest: the highest lengths before it.
-pub fn latest(head: Head, leaves: &[u32], inners: &[u32], homes: &[u32], id: EntryId) -> Number
-    ensures { moved (state head leaves.now inners.now homes.now) (number_answer result) ≡ tree_plan (state head leaves.now inners.now homes.now) (plan.latest id.0) }
+pub fn latest(
+    head: Head,
+    leaves: &[u32],
+    inners: &[u32],
+    homes: &[u32],
+    id: EntryId,
+) -> Result<u32, Refusal>
+    ensures { moved (state head leaves.now inners.now homes.now) (number_answer (numbered result)) ≡ tree_plan (state head leaves.now inners.now homes.now) (plan.latest id.0) }
 {
     rank(2, head, leaves, inners, homes, 1, id)
 }
 
 // Whether the tree is sound.
-pub fn audit(head: Head, leaves: &[u32], inners: &[u32], homes: &[u32]) -> Verdict
-    ensures { result ≡ audit planning (state head leaves.now inners.now homes.now) }
+pub fn audit(head: Head, leaves: &[u32], inners: &[u32], homes: &[u32]) -> Result<bool, Refusal>
+    ensures { numbered result ≡ audit planning (state head leaves.now inners.now homes.now) }
 {
     calls_audit::any::audit(2, 1, true, head, leaves, inners, homes)
 }

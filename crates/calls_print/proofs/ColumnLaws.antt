@@ -7,16 +7,12 @@ use Rattle.model.specs.Sheet.{column}
 use Rattle.model_laws.specs.Words.{put_none, set_put, put_prev}
 use Rattle.calls_print.specs.Columns.{glyph}
 
--- the code's cases
-pub is_blank : (m w : ℕ) → m ≡ 0 → (w ≡ 9 → ⊥) → 32 ≡ glyph m w
+-- a blank, and a digit
+is_blank : (m w : ℕ) → m ≡ 0 → (w ≡ 9 → ⊥) → 32 ≡ glyph m w
 unfolding glyph
 is_blank m w e h = rw (eq-eqb m 0 e, ne_eqb w 9 h)
 
-pub is_zero : (m w : ℕ) → m ≡ 0 → w ≡ 9 → 48 ≡ glyph m w
-unfolding glyph
-is_zero m w e h = rw (e, eq-eqb w 9 h)
-
-pub is_digit : (m w : ℕ) → (m ≡ 0 → ⊥) → 48 + m % 10 ≡ glyph m w
+is_digit : (m w : ℕ) → (m ≡ 0 → ⊥) → 48 + m % 10 ≡ glyph m w
 unfolding glyph
 is_digit m w h = rw (ne_eqb m 0 h)
 

@@ -1,22 +1,20 @@
 -- A line written field by field, and blank lines. Assumes nothing.
-use Rattle.std.proofs.Common.{◌≡◌, ℕ, zero, suc, ◌+◌, ◌-◌, ◌*◌, ◌<◌, ◌≤◌, List, [], ◌∷◌, ◌++◌, length, get_or, drop, set, replicate, sym, refl, ap, ◌∙◌, append_assoc, add-one, arith, length-append, length-drop, drop_of_length-le, drop-cons}
-use lib.ListN.{length-replicate, replicate-append-replicate}
+use Rattle.std.proofs.Common.{◌≡◌, ℕ, zero, suc, ◌+◌, ◌-◌, ◌*◌, ◌<◌, ◌≤◌, List, [], ◌∷◌, ◌++◌, length, get_or, take, drop, set, replicate, sym, refl, ap, ◌∙◌, append_assoc, add-one, arith, length-append, length-drop, drop_of_length-le, drop-cons}
+use lib.ListN.{length-replicate}
+use borrow.Rule.Slice.PartMut.{put_mid}
 use Rattle.model.specs.Lists.{put_at}
 use Rattle.model.specs.Sheet.{column, line, blank_lines}
-use Rattle.model_laws.specs.Words.{put_none, set_put, put_on, put_next, put_put, length_put}
+use Rattle.model_laws.specs.Words.{length_part, lent, lent_back, put_none, set_put, put_on, put_next, put_put, length_put}
 use Rattle.model_laws.specs.Sheet.{length_column, length_blank_lines}
 use Rattle.calls_print.specs.Columns.{fields}
 
--- one blank more
-pub one_blank : (at i : ℕ) (page old : List ℕ) → at + i < length old → page ≡ put_at at (replicate i 32) old → set page (at + i) 32 ≡ put_at at (replicate (i + 1) 32) old
-one_blank at i page old h e =
-    let l : length {A = ℕ} (replicate i 32) ≡ i = length-replicate {A = ℕ} i 32 in
-    rw e (put_on at (at + i) 32 (replicate i 32) old (omega arith) h ∙ ap (λ (t : List ℕ). put_at at t old) (replicate-append-replicate i 1 32))
-
--- the line feed behind 54 of them
-pub line_end : (at i : ℕ) (page old : List ℕ) → i ≡ 54 → at + 55 ≤ length old → page ≡ put_at at (replicate i 32) old → set page (at + 54) 10 ≡ put_at at (replicate 54 32 ++ 10 ∷ []) old
-line_end at i page old q h e =
-    rw (e, q) (put_on at (at + 54) 10 (replicate 54 32) old (ap (λ (k : ℕ). at + k) (sym (length-replicate {A = ℕ} 54 32))) (omega arith))
+-- 54 blanks, lent and filled, and the line feed behind them
+pub blanked : (at : ℕ) (old new : List ℕ) → at + 55 ≤ length old → length new ≡ length (take (at + 54 - at) (drop at old)) → new ≡ replicate (length (take (at + 54 - at) (drop at old))) 32
+    → set (put_mid at (at + 54 - at) old new) (at + 54) 10 ≡ put_at at (replicate 54 32 ++ 10 ∷ []) old
+blanked at old new h l e =
+    let n : length (take (at + 54 - at) (drop at old)) ≡ 54 = rw lent (length_part at 54 old (omega arith)) in
+    rw (lent_back at 54 old new (omega arith) l, e, n)
+    (put_on at (at + 54) 10 (replicate 54 32) old (ap (λ (k : ℕ). at + k) (sym (length-replicate {A = ℕ} 54 32))) (omega arith))
 
 -- a write of which the first k bytes are written
 pub put_left : (p k : ℕ) (xs ys page new all : List ℕ) → length xs ≡ k → p + k + length ys ≤ length page → new ≡ put_at p xs page → put_at p (xs ++ ys) page ≡ all → put_at (p + k) ys new ≡ all

@@ -1,5 +1,6 @@
 // The sheet of a tree with views lengths an entry, whose second column of positions and lengths is that of view effect: the causes in
 // order, the lines of the entries, and the blank lines that fill up the last page.
+ghost use Rattle.model.specs.Numbered.{numbered};
 ghost use Rattle.std.specs.Prelude.{◌≡◌, ℕ, ◌<◌, ◌≤◌};
 ghost use Rattle.model.specs.State.{state};
 ghost use Rattle.model.specs.Kind.{kind};
@@ -10,15 +11,16 @@ ghost use Rattle.tree_open.specs.Open.{opened_by};
 
 use crate::line::blank_lines;
 use crate::walk_lines::entry_lines;
-use model::answer::Number;
 use model::head::Head;
-use tree_open::open::{Opened, astray, open_areas};
+use model::refusal::Refusal;
+use model::shape::Shape;
+use tree_open::open::{astray, open_areas};
 
 // The pages of 50 lines that n lines take.
 fn pages_for(n: u32) -> usize
     ensures { result ≡ pages_for n }
 {
-    (n as usize + 49) / 50
+    (n as usize).div_ceil(50)
 }
 
 // What print tests: the areas, the buffer of that many bytes, the head's counts.
@@ -29,24 +31,17 @@ fn open_print(
     inners: &[u32],
     homes: &[u32],
     bytes: usize,
-) -> Opened
+) -> Result<Shape, Refusal>
     requires { (1 ≤ views) × (views ≤ 3) }
-    ensures { (effect : ℕ) → result ≡ opened_by (print_causes (kind views effect) (state head leaves.now inners.now homes.now) bytes) (shape_of (kind views effect) head) }
+    ensures { (effect : ℕ) → numbered result ≡ opened_by (print_causes (kind views effect) (state head leaves.now inners.now homes.now) bytes) (shape_of (kind views effect) head) }
 {
-    let fan = head.fan;
-    let limit = head.limit;
-    match open_areas(views, fan, limit, leaves, inners, homes) {
-        Opened::Refused(n) => Opened::Refused(n),
-        Opened::Good(g) => {
-            let entries = head.entries;
-            if bytes < 2750 * pages_for(entries) {
-                return Opened::Refused(12);
-            }
-            if astray(g, head) {
-                return Opened::Refused(9);
-            }
-            Opened::Good(g)
-        }
+    let g = open_areas(views, head.fan, head.limit, leaves, inners, homes)?;
+    if bytes < 2750 * pages_for(head.entries) {
+        Err(Refusal::Buffer)
+    } else if astray(g, head) {
+        Err(Refusal::Link)
+    } else {
+        Ok(g)
     }
 }
 
@@ -59,24 +54,23 @@ pub fn print(
     inners: &[u32],
     homes: &[u32],
     page: &mut [u8],
-) -> Number
+) -> Result<u32, Refusal>
     requires { (1 ≤ views) × (views ≤ 3) × (effect < views) }
-    ensures { (result, page.new) ≡ print (kind views effect) (state head leaves.now inners.now homes.now) page.old }
+    ensures { (numbered result, page.new) ≡ print (kind views effect) (state head leaves.now inners.now homes.now) page.old }
 {
-    let bytes = page.len();
-    match open_print(views, head, leaves, inners, homes, bytes) {
-        Opened::Refused(n) => Number::Refused(n),
-        Opened::Good(g) => {
-            let entries = head.entries;
-            let lines = entries as usize;
-            let levels = head.levels;
-            let root = head.root.0;
-            if !entry_lines(leaves, inners, g, effect, levels, root, lines, page) {
-                return Number::Refused(9);
-            }
-            let pages = pages_for(entries);
-            blank_lines(page, 55 * lines, 50 * pages - lines);
-            Number::Is(pages as u32)
-        }
-    }
+    let g = open_print(views, head, leaves, inners, homes, page.len())?;
+    let lines = head.entries as usize;
+    entry_lines(
+        leaves,
+        inners,
+        g,
+        effect,
+        head.levels,
+        head.root.0,
+        lines,
+        page,
+    )?;
+    let pages = pages_for(head.entries);
+    blank_lines(page, 55 * lines, 50 * pages - lines);
+    Ok(pages as u32)
 }

@@ -8,13 +8,11 @@ ghost use Rattle.calls_print.specs.Columns.{glyph, fields};
 fn glyph(m: u32, w: usize) -> u8
     ensures { result ≡ glyph m w }
 {
-    if m == 0 {
-        if w != 9 {
-            return 32;
-        }
-        return 48;
+    if m == 0 && w != 9 {
+        b' '
+    } else {
+        b'0' + (m % 10) as u8
     }
-    48 + (m % 10) as u8
 }
 
 // n right-justified in the ten columns from place `at` on, the last first. The compiler writes the ten turns out and divides
@@ -24,11 +22,9 @@ fn column(page: &mut [u8], at: usize, n: u32)
     ensures { page.new ≡ put_at at (column n) page.old }
 {
     let mut m = n;
-    let mut w: usize = 10;
-    while 0 < w {
-        w -= 1;
+    for w in (0..10).rev() {
         page[at + w] = glyph(m, w);
-        m = m / 10;
+        m /= 10;
     }
 }
 
@@ -38,12 +34,10 @@ fn fields(page: &mut [u8], at: usize, numbers: &[u32])
     ensures { page.new ≡ put_at at (fields numbers.now) page.old }
 {
     let mut p = at;
-    let mut i: usize = 0;
-    while i < 5 {
-        column(page, p, numbers[i]);
-        page[p + 10] = 32;
+    for n in numbers {
+        column(page, p, *n);
+        page[p + 10] = b' ';
         p += 11;
-        i += 1;
     }
 }
 
@@ -52,9 +46,8 @@ pub fn line(page: &mut [u8], at: usize, id: u32, p: u32, q: u32, prepare: u32, e
     requires { at + 55 ≤ length page.old }
     ensures { page.new ≡ put_at at (line id p q prepare effect) page.old }
 {
-    let numbers = [id, p, q, prepare, effect];
-    fields(page, at, &numbers);
-    page[at + 54] = 10;
+    fields(page, at, &[id, p, q, prepare, effect]);
+    page[at + 54] = b'\n';
 }
 
 // 54 blanks and a line feed.
@@ -62,12 +55,8 @@ fn blank_line(page: &mut [u8], at: usize)
     requires { at + 55 ≤ length page.old }
     ensures { page.new ≡ put_at at (replicate 54 32 ++ 10 ∷ []) page.old }
 {
-    let mut i: usize = 0;
-    while i < 54 {
-        page[at + i] = 32;
-        i += 1;
-    }
-    page[at + 54] = 10;
+    page[at..at + 54].fill(b' ');
+    page[at + 54] = b'\n';
 }
 
 // n of them.
@@ -75,11 +64,7 @@ pub fn blank_lines(page: &mut [u8], at: usize, n: usize)
     requires { at + 55 * n ≤ length page.old }
     ensures { page.new ≡ put_at at (blank_lines n) page.old }
 {
-    let mut p = at;
-    let mut left = n;
-    while 0 < left {
-        blank_line(page, p);
-        p += 55;
-        left -= 1;
+    for i in 0..n {
+        blank_line(page, at + 55 * i);
     }
 }

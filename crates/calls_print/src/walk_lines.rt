@@ -1,6 +1,7 @@
 // The lines of a leaf, and of as many entries as the head says, leaf after leaf.
-ghost use Rattle.std.specs.Prelude.{◌≡◌, ℕ, ◌+◌, ◌*◌, ◌<◌, ◌≤◌, length, take, if◌then◌else◌, ◌==◌, nat_lt};
+ghost use Rattle.std.specs.Prelude.{◌≡◌, ℕ, ◌+◌, ◌*◌, ◌<◌, ◌≤◌, length, take, cond, ◌==◌, Ok, Err};
 ghost use Rattle.model.specs.Kind.{kind};
+ghost use Rattle.model.specs.Numbered.{broken};
 ghost use Rattle.model.specs.Lists.{put_at};
 ghost use Rattle.model.specs.State.{node_at};
 ghost use Rattle.model.specs.Climb.{first_down};
@@ -11,7 +12,7 @@ ghost use Rattle.calls_print.specs.Laid.{laid, laid_by};
 use crate::line::line;
 use model::number::{LeafNo, NodeNo};
 use model::shape::Shape;
-use model::way::Leaf;
+use model::way::Broken;
 use tree_area::word::{at_of, child_of, len_of, length_of, parent_of};
 use tree_walk::down::{first_down, next_up};
 
@@ -36,33 +37,24 @@ fn leaf_lines(
     requires { AreaHolds g (length leaves.now) × (view + 1 < g.stride) × (k.0 < g.nodes) × (n ≤ g.fan) × (from.at + 55 * n ≤ length page.old) }
     ensures { laid result.at result.p result.q page.new ≡ laid_by view (take n (node_at g k.0 leaves.now).slots) (laid from.at from.p from.q page.old) }
 {
-    let mut at = from.at;
-    let mut p = from.p;
-    let mut q = from.q;
-    let mut i: usize = 0;
-    while i < n {
+    let Lines {
+        mut at,
+        mut p,
+        mut q,
+    } = from;
+    for i in 0..n {
         let id = child_of(leaves, g, k.0, i);
         let prepare = length_of(leaves, g, 0, k.0, i);
         let effect = length_of(leaves, g, view, k.0, i);
         line(page, at, id, p, q, prepare, effect);
-        p = std::num::wrapping_add_u32(p, prepare);
-        q = std::num::wrapping_add_u32(q, effect);
+        p = p.wrapping_add(prepare);
+        q = q.wrapping_add(effect);
         at += 55;
-        i += 1;
     }
-    Lines { at: at, p: p, q: q }
+    Lines { at, p, q }
 }
 
-fn least(a: usize, b: usize) -> usize
-    ensures { result ≡ (if nat_lt a b then a else b) }
-{
-    if a < b {
-        return a;
-    }
-    b
-}
-
-// The lines of as many entries as the head says; whether all were met.
+// The lines of as many entries as the head says, or Broken where not all are met.
 pub fn entry_lines(
     leaves: &[u32],
     inners: &[u32],
@@ -72,39 +64,26 @@ pub fn entry_lines(
     root: u32,
     entries: usize,
     page: &mut [u8],
-) -> bool
+) -> Result<(), Broken>
     requires { AreaHolds g (length leaves.now) × AreaHolds g (length inners.now) × (effect + 1 < g.stride) × (levels ≤ 15) × (55 * entries ≤ length page.old) }
-    ensures { (result ≡ (length (met_from g levels leaves.now inners.now entries (first_down g levels root inners.now) 0) == entries)) × ((views : ℕ) → page.new ≡ put_at 0 (slot_lines (kind views effect) 0 0 (met_from g levels leaves.now inners.now entries (first_down g levels root inners.now) 0)) page.old) }
+    ensures { (result ≡ cond (length (met_from g levels leaves.now inners.now entries (first_down g levels root inners.now) 0) == entries) (Ok tt) (Err broken)) × ((views : ℕ) → page.new ≡ put_at 0 (slot_lines (kind views effect) 0 0 (met_from g levels leaves.now inners.now entries (first_down g levels root inners.now) 0)) page.old) }
 {
-    let fan = g.fan;
     let mut leaf = first_down(inners, g, levels, root);
     let mut left = entries;
     let mut lines = Lines { at: 0, p: 0, q: 0 };
+    // Each turn takes off the lines of a leaf, so no range counts the turns.
     while 0 < left {
-        match leaf {
-            Leaf::At(l) => {
-                let k = l.0;
-                let len = len_of(leaves, g, k) as usize;
-                if len == 0 {
-                    return false;
-                }
-                if fan < len {
-                    return false;
-                }
-                let n = least(len, left);
-                lines = leaf_lines(leaves, g, effect, l, n, page, lines);
-                left -= n;
-                let parent = parent_of(leaves, g, k);
-                let place = at_of(leaves, g, k);
-                leaf = next_up(inners, g, levels, NodeNo(parent), place);
-            }
-            Leaf::Nothing => {
-                return false;
-            }
-            Leaf::Broken => {
-                return false;
-            }
+        let k = leaf?.ok_or(Broken)?;
+        let len = len_of(leaves, g, k.0) as usize;
+        if len == 0 || g.fan < len {
+            return Err(Broken);
         }
+        let n = len.min(left);
+        lines = leaf_lines(leaves, g, effect, k, n, page, lines);
+        left -= n;
+        let parent = parent_of(leaves, g, k.0);
+        let place = at_of(leaves, g, k.0);
+        leaf = next_up(inners, g, levels, NodeNo(parent), place);
     }
-    true
+    Ok(())
 }

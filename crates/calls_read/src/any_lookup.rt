@@ -1,5 +1,6 @@
 // The lookup on a tree with views lengths an entry, positions answered in view effect: first from the finger, then from the root.
 // The head comes back with the finger that was found.
+ghost use Rattle.model.specs.Numbered.{numbered};
 ghost use Rattle.std.specs.Prelude.{◌≡◌, ◌+◌, ◌<◌, ◌≤◌, true, false};
 ghost use Rattle.model.specs.State.{state};
 ghost use Rattle.model.specs.Kind.{kind};
@@ -8,71 +9,57 @@ ghost use Rattle.model.specs.Calls.{reply};
 ghost use Rattle.model.specs.Examined as count;
 ghost use Rattle.model.specs.Examined.{counted};
 ghost use Rattle.calls_read.specs.Lookup.{located_reply, hit_of, search_of, Stayed};
-ghost use Rattle.model.specs.declared.answer.Located.TheVariants as located;
 
-use model::answer::{Located, LocatedReply};
-use model::head::{Cursor, Finger, Head, Held};
+use model::answer::LocatedReply;
+use model::head::{Cursor, Finger, Head};
 use model::number::LeafNo;
-use model::way::{Search, Searched};
+use model::refusal::Refusal;
+use model::way::{Broken, Searched};
 use tree_finger::finger::served_by;
 use tree_finger::search::from_root;
-use tree_open::open::{Opened, open};
+use tree_open::open::open;
 
 // The finger found is kept; stayed: it is the one of before, moved within its leaf.
 fn hit(head: Head, f: Finger, offset: u32, examined: u32, stayed: bool) -> LocatedReply
     ensures { result ≡ hit_of head f offset examined stayed }
 {
-    let root = head.root;
-    let kept = Head {
-        fan: head.fan,
-        limit: head.limit,
-        root: root,
-        levels: head.levels,
-        leaves: head.leaves,
-        inners: head.inners,
-        entries: head.entries,
-        stamp: head.stamp,
-        finger: Held::At(f),
-    };
-    let effect = (f.effect as u64 + f.effect_within as u64) % 4294967296;
-    let prepare = (f.prepare as u64 + f.prepare_within as u64) % 4294967296;
     let at = Cursor {
         leaf: LeafNo(f.leaf),
         slot: f.slot,
-        stamp: kept.stamp,
+        stamp: head.stamp,
     };
+    let effect = f.effect.wrapping_add(f.effect_within);
+    let prepare = f.prepare.wrapping_add(f.prepare_within);
     LocatedReply {
-        head: kept,
-        answer: Located::At(at, offset, effect as u32, prepare as u32),
-        examined: examined,
-        stayed: stayed,
+        head: Head {
+            finger: Some(f),
+            ..head
+        },
+        answer: Ok((at, offset, effect, prepare)),
+        examined,
+        stayed,
     }
 }
 
-fn refused(head: Head, n: u32) -> LocatedReply
-    ensures { result ≡ located_reply head (located.Refused n) 0 false }
+fn refused(head: Head, why: Refusal) -> LocatedReply
+    ensures { result ≡ located_reply head (Err why) 0 false }
 {
     LocatedReply {
-        head: head,
-        answer: Located::Refused(n),
+        head,
+        answer: Err(why),
         examined: 0,
         stayed: false,
     }
 }
 
-// What the search from the root found, after the finger examined slots in vain; nothing is number 5.
+// What the search from the root found, after the finger examined slots in vain; none means that the position is past the end.
 fn by_search(head: Head, r: Searched, vain: u32) -> LocatedReply
     ensures { result ≡ search_of head r.found (wrap (vain + r.examined)) }
 {
-    let found = r.found;
-    let examined = r.examined;
-    match found {
-        Search::At(f, offset) => {
-            let both = std::num::wrapping_add_u32(vain, examined);
-            hit(head, f, offset, both, false)
-        }
-        Search::Nothing => refused(head, 5),
-        Search::Broken => refused(head, 9),
+    match r.found {
+        Ok(Some((f, offset))) => hit(head, f, offset, vain.wrapping_add(r.examined), false),
+        Ok(None) => refused(head, Refusal::Position),
+        Err(Broken) => refused(head, Refusal::Link),
     }
 }
 
@@ -88,28 +75,30 @@ pub fn locate(
     index: u32,
 ) -> LocatedReply
     requires { (1 ≤ views) × (views ≤ 3) × (effect < views) × (view < views) }
-    ensures { (reply (state result.head leaves.now inners.now homes.now) (counted result.answer result.examined) ≡ count.locate (kind views effect) (state head leaves.now inners.now homes.now) view index) × (result.stayed ≡ true → Stayed head.finger result.head.finger) }
+    ensures { (reply (state result.head leaves.now inners.now homes.now) (counted (numbered result.answer) result.examined) ≡ count.locate (kind views effect) (state head leaves.now inners.now homes.now) view index) × (result.stayed ≡ true → Stayed head.finger result.head.finger) }
 {
-    match open(views, head, leaves, inners, homes) {
-        Opened::Refused(n) => refused(head, n),
-        Opened::Good(g) => {
-            let finger = head.finger;
-            let used = head.leaves;
-            let by_finger = served_by(leaves, g, view, effect, finger, used, index);
-            let examined = by_finger.examined;
-            let found = by_finger.found;
-            match found {
-                Search::At(f, offset) => hit(head, f, offset, examined, true),
-                Search::Nothing => {
-                    let levels = head.levels;
-                    let root = head.root;
-                    let found = from_root(
-                        leaves, inners, g, view, effect, levels, root, used, index,
-                    );
-                    by_search(head, found, examined)
-                }
-                Search::Broken => refused(head, 9),
-            }
+    let g = match open(views, head, leaves, inners, homes) {
+        Ok(g) => g,
+        Err(why) => return refused(head, why),
+    };
+    let used = head.leaves;
+    let near = served_by(leaves, g, view, effect, head.finger, used, index);
+    match near.found {
+        Ok(Some((f, offset))) => hit(head, f, offset, near.examined, true),
+        Ok(None) => {
+            let far = from_root(
+                leaves,
+                inners,
+                g,
+                view,
+                effect,
+                head.levels,
+                head.root,
+                used,
+                index,
+            );
+            by_search(head, far, near.examined)
         }
+        Err(Broken) => refused(head, Refusal::Link),
     }
 }

@@ -1,4 +1,5 @@
 // The lookups. The head comes back with the finger that was found.
+ghost use Rattle.model.specs.Numbered.{numbered};
 ghost use Rattle.std.specs.Prelude.{◌≡◌, true};
 ghost use Rattle.model.specs.State.{state};
 ghost use Rattle.model.specs.Length.{view_number};
@@ -8,7 +9,7 @@ ghost use Rattle.model.specs.Examined as count;
 ghost use Rattle.model.specs.Examined.{counted};
 ghost use Rattle.calls_read.specs.Lookup.{Stayed};
 
-use model::answer::{Located, LocatedReply, Selected, SelectedReply};
+use model::answer::{LocatedReply, SelectedReply};
 use model::head::Head;
 use model::length::View;
 
@@ -21,7 +22,7 @@ pub fn locate(
     view: View,
     index: u32,
 ) -> LocatedReply
-    ensures { (reply (state result.head leaves.now inners.now homes.now) (counted result.answer result.examined) ≡ count.locate base (state head leaves.now inners.now homes.now) (view_number view) index) × (result.stayed ≡ true → Stayed head.finger result.head.finger) }
+    ensures { (reply (state result.head leaves.now inners.now homes.now) (counted (numbered result.answer) result.examined) ≡ count.locate base (state head leaves.now inners.now homes.now) (view_number view) index) × (result.stayed ≡ true → Stayed head.finger result.head.finger) }
 {
     crate::any_lookup::locate(3, 1, head, leaves, inners, homes, view.number(), index)
 }
@@ -35,22 +36,12 @@ pub fn char_index_to_entry(
     view: View,
     index: u32,
 ) -> SelectedReply
-    ensures { reply (state result.head leaves.now inners.now homes.now) (counted result.answer result.examined) ≡ count.char_index_to_entry base (state head leaves.now inners.now homes.now) (view_number view) index }
+    ensures { reply (state result.head leaves.now inners.now homes.now) (counted (numbered result.answer) result.examined) ≡ count.char_index_to_entry base (state head leaves.now inners.now homes.now) (view_number view) index }
 {
     let r = locate(head, leaves, inners, homes, view, index);
-    let kept = r.head;
-    let answer = r.answer;
-    let examined = r.examined;
-    match answer {
-        Located::At(at, offset, effect, prepare) => SelectedReply {
-            head: kept,
-            answer: Selected::At(at, offset),
-            examined: examined,
-        },
-        Located::Refused(n) => SelectedReply {
-            head: kept,
-            answer: Selected::Refused(n),
-            examined: examined,
-        },
+    SelectedReply {
+        head: r.head,
+        answer: r.answer.map(|(at, offset, _, _)| (at, offset)),
+        examined: r.examined,
     }
 }

@@ -1,13 +1,15 @@
 // The calls that follow the order of the entries: an entry's position, the first, the next, and which of two stands first.
+ghost use Rattle.model.specs.Numbered.{numbered};
 ghost use Rattle.std.specs.Prelude.{◌≡◌};
 ghost use Rattle.model.specs.State.{state};
 ghost use Rattle.model.specs.Length.{view_number};
 ghost use Rattle.model.specs.Kind.{base};
 ghost use Rattle.model.specs.Calls as calls;
 
-use model::answer::{Compared, Next, Number, Standing};
 use model::head::{Cursor, Head};
 use model::length::View;
+use model::refusal::Refusal;
+use std::cmp::Ordering;
 
 // The position in a view of the entry at a cursor: the lengths before it.
 pub fn entry_to_char_index(
@@ -17,22 +19,28 @@ pub fn entry_to_char_index(
     homes: &[u32],
     view: View,
     at: Cursor,
-) -> Number
-    ensures { result ≡ calls.entry_to_char_index base (state head leaves.now inners.now homes.now) (view_number view) at }
+) -> Result<u32, Refusal>
+    ensures { numbered result ≡ calls.entry_to_char_index base (state head leaves.now inners.now homes.now) (view_number view) at }
 {
     crate::any::entry_to_char_index(3, head, leaves, inners, homes, view.number(), at)
 }
 
 // The cursor of the first entry.
-pub fn first(head: Head, leaves: &[u32], inners: &[u32], homes: &[u32]) -> Standing
-    ensures { result ≡ calls.first base (state head leaves.now inners.now homes.now) }
+pub fn first(head: Head, leaves: &[u32], inners: &[u32], homes: &[u32]) -> Result<Cursor, Refusal>
+    ensures { numbered result ≡ calls.first base (state head leaves.now inners.now homes.now) }
 {
     crate::any::first(3, head, leaves, inners, homes)
 }
 
 // The cursor of the entry after the one at a cursor, or nothing after the last.
-pub fn next(head: Head, leaves: &[u32], inners: &[u32], homes: &[u32], at: Cursor) -> Next
-    ensures { result ≡ calls.next_after base (state head leaves.now inners.now homes.now) at }
+pub fn next(
+    head: Head,
+    leaves: &[u32],
+    inners: &[u32],
+    homes: &[u32],
+    at: Cursor,
+) -> Result<Option<Cursor>, Refusal>
+    ensures { numbered result ≡ calls.next_after base (state head leaves.now inners.now homes.now) at }
 {
     crate::any::next(3, head, leaves, inners, homes, at)
 }
@@ -45,8 +53,8 @@ pub fn cmp(
     homes: &[u32],
     a: Cursor,
     b: Cursor,
-) -> Compared
-    ensures { result ≡ calls.cmp base (state head leaves.now inners.now homes.now) a b }
+) -> Result<Ordering, Refusal>
+    ensures { numbered result ≡ calls.cmp base (state head leaves.now inners.now homes.now) a b }
 {
     crate::any::cmp(3, head, leaves, inners, homes, a, b)
 }

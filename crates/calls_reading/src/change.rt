@@ -1,4 +1,5 @@
 // The calls that change lengths of a reading copy or add an entry.
+ghost use Rattle.model.specs.Numbered.{numbered};
 ghost use Rattle.std.specs.Prelude.{◌≡◌, [], ◌∷◌};
 ghost use Rattle.model.specs.State.{state};
 ghost use Rattle.model.specs.Kind.{reading};
@@ -7,8 +8,8 @@ ghost use Rattle.model.specs.Row.{moved};
 ghost use Rattle.model.specs.Answer.{outcome_answer, inserted_answer};
 ghost use Rattle.model.specs.ById.{divided_id_answer, tree_step};
 
-use model::answer::{DividedReply, InsertedReply, OutcomeReply};
-use model::head::Head;
+use model::answer::Reply;
+use model::head::{Cursor, Head};
 use model::number::EntryId;
 
 // An entry before the entry id or at the end: its id and its position.
@@ -19,8 +20,8 @@ pub fn insert(
     homes: &mut [u32],
     id: EntryId,
     length: u32,
-) -> InsertedReply
-    ensures { moved (state result.head leaves.new inners.new homes.new) (inserted_answer result.answer) ≡ tree_step reading (state head leaves.old inners.old homes.old) (row.insert id.0 (length ∷ [])) }
+) -> Reply<(EntryId, u32)>
+    ensures { moved (state result.head leaves.new inners.new homes.new) (inserted_answer (numbered result.answer)) ≡ tree_step reading (state head leaves.old inners.old homes.old) (row.insert id.0 (length ∷ [])) }
 {
     let next = head.entries;
     let x: [u32; 4] = [next, length, 0, 0];
@@ -36,8 +37,8 @@ pub fn split(
     id: EntryId,
     length: u32,
     before: bool,
-) -> DividedReply
-    ensures { moved (state result.head leaves.new inners.new homes.new) (divided_id_answer result.answer) ≡ tree_step reading (state head leaves.old inners.old homes.old) (row.split before id.0 (length ∷ [])) }
+) -> Reply<(EntryId, Cursor, Cursor)>
+    ensures { moved (state result.head leaves.new inners.new homes.new) (divided_id_answer (numbered result.answer)) ≡ tree_step reading (state head leaves.old inners.old homes.old) (row.split before id.0 (length ∷ [])) }
 {
     let next = head.entries;
     let x: [u32; 4] = [next, length, 0, 0];
@@ -52,8 +53,8 @@ pub fn set(
     homes: &[u32],
     id: EntryId,
     length: u32,
-) -> OutcomeReply
-    ensures { moved (state result.head leaves.new inners.new homes.now) (outcome_answer result.answer) ≡ tree_step reading (state head leaves.old inners.old homes.now) (row.set_lengths id.0 (length ∷ [])) }
+) -> Reply<()>
+    ensures { moved (state result.head leaves.new inners.new homes.now) (outcome_answer (numbered result.answer)) ≡ tree_step reading (state head leaves.old inners.old homes.now) (row.set_lengths id.0 (length ∷ [])) }
 {
     let x: [u32; 4] = [0, length, 0, 0];
     calls_by_id::change::set_lengths(1, 0, false, head, leaves, inners, homes, id, &x)

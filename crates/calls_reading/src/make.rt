@@ -1,4 +1,5 @@
 // The calls that begin a reading copy.
+ghost use Rattle.model.specs.Numbered.{numbered};
 ghost use Rattle.std.specs.Prelude.{◌≡◌, [], ◌∷◌};
 ghost use Rattle.model.specs.State.{state};
 ghost use Rattle.model.specs.Kind.{reading};
@@ -9,7 +10,7 @@ ghost use Rattle.model.specs.Calls as calls;
 ghost use Rattle.model.specs.Calls.{reply};
 ghost use Rattle.model.specs.ById.{tree_step};
 
-use model::answer::OutcomeReply;
+use model::answer::Reply;
 use model::head::Head;
 
 // A new tree with the entry 0; a refused one is a head of zeros without finger.
@@ -20,11 +21,11 @@ pub fn new(
     leaves: &mut [u32],
     inners: &mut [u32],
     homes: &mut [u32],
-) -> OutcomeReply
-    ensures { reply (state result.head leaves.new inners.new homes.new) result.answer ≡ calls.make reading fan limit (length ∷ []) leaves.old inners.old homes.old }
+) -> Reply<()>
+    ensures { reply (state result.head leaves.new inners.new homes.new) (numbered result.answer) ≡ calls.make reading fan limit (length ∷ []) leaves.old inners.old homes.old }
 {
     let x: [u32; 4] = [0, length, 0, 0];
-    calls_make::any::new(1, false, 0, fan, limit, &x, leaves, inners, homes)
+    calls_make::any::new(1, false, Ok(()), fan, limit, &x, leaves, inners, homes)
 }
 
 // The tree begun anew, with its own fan and limit.
@@ -34,8 +35,8 @@ pub fn reset(
     inners: &mut [u32],
     homes: &mut [u32],
     length: u32,
-) -> OutcomeReply
-    ensures { moved (state result.head leaves.new inners.new homes.new) (outcome_answer result.answer) ≡ tree_step reading (state head leaves.old inners.old homes.old) (row.reset (length ∷ [])) }
+) -> Reply<()>
+    ensures { moved (state result.head leaves.new inners.new homes.new) (outcome_answer (numbered result.answer)) ≡ tree_step reading (state head leaves.old inners.old homes.old) (row.reset (length ∷ [])) }
 {
     let x: [u32; 4] = [0, length, 0, 0];
     calls_make::any::reset(1, false, head, &x, leaves, inners, homes)

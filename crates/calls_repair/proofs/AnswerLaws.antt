@@ -1,4 +1,6 @@
 -- What repair answers, by its tests. Assumes nothing.
+use Rattle.model.specs.Numbered.{Numbered}
+use Rattle.std.specs.Prelude.{Ok, Err}
 use mathlib.Core.Path.{◌≡◌, refl, sym, ap, ap₂, subst, ◌∙◌}
 use mathlib.Core.Bool.{Bool, true, false, cond, ◌&&◌}
 use mathlib.Core.List.{List}
@@ -17,11 +19,7 @@ use Rattle.model.specs.Repair.{mend_if, repair_if}
 use Rattle.model.specs.declared.shape.Kind.{Kind}
 use Rattle.model.specs.declared.shape.Shape.{Shape}
 use Rattle.model.specs.declared.head.Head.{Head}
-use Rattle.model.specs.declared.answer.Number.{Number}
-use Rattle.model.specs.declared.answer.Number.TheVariants as number
 use Rattle.tree_open.specs.Open.{opened_by}
-use Rattle.tree_open.specs.declared.open.Opened.{Opened}
-use Rattle.tree_open.specs.declared.open.Opened.TheVariants.{Good, Refused}
 use Rattle.tree_open.proofs.Causes.{good_shape, good_number, call_refused, call_good}
 use Rattle.tree_open.proofs.OpenLaws.{areas_of}
 use Rattle.calls_make.proofs.BeginLaws.{room}
@@ -34,16 +32,16 @@ use Rattle.calls_repair.specs.Job.{Job, Open, JobDone}
 
 -- the three ways to an answer
 module _ (K : Kind) (t : State) (fair : Bool) {ok : Bool} (e : ok ≡ is_fit K t) where
-  pub not_fit : ok ≡ false → reply t (number.Refused 21) ≡ mend_if K (is_fit K t && fair) t
+  pub not_fit : ok ≡ false → reply t (Err 21) ≡ mend_if K (is_fit K t && fair) t
   not_fit q = rw (sym e ∙ q)
 
-  pub not_fair : ok ≡ true → fair ≡ false → reply t (number.Refused 21) ≡ mend_if K (is_fit K t && fair) t
+  pub not_fair : ok ≡ true → fair ≡ false → reply t (Err 21) ≡ mend_if K (is_fit K t && fair) t
   not_fair q f = rw (sym e ∙ q, f)
 
   pub is_mended : ok ≡ true → fair ≡ true → {x : Head} {lb xb hb : List ℕ} {n : ℕ} → x ≡ no_finger t.head → JobDone (stride K) t.head t.leaves t.inners t.homes n lb xb hb
-      → reply (state x lb xb hb) (number.Is n) ≡ mend_if K (is_fit K t && fair) t
+      → reply (state x lb xb hb) (Ok n) ≡ mend_if K (is_fit K t && fair) t
   is_mended q f {x} {lb} {xb} {hb} ex w =
-      rw (sym e ∙ q, f) (ap₂ (λ (z : State) (k : ℕ). reply z (number.Is k)) (ap (λ (y : Head). state y lb xb hb) ex ∙ w.tree) w.count)
+      rw (sym e ∙ q, f) (ap₂ (λ (z : State) (k : ℕ). reply z (Ok k)) (ap (λ (y : Head). state y lb xb hb) ex ∙ w.tree) w.count)
 
 -- what the test and the writer are handed
 module _ {h : Head} {g : Shape} {ls xs hs : List ℕ} (w : Open h g ls xs hs) where
@@ -104,16 +102,16 @@ module _ {h : Head} {g : Shape} {ls xs hs : List ℕ} (w : Open h g ls xs hs) wh
   job_done ordered e q r f = f (job_of ordered e q r)
 
 -- the call
-module _ (views effect : ℕ) (ordered : Bool) (wide : (1 ≤ views) × (views ≤ 3)) (t : State) {o : Opened}
+module _ (views effect : ℕ) (ordered : Bool) (wide : (1 ≤ views) × (views ≤ 3)) (t : State) {o : Numbered Shape}
     (e : o ≡ opened_by (areas_of (kind_of views effect ordered) t) (shape_of (kind_of views effect ordered) t.head)) where
   abbrev K : Kind
   K = kind_of views effect ordered
 
-  pub call_stops : (fair : Bool) {n : ℕ} → o ≡ Refused n → reply t (number.Refused n) ≡ repair_if K fair t
+  pub call_stops : (fair : Bool) {n : ℕ} → o ≡ Err n → reply t (Err n) ≡ repair_if K fair t
   unfolding repair_if
-  call_stops fair {n} d = call_refused (λ n. reply t (number.Refused n)) (λ (g : Shape). mend_if K (is_fit K t && fair) t) _ _ o e n d
+  call_stops fair {n} d = call_refused (λ n. reply t (Err n)) (λ (g : Shape). mend_if K (is_fit K t && fair) t) _ _ o e n d
 
-  pub opens : {g : Shape} → o ≡ Good g → Open t.head g t.leaves t.inners t.homes
+  pub opens : {g : Shape} → o ≡ Ok g → Open t.head g t.leaves t.inners t.homes
   opens {g} d = record {
     views = views;
     same = sym (good_shape (areas_of K t) _ g (sym e ∙ d));
@@ -121,8 +119,8 @@ module _ (views effect : ℕ) (ordered : Bool) (wide : (1 ≤ views) × (views �
     sizes = good_number (areas_of K t) _ g (sym e ∙ d);
   }
 
-  pub call_goes : (fair : Bool) {g : Shape} → o ≡ Good g → {r : Reply Number}
+  pub call_goes : (fair : Bool) {g : Shape} → o ≡ Ok g → {r : Reply (Numbered ℕ)}
       → ((effect : ℕ) (w : Open t.head g t.leaves t.inners t.homes) → r ≡ mend_if (kind_of w.views effect ordered) (is_fit (kind_of w.views effect ordered) t && fair) t)
       → r ≡ repair_if K fair t
   unfolding repair_if opens
-  call_goes fair {g} d {r} q = call_good (λ n. reply t (number.Refused n)) (λ (g : Shape). mend_if K (is_fit K t && fair) t) _ _ o e g d r (q effect (opens d))
+  call_goes fair {g} d {r} q = call_good (λ n. reply t (Err n)) (λ (g : Shape). mend_if K (is_fit K t && fair) t) _ _ o e g d r (q effect (opens d))

@@ -1,4 +1,5 @@
 // repair, of a tree with one to three lengths an entry.
+ghost use Rattle.model.specs.Numbered.{numbered};
 ghost use Rattle.std.specs.Prelude.{◌≡◌, ◌&&◌, ℕ, ◌<◌, ◌≤◌, length};
 ghost use Rattle.model.specs.State.{state};
 ghost use Rattle.model.specs.Kind.{kind_of};
@@ -10,30 +11,23 @@ ghost use Rattle.calls_repair.specs.Job.{Open};
 
 use crate::mend::mend;
 use calls_repair_test::fit::is_fit;
-use model::answer::{Number, NumberReply};
-use model::head::{Head, Held};
+use model::answer::Reply;
+use model::head::Head;
+use model::refusal::Refusal;
 use model::shape::Shape;
-use tree_open::open::{Opened, open_areas};
+use tree_open::open::open_areas;
 
 // The head without its finger.
 fn without_finger(head: Head) -> Head
     ensures { result ≡ no_finger head }
 {
-    let root = head.root;
     Head {
-        fan: head.fan,
-        limit: head.limit,
-        root: root,
-        levels: head.levels,
-        leaves: head.leaves,
-        inners: head.inners,
-        entries: head.entries,
-        stamp: head.stamp,
-        finger: Held::Absent,
+        finger: None,
+        ..head
     }
 }
 
-// The tree put right where its trusted words, and the seats' by `fair`, are those of a sound tree, else 21.
+// The tree put right where its trusted words, and the seats' by `fair`, are those of a sound tree, else refused by Unsound.
 fn by_queue(
     ordered: bool,
     fair: bool,
@@ -46,25 +40,21 @@ fn by_queue(
     upper: &mut [u8],
     lower: &mut [u8],
     named: &mut [u8],
-) -> NumberReply
+) -> Reply<u32>
     requires { Open head g leaves.old inners.old homes.old × FreshQueue head g (length order.old) upper.old lower.old named.old }
-    ensures { (effect : ℕ) (w : Open head g leaves.old inners.old homes.old) → reply (state result.head leaves.new inners.new homes.new) result.answer ≡ mend_if (kind_of w.views effect ordered) (is_fit (kind_of w.views effect ordered) (state head leaves.old inners.old homes.old) && fair) (state head leaves.old inners.old homes.old) }
+    ensures { (effect : ℕ) (w : Open head g leaves.old inners.old homes.old) → reply (state result.head leaves.new inners.new homes.new) (numbered result.answer) ≡ mend_if (kind_of w.views effect ordered) (is_fit (kind_of w.views effect ordered) (state head leaves.old inners.old homes.old) && fair) (state head leaves.old inners.old homes.old) }
 {
     let fit = is_fit(head, leaves, inners, g, ordered, order, upper, lower, named);
-    let no = NumberReply {
-        head: head,
-        answer: Number::Refused(21),
-    };
-    if !fit.ok {
-        return no;
-    }
-    if !fair {
-        return no;
+    if !fit.ok || !fair {
+        return Reply {
+            head,
+            answer: Err(Refusal::Unsound),
+        };
     }
     let n = mend(head, leaves, inners, homes, g, order, fit.start);
-    NumberReply {
+    Reply {
         head: without_finger(head),
-        answer: Number::Is(n as u32),
+        answer: Ok(n as u32),
     }
 }
 
@@ -77,9 +67,9 @@ fn with_queue(
     inners: &mut [u32],
     homes: &mut [u32],
     g: Shape,
-) -> NumberReply
+) -> Reply<u32>
     requires { Open head g leaves.old inners.old homes.old }
-    ensures { (effect : ℕ) (w : Open head g leaves.old inners.old homes.old) → reply (state result.head leaves.new inners.new homes.new) result.answer ≡ mend_if (kind_of w.views effect ordered) (is_fit (kind_of w.views effect ordered) (state head leaves.old inners.old homes.old) && fair) (state head leaves.old inners.old homes.old) }
+    ensures { (effect : ℕ) (w : Open head g leaves.old inners.old homes.old) → reply (state result.head leaves.new inners.new homes.new) (numbered result.answer) ≡ mend_if (kind_of w.views effect ordered) (is_fit (kind_of w.views effect ordered) (state head leaves.old inners.old homes.old) && fair) (state head leaves.old inners.old homes.old) }
 {
     let mut order: [u16; 131072] = [0; 131072];
     let mut upper: [u8; 32768] = [0; 32768];
@@ -102,17 +92,15 @@ pub fn repair(
     leaves: &mut [u32],
     inners: &mut [u32],
     homes: &mut [u32],
-) -> NumberReply
+) -> Reply<u32>
     requires { (1 ≤ views) × (views ≤ 3) × (effect < views) }
-    ensures { reply (state result.head leaves.new inners.new homes.new) result.answer ≡ repair_if (kind_of views effect ordered) fair (state head leaves.old inners.old homes.old) }
+    ensures { reply (state result.head leaves.new inners.new homes.new) (numbered result.answer) ≡ repair_if (kind_of views effect ordered) fair (state head leaves.old inners.old homes.old) }
 {
-    let fan = head.fan;
-    let limit = head.limit;
-    match open_areas(views, fan, limit, leaves, inners, homes) {
-        Opened::Refused(n) => NumberReply {
-            head: head,
-            answer: Number::Refused(n),
+    match open_areas(views, head.fan, head.limit, leaves, inners, homes) {
+        Err(why) => Reply {
+            head,
+            answer: Err(why),
         },
-        Opened::Good(g) => with_queue(ordered, fair, head, leaves, inners, homes, g),
+        Ok(g) => with_queue(ordered, fair, head, leaves, inners, homes, g),
     }
 }

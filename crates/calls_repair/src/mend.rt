@@ -25,8 +25,7 @@ fn write(
     requires { Job head g last order.now leaves.old inners.old homes.old × Blank g.stride blank.now }
     ensures { (result ≤ 31457282) × ((w : Job head g last order.now leaves.old inners.old homes.old) → JobDone (suc w.views) head leaves.old inners.old homes.old result leaves.new inners.new homes.new) }
 {
-    let empty = Slot::EMPTY;
-    let none = empty.child;
+    let none = Slot::EMPTY.child;
     let n = head.inners as usize;
     let a = each_leaf(leaves, homes, g, blank, head.leaves);
     let b = nodes(leaves, inners, g, blank, order, last, n);

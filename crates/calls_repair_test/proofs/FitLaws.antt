@@ -10,7 +10,7 @@ use borrow.Author.Tests.{leb-true}
 use Rattle.model.specs.Kind.{kind_of}
 use Rattle.model.specs.Lists.{part, range}
 use Rattle.model.specs.Node.{child, used}
-use Rattle.model.specs.State.{State, state, shape, node_at}
+use Rattle.model.specs.State.{State, state, node_at}
 use Rattle.model.specs.Refuse.{shape_of}
 use Rattle.model.specs.Sound.{shape_in, level, leaf_in, inners_reached, leaves_reached, slots_in, least_inner, least_leaf}
 use Rattle.model.specs.Audit.{every}
@@ -67,9 +67,6 @@ counted h g b e q =
 
 pub marks_of : (n N : ℕ) (ms : List ℕ) → n ≤ N → N ≤ 65536 → ms ≡ replicate N 0 → Marks n ms
 marks_of n N ms h l e = record { size = N; room = h; word = omega arith; zeros = e }
-
-pub fan_is : (views : ℕ) (h : Head) (g : Shape) → g ≡ shape (suc views) h.fan h.limit → g.fan ≡ h.fan
-fan_is views h g e = ap (λ (z : Shape). z.fan) e
 
 every_at : (q : ℕ → Bool) (i n : ℕ) → every q i n ≡ true → (j : ℕ) → j < n → q (i + j) ≡ true
 unfolding every

@@ -2,11 +2,10 @@
 use mathlib.Core.Path.{◌≡◌, sym, ap, ap₂, ◌∙◌}
 use mathlib.Core.Bool.{Bool, true, false, not, ◌&&◌}
 use mathlib.Core.List.{List, []}
-use Prim.Native.Nat.{ℕ, suc, ◌-◌, ◌≤◌}
+use Prim.Native.Nat.{ℕ, suc, ◌-◌}
 use native.Mathlib.Omega.{arith}
 use lib.ListN.{get_or}
 use lib.Dec.{leb}
-use borrow.Author.Tests.{leb-true}
 use Rattle.model.specs.Kind.{stride, kind_of, too_many_lines, crossed}
 use Rattle.model.specs.Node.{lengths}
 use Rattle.model.specs.State.{state, node_at}
@@ -17,7 +16,6 @@ use Rattle.model.specs.Mend.{is_long, is_fit_slot, is_fit_inner}
 use Rattle.model.specs.declared.shape.Kind.{Kind}
 use Rattle.model.specs.declared.shape.Shape.{Shape}
 use Rattle.model.specs.declared.head.Head.{Head}
-use Rattle.model_laws.specs.Lists.{and_true}
 
 pub fit_lines : (K : Kind) (x l : List ℕ) (b : Bool) → l ≡ lengths x → b ≡ too_many_lines K l → b ≡ true → false ≡ is_fit_slot K x
 fit_lines K x l b e q t = sym (ap (λ (y : List ℕ). not (too_many_lines K y) && not (crossed K y)) (sym e) ∙ ap (λ (z : Bool). not z && not (crossed K l)) (sym q ∙ t))
@@ -34,10 +32,6 @@ and_second a b c d p q r = rw (sym p ∙ q, sym r)
 -- slot i of leaf k
 abbrev pub fits_at : Shape → Bool → ℕ → List ℕ → ℕ → Bool
 fits_at g ordered k leaves i = is_fit_slot (kind_of (g.stride - 1) 0 ordered) (get_or (node_at g k leaves).slots i [])
-
--- a len that passed its test is at most the fan
-pub short : (least len fan own : ℕ) (b : Bool) → b ≡ (leb least len && leb len fan) → b ≡ true → own ≡ fan → len ≤ own
-short least len fan own b e q f = omega (arith, leb-true len fan (and_true (leb least len) (leb len fan) (sym e ∙ q)).1)
 
 pub inner_by_law : (K : Kind) (h : Head) (xs : List ℕ) (g : Shape) (k len least : ℕ) (b : Bool) → g ≡ shape_of K h → len ≡ (node_at g k xs).len → least ≡ least_inner (stride K) (state h [] [] []) k
     → b ≡ (leb least len && leb len h.fan) → b ≡ is_fit_inner K (state h [] xs []) k

@@ -129,9 +129,6 @@ pub record QueueLeft (kids : ℕ → List ℕ) (n most start end j count₀ coun
   pub marked : length ms ≡ length ms₀
   pub rest : noted_all n most (flat_map kids (part j (end - j) os₀)) (queue true count os ms) ≡ noted_all n most (flat_map kids (part start (end - start) os₀)) (queue true count₀ os₀ ms₀)
 
-pub begin : (kids : ℕ → List ℕ) (n most start end count : ℕ) (os ms : List ℕ) → start ≤ end → end ≤ count → QueueLeft kids n most start end start count count os ms os ms
-begin kids n most start end count os ms h g = record { low = omega arith; high = h; front = refl; counted = g; orders = refl; marked = refl; rest = refl }
-
 more : {A B : Type 0} (f : A → List B) (x : A) (l : List A) → flat_map f (x ∷ l) ≡ f x ++ flat_map f l
 unfolding flat_map
 more f x l = refl

@@ -83,9 +83,6 @@ module _ (kids entries : ℕ → List ℕ) (root levels n m e : ℕ) (hl : 1 ≤
   abbrev whole : Bool
   whole = is_once n I && is_once m L && is_once e E
 
-  pub room_1 : QueueRoom n n (length os) (length u)
-  room_1 = room_of n n (length os) u mu (omega arith)
-
   module _ (b₁ : Bool) (c₁ start : ℕ) (os₁ u₁ : List ℕ) (e₁ : queue b₁ c₁ os₁ u₁ ≡ noted_all n n I (queue true 0 os u)) (la : b₁ ≡ true → Last n (level_in kids root (levels - 1)) start c₁ os₁)
       (f₁ : Bool) (t₁ : f₁ ≡ (b₁ && eqb c₁ n))
     where

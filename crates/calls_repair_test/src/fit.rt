@@ -20,20 +20,11 @@ use model::shape::Shape;
 fn counts(head: Head, g: Shape) -> bool
     ensures { result ≡ counted_by head g }
 {
-    let nodes = g.nodes;
-    if head.entries > head.limit {
-        return false;
-    }
-    if head.leaves as usize > nodes {
-        return false;
-    }
-    if head.inners as usize > nodes {
-        return false;
-    }
-    if head.levels < 1 {
-        return false;
-    }
-    head.levels <= 15
+    head.entries <= head.limit
+        && head.leaves as usize <= g.nodes
+        && head.inners as usize <= g.nodes
+        && 1 <= head.levels
+        && head.levels <= 15
 }
 
 // Whether the trusted words are those of a sound tree; if so the queue begins with its inner nodes and then its leaves, and the last level
@@ -86,9 +77,5 @@ pub fn is_fit(
         return no;
     }
     let ok = totals(leaves, g, order, n as usize, n as usize + m as usize);
-    Levels {
-        ok: ok,
-        start: met.start,
-        count: met.count,
-    }
+    Levels { ok, ..met }
 }

@@ -19,20 +19,14 @@ use tree_open::lengths::{crossed, lengths_at, too_many_lines};
 fn is_long(len: u32, least: u32, fan: u32) -> bool
     ensures { result ≡ (leb least len && leb len fan) }
 {
-    if len < least {
-        return false;
-    }
-    len <= fan
+    least <= len && len <= fan
 }
 
 // How few slots a leaf may use.
 fn least_leaf(head: Head) -> u32
     ensures { (s : ℕ) → result ≡ least_leaf s (state head [] [] []) }
 {
-    if head.leaves == 1 {
-        return 1;
-    }
-    head.fan / 2
+    if head.leaves == 1 { 1 } else { head.fan / 2 }
 }
 
 // How few slots inner node k may use.
@@ -40,12 +34,12 @@ fn least_inner(head: Head, k: u32) -> u32
     ensures { (s : ℕ) → result ≡ least_inner s (state head [] [] []) k }
 {
     if k != head.root.0 {
-        return head.fan / 2;
+        head.fan / 2
+    } else if head.levels == 1 {
+        1
+    } else {
+        2
     }
-    if head.levels == 1 {
-        return 1;
-    }
-    2
 }
 
 // Whether every inner node of the first count has as many slots in use as it may.
@@ -53,14 +47,7 @@ pub fn every_inner(head: Head, inners: &[u32], g: Shape, count: u32) -> bool
     requires { AreaHolds g (length inners.now) × (count ≤ g.nodes) }
     ensures { (K : Kind) → g ≡ shape_of K head → result ≡ every (is_fit_inner K (state head [] inners.now [])) 0 count }
 {
-    let mut k: u32 = 0;
-    while k < count {
-        if !is_long(len_of(inners, g, k), least_inner(head, k), head.fan) {
-            return false;
-        }
-        k += 1;
-    }
-    true
+    (0..count).all(|k| is_long(len_of(inners, g, k), least_inner(head, k), head.fan))
 }
 
 // Whether the lengths in slot i of leaf k are such as an entry may have.
@@ -68,14 +55,10 @@ fn is_fit_slot(leaves: &[u32], g: Shape, ordered: bool, k: LeafNo, i: u32) -> bo
     requires { AreaHolds g (length leaves.now) × (k.0 < g.nodes) × (i < g.fan) }
     ensures { result ≡ is_fit_slot (kind_of (g.stride - 1) 0 ordered) (get_or (node_at g k.0 leaves.now).slots i []) }
 {
-    let stride = g.stride;
-    let views = stride - 1;
+    let views = g.stride - 1;
     let mut x: [u32; 4] = [0; 4];
     lengths_at(leaves, g, k, i, &mut x);
-    if too_many_lines(views, &x) {
-        return false;
-    }
-    !crossed(views, ordered, &x)
+    !too_many_lines(views, &x) && !crossed(views, ordered, &x)
 }
 
 // The same of each slot in use.
@@ -83,14 +66,7 @@ fn are_fit_slots(leaves: &[u32], g: Shape, ordered: bool, k: LeafNo, len: u32) -
     requires { AreaHolds g (length leaves.now) × (k.0 < g.nodes) × (len ≤ g.fan) }
     ensures { result ≡ every (λ i. is_fit_slot (kind_of (g.stride - 1) 0 ordered) (get_or (node_at g k.0 leaves.now).slots i [])) 0 len }
 {
-    let mut i: u32 = 0;
-    while i < len {
-        if !is_fit_slot(leaves, g, ordered, k, i) {
-            return false;
-        }
-        i += 1;
-    }
-    true
+    (0..len).all(|i| is_fit_slot(leaves, g, ordered, k, i))
 }
 
 fn is_fit_leaf(head: Head, leaves: &[u32], g: Shape, ordered: bool, k: LeafNo) -> bool
@@ -98,10 +74,7 @@ fn is_fit_leaf(head: Head, leaves: &[u32], g: Shape, ordered: bool, k: LeafNo) -
     ensures { (views effect : ℕ) → g ≡ shape_of (kind_of views effect ordered) head → result ≡ is_fit_leaf (kind_of views effect ordered) (state head leaves.now [] []) k.0 }
 {
     let len = len_of(leaves, g, k.0);
-    if !is_long(len, least_leaf(head), head.fan) {
-        return false;
-    }
-    are_fit_slots(leaves, g, ordered, k, len)
+    is_long(len, least_leaf(head), head.fan) && are_fit_slots(leaves, g, ordered, k, len)
 }
 
 // Whether every leaf of the first count has as many slots in use as it may, and lengths in them that entries may have.
@@ -109,12 +82,5 @@ pub fn every_leaf(head: Head, leaves: &[u32], g: Shape, ordered: bool, count: u3
     requires { AreaHolds g (length leaves.now) × (count ≤ g.nodes) × (g.fan ≡ head.fan) }
     ensures { (views effect : ℕ) → g ≡ shape_of (kind_of views effect ordered) head → result ≡ every (is_fit_leaf (kind_of views effect ordered) (state head leaves.now [] [])) 0 count }
 {
-    let mut k: u32 = 0;
-    while k < count {
-        if !is_fit_leaf(head, leaves, g, ordered, LeafNo(k)) {
-            return false;
-        }
-        k += 1;
-    }
-    true
+    (0..count).all(|k| is_fit_leaf(head, leaves, g, ordered, LeafNo(k)))
 }

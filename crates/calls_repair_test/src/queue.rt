@@ -9,7 +9,7 @@ ghost use Rattle.calls_repair_test.specs.Queue.{queue, queue_of, noted, noted_al
 use model::shape::Shape;
 use tree_area::word::{child_of, len_of};
 
-// Whether every node so far could be noted, and how many were.
+// Whether every node so far could be noted, and how many were: no Option, for `queue_of` speaks of the count after a refusal too.
 #[derive(Clone, Copy)]
 pub struct QueueCount {
     pub ok: bool,
@@ -21,18 +21,8 @@ fn see(order: &mut [u16], marks: &mut [u8], n: u32, most: usize, count: usize, c
     requires { QueueRoom n most (length order.old) (length marks.old) }
     ensures { queue_of result order.new marks.new ≡ noted n most c (queue true count order.old marks.old) }
 {
-    let no = QueueCount {
-        ok: false,
-        count: count,
-    };
-    if c >= n {
-        return no;
-    }
-    if marks[c as usize] != 0 {
-        return no;
-    }
-    if count >= most {
-        return no;
+    if c >= n || marks[c as usize] != 0 || count >= most {
+        return QueueCount { ok: false, count };
     }
     order[count] = c as u16;
     marks[c as usize] = 1;
@@ -58,15 +48,13 @@ fn children(
     ensures { queue_of result order.new marks.new ≡ noted_all n most (kids_of g inners.now k) (queue true count order.old marks.old) }
 {
     let mut noted = count;
-    let mut i: u32 = 0;
-    while i < len {
+    for i in 0..len {
         let c = child_of(inners, g, k, i as usize);
         let seen = see(order, marks, n, most, noted, c);
         if !seen.ok {
             return seen;
         }
         noted = seen.count;
-        i += 1;
     }
     QueueCount {
         ok: true,
@@ -90,8 +78,7 @@ pub fn level(
     ensures { queue_of result order.new marks.new ≡ noted_all n most (flat_map (kids_of g inners.now) (part start (end - start) order.old)) (queue true count order.old marks.old) }
 {
     let mut noted = count;
-    let mut j = start;
-    while j < end {
+    for j in start..end {
         let k = order[j] as u32;
         let len = len_of(inners, g, k);
         let seen = children(inners, g, order, marks, n, most, noted, k, len);
@@ -99,7 +86,6 @@ pub fn level(
             return seen;
         }
         noted = seen.count;
-        j += 1;
     }
     QueueCount {
         ok: true,
@@ -107,7 +93,7 @@ pub fn level(
     }
 }
 
-// Whether every inner node could be noted, where the last level starts in the queue, and how many were noted.
+// Whether every inner node could be noted, where the last level starts in the queue, and how many were noted: no Option, for the same.
 #[derive(Clone, Copy)]
 pub struct Levels {
     pub ok: bool,
@@ -130,23 +116,21 @@ fn below(
     let most = n as usize;
     let mut start: usize = 0;
     let mut end: usize = 1;
-    let mut d: usize = 1;
-    while d < levels {
+    for _ in 1..levels {
         let seen = level(inners, g, order, marks, n, most, end, start, end);
         if !seen.ok {
             return Levels {
-                ok: seen.ok,
-                start: start,
+                ok: false,
+                start,
                 count: seen.count,
             };
         }
         start = end;
         end = seen.count;
-        d += 1;
     }
     Levels {
         ok: true,
-        start: start,
+        start,
         count: end,
     }
 }
@@ -167,7 +151,7 @@ pub fn inner_levels(
     let first = see(order, marks, n, n as usize, 0, root);
     if !first.ok {
         return Levels {
-            ok: first.ok,
+            ok: false,
             start: 0,
             count: first.count,
         };

@@ -11,10 +11,7 @@ use model::shape::Shape;
 fn is_full(ok: bool, count: usize, n: usize) -> bool
     ensures { result ≡ (ok && eqb count n) }
 {
-    if ok {
-        return count == n;
-    }
-    false
+    ok && count == n
 }
 
 // The inner nodes, the leaves and the ids noted in one queue, each with marks of their own, which are zeros.
@@ -42,7 +39,7 @@ pub fn reach(
     let start = first.start;
     let no = Levels {
         ok: false,
-        start: start,
+        start,
         count: a,
     };
     if !is_full(first.ok, first.count, a) {
@@ -54,9 +51,5 @@ pub fn reach(
     }
     let third = level(leaves, g, order, named, entries, e, b, a, b);
     let ok = is_full(third.ok, third.count, e);
-    Levels {
-        ok: ok,
-        start: start,
-        count: a,
-    }
+    Levels { ok, ..no }
 }

@@ -14,10 +14,8 @@ fn leaf_total(leaves: &[u32], g: Shape, view: usize, k: u32) -> u64
     requires { AreaHolds g (length leaves.now) × (k < g.nodes) × (view + 1 < g.stride) }
     ensures { (result ≡ total view (used (node_at g k leaves.now))) × (result ≤ 137438953440) }
 {
-    let size = g.size;
-    let a = k as usize * size;
-    let e = a + size;
-    tree_node::read::used_total(&leaves[a..e], g, view)
+    let start = k as usize * g.size;
+    tree_node::read::used_total(&leaves[start..start + g.size], g, view)
 }
 
 // The same of the leaves in the queue from start up to end.
@@ -25,13 +23,10 @@ fn total(leaves: &[u32], g: Shape, order: &[u16], view: usize, start: usize, end
     requires { AreaHolds g (length leaves.now) × (view + 1 < g.stride) × (start ≤ end) × (end ≤ length order.now) × (end ≤ 131072) × QueueListed g.nodes start end order.now }
     ensures { result ≡ total_in g leaves.now view (part start (end - start) order.now) }
 {
-    let mut sum: u64 = 0;
-    let mut j = start;
-    while j < end {
-        sum += leaf_total(leaves, g, view, order[j] as u32);
-        j += 1;
-    }
-    sum
+    order[start..end]
+        .iter()
+        .map(|k| leaf_total(leaves, g, view, *k as u32))
+        .sum()
 }
 
 // Whether the totals are within u32, in every view.
@@ -39,13 +34,6 @@ pub fn totals(leaves: &[u32], g: Shape, order: &[u16], start: usize, end: usize)
     requires { AreaHolds g (length leaves.now) × (start ≤ end) × (end ≤ length order.now) × (end ≤ 131072) × QueueListed g.nodes start end order.now }
     ensures { result ≡ every (within g leaves.now (part start (end - start) order.now)) 0 (g.stride - 1) }
 {
-    let stride = g.stride;
-    let mut v: usize = 0;
-    while v + 1 < stride {
-        if total(leaves, g, order, v, start, end) > 4294967295 {
-            return false;
-        }
-        v += 1;
-    }
-    true
+    let views = g.stride - 1;
+    (0..views).all(|v| total(leaves, g, order, v, start, end) <= u64::from(u32::MAX))
 }

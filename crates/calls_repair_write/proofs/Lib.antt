@@ -1,4 +1,3 @@
-pub mod BlankLaws
 pub mod NearLaws
 pub mod SlotLaws
 pub mod NodesLaws

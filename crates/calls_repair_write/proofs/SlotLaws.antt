@@ -21,7 +21,7 @@ use Rattle.tree_area.specs.Area.{AreaHolds}
 use Rattle.tree_words.specs.Tally.{tallied}
 use Rattle.calls_repair_write.specs.Toward.{WordsRight, WordsToward, Goal, NearGoal, LongGoal, side, aim, slot_at, SlotAim, SlotsRight, Empty, LinkRight, SlotGoal, SlotDone}
 use Rattle.calls_repair_write.specs.Nodes.{child_in, SlotsGoal, SlotsDone, NodeDone}
-use Rattle.calls_repair_write.proofs.NearLaws.{PutRight, put_by, put_long, kept_same, near_none, near_on, near_leaves, near_beside, part_two, slot_same, same_rows}
+use Rattle.calls_repair_write.proofs.NearLaws.{PutRight, put_by, kept_same, near_none, near_on, near_leaves, near_beside, part_two, slot_same, same_rows}
 
 -- a slot ends within its node
 pub slot_end : (g : Shape) → Shaped g → (p i l : ℕ) → i < g.fan → p * g.size + g.size ≤ l → slot_at g p i + g.stride ≤ l
@@ -186,8 +186,3 @@ pub node_by : (g : Shape) (lowest : Bool) (p len : ℕ) (m : Goal) (la xa lb xb 
     → NodeDone g lowest p len m la xa (n + k) lb xc
 node_by g lowest p len m la xa lb xb xc n k s hp hl w d a e v =
     node_done g lowest p len m la xa lb xb xc n k hl d (empty_put g s p len hp hl m.beside xb xc k (long_on m la xa lb xb n d.near w.long).beside a e v)
-
--- a link leaves the area as long as it was
-pub link_long : (g : Shape) (c x y : ℕ) (ws now : List ℕ) (n : ℕ) → AreaHolds g (length ws) → c < g.nodes → ◌≡◌ {A = ℕ × List ℕ} (n, now) (tallied (c * g.size + 1) (x ∷ y ∷ []) ws)
-    → length now ≡ length ws
-link_long g c x y ws now n a h e = put_long ws (x ∷ y ∷ []) now (c * g.size + 1) n (omega (arith, a.shaped.words, node_end g c (length ws) h a.room)) e

@@ -15,11 +15,9 @@ fn homes_of(leaves: &[u32], homes: &mut [u32], g: Shape, k: u32, len: u32) -> us
     ensures { (result ≤ len) × ((m : List ℕ) → HomesGoal g k len m leaves.now homes.old → HomesDone g k len m leaves.now homes.old result homes.new) }
 {
     let mut count: usize = 0;
-    let mut i: u32 = 0;
-    while i < len {
+    for i in 0..len {
         let id = child_of(leaves, g, k, i as usize);
         count += word(homes, id as usize, k);
-        i += 1;
     }
     count
 }
@@ -39,11 +37,9 @@ pub fn each_leaf(leaves: &mut [u32], homes: &mut [u32], g: Shape, blank: &[u32],
     ensures { (result ≤ 160 * n) × ((m : Goal) → LeavesGoal g n m leaves.old homes.old → LeavesDone g n m leaves.old homes.old result leaves.new homes.new) }
 {
     let mut count: usize = 0;
-    let mut k: u32 = 0;
-    while k < n {
+    for k in 0..n {
         let len = len_of(leaves, g, k);
         count += leaf(leaves, homes, g, blank, k, len);
-        k += 1;
     }
     count
 }

@@ -14,9 +14,7 @@ pub fn link(area: &mut [u32], g: Shape, c: u32, parent: u32, at: u32) -> usize
     requires { AreaHolds g (length area.old) × (c < g.nodes) }
     ensures { ((result, area.new) ≡ tallied (c * g.size + 1) (parent ∷ at ∷ []) area.old) × (result ≤ 2) }
 {
-    let size = g.size;
-    let words: [u32; 2] = [parent, at];
-    put(area, c as usize * size + 1, &words)
+    put(area, c as usize * g.size + 1, &[parent, at])
 }
 
 // One word.
@@ -24,8 +22,7 @@ pub fn word(area: &mut [u32], p: usize, x: u32) -> usize
     requires { p < length area.old }
     ensures { ((result, area.new) ≡ tallied p (x ∷ []) area.old) × (result ≤ 1) }
 {
-    let words: [u32; 1] = [x];
-    put(area, p, &words)
+    put(area, p, &[x])
 }
 
 // Slot i of node k.
@@ -33,9 +30,8 @@ pub fn slot(area: &mut [u32], g: Shape, k: u32, i: usize, x: &[u32]) -> usize
     requires { AreaHolds g (length area.old) × (k < g.nodes) × (i < g.fan) × (length x.now ≡ 4) }
     ensures { ((result, area.new) ≡ tallied (k * g.size + (3 + i * g.stride)) (take g.stride x.now) area.old) × (result ≤ 4) }
 {
-    let size = g.size;
-    let stride = g.stride;
-    put(area, k as usize * size + (3 + i * stride), &x[..stride])
+    let start = k as usize * g.size + (3 + i * g.stride);
+    put(area, start, &x[..g.stride])
 }
 
 // The slots of node k from slot len on, with words from those of 32 empty slots.
@@ -43,9 +39,7 @@ pub fn empty(area: &mut [u32], g: Shape, k: u32, len: usize, blank: &[u32]) -> u
     requires { AreaHolds g (length area.old) × (k < g.nodes) × (len ≤ g.fan) × Blank g.stride blank.now }
     ensures { ((result, area.new) ≡ tallied (k * g.size + (3 + len * g.stride)) (flat (empty_slots g.stride (g.fan - len))) area.old) × (result ≤ 128) }
 {
-    let size = g.size;
-    let stride = g.stride;
-    let fan = g.fan;
-    let n = (fan - len) * stride;
-    put(area, k as usize * size + (3 + len * stride), &blank[..n])
+    let n = (g.fan - len) * g.stride;
+    let start = k as usize * g.size + (3 + len * g.stride);
+    put(area, start, &blank[..n])
 }

@@ -1,4 +1,7 @@
 -- What the calls answer that give an entry other lengths. Assumes nothing.
+use Rattle.model.specs.declared.way.Broken.{Broken}
+use Rattle.model.specs.Numbered.{Numbered, broken}
+use Rattle.std.specs.Prelude.{Ok, Err, Result}
 use Rattle.std.proofs.Common.{◌≡◌, ℕ, zero, suc, ◌+◌, ◌-◌, ◌^◌, ◌<◌, ◌≤◌, Bool, true, false, cond, eqb, List, [], ◌∷◌, ◌++◌, length, get_or, take, set, sym, refl, ap, ◌∙◌, ap₂, arith}
 use mathlib.Core.List.{zip_with}
 use Rattle.model.specs.Length.{list_of, lengths_in}
@@ -14,12 +17,6 @@ use Rattle.model.specs.declared.shape.Shape.{Shape}
 use Rattle.model.specs.declared.head.Head.{Head}
 use Rattle.model.specs.declared.head.Cursor.{Cursor}
 use Rattle.model.specs.declared.length.Lengths.{Lengths}
-use Rattle.model.specs.declared.way.Sum.{Sum}
-use Rattle.model.specs.declared.way.Sum.TheVariants as sum
-use Rattle.model.specs.declared.answer.Number.{Number}
-use Rattle.model.specs.declared.answer.Number.TheVariants as number
-use Rattle.model.specs.declared.answer.Outcome.{Outcome}
-use Rattle.model.specs.declared.answer.Outcome.TheVariants as outcome
 use Rattle.tree_node.proofs.WriteLaws.{three_words, four_words}
 use Rattle.tree_area.specs.Area.{AreaHolds}
 use Rattle.tree_walk.specs.Low.{low_way}
@@ -33,8 +30,6 @@ use Rattle.tree_open.proofs.WidthLaws.{own_shape, own_views, past_same}
 use Rattle.tree_open.specs.Lengths.{past_in}
 use Rattle.tree_open.specs.Open.{opened_by}
 use Rattle.tree_open.specs.Ready.{CursorReady}
-use Rattle.tree_open.specs.declared.open.Opened.{Opened}
-use Rattle.tree_open.specs.declared.open.Opened.TheVariants.{Good, Refused}
 use Rattle.calls_size.specs.Size.{old_by, resize, unnumbered}
 
 -- one to three differences are those of the lists
@@ -64,30 +59,33 @@ differences s a new old ds two three en eo ed h g e t2 f2 t3 f3 =
     ∙ ap₂ (λ (x y : List ℕ). minus (lengths_in (s - 1) x) (lengths_in (s - 1) y)) (four_words new en) (four_words old eo)
 
 -- a refusal says nothing of the lengths
-none_old : (n : ℕ) (own ls : List ℕ) → old_by (Refused n) own ls
-none_old n own ls g e = let z : ◌≡◌ {A = ℕ} 0 1 = cc in absurd (omega arith)
+pub refused_by : (r : Numbered Shape) (n : ℕ) → r ≡ Err n → (own ls : List ℕ) → old_by r own ls
+refused_by r n e own ls g d = let z : ◌≡◌ {A = ℕ} 0 1 = cc in absurd (omega arith)
+
+none_old : (n : ℕ) (own ls : List ℕ) → old_by (Err n) own ls
+none_old n = refused_by (Err n) n refl
 
 -- what `open_resize` answers: 10 where there are too many line ends
 pub resize_many : (K : Kind) (s : State) (c : Cursor) (l : List ℕ) (m : Bool) → m ≡ too_many_lines K l → m ≡ true → (own : List ℕ)
-    → (Refused 10 ≡ opened_by (resize_causes K s c l) (shape_of K s.head)) × old_by (Refused 10) own (lengths (slot_at K s c))
+    → (Err 10 ≡ opened_by (resize_causes K s c l) (shape_of K s.head)) × old_by (Err 10) own (lengths (slot_at K s c))
 resize_many K s c l m em h own = (sym (opened_first 9 _ _ _ (sym em ∙ h)), none_old 10 own _)
 
 -- else, from what `open_at` answered
-module _ (K : Kind) (s : State) (c : Cursor) (l : List ℕ) (m : Bool) (em : m ≡ too_many_lines K l) (few : m ≡ false) (o : Opened)
+module _ (K : Kind) (s : State) (c : Cursor) (l : List ℕ) (m : Bool) (em : m ≡ too_many_lines K l) (few : m ≡ false) (o : Numbered Shape)
     (e : o ≡ opened_by (opening K s ++ at_cursor K s c) (shape_of K s.head)) where
   behind : opened_by (resize_causes K s c l) (shape_of K s.head)
       ≡ opened_by (opening K s ++ at_cursor K s c ++ crossed_bounds K l ∷ past K s (lengths (slot_at K s c)) l ∷ []) (shape_of K s.head)
   behind = opened_next 10 _ _ _ (sym em ∙ few)
 
-  pub resize_refused : (n : ℕ) → o ≡ Refused n → (own : List ℕ)
-      → (Refused n ≡ opened_by (resize_causes K s c l) (shape_of K s.head)) × old_by (Refused n) own (lengths (slot_at K s c))
+  pub resize_refused : (n : ℕ) → o ≡ Err n → (own : List ℕ)
+      → (Err n ≡ opened_by (resize_causes K s c l) (shape_of K s.head)) × old_by (Err n) own (lengths (slot_at K s c))
   resize_refused n d own = (sym (behind ∙ opened_stop (opening K s ++ at_cursor K s c) _ _ n (sym e ∙ d)), none_old n own _)
 
-  module _ (g : Shape) (d : o ≡ Good g) (b : Bool) (eb : b ≡ crossed K l) where
+  module _ (g : Shape) (d : o ≡ Ok g) (b : Bool) (eb : b ≡ crossed K l) where
     beyond : opened_by (resize_causes K s c l) (shape_of K s.head) ≡ opened_by (crossed_bounds K l ∷ past K s (lengths (slot_at K s c)) l ∷ []) (shape_of K s.head)
     beyond = behind ∙ opened_more (opening K s ++ at_cursor K s c) _ _ g (at_numbered K s c) (sym e ∙ d)
 
-    pub resize_crossed : b ≡ true → (own : List ℕ) → (Refused 20 ≡ opened_by (resize_causes K s c l) (shape_of K s.head)) × old_by (Refused 20) own (lengths (slot_at K s c))
+    pub resize_crossed : b ≡ true → (own : List ℕ) → (Err 20 ≡ opened_by (resize_causes K s c l) (shape_of K s.head)) × old_by (Err 20) own (lengths (slot_at K s c))
     resize_crossed h own = (sym (beyond ∙ opened_first 19 _ _ _ (sym eb ∙ h)), none_old 20 own _)
 
     -- x holds the entry's lengths as they were read
@@ -105,15 +103,15 @@ module _ (K : Kind) (s : State) (c : Cursor) (l : List ℕ) (m : Bool) (em : m �
       last : opened_by (resize_causes K s c l) (shape_of K s.head) ≡ opened_by (past K s (lengths (slot_at K s c)) l ∷ []) (shape_of K s.head)
       last = beyond ∙ opened_next 20 _ _ _ (sym eb ∙ straight)
 
-      pub resize_past : t ≡ true → (Refused 7 ≡ opened_by (resize_causes K s c l) (shape_of K s.head)) × old_by (Refused 7) (lengths_in K.views x) (lengths (slot_at K s c))
+      pub resize_past : t ≡ true → (Err 7 ≡ opened_by (resize_causes K s c l) (shape_of K s.head)) × old_by (Err 7) (lengths_in K.views x) (lengths (slot_at K s c))
       resize_past h = (sym (last ∙ opened_first 6 _ [] _ (sym here ∙ h)), none_old 7 _ _)
 
-      pub resize_good : t ≡ false → (Good g ≡ opened_by (resize_causes K s c l) (shape_of K s.head)) × old_by (Good g) (lengths_in K.views x) (lengths (slot_at K s c))
-      resize_good h = (sym (last ∙ opened_next 7 _ [] _ (sym here ∙ h) ∙ opened_none _ ∙ ap Good same), λ _ _. own)
+      pub resize_good : t ≡ false → (Ok g ≡ opened_by (resize_causes K s c l) (shape_of K s.head)) × old_by (Ok g) (lengths_in K.views x) (lengths (slot_at K s c))
+      resize_good h = (sym (last ∙ opened_next 7 _ [] _ (sym here ∙ h) ∙ opened_none _ ∙ ap Ok same), λ _ _. own)
 
 -- what is known where `open_resize` gives no number
-pub resize_ready : (K : Kind) → (1 ≤ K.views) × (K.views ≤ 3) → (s : State) (c : Cursor) (l : List ℕ) (g : Shape) (o : Opened)
-    → o ≡ opened_by (resize_causes K s c l) (shape_of K s.head) → o ≡ Good g → CursorReady K s c g
+pub resize_ready : (K : Kind) → (1 ≤ K.views) × (K.views ≤ 3) → (s : State) (c : Cursor) (l : List ℕ) (g : Shape) (o : Numbered Shape)
+    → o ≡ opened_by (resize_causes K s c l) (shape_of K s.head) → o ≡ Ok g → CursorReady K s c g
 resize_ready K w s c l g o e d =
     cursor_ready K w s c g _ refl
     (good_front (opening K s ++ at_cursor K s c) (crossed_bounds K l ∷ past K s (lengths (slot_at K s c)) l ∷ []) (shape_of K s.head) g (good_tail 9 (too_many_lines K l) _ (shape_of K s.head) g (sym e ∙ d)))
@@ -146,15 +144,15 @@ module _ (K : Kind) (s : State) (c : Cursor) (x : List ℕ) (b : Bool) where
   abbrev own_in : Shape → List ℕ
   own_in g = lengths (get_or (node_at g c.leaf.0 s.leaves).slots c.slot [])
 
-  abbrev resized_by : Shape → Reply Number
-  resized_by g = let r = climb g K.effect (minus new (own_in g)) (replace g s c.leaf.0 c.slot new) in settled s r.0 number.Refused (number.Is (asked b r.1))
+  abbrev resized_by : Shape → Reply (Numbered ℕ)
+  resized_by g = let r = climb g K.effect (minus new (own_in g)) (replace g s c.leaf.0 c.slot new) in settled s r.0 Err (Ok (asked b r.1))
 
-  module _ (o : Opened) (e : o ≡ opened_by (resize_causes K s c new) (shape_of K s.head)) where
-    pub size_refused : (n : ℕ) → o ≡ Refused n → reply s (number.Refused n) ≡ resize K b s c new
-    size_refused n d = call_refused (λ (m : ℕ). reply s (number.Refused m)) resized_by (resize_causes K s c new) (shape_of K s.head) o e n d
+  module _ (o : Numbered Shape) (e : o ≡ opened_by (resize_causes K s c new) (shape_of K s.head)) where
+    pub size_refused : (n : ℕ) → o ≡ Err n → reply s (Err n) ≡ resize K b s c new
+    size_refused n d = call_refused (λ (m : ℕ). reply s (Err m)) resized_by (resize_causes K s c new) (shape_of K s.head) o e n d
 
     -- h1 and ls1: the head and the leaves with the lengths of x; y: those that the entry had; ds: the differences
-    module _ (g : Shape) (d : o ≡ Good g) (h1 : Head) (ls1 xs1 y ds : List ℕ)
+    module _ (g : Shape) (d : o ≡ Ok g) (h1 : Head) (ls1 xs1 y ds : List ℕ)
         (er : change 0 (state h1 ls1 s.inners s.homes) c.leaf.0 c.slot ≡ replace g s c.leaf.0 c.slot (lengths_in (g.stride - 1) x))
         (ey : lengths_in K.views y ≡ lengths (slot_at K s c)) (ed : take (g.stride - 1) ds ≡ minus (lengths_in (g.stride - 1) x) (lengths_in (g.stride - 1) y)) where
       sized : g ≡ shape_of K s.head
@@ -176,44 +174,44 @@ module _ (K : Kind) (s : State) (c : Cursor) (x : List ℕ) (b : Bool) where
       levels : h1.levels ≡ s.head.levels
       levels = ap (λ (r : Change). r.state.head.levels) replaced ∙ levels_kept g s c.leaf.0 c.slot new
 
-      abbrev way : Shape → Sum × List ℕ
+      abbrev way : Shape → (Result ℕ Broken) × List ℕ
       way z = way_up z K.effect (take K.views ds) s.head.levels c.leaf.0 c.slot ls1 s.inners
 
-      abbrev reply_by : Sum × List ℕ → Reply Number
-      reply_by t = let r = summed g (change 0 (state h1 ls1 s.inners s.homes) c.leaf.0 c.slot) t in settled s r.0 number.Refused (number.Is (asked b r.1))
+      abbrev reply_by : Result ℕ Broken × List ℕ → Reply (Numbered ℕ)
+      reply_by t = let r = summed g (change 0 (state h1 ls1 s.inners s.homes) c.leaf.0 c.slot) t in settled s r.0 Err (Ok (asked b r.1))
 
-      way_reply : (t : Sum × List ℕ) → t ≡ way g → reply_by t ≡ resize K b s c new
+      way_reply : (t : Result ℕ Broken × List ℕ) → t ≡ way g → reply_by t ≡ resize K b s c new
       way_reply t q =
-          call_good (λ (m : ℕ). reply s (number.Refused m)) resized_by (resize_causes K s c new) (shape_of K s.head) o e g d _
+          call_good (λ (m : ℕ). reply s (Err m)) resized_by (resize_causes K s c new) (shape_of K s.head) o e g d _
           (ap reply_by q
-          ∙ ap (λ (r : Change × ℕ). settled s r.0 number.Refused (number.Is (asked b r.1)))
+          ∙ ap (λ (r : Change × ℕ). settled s r.0 Err (Ok (asked b r.1)))
           (sym (climbed g K.effect (take K.views ds) h1 ls1 s.inners s.homes c.leaf.0 c.slot s.head.levels levels)
           ∙ ap₂ (λ (u : List ℕ) (r : Change). climb g K.effect u r) delta replaced))
 
-      module _ (r : Sum) (ec : (r, xs1) ≡ asked_way b (low_way (way (shape_for K.views g.fan g.nodes)))) where
+      module _ (r : Result ℕ Broken) (ec : (r, xs1) ≡ asked_way b (low_way (way (shape_for K.views g.fan g.nodes)))) where
         low : (r, xs1) ≡ asked_way b (low_way (way g))
         low = ec ∙ ap (λ (z : Shape). asked_way b (low_way (way z))) (own_shape K s.head g sized)
 
-        pub size_whole : (n : ℕ) → r ≡ sum.Is n → reply (state h1 ls1 xs1 s.homes) (number.Is (wrap n)) ≡ resize K b s c new
+        pub size_whole : (n : ℕ) → r ≡ Ok n → reply (state h1 ls1 xs1 s.homes) (Ok (wrap n)) ≡ resize K b s c new
         size_whole n q =
-            let u = asked_whole b xs1 n (low_way (way g)) (ap (λ (t : Sum). (t, xs1)) (sym q) ∙ low) in
+            let u = asked_whole b xs1 n (low_way (way g)) (ap (λ (t : Result ℕ Broken). (t, xs1)) (sym q) ∙ low) in
             let v = low_whole xs1 u.0 (way g) u.1 in
-            ap (λ (m : ℕ). reply (state h1 ls1 xs1 s.homes) (number.Is m)) (ap wrap u.2 ∙ asked_wrap b u.0 ∙ ap (asked b) (wrapped u.0 v.0 v.2))
-            ∙ way_reply (sum.Is v.0, xs1) v.1
+            ap (λ (m : ℕ). reply (state h1 ls1 xs1 s.homes) (Ok m)) (ap wrap u.2 ∙ asked_wrap b u.0 ∙ ap (asked b) (wrapped u.0 v.0 v.2))
+            ∙ way_reply (Ok v.0, xs1) v.1
 
-        pub size_broken : r ≡ sum.Broken → reply (state s.head ls1 xs1 s.homes) (number.Refused 9) ≡ resize K b s c new
-        size_broken q = way_reply (sum.Broken, xs1) (low_lost xs1 (way g) (asked_lost b xs1 (low_way (way g)) (ap (λ (t : Sum). (t, xs1)) (sym q) ∙ low)))
+        pub size_broken : r ≡ Err broken → reply (state s.head ls1 xs1 s.homes) (Err 9) ≡ resize K b s c new
+        size_broken q = way_reply ((Err broken), xs1) (low_lost xs1 (way g) (asked_lost b xs1 (low_way (way g)) (ap (λ (t : Result ℕ Broken). (t, xs1)) (sym q) ∙ low)))
 
 -- three words that a call is given are its lengths
 pub listed : (l : Lengths) (a b c : ℕ) → a ≡ l.prepare → b ≡ l.effect → c ≡ l.lines → a ∷ b ∷ c ∷ [] ≡ list_of l
 listed l a b c ea eb ec = rw (ea, eb, ec)
 
 -- a call that was opened or not and settled or not, with 0 or with nothing for its value: what sees no more than that in a reply sees the same
-module _ {X : Type 0} (f : Reply Number → X) (g : Reply Outcome → X) (done : (t : State) → f (reply t (number.Is 0)) ≡ g (reply t outcome.Done))
-    (refused : (t : State) (n : ℕ) → f (reply t (number.Refused n)) ≡ g (reply t (outcome.Refused n))) where
+module _ {X : Type 0} (f : Reply (Numbered ℕ) → X) (g : Reply (Numbered (Unit {0})) → X) (done : (t : State) → f (reply t (Ok 0)) ≡ g (reply t (Ok tt)))
+    (refused : (t : State) (n : ℕ) → f (reply t (Err n)) ≡ g (reply t (Err n))) where
   by_reply : (s : State) (n : ℕ) (r : Change) (opened full : Bool)
-      → f (cond opened (cond full (reply r.state (number.Is 0)) (reply (state s.head r.state.leaves r.state.inners r.state.homes) (number.Refused r.number))) (reply s (number.Refused n)))
-      ≡ g (cond opened (cond full (reply r.state outcome.Done) (reply (state s.head r.state.leaves r.state.inners r.state.homes) (outcome.Refused r.number))) (reply s (outcome.Refused n)))
+      → f (cond opened (cond full (reply r.state (Ok 0)) (reply (state s.head r.state.leaves r.state.inners r.state.homes) (Err r.number))) (reply s (Err n)))
+      ≡ g (cond opened (cond full (reply r.state (Ok tt)) (reply (state s.head r.state.leaves r.state.inners r.state.homes) (Err r.number))) (reply s (Err n)))
   by_reply s n r true true = done r.state
   by_reply s n r true false = refused (state s.head r.state.leaves r.state.inners r.state.homes) r.number
   by_reply s n r false full = refused s n
@@ -229,7 +227,7 @@ pub update_is : (s : State) (c : Cursor) (l : Lengths) → resize base true s c 
 unfolding update
 update_is s c l = refl
 
-pub set_is : (s : State) (c : Cursor) (l : Lengths) (x : Reply Number) → x ≡ resize base false s c (list_of l) → reply x.after (unnumbered x.answer) ≡ set_lengths base s c (list_of l)
+pub set_is : (s : State) (c : Cursor) (l : Lengths) (x : Reply (Numbered ℕ)) → x ≡ resize base false s c (list_of l) → reply x.after (unnumbered x.answer) ≡ set_lengths base s c (list_of l)
 set_is s c l x e =
-    ap (λ (r : Reply Number). reply r.after (unnumbered r.answer)) e
+    ap (λ (r : Reply (Numbered ℕ)). reply r.after (unnumbered r.answer)) e
     ∙ without_position (λ r. reply r.after (unnumbered r.answer)) (λ r. r) (λ t. refl) (λ t n. refl) base s c (list_of l)

@@ -1,25 +1,27 @@
 // Other lengths for an entry of a tree with views lengths an entry, positions answered in view effect; ordered: the first two are a lowest
 // and a highest one.
-ghost use Rattle.std.specs.Prelude.{◌≡◌, ℕ, ◌+◌, ◌-◌, ◌^◌, ◌<◌, ◌≤◌, length, take};
+ghost use Rattle.model.specs.Numbered.{numbered};
+ghost use Rattle.std.specs.Prelude.{◌≡◌, ℕ, ◌-◌, ◌<◌, ◌≤◌, length, take};
 ghost use Rattle.model.specs.State.{state};
 ghost use Rattle.model.specs.Kind.{kind_of};
 ghost use Rattle.model.specs.Length.{lengths_in};
-ghost use Rattle.model.specs.Node.{lengths, minus, wrap};
+ghost use Rattle.model.specs.Node.{lengths, minus};
 ghost use Rattle.model.specs.Refuse.{shape_of};
 ghost use Rattle.model.specs.Calls.{reply, resize_causes, slot_at};
 ghost use Rattle.tree_node.specs.Shaped.{Shaped};
 ghost use Rattle.tree_open.specs.Open.{opened_by};
 ghost use Rattle.calls_size.specs.Size.{resize, old_by};
 
-use model::answer::{Number, NumberReply};
+use model::answer::Reply;
 use model::head::{Cursor, Head};
+use model::refusal::Refusal;
 use model::shape::Shape;
-use model::way::Sum;
+use model::way::Broken;
 use tree_open::lengths::{crossed, lengths_at, past, too_many_lines};
-use tree_open::open::{Opened, open_at};
+use tree_open::open::open_at;
 use tree_place::size::{asked_way, replace};
 
-// What both calls test, too many line ends before all else; the entry's own lengths into old where nothing is refused, or 7 is.
+// What both calls test, too many line ends before all else; the entry's own lengths into old where nothing is refused, or Total is.
 fn open_resize(
     views: usize,
     ordered: bool,
@@ -30,33 +32,22 @@ fn open_resize(
     at: Cursor,
     old: &mut [u32; 4],
     new: &[u32; 4],
-) -> Opened
+) -> Result<Shape, Refusal>
     requires { (1 ≤ views) × (views ≤ 3) × (length old.old ≡ 4) × (length new.now ≡ 4) }
-    ensures { (effect : ℕ) → (result ≡ opened_by (resize_causes (kind_of views effect ordered) (state head leaves.now inners.now homes.now) at (lengths_in views new.now)) (shape_of (kind_of views effect ordered) head)) × old_by result (lengths_in views old.new) (lengths (slot_at (kind_of views effect ordered) (state head leaves.now inners.now homes.now) at)) × (length old.new ≡ 4) }
+    ensures { (effect : ℕ) → (numbered result ≡ opened_by (resize_causes (kind_of views effect ordered) (state head leaves.now inners.now homes.now) at (lengths_in views new.now)) (shape_of (kind_of views effect ordered) head)) × old_by (numbered result) (lengths_in views old.new) (lengths (slot_at (kind_of views effect ordered) (state head leaves.now inners.now homes.now) at)) × (length old.new ≡ 4) }
 {
     if too_many_lines(views, new) {
-        return Opened::Refused(10);
+        return Err(Refusal::Field);
     }
-    match open_at(views, head, leaves, inners, homes, at) {
-        Opened::Refused(n) => Opened::Refused(n),
-        Opened::Good(g) => {
-            if crossed(views, ordered, new) {
-                return Opened::Refused(20);
-            }
-            lengths_at(leaves, g, at.leaf, at.slot, old);
-            if past(head.root, inners, views, g.fan, g.nodes, old, new) {
-                return Opened::Refused(7);
-            }
-            Opened::Good(g)
-        }
+    let g = open_at(views, head, leaves, inners, homes, at)?;
+    if crossed(views, ordered, new) {
+        return Err(Refusal::Bounds);
     }
-}
-
-// The word b taken from the word a, modulo 2^32. Of a parameter it is known that it is a word; of an array's element it isn't.
-fn less(a: u32, b: u32) -> u32
-    ensures { result ≡ wrap (a + (2 ^ 32 - b)) }
-{
-    std::num::wrapping_sub_u32(a, b)
+    lengths_at(leaves, g, at.leaf, at.slot, old);
+    if past(head.root, inners, views, g.fan, g.nodes, old, new) {
+        return Err(Refusal::Total);
+    }
+    Ok(g)
 }
 
 // The difference of lengths, modulo 2 ^ 32; words of lengths that there aren't stay as they are.
@@ -65,12 +56,12 @@ fn minus(g: Shape, new: &[u32; 4], old: &[u32; 4], delta: &mut [u32; 3])
     ensures { (take (g.stride - 1) delta.new ≡ minus (lengths_in (g.stride - 1) new.now) (lengths_in (g.stride - 1) old.now)) × (length delta.new ≡ 3) }
 {
     let stride = g.stride;
-    delta[0] = less(new[1], old[1]);
+    delta[0] = new[1].wrapping_sub(old[1]);
     if 2 < stride {
-        delta[1] = less(new[2], old[2]);
+        delta[1] = new[2].wrapping_sub(old[2]);
     }
     if 3 < stride {
-        delta[2] = less(new[3], old[3]);
+        delta[2] = new[3].wrapping_sub(old[3]);
     }
 }
 
@@ -87,20 +78,20 @@ pub fn resize(
     at: Cursor,
     new: &[u32; 4],
     summed: bool,
-) -> NumberReply
+) -> Reply<u32>
     requires { (1 ≤ views) × (views ≤ 3) × (effect < views) × (length new.now ≡ 4) }
-    ensures { reply (state result.head leaves.new inners.new homes.now) result.answer ≡ resize (kind_of views effect ordered) summed (state head leaves.old inners.old homes.now) at (lengths_in views new.now) }
+    ensures { reply (state result.head leaves.new inners.new homes.now) (numbered result.answer) ≡ resize (kind_of views effect ordered) summed (state head leaves.old inners.old homes.now) at (lengths_in views new.now) }
 {
     let mut old: [u32; 4] = [0; 4];
     let mut delta: [u32; 3] = [0; 3];
     match open_resize(
         views, ordered, head, leaves, inners, homes, at, &mut old, new,
     ) {
-        Opened::Refused(n) => NumberReply {
-            head: head,
-            answer: Number::Refused(n),
+        Err(why) => Reply {
+            head,
+            answer: Err(why),
         },
-        Opened::Good(g) => {
+        Ok(g) => {
             let k = at.leaf;
             let i = at.slot;
             let levels = head.levels;
@@ -109,13 +100,13 @@ pub fn resize(
             match asked_way(
                 leaves, inners, views, effect, g.fan, g.nodes, &delta, levels, k, i, summed,
             ) {
-                Sum::Is(n) => NumberReply {
+                Ok(n) => Reply {
                     head: after,
-                    answer: Number::Is((n % 4294967296) as u32),
+                    answer: Ok((n % 4294967296) as u32),
                 },
-                Sum::Broken => NumberReply {
-                    head: head,
-                    answer: Number::Refused(9),
+                Err(Broken) => Reply {
+                    head,
+                    answer: Err(Refusal::Link),
                 },
             }
         }

@@ -1,4 +1,5 @@
 // Other lengths for an entry: set_lengths and update.
+ghost use Rattle.model.specs.Numbered.{numbered};
 ghost use Rattle.std.specs.Prelude.{◌≡◌};
 ghost use Rattle.model.specs.State.{state};
 ghost use Rattle.model.specs.Kind.{base};
@@ -7,9 +8,10 @@ ghost use Rattle.model.specs.Calls as calls;
 ghost use Rattle.model.specs.Calls.{reply};
 ghost use Rattle.calls_size.specs.Size.{resize, unnumbered};
 
-use model::answer::{Number, NumberReply, Outcome, OutcomeReply};
+use model::answer::Reply;
 use model::head::{Cursor, Head};
 use model::length::{Lengths, View};
+use model::refusal::Refusal;
 
 // Other lengths for the entry at a cursor, and, where it is asked for, its effect position, else 0.
 pub fn resize(
@@ -20,8 +22,8 @@ pub fn resize(
     at: Cursor,
     lengths: Lengths,
     summed: bool,
-) -> NumberReply
-    ensures { reply (state result.head leaves.new inners.new homes.now) result.answer ≡ resize base summed (state head leaves.old inners.old homes.now) at (list_of lengths) }
+) -> Reply<u32>
+    ensures { reply (state result.head leaves.new inners.new homes.now) (numbered result.answer) ≡ resize base summed (state head leaves.old inners.old homes.now) at (list_of lengths) }
 {
     let x: [u32; 4] = [
         0,
@@ -40,20 +42,18 @@ pub fn update(
     homes: &[u32],
     at: Cursor,
     lengths: Lengths,
-) -> NumberReply
-    ensures { reply (state result.head leaves.new inners.new homes.now) result.answer ≡ calls.update base (state head leaves.old inners.old homes.now) at (list_of lengths) }
+) -> Reply<u32>
+    ensures { reply (state result.head leaves.new inners.new homes.now) (numbered result.answer) ≡ calls.update base (state head leaves.old inners.old homes.now) at (list_of lengths) }
 {
     resize(head, leaves, inners, homes, at, lengths, true)
 }
 
 // An answer without its number.
-pub fn unnumbered(answer: Number) -> Outcome
-    ensures { result ≡ unnumbered answer }
+pub fn unnumbered(answer: Result<u32, Refusal>) -> Result<(), Refusal>
+    ensures { numbered result ≡ unnumbered (numbered answer) }
 {
-    match answer {
-        Number::Is(n) => Outcome::Done,
-        Number::Refused(n) => Outcome::Refused(n),
-    }
+    answer?;
+    Ok(())
 }
 
 // The same without the position.
@@ -64,14 +64,12 @@ pub fn set_lengths(
     homes: &[u32],
     at: Cursor,
     lengths: Lengths,
-) -> OutcomeReply
-    ensures { reply (state result.head leaves.new inners.new homes.now) result.answer ≡ calls.set_lengths base (state head leaves.old inners.old homes.now) at (list_of lengths) }
+) -> Reply<()>
+    ensures { reply (state result.head leaves.new inners.new homes.now) (numbered result.answer) ≡ calls.set_lengths base (state head leaves.old inners.old homes.now) at (list_of lengths) }
 {
     let r = resize(head, leaves, inners, homes, at, lengths, false);
-    let after = r.head;
-    let answer = r.answer;
-    OutcomeReply {
-        head: after,
-        answer: unnumbered(answer),
+    Reply {
+        head: r.head,
+        answer: unnumbered(r.answer),
     }
 }

@@ -1,4 +1,5 @@
 // One entry divided in two for a seat, or for nobody: split_entry, in a tree whose seats stand in seventeen lent words.
+ghost use Rattle.model.specs.Numbered.{numbered};
 ghost use Rattle.std.specs.Prelude.{◌≡◌, false, length, slice_index};
 ghost use Rattle.model.specs.State.{state};
 ghost use Rattle.model.specs.Length.{list_of};
@@ -7,21 +8,25 @@ ghost use Rattle.model.specs.Seats.{bad_seat};
 ghost use Rattle.model.specs.SeatedCalls.{seated_reply, after_split, split_seated};
 ghost use Rattle.tree_seats.specs.Words.{seats_from};
 
-use model::answer::{Divided, DividedReply};
+use model::answer::Reply;
 use model::head::{Cursor, Head};
 use model::length::{Lengths, Slot};
-use model::seats::Seat;
+use model::number::EntryId;
+use model::refusal::Refusal;
 use tree_seats::rule::{bad_seat, room};
 use tree_seats::write::charge;
 
 // The new entry is charged to the seat, unless the call was refused. The flag stays.
-fn charge_for(seats: &mut [u32], seat: Seat, answer: Divided)
+fn charge_for(
+    seats: &mut [u32],
+    seat: Option<u32>,
+    answer: Result<(EntryId, Cursor, Cursor), Refusal>,
+)
     requires { (length seats.old ≡ 17) × (bad_seat (seats_from seats.old) seat ≡ false) }
-    ensures { (seats_from seats.new ≡ after_split seat (seats_from seats.old) answer) × (slice_index seats.new 0 ≡ slice_index seats.old 0) }
+    ensures { (seats_from seats.new ≡ after_split seat (seats_from seats.old) (numbered answer)) × (slice_index seats.new 0 ≡ slice_index seats.old 0) }
 {
-    match answer {
-        Divided::At(id, first, second) => charge(seats, seat),
-        Divided::Refused(n) => {}
+    if answer.is_ok() {
+        charge(seats, seat);
     }
 }
 
@@ -32,18 +37,18 @@ pub fn split_entry(
     leaves: &mut [u32],
     inners: &mut [u32],
     homes: &mut [u32],
-    seat: Seat,
+    seat: Option<u32>,
     at: Cursor,
     lengths: Lengths,
     before: bool,
-) -> DividedReply
+) -> Reply<(EntryId, Cursor, Cursor)>
     requires { length seats.old ≡ 17 }
-    ensures { (seated_reply (state result.head leaves.new inners.new homes.new) (seats_from seats.new) result.answer ≡ split_seated base (state head leaves.old inners.old homes.old) (seats_from seats.old) seat at (list_of lengths) before) × (slice_index seats.new 0 ≡ slice_index seats.old 0) }
+    ensures { (seated_reply (state result.head leaves.new inners.new homes.new) (seats_from seats.new) (numbered result.answer) ≡ split_seated base (state head leaves.old inners.old homes.old) (seats_from seats.old) seat at (list_of lengths) before) × (slice_index seats.new 0 ≡ slice_index seats.old 0) }
 {
     if bad_seat(seats, seat) {
-        return DividedReply {
-            head: head,
-            answer: Divided::Refused(10),
+        return Reply {
+            head,
+            answer: Err(Refusal::Field),
         };
     }
     let room = room(head.limit, head.entries, seats, seat);
@@ -55,11 +60,6 @@ pub fn split_entry(
         slot.line_ends,
     ];
     let r = crate::any::split_entry(3, false, room, head, leaves, inners, homes, at, &x, before);
-    let after = r.head;
-    let answer = r.answer;
-    charge_for(seats, seat, answer);
-    DividedReply {
-        head: after,
-        answer: answer,
-    }
+    charge_for(seats, seat, r.answer);
+    r
 }

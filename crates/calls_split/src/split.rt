@@ -1,4 +1,5 @@
 // One entry divided in two: split_entry.
+ghost use Rattle.model.specs.Numbered.{numbered};
 ghost use Rattle.std.specs.Prelude.{◌≡◌};
 ghost use Rattle.model.specs.State.{state};
 ghost use Rattle.model.specs.Length.{list_of};
@@ -6,9 +7,10 @@ ghost use Rattle.model.specs.Kind.{base};
 ghost use Rattle.model.specs.Calls as calls;
 ghost use Rattle.model.specs.Calls.{reply};
 
-use model::answer::DividedReply;
+use model::answer::Reply;
 use model::head::{Cursor, Head};
 use model::length::{Lengths, Slot};
+use model::number::EntryId;
 use tree_seats::rule::without;
 
 // The lengths leave the entry at a cursor for a new one, just before it or just after.
@@ -20,8 +22,8 @@ pub fn split_entry(
     at: Cursor,
     lengths: Lengths,
     before: bool,
-) -> DividedReply
-    ensures { reply (state result.head leaves.new inners.new homes.new) result.answer ≡ calls.split_entry base (state head leaves.old inners.old homes.old) at (list_of lengths) before }
+) -> Reply<(EntryId, Cursor, Cursor)>
+    ensures { reply (state result.head leaves.new inners.new homes.new) (numbered result.answer) ≡ calls.split_entry base (state head leaves.old inners.old homes.old) at (list_of lengths) before }
 {
     let slot = Slot::new(head.entries, lengths);
     let x: [u32; 4] = [

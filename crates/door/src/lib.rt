@@ -7,7 +7,6 @@ ghost use Rattle.std.specs.Prelude.{◌≡◌};
 ghost use Rattle.door.specs.Door.{door_answer, door_on};
 
 use list_row::made::{FAN, FIRST, LIMIT, make_and_run};
-use model::answer::Outcome;
 
 // Answers 0, or 11 with the output as it was.
 #[unsafe(no_mangle)]
@@ -29,7 +28,7 @@ pub extern "C" fn door(records: &[u8], out: &mut [u8]) -> u32
     );
     let answer = ran.answer;
     match answer {
-        Outcome::Done => 0,
-        Outcome::Refused(n) => n,
+        Ok(()) => 0,
+        Err(why) => why.number(),
     }
 }

@@ -1,9 +1,10 @@
 -- An argument's digits, one by one from the first. Assumes nothing.
+use Rattle.std.specs.Prelude.{Option, Some, None}
 use mathlib.Core.Path.{◌≡◌, sym, ap, ◌∙◌}
+use mathlib.Core.Logic.{◌⊎◌, ⊎_elim}
 use mathlib.Core.Bool.{true, false}
 use mathlib.Core.List.{List, ◌∷◌}
 use Prim.Native.Nat.{ℕ, suc, ◌+◌, ◌-◌, ◌*◌, ◌^◌, ◌<◌, ◌≤◌}
-use native.Mathlib.Nat.{pow-le-pow_right}
 use native.Mathlib.Numerals.{add-one}
 use native.Mathlib.Omega.{arith}
 use lib.ListN.{length, get_or, drop, drop_of_length-le}
@@ -11,33 +12,31 @@ use lib.Seq.{drop-cons}
 use borrow.Author.Tests.{lt-ltb, le-ltb, le-leb, lt-leb}
 use Rattle.list_stream.specs.Lines.{said_by}
 use Rattle.editrun.specs.Asked.{digits, word, asked}
-use Rattle.editrun.specs.declared.Argument.{Argument}
-use Rattle.editrun.specs.declared.Argument.TheVariants as argument
 
-pub is_word : (n : ℕ) → n < 4294967296 → argument.Edit n ≡ word n
+pub is_word : (n : ℕ) → n < 4294967296 → Some n ≡ word n
 unfolding word
 is_word n h = rw (lt-ltb n 4294967296 h)
 
-pub no_word : (n : ℕ) → 4294967296 ≤ n → argument.Malformed ≡ word n
+pub no_word : (n : ℕ) → 4294967296 ≤ n → None ≡ word n
 unfolding word
 no_word n h = rw (le-ltb n 4294967296 h)
 
 module _ (text : List ℕ) where
-  pub empty : length text < 1 → argument.Malformed ≡ asked text
+  pub empty : length text < 1 → None ≡ asked text
   unfolding asked
   empty h = rw (lt-leb 1 (length text) h)
 
   module _ (some : 1 ≤ length text) where
-    pub long : 10 < length text → argument.Malformed ≡ asked text
+    pub long : 10 < length text → None ≡ asked text
     unfolding asked
     long h = rw (le-leb 1 (length text) some, lt-leb (length text) 10 h)
 
     module _ (short : length text ≤ 10) where
-      pub no_digits : digits text ≡ false → argument.Malformed ≡ asked text
+      pub no_digits : digits text ≡ false → None ≡ asked text
       unfolding asked
       no_digits h = rw (le-leb 1 (length text) some, le-leb (length text) 10 short, h)
 
-      pub by_digits : (r : Argument) (n : ℕ) → digits text ≡ true → n ≡ said_by 0 text → r ≡ word n → r ≡ asked text
+      pub by_digits : (r : Option ℕ) (n : ℕ) → digits text ≡ true → n ≡ said_by 0 text → r ≡ word n → r ≡ asked text
       unfolding asked
       by_digits r n h e w = w ∙ rw (e, le-leb 1 (length text) some, le-leb (length text) 10 short, h)
 
@@ -46,13 +45,16 @@ module _ (text : List ℕ) where
     next : drop i text ≡ get_or text i 0 ∷ drop (suc i) text
     next = drop-cons text i 0 inside
 
-    pub too_low : get_or text i 0 < 48 → digits text ≡ false
+    too_low : get_or text i 0 < 48 → digits text ≡ false
     unfolding digits
     too_low h = sym same ∙ (ap digits next ∙ rw (lt-leb 48 (get_or text i 0) h))
 
-    pub too_high_law : 48 ≤ get_or text i 0 → 57 < get_or text i 0 → digits text ≡ false
+    too_high : 48 ≤ get_or text i 0 → 57 < get_or text i 0 → digits text ≡ false
     unfolding digits
-    too_high_law h g = sym same ∙ (ap digits next ∙ rw (le-leb 48 (get_or text i 0) h, lt-leb (get_or text i 0) 57 g))
+    too_high h g = sym same ∙ (ap digits next ∙ rw (le-leb 48 (get_or text i 0) h, lt-leb (get_or text i 0) 57 g))
+
+    pub no_digit : (get_or text i 0 < 48) ⊎ (57 < get_or text i 0) → digits text ≡ false
+    no_digit h = ⊎_elim too_low (λ g. too_high (omega arith) g) h
 
     module _ (n : ℕ) (said : said_by n (drop i text) ≡ said_by 0 text) (low : 48 ≤ get_or text i 0) (high : get_or text i 0 ≤ 57) where
       pub more_digits : digits (drop (i + 1) text) ≡ digits text
@@ -76,6 +78,3 @@ pub said_less : (n i b : ℕ) → n < 10 ^ i → b ≤ 57 → n * 10 + (b - 48) 
 said_less n i b h g =
     let e : 10 ^ (i + 1) ≡ 10 ^ suc i = ap (λ (k : ℕ). 10 ^ k) (add-one i) in
     omega (arith, e, h, g)
-
-pub few_said : (n i : ℕ) → n < 10 ^ i → i ≤ 10 → n < 10000000000
-few_said n i h g = omega (arith, h, pow-le-pow_right {n = 10} (omega arith) {i = i} {j = 10} g)

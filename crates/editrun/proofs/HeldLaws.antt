@@ -1,4 +1,5 @@
 -- A block holds the input behind what it held, and `difference` doesn't tell the bytes that it holds from the input. Assumes nothing.
+use Rattle.std.specs.Prelude.{Option, Some, None, Result, Ok, Err, IsErrAnd}
 use mathlib.Core.Path.{◌≡◌, refl, sym, ap, ◌∙◌, subst}
 use mathlib.Core.Logic.{◌≢◌}
 use mathlib.Core.Bool.{Bool, true, false}
@@ -14,8 +15,6 @@ use Rattle.model_laws.specs.Words.{length_part}
 use Rattle.calls_edits.specs.Edits.{difference}
 use Rattle.calls_edits.specs.Answered.{checks, differs}
 use Rattle.editrun.specs.Held.{folded, InputHeld, Turned, HoldsInput}
-use Rattle.editrun.specs.declared.Input.{Input}
-use Rattle.editrun.specs.declared.Input.TheVariants as input'
 
 -- how many bytes are held
 pub folded_less : (n : ℕ) → n < 8208 → n ≡ folded n
@@ -120,12 +119,17 @@ pub held_none : (block : List ℕ) → HoldsInput block 0
 unfolding folded
 held_none block = record { input = []; held = record { long = refl; room = omega arith; front = refl } }
 
-pub turned_more : (r : Input) (block : List ℕ) (kept : ℕ) (b : List ℕ) → Turned r block kept b → (have : ℕ) → r ≡ input'.More have → HoldsInput block kept → HoldsInput b have
-turned_more r block kept b turned have e h =
-    let t = subst (λ (x : Input). Turned x block kept b) e turned in
+pub turned_more : {E : Type 0} (r : Result (Option ℕ) E) (block : List ℕ) (kept : ℕ) (b : List ℕ) → Turned r block kept b → (have : ℕ) → r ≡ Ok (Some have) → HoldsInput block kept → HoldsInput b have
+turned_more {E} r block kept b turned have e h =
+    let t = subst (λ (x : Result (Option ℕ) E). Turned x block kept b) e turned in
     record { input = h.input ++ part kept t.0 b; held = t.2 h.input h.held }
 
-pub turned_end : (r : Input) (block : List ℕ) (kept : ℕ) (b : List ℕ) → Turned r block kept b → r ≡ input'.End → HoldsInput block kept → HoldsInput b kept
-turned_end r block kept b turned e h =
-    let t = subst (λ (x : Input). Turned x block kept b) e turned in
+pub turned_end : {E : Type 0} (r : Result (Option ℕ) E) (block : List ℕ) (kept : ℕ) (b : List ℕ) → Turned r block kept b → r ≡ Ok None → HoldsInput block kept → HoldsInput b kept
+turned_end {E} r block kept b turned e h =
+    let t = subst (λ (x : Result (Option ℕ) E). Turned x block kept b) e turned in
     record { input = h.input; held = record { long = h.held.long; room = t.1; front = ap (take 8208) t.0 ∙ h.held.front } }
+
+-- of a read that failed nothing is said
+pub turned_none : {E : Type 0} (P : E → Type 0) (r : Result (Option ℕ) E) (block : List ℕ) (kept : ℕ) (b : List ℕ) → IsErrAnd r P → Turned r block kept b
+turned_none P (Ok x) block have b f = absurd f
+turned_none P (Err e) block have b f = tt

@@ -4,6 +4,7 @@
 #![tactic(auto)]
 
 ghost use Rattle.std.specs.Prelude.{◌≡◌, List, ℕ, ◌*◌, ◌<◌, ◌≤◌, length, take};
+ghost use Rattle.model.specs.Numbered.{numbered};
 ghost use Rattle.list_stream.specs.Text.{put};
 ghost use Rattle.editrun.specs.Asked.{word, asked};
 ghost use Rattle.editrun.specs.Held.{folded, InputHeld, Turned, HoldsInput};
@@ -11,9 +12,9 @@ ghost use Rattle.editrun.specs.Printed.{lines, Answered};
 
 use calls_edits::difference::difference;
 use list_stream::line::field;
-use model::answer::Number;
+use model::refusal::Refusal;
 use std::env::{Env, FillError};
-use std::io::{Read, Stderr, Stdin, Stdout, Write};
+use std::io::{self, Read, Stderr, Stdin, Stdout, Write};
 
 // The three streams of the program.
 #[derive(Clone, Copy)]
@@ -23,56 +24,38 @@ struct Streams {
     errors: Stderr,
 }
 
-// An argument: an edit's number, or none.
-#[derive(Clone, Copy)]
-enum Argument {
-    Edit(u32),
-    Malformed,
-}
-
 // A number that a u32 holds.
-fn word(n: u64) -> Argument
+fn word(n: u64) -> Option<u32>
     ensures { result ≡ word n }
 {
-    if n < 4294967296 {
-        return Argument::Edit(n as u32);
+    match u32::try_from(n) {
+        Ok(n) => Some(n),
+        Err(_) => None,
     }
-    Argument::Malformed
 }
 
 // The number that one to ten digits say.
-fn number_in(text: &[u8]) -> Argument
+fn number_in(text: &[u8]) -> Option<u32>
     ensures { result ≡ asked text.now }
 {
-    if text.len() < 1 {
-        return Argument::Malformed;
-    }
-    if text.len() > 10 {
-        return Argument::Malformed;
+    if text.is_empty() || text.len() > 10 {
+        return None;
     }
     let mut n: u64 = 0;
-    let mut i: usize = 0;
-    while i < text.len() {
-        let b = text[i];
-        if b < 48 {
-            return Argument::Malformed;
+    for &b in text {
+        if !b.is_ascii_digit() {
+            return None;
         }
-        if b > 57 {
-            return Argument::Malformed;
-        }
-        n = n * 10 + (b - 48) as u64;
-        i += 1;
+        n = n * 10 + u64::from(b - b'0');
     }
     word(n)
 }
 
-// Argument i. One that is missing or has more than ten bytes is read as an empty one.
-fn argument_at<R: Env>(rt: &R, i: usize) -> Argument {
+// The number of argument i: none where it is missing, has more than ten bytes or says no such number.
+fn argument_at<R: Env>(rt: &R, i: usize) -> Option<u32> {
     let mut text = [0u8; 10];
-    match rt.arg(i, &mut text) {
-        Ok(n) => number_in(&text[..n]),
-        Err(_) => number_in(&[]),
-    }
+    let n = rt.arg(i, &mut text).ok()?;
+    number_in(&text[..n])
 }
 
 // Whether no argument i is there.
@@ -90,27 +73,17 @@ fn fold(have: usize) -> usize
     8208 + have % 16
 }
 
-// Whether the input goes on, and how many bytes the block holds then.
-#[derive(Clone, Copy)]
-enum Input {
-    More(usize),
-    End,
-    Failed,
-}
-
-// Once more read, behind what is held.
-fn turn(input: Stdin, block: &mut [u8], kept: usize) -> Input
+// Once more read, behind what is held: how many bytes the block holds then, none at the end of the input.
+fn turn(input: Stdin, block: &mut [u8], kept: usize) -> io::Result<Option<usize>>
     requires { kept < length block.old }
     ensures { Turned result block.old kept block.new }
 {
     let mut input = input;
-    let Ok(n) = input.read(&mut block[kept..]) else {
-        return Input::Failed;
-    };
+    let n = input.read(&mut block[kept..])?;
     if n == 0 {
-        return Input::End;
+        return Ok(None);
     }
-    Input::More(fold(kept + n))
+    Ok(Some(fold(kept + n)))
 }
 
 // A line for each of the first n numbers; the place behind them.
@@ -120,23 +93,13 @@ fn list_lines(area: &[u32], n: usize, out: &mut [u8]) -> usize
     ensures upper_bound { result ≤ length out.new }
 {
     let mut end: usize = 0;
-    let mut i: usize = 0;
-    while i < n {
-        let k = area[i];
+    for &k in &area[..n] {
         end = field(out, end, k, 10);
-        i += 1;
     }
     end
 }
 
-// What there is to show: so many bytes of text, or a refusal.
-#[derive(Clone, Copy)]
-enum Shown {
-    Text(usize),
-    Refused(u32),
-}
-
-// The lines of the difference, of the file whose bytes the block holds.
+// The lines of the difference, of the file whose bytes the block holds; how many bytes they have.
 fn answer(
     block: &[u8],
     have: usize,
@@ -144,14 +107,12 @@ fn answer(
     second: u32,
     area: &mut [u32],
     out: &mut [u8],
-) -> Shown
+) -> Result<usize, Refusal>
     requires { (have ≤ length block.now) × (length area.old ≡ 512) × (5632 ≤ length out.old) }
-    ensures { (input : List ℕ) → InputHeld input block.now have → Answered result input first second area.old out.old out.new }
+    ensures { (input : List ℕ) → InputHeld input block.now have → Answered (numbered result) input first second area.old out.old out.new }
 {
-    match difference(&block[..have], area, first, second) {
-        Number::Is(n) => Shown::Text(list_lines(area, n as usize, out)),
-        Number::Refused(n) => Shown::Refused(n),
-    }
+    let n = difference(&block[..have], area, first, second)?;
+    Ok(list_lines(area, n as usize, out))
 }
 
 // A text, on standard error. Nothing can be said of one that fails there.
@@ -178,7 +139,7 @@ fn show(
     requires { HoldsInput block.now have × (length area.old ≡ 512) × (length out.old ≡ 5632) }
 {
     match answer(block, have, first, second, area, out) {
-        Shown::Text(end) => {
+        Ok(end) => {
             let mut output = streams.output;
             if output.write_all(&out[..end]).is_err() {
                 say(
@@ -187,8 +148,8 @@ fn show(
                 );
             }
         }
-        Shown::Refused(n) => {
-            refuse(streams.errors, n);
+        Err(why) => {
+            refuse(streams.errors, why.number());
         }
     }
 }
@@ -210,22 +171,20 @@ fn run(
 {
     let mut kept: usize = 0;
     // A proved loop has to end, and nothing says that the input does: no run uses these turns up.
-    let mut turns = u64::MAX;
-    while turns > 0 {
+    for _ in 0..u64::MAX {
         match turn(streams.input, block, kept) {
-            Input::More(next) => {
+            Ok(Some(next)) => {
                 kept = next;
             }
-            Input::End => {
+            Ok(None) => {
                 show(streams, block, kept, first, second, area, out);
                 return;
             }
-            Input::Failed => {
+            Err(_) => {
                 unreadable(streams.errors);
                 return;
             }
         }
-        turns -= 1;
     }
 }
 
@@ -242,16 +201,16 @@ fn main(rt: HostRuntime) {
         output: rt.stdout(),
         errors: rt.stderr(),
     };
-    // Two arguments and no third: one that is missing is read as an empty one, which is no number.
+    // Two arguments and no third.
     if !is_missing(&rt, 3) {
         malformed(streams.errors);
         return;
     }
-    let Argument::Edit(first) = argument_at(&rt, 1) else {
+    let Some(first) = argument_at(&rt, 1) else {
         malformed(streams.errors);
         return;
     };
-    let Argument::Edit(second) = argument_at(&rt, 2) else {
+    let Some(second) = argument_at(&rt, 2) else {
         malformed(streams.errors);
         return;
     };

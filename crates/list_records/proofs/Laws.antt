@@ -1,18 +1,12 @@
 -- A record's kind picks its call from the list of kinds; sixteen bytes written in order. Assumes nothing.
-use mathlib.Core.Path.{◌≡◌, refl, sym, ap, subst, ◌∙◌}
-use mathlib.Core.Bool.{Bool, ◌&&◌}
-use mathlib.Core.List.{List, ◌++◌, append-nil}
-use Prim.Native.Nat.{ℕ, zero, suc, ◌+◌, ◌*◌, ◌%◌, ◌<◌, ◌≤◌}
-use mir.Syntax.{w8, w32}
-use mir.Val.{Fits}
-use native.Mathlib.Omega.{arith}
-use lib.ListN.{length, get_or, drop_of_length-le}
-use lib.Dec.{T, eqb, leb, ltb, lit≤, lit<}
-use lib.Seq.{sets, sets-eq, lt-length-sets}
-use Rattle.model.specs.Length.{list_of, view_number}
+use Rattle.std.proofs.Common.{◌≡◌, refl, sym, ap, ◌∙◌, ℕ, zero, suc, ◌-◌, ◌≤◌, List, [], ◌∷◌, ◌++◌, length, take, drop, set, replicate, append_assoc, arith, length-append, length-drop, length-take, length-set}
+use Rattle.std.proofs.Math.Seq.{drop-length}
+use mathlib.Core.List.{append-nil}
+use borrow.Rule.Slice.PartMut.{put_mid}
+use Rattle.std.proofs.lemmas.List.{take_at, drop_at}
+use lib.ListN.{get_or}
 use Rattle.model.specs.Row as row
-use Rattle.model.specs.Record.{Fields, kinds, only, plain, viewed, view_of, field_lengths}
-use Rattle.model.specs.declared.length.View.{View}
+use Rattle.model.specs.Record.{Fields, kinds, bytes_of}
 
 -- the call of one kind
 pub at_kind : (f : Fields) (k : ℕ) → f.kind ≡ k → (x : row.Call) → x ≡ get_or (kinds f) k row.malformed → x ≡ get_or (kinds f) f.kind row.malformed
@@ -38,64 +32,31 @@ no_kind f (suc (suc (suc (suc (suc (suc (suc (suc (suc (suc (suc (suc zero))))))
 no_kind f (suc (suc (suc (suc (suc (suc (suc (suc (suc (suc (suc (suc (suc zero))))))))))))) a b c d e g h i j l m n o = absurd (o refl)
 no_kind f (suc (suc (suc (suc (suc (suc (suc (suc (suc (suc (suc (suc (suc (suc k)))))))))))))) a b c d e g h i j l m n o = refl
 
--- the kinds with more than one condition, by what was tested
-pub reset_kind : (f : Fields) (x : row.Call) (b : Bool) → f.kind ≡ 1 → x ≡ only b (row.reset (list_of (field_lengths f))) → b ≡ (plain f && eqb f.a 0)
-    → x ≡ get_or (kinds f) f.kind row.malformed
-unfolding kinds
-reset_kind f x b e q eb = at_kind f 1 e x (q ∙ rw eb)
+-- a part written behind p, and the last one: what was there before is gone
+behind : (s p r ys : List ℕ) (a k : ℕ) → s ≡ p ++ r → length p ≡ a → put_mid a k s ys ≡ (p ++ ys) ++ drop k r
+behind s p r ys a k e h = rw (e, take_at p r a h, drop_at p r a h, append_assoc p ys (drop k r))
 
-pub compare_kind : (f : Fields) (x : row.Call) (b m : Bool) → m ≡ (plain f && eqb f.c 0) → f.kind ≡ 10 → x ≡ only b (row.compare f.a f.b) → b ≡ (m && eqb f.lines 0)
-    → x ≡ get_or (kinds f) f.kind row.malformed
-unfolding kinds
-compare_kind f x b m em e q eb = at_kind f 10 e x (q ∙ rw (eb, em))
+last : (s p r ys : List ℕ) (a : ℕ) → s ≡ p ++ r → length p ≡ a → put_mid a (length s - a) s ys ≡ p ++ ys
+last s p r ys a e h =
+    let n : length s - a ≡ length r = omega (arith, ap length e, length-append p r) in
+    rw n (behind s p r ys a (length r) e h ∙ rw (drop-length r, append-nil (p ++ ys)))
 
-module _ (f : Fields) (x : row.Call) (b l : Bool) (el : l ≡ (eqb f.b 0 && eqb f.c 0)) (n : Bool) (en : n ≡ (l && eqb f.lines 0)) where
-  pub lookup_kind : (v : View) → v ≡ view_of f.flag → f.kind ≡ 7 → x ≡ only b (row.lookup (view_number v) f.a) → b ≡ (viewed f && n) → x ≡ get_or (kinds f) f.kind row.malformed
-  unfolding kinds
-  lookup_kind v ev e q eb = at_kind f 7 e x (q ∙ rw (eb, en, el, ev))
+two : (l : List ℕ) (a b : ℕ) → 2 ≤ length l → set (set l 0 a) 1 b ≡ (a ∷ b ∷ []) ++ drop 2 l
+two [] a b h = absurd (omega arith)
+two (x ∷ []) a b h = absurd (omega arith)
+two (x ∷ y ∷ l) a b h = refl
 
-  pub rank_kind : (v : View) → v ≡ view_of f.flag → f.kind ≡ 8 → x ≡ only b (row.rank (view_number v) f.a) → b ≡ (viewed f && n) → x ≡ get_or (kinds f) f.kind row.malformed
-  unfolding kinds
-  rank_kind v ev e q eb = at_kind f 8 e x (q ∙ rw (eb, en, el, ev))
+zeros : (l : List ℕ) (a b : ℕ) → length l ≡ 16 → replicate {A = ℕ} (length (take 2 (drop 2 (set (set l 0 a) 1 b)))) 0 ≡ 0 ∷ 0 ∷ []
+zeros l a b h =
+    let n : length (take 2 (drop 2 (set (set l 0 a) 1 b))) ≡ 2 = simp (length-take, length-drop, length-set) (omega arith) in
+    rw n
 
-  pub next_kind : f.kind ≡ 9 → x ≡ only b (row.next f.a) → b ≡ (plain f && n) → x ≡ get_or (kinds f) f.kind row.malformed
-  unfolding kinds
-  next_kind e q eb = at_kind f 9 e x (q ∙ rw (eb, en, el))
-
-  pub lengths_kind : f.kind ≡ 11 → x ≡ only b (row.lengths f.a) → b ≡ (plain f && n) → x ≡ get_or (kinds f) f.kind row.malformed
-  unfolding kinds
-  lengths_kind e q eb = at_kind f 11 e x (q ∙ rw (eb, en, el))
-
-  pub count_kind : (m : Bool) → m ≡ (plain f && eqb f.a 0) → f.kind ≡ 12 → x ≡ only b row.count → b ≡ (m && n) → x ≡ get_or (kinds f) f.kind row.malformed
-  unfolding kinds
-  count_kind m em e q eb = at_kind f 12 e x (q ∙ rw (eb, em, en, el))
-
-  pub first_kind : (m : Bool) → m ≡ (plain f && eqb f.a 0) → f.kind ≡ 13 → x ≡ only b row.first → b ≡ (m && n) → x ≡ get_or (kinds f) f.kind row.malformed
-  unfolding kinds
-  first_kind m em e q eb = at_kind f 13 e x (q ∙ rw (eb, em, en, el))
-
--- a list written whole
-pub filled : (l vs : List ℕ) → length l ≡ length vs → sets l 0 vs ≡ vs
-filled l vs e =
-    sets-eq vs l 0 (omega (arith, e))
-    ∙ ap (λ (r : List ℕ). vs ++ r) (drop_of_length-le l {i = 0 + length vs} (omega (arith, e)))
-    ∙ append-nil vs
-
--- a record's bytes reach as far as k
-pub reach : (n k : ℕ) → n ≡ 16 → T (leb k 16) → k ≤ n
-reach n k e h = subst (λ (m : ℕ). k ≤ m) (sym e) (lit≤ h)
-
--- two bytes fit
-pub high_fits : (y : ℕ) → y < 256 → Fits w32 (256 * y)
-high_fits y q = record { fits = omega arith }
-
-pub sum_fits : (x y : ℕ) → x < 256 → y < 256 → Fits w32 (x + 256 * y)
-sum_fits x y p q = record { fits = omega arith }
-
--- a byte fits
-pub byte : (n : ℕ) → Fits w8 (n % 256)
-byte n = record { fits = omega arith }
-
--- the place of byte k, after some were written
-pub byte_in : (l vs : List ℕ) (k : ℕ) → length l ≡ 16 → T (ltb k 16) → k < length (sets l 0 vs)
-byte_in l vs k e h = lt-length-sets l 0 vs (subst (λ (n : ℕ). k < n) (sym e) (lit< h))
+-- two bytes, two zeros and three words written over sixteen bytes
+pub record_of : (l z x y w : List ℕ) (a b m n o : ℕ) → length l ≡ 16 → z ≡ replicate {A = ℕ} (length (take 2 (drop 2 (set (set l 0 a) 1 b)))) 0
+    → x ≡ bytes_of m → y ≡ bytes_of n → w ≡ bytes_of o
+    → let s = put_mid 8 4 (put_mid 4 4 (put_mid 2 2 (set (set l 0 a) 1 b) z) x) y in put_mid 12 (length s - 12) s w ≡ a ∷ b ∷ 0 ∷ 0 ∷ (bytes_of m ++ (bytes_of n ++ bytes_of o))
+record_of l z x y w a b m n o h hz hx hy hw =
+    let e1 = behind (set (set l 0 a) 1 b) (a ∷ b ∷ []) (drop 2 l) (0 ∷ 0 ∷ []) 2 2 (two l a b (omega arith)) refl in
+    let e2 = behind _ (a ∷ b ∷ 0 ∷ 0 ∷ []) _ (bytes_of m) 4 4 e1 refl in
+    let e3 = behind _ (a ∷ b ∷ 0 ∷ 0 ∷ bytes_of m) _ (bytes_of n) 8 4 e2 refl in
+    rw (hx, hy, hw, hz ∙ zeros l a b h) (last _ (a ∷ b ∷ 0 ∷ 0 ∷ (bytes_of m ++ bytes_of n)) _ (bytes_of o) 12 e3 refl)

@@ -28,19 +28,11 @@ pub enum Call {
 fn view_of(flag: u32) -> View
     ensures { result ≡ view_of flag }
 {
-    if flag == 0 {
-        View::Prepare
-    } else if flag == 1 {
-        View::Effect
-    } else {
-        View::Lines
+    match flag {
+        0 => View::Prepare,
+        1 => View::Effect,
+        _ => View::Lines,
     }
-}
-
-fn both(a: bool, b: bool) -> bool
-    ensures { result ≡ (a && b) }
-{
-    if a { b } else { false }
 }
 
 // The call where its unused fields are zero, a flag is 0 or 1 and a view 0, 1 or 2.
@@ -56,7 +48,6 @@ pub fn decode(f: Fields) -> Call
 {
     let kind = f.kind;
     let flag = f.flag;
-    let view = view_of(flag);
     let id = EntryId(f.a);
     let lengths = Lengths {
         prepare: f.b,
@@ -68,24 +59,25 @@ pub fn decode(f: Fields) -> Call
     let viewed = flag < 3;
     let no_id = f.a == 0;
     let no_lines = f.lines == 0;
-    let no_lengths = both(both(f.b == 0, f.c == 0), no_lines);
+    let no_lengths = f.b == 0 && f.c == 0 && no_lines;
+    let view = view_of(flag);
     match kind {
-        1 => only(both(plain, no_id), Call::Reset(lengths)),
+        1 => only(plain && no_id, Call::Reset(lengths)),
         2 => only(plain, Call::Insert(id, lengths)),
         3 => only(plain, Call::Insert(id, lengths)),
         4 => only(binary, Call::Split(flag == 1, id, lengths)),
         5 => only(plain, Call::Resize(false, id, lengths)),
         6 => only(plain, Call::Resize(true, id, lengths)),
-        7 => only(both(viewed, no_lengths), Call::Lookup(view, f.a)),
-        8 => only(both(viewed, no_lengths), Call::Rank(view, id)),
-        9 => only(both(plain, no_lengths), Call::Next(id)),
+        7 => only(viewed && no_lengths, Call::Lookup(view, f.a)),
+        8 => only(viewed && no_lengths, Call::Rank(view, id)),
+        9 => only(plain && no_lengths, Call::Next(id)),
         10 => only(
-            both(both(plain, f.c == 0), no_lines),
+            plain && f.c == 0 && no_lines,
             Call::Compare(id, EntryId(f.b)),
         ),
-        11 => only(both(plain, no_lengths), Call::LengthsOf(id)),
-        12 => only(both(both(plain, no_id), no_lengths), Call::Count),
-        13 => only(both(both(plain, no_id), no_lengths), Call::First),
+        11 => only(plain && no_lengths, Call::LengthsOf(id)),
+        12 => only(plain && no_id && no_lengths, Call::Count),
+        13 => only(plain && no_id && no_lengths, Call::First),
         _ => Call::Malformed,
     }
 }

@@ -1,5 +1,5 @@
 // A record's fields.
-ghost use Rattle.std.specs.Prelude.{◌≡◌, ◌+◌, ◌<◌, ◌≤◌, length};
+ghost use Rattle.std.specs.Prelude.{◌≡◌, ◌+◌, ◌≤◌, length};
 ghost use Rattle.model.specs.Record.{word_at, fields_of};
 ghost use Rattle.list_records.specs.Said.{plain_fields};
 
@@ -14,22 +14,12 @@ pub struct Fields {
     pub c: u32,
 }
 
-// A byte as a word.
-fn wide(b: u8) -> u32
-    ensures { (result ≡ b) × (result < 256) }
-{
-    b as u32
-}
-
 // The little-endian u32 at a byte.
 pub fn word_at(bytes: &[u8], at: usize) -> u32
     requires { at + 4 ≤ length bytes.now }
     ensures { result ≡ word_at at bytes.now }
 {
-    wide(bytes[at])
-        + 256 * wide(bytes[at + 1])
-        + 65536 * wide(bytes[at + 2])
-        + 16777216 * wide(bytes[at + 3])
+    u32::from_le_bytes([bytes[at], bytes[at + 1], bytes[at + 2], bytes[at + 3]])
 }
 
 // The fields of a record of 16 bytes.
@@ -38,9 +28,9 @@ pub fn read(bytes: &[u8]) -> Fields
     ensures { plain_fields result ≡ fields_of bytes.now }
 {
     Fields {
-        kind: wide(bytes[0]),
-        flag: wide(bytes[1]),
-        lines: wide(bytes[2]) + 256 * wide(bytes[3]),
+        kind: u32::from(bytes[0]),
+        flag: u32::from(bytes[1]),
+        lines: u32::from(u16::from_le_bytes([bytes[2], bytes[3]])),
         a: word_at(bytes, 4),
         b: word_at(bytes, 8),
         c: word_at(bytes, 12),

@@ -1,4 +1,6 @@
 -- The entries that a call names are found one after the other, and the call at their cursors is the tree's. Assumes nothing.
+use Rattle.model.specs.Numbered.{Numbered}
+use Rattle.std.specs.Prelude.{Ok, Err, Some, None, Option}
 use mathlib.Core.Path.{◌≡◌, refl, sym, ap, ◌∙◌}
 use mathlib.Core.Bool.{Bool, true, false, cond}
 use Prim.Native.Nat.{ℕ, zero, suc, ◌-◌, ◌<◌, ◌≤◌}
@@ -17,17 +19,11 @@ use Rattle.model.specs.ById.{with_cursor, told, tree_move}
 use Rattle.model.specs.declared.head.Cursor.{Cursor}
 use Rattle.model.specs.declared.length.Lengths.{Lengths}
 use Rattle.model.specs.declared.number.EntryId.{EntryId}
-use Rattle.model.specs.declared.answer.Target.{Target}
-use Rattle.model.specs.declared.answer.Target.TheVariants as target
-use Rattle.model.specs.declared.answer.Standing.{Standing}
-use Rattle.model.specs.declared.answer.Standing.TheVariants as standing
 use Rattle.list_records.specs.Said.{call_of}
 use Rattle.list_records.specs.declared.call.Call.{Call}
 use Rattle.list_records.specs.declared.call.Call.TheVariants as call
 use Rattle.list_row.specs.Find.{no_ids, one_id, target_ids, ids_of, onward, found_from, found_of, call_at}
 use Rattle.list_row.specs.declared.find.Ids.{Ids}
-use Rattle.list_row.specs.declared.find.FoundCursors.{FoundCursors}
-use Rattle.list_row.specs.declared.find.FoundCursors.TheVariants as found
 
 -- what is so of the call x is so of k, which is x
 pub call_by : {A : Type 0} (f : Call → A) (k x : Call) → k ≡ x → (r : A) → r ≡ f x → r ≡ f k
@@ -60,26 +56,26 @@ less_one n = omega arith
 
 -- a turn, by what `cursor` gave, and the end
 module _ (s : State) (i j : ℕ) (a b : Cursor) where
-  pub find_end : (n : ℕ) → n ≤ 0 → found.At a b ≡ found_from s n i j a b
+  pub find_end : (n : ℕ) → n ≤ 0 → Ok (a, b) ≡ found_from s n i j a b
   unfolding found_from
   find_end zero h = refl
   find_end (suc n) h = absurd (omega arith)
 
-  module _ (t : Standing) (e : t ≡ calls.cursor base s i) where
-    pub find_stops : (n : ℕ) → 0 < n → (m : ℕ) → t ≡ standing.Refused m → found.Refused m ≡ found_from s n i j a b
+  module _ (t : Numbered Cursor) (e : t ≡ calls.cursor base s i) where
+    pub find_stops : (n : ℕ) → 0 < n → (m : ℕ) → t ≡ Err m → Err m ≡ found_from s n i j a b
     unfolding found_from
     find_stops zero h m d = absurd (omega arith)
-    find_stops (suc n) h m d = ap (λ (x : Standing). onward x (λ c. found_from s n j j b c)) (sym d ∙ e)
+    find_stops (suc n) h m d = ap (λ (x : Numbered Cursor). onward x (λ c. found_from s n j j b c)) (sym d ∙ e)
 
-    pub find_goes : (n : ℕ) → 0 < n → (c : Cursor) → t ≡ standing.At c → found_from s (n - 1) j j b c ≡ found_from s n i j a b
+    pub find_goes : (n : ℕ) → 0 < n → (c : Cursor) → t ≡ Ok c → found_from s (n - 1) j j b c ≡ found_from s n i j a b
     unfolding found_from
     find_goes zero h c d = absurd (omega arith)
-    find_goes (suc n) h c d = ap (λ (k : ℕ). found_from s k j j b c) (less_one n) ∙ ap (λ (x : Standing). onward x (λ c. found_from s n j j b c)) (sym d ∙ e)
+    find_goes (suc n) h c d = ap (λ (k : ℕ). found_from s k j j b c) (less_one n) ∙ ap (λ (x : Numbered Cursor). onward x (λ c. found_from s n j j b c)) (sym d ∙ e)
 
 -- goes on with the cursors found, or passes a refusal on
-abbrev pub with_found : State → FoundCursors → (Cursor → Cursor → Moved State) → Moved State
-with_found s (found.At a b) f = f a b
-with_found s (found.Refused n) f = moved s (refused n)
+abbrev pub with_found : State → Numbered (Cursor × Cursor) → (Cursor → Cursor → Moved State) → Moved State
+with_found s (Ok (a, b)) f = f a b
+with_found s (Err n) f = moved s (refused n)
 
 -- none, one or two of them
 module _ (s : State) (f : Cursor → Cursor → Moved State) where
@@ -87,34 +83,34 @@ module _ (s : State) (f : Cursor → Cursor → Moved State) where
   unfolding found_from
   none_found = refl
 
-  one_by : (t : Standing) → with_cursor s t (f (cursor_at 0 0 0)) ≡ with_found s (onward t (λ c. found.At (cursor_at 0 0 0) c)) f
-  one_by (standing.At c) = refl
-  one_by (standing.Refused n) = refl
+  one_by : (t : Numbered Cursor) → with_cursor s t (f (cursor_at 0 0 0)) ≡ with_found s (onward t (λ c. Ok (cursor_at 0 0 0, c))) f
+  one_by (Ok c) = refl
+  one_by (Err n) = refl
 
   one_found : (i : ℕ) → with_cursor s (calls.cursor base s i) (f (cursor_at 0 0 0)) ≡ with_found s (found_of s (one_id i)) f
   unfolding found_from
   one_found i = one_by (calls.cursor base s i)
 
-  two_by : (t u : Standing) → with_cursor s t (λ a. with_cursor s u (f a)) ≡ with_found s (onward t (λ a. onward u (λ b. found.At a b))) f
-  two_by (standing.At a) (standing.At b) = refl
-  two_by (standing.At a) (standing.Refused n) = refl
-  two_by (standing.Refused n) u = refl
+  two_by : (t u : Numbered Cursor) → with_cursor s t (λ a. with_cursor s u (f a)) ≡ with_found s (onward t (λ a. onward u (λ b. Ok (a, b)))) f
+  two_by (Ok a) (Ok b) = refl
+  two_by (Ok a) (Err n) = refl
+  two_by (Err n) u = refl
 
   two_found : (i j : ℕ) → with_cursor s (calls.cursor base s i) (λ a. with_cursor s (calls.cursor base s j) (f a)) ≡ with_found s (found_of s (record { count = 2; first = i; second = j })) f
   unfolding found_from
   two_found i j = two_by (calls.cursor base s i) (calls.cursor base s j)
 
 -- an insertion, at the end or before the one entry that it names
-insert_found : (s : State) (i : ℕ) (g : Target → Moved State) (b : Bool)
-    → cond b (g target.End) (with_cursor s (calls.cursor base s i) (λ c. g (target.Before c)))
-    ≡ with_found s (found_of s (cond b no_ids (one_id i))) (λ a c. g (cond b target.End (target.Before c)))
-insert_found s i g true = none_found s (λ a c. g target.End)
-insert_found s i g false = one_found s (λ a c. g (target.Before c)) i
+insert_found : (s : State) (i : ℕ) (g : Option Cursor → Moved State) (b : Bool)
+    → cond b (g None) (with_cursor s (calls.cursor base s i) (λ c. g (Some c)))
+    ≡ with_found s (found_of s (cond b no_ids (one_id i))) (λ a c. g (cond b None (Some c)))
+insert_found s i g true = none_found s (λ a c. g None)
+insert_found s i g false = one_found s (λ a c. g (Some c)) i
 
 pub by_found : (s : State) (k : row.Call) → tree_move base s k ≡ with_found s (found_of s (ids_of k)) (call_at s k)
 unfolding tree_move call_at
 by_found s (row.reset l) = none_found s (call_at s (row.reset l))
-by_found s (row.insert i l) = insert_found s i (λ (t : Target). told (calls.insert base s t l) inserted_answer) (eqb i no_entry)
+by_found s (row.insert i l) = insert_found s i (λ (t : Option Cursor). told (calls.insert base s t l) inserted_answer) (eqb i no_entry)
 by_found s (row.split flag i l) = one_found s (call_at s (row.split flag i l)) i
 by_found s (row.set_lengths i l) = one_found s (call_at s (row.set_lengths i l)) i
 by_found s (row.update i l) = one_found s (call_at s (row.update i l)) i

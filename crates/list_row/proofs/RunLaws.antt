@@ -1,8 +1,9 @@
 -- Records on a tree: one record by its bytes, one more in a list, and the list as a whole. Assumes nothing.
+use Rattle.std.specs.Prelude.{Ok, Err}
 use mathlib.Core.Path.{◌≡◌, refl, sym, ap, ◌∙◌, subst}
 use mathlib.Core.Bool.{true, false}
 use mathlib.Core.List.{List, ◌++◌, append_assoc, append-nil}
-use Prim.Native.Nat.{ℕ, suc, ◌+◌, ◌-◌, ◌*◌, ◌%◌, ◌/◌, ◌≤◌, ◌<◌}
+use Prim.Native.Nat.{ℕ, suc, ◌+◌, ◌-◌, ◌%◌, ◌≤◌, ◌<◌}
 use native.Mathlib.Omega.{arith}
 use lib.ListN.{length, take, drop, length-append}
 use lib.Seq.{length-take-le, take_at, take_all, drop-drop}
@@ -15,7 +16,6 @@ use Rattle.model.specs.Record.{fields_of, decode, encode}
 use Rattle.model.specs.State.{State}
 use Rattle.model.specs.ById.{tree_step}
 use Rattle.model.specs.Promise.{answers, finally, Represents}
-use Rattle.model.specs.declared.answer.Outcome.TheVariants as outcome
 use Rattle.list_records.specs.Said.{plain_fields, call_of, said, filled}
 use Rattle.list_records.specs.declared.fields.Fields.{Fields}
 use Rattle.list_records.specs.declared.call.Call.{Call}
@@ -83,27 +83,9 @@ last_turn whole s bs out at n w z h =
     let none : n ≡ 0 = omega arith in
     sym (w ∙ ap (onward s bs out at) none ∙ ap (tree_output s) (append-nil (take at out) ∙ take_all at out h))
 
--- where the next record stands: from byte at on there are n more of sixteen bytes each, in a list of whole
-pub all_left : (whole : ℕ) → whole % 16 ≡ 0 → 0 + 16 * (whole / 16) ≡ whole
-all_left whole h = omega arith
-
-pub ahead : (at : ℕ) → at ≤ at + 16
-ahead at = omega arith
-
-pub room_for : (at n whole : ℕ) → at + 16 * n ≡ whole → 0 < n → at + 16 ≤ whole
-room_for at n whole e h = omega arith
-
-pub left_after : (at n whole : ℕ) → at + 16 * n ≡ whole → 0 < n → at + 16 + 16 * (n - 1) ≡ whole
-left_after at n whole e h = omega arith
-
-pub one_less : (n : ℕ) → 0 < n → n - 1 < n
-one_less n h = omega arith
-
+-- a record in its list
 pub part_long : (at : ℕ) (l : List ℕ) → at + 16 ≤ length l → length (take (at + 16 - at) (drop at l)) ≡ 16
-part_long at l h = omega (arith, part_count l at (at + 16) (ahead at, h))
-
-pub at_end : (at n whole : ℕ) → at + 16 * n ≡ whole → n ≤ 0 → whole ≤ at
-at_end at n whole e h = omega arith
+part_long at l h = let ahead : at ≤ at + 16 = omega arith in omega (arith, part_count l at (at + 16) (ahead, h))
 
 -- the lengths
 unequal : (bs out : List ℕ) → (length bs ≡ length out → ⊥) → fit bs out ≡ false
@@ -122,18 +104,18 @@ Promises s bs out m = (m ≡ run_on s bs out) × ((q : row.Row) → fit bs out �
 promised : (s : State) (bs out : List ℕ) (m : Ran) → Bytes bs → m ≡ run_on s bs out → Promises s bs out m
 promised s bs out m b e = (e, λ q f w. subst (λ (x : Ran). AsRow bs x s.head.fan q) (sym e) (as_row s bs out q b f w))
 
-refused_run : (s : State) (bs out : List ℕ) → Bytes bs → fit bs out ≡ false → Promises s bs out (ran s (outcome.Refused 11) out)
+refused_run : (s : State) (bs out : List ℕ) → Bytes bs → fit bs out ≡ false → Promises s bs out (ran s (Err 11) out)
 unfolding run_on
-refused_run s bs out b f = promised s bs out (ran s (outcome.Refused 11) out) b (rw f)
+refused_run s bs out b f = promised s bs out (ran s (Err 11) out) b (rw f)
 
-pub run_unequal : (s : State) (bs out : List ℕ) → Bytes bs → (length bs ≡ length out → ⊥) → Promises s bs out (ran s (outcome.Refused 11) out)
+pub run_unequal : (s : State) (bs out : List ℕ) → Bytes bs → (length bs ≡ length out → ⊥) → Promises s bs out (ran s (Err 11) out)
 run_unequal s bs out b h = refused_run s bs out b (unequal bs out h)
 
-pub run_uneven : (s : State) (bs out : List ℕ) → Bytes bs → length bs ≡ length out → (length bs % 16 ≡ 0 → ⊥) → Promises s bs out (ran s (outcome.Refused 11) out)
+pub run_uneven : (s : State) (bs out : List ℕ) → Bytes bs → length bs ≡ length out → (length bs % 16 ≡ 0 → ⊥) → Promises s bs out (ran s (Err 11) out)
 run_uneven s bs out b e h = refused_run s bs out b (uneven bs out e h)
 
 pub run_whole : (s : State) (bs out : List ℕ) → Bytes bs → length bs ≡ length out → length bs % 16 ≡ 0 → (t : State) (o : List ℕ) → tree_output t o ≡ turns s (records_of bs)
-    → Promises s bs out (ran t outcome.Done o)
+    → Promises s bs out (ran t (Ok tt) o)
 unfolding run_on
 run_whole s bs out b e h t o q =
-    promised s bs out (ran t outcome.Done o) b (rw (fitting bs out e h) (ap (λ (y : TreeOutput). ran y.after outcome.Done y.out) q))
+    promised s bs out (ran t (Ok tt) o) b (rw (fitting bs out e h) (ap (λ (y : TreeOutput). ran y.after (Ok tt) y.out) q))

@@ -1,4 +1,7 @@
 -- A call at the cursors of the entries that it names, by its own function; and a record's call from what was found. Assumes nothing.
+use Rattle.std.specs.declared.cmp.Ordering.{Ordering}
+use Rattle.model.specs.Numbered.{Numbered}
+use Rattle.std.specs.Prelude.{Ok, Err, Option}
 use mathlib.Core.Path.{◌≡◌, refl, sym, ap, ◌∙◌}
 use mathlib.Core.Bool.{Bool, true, false, cond}
 use mathlib.Core.List.{List}
@@ -16,12 +19,6 @@ use Rattle.model.specs.declared.head.Head.{Head}
 use Rattle.model.specs.declared.head.Cursor.{Cursor}
 use Rattle.model.specs.declared.length.Lengths.{Lengths}
 use Rattle.model.specs.declared.number.EntryId.{EntryId}
-use Rattle.model.specs.declared.answer.Target.{Target}
-use Rattle.model.specs.declared.answer.Outcome.{Outcome}
-use Rattle.model.specs.declared.answer.Number.{Number}
-use Rattle.model.specs.declared.answer.Inserted.{Inserted}
-use Rattle.model.specs.declared.answer.Divided.{Divided}
-use Rattle.model.specs.declared.answer.Compared.{Compared}
 use Rattle.calls_size.specs.Size.{resize}
 use Rattle.calls_size.proofs.SizeLaws.{without_position}
 use Rattle.list_records.specs.Said.{call_of}
@@ -33,41 +30,39 @@ use Rattle.calls_by_id.specs.Target.{target_of}
 use Rattle.list_row.specs.Find.{ids_of, found_of, call_at}
 use Rattle.list_row.specs.Step.{Stepped, stepped, step_by}
 use Rattle.list_row.specs.declared.find.Ids.{Ids}
-use Rattle.list_row.specs.declared.find.FoundCursors.{FoundCursors}
-use Rattle.list_row.specs.declared.find.FoundCursors.TheVariants as found
 use Rattle.list_row.proofs.FindLaws.{with_found, by_found}
 
 -- each call's reply is what the call does at the cursors
 module _ (s : State) (a b : Cursor) where
-  pub reset_at : (t : State) (l : List ℕ) (r : Outcome) → reply t r ≡ calls.reset base s l → moved t (outcome_answer r) ≡ call_at s (row.reset l) a b
+  pub reset_at : (t : State) (l : List ℕ) (r : Numbered (Unit {0})) → reply t r ≡ calls.reset base s l → moved t (outcome_answer r) ≡ call_at s (row.reset l) a b
   unfolding call_at tree_move
-  reset_at t l r e = ap (λ (x : Reply Outcome). told x outcome_answer) e
+  reset_at t l r e = ap (λ (x : Reply (Numbered (Unit {0}))). told x outcome_answer) e
 
-  pub insert_at_law : (t : State) (i : ℕ) (l : List ℕ) (x : Target) → x ≡ target_of i b → (r : Inserted) → reply t r ≡ calls.insert base s x l
+  pub insert_at_law : (t : State) (i : ℕ) (l : List ℕ) (x : Option Cursor) → x ≡ target_of i b → (r : Numbered (EntryId × ℕ)) → reply t r ≡ calls.insert base s x l
       → moved t (inserted_answer r) ≡ call_at s (row.insert i l) a b
   unfolding call_at
-  insert_at_law t i l x q r e = ap (λ (x : Reply Inserted). told x inserted_answer) (e ∙ ap (λ (y : Target). calls.insert base s y l) q)
+  insert_at_law t i l x q r e = ap (λ (x : Reply (Numbered (EntryId × ℕ))). told x inserted_answer) (e ∙ ap (λ (y : Option Cursor). calls.insert base s y l) q)
 
-  pub split_at : (t : State) (flag : Bool) (i : ℕ) (l : List ℕ) (r : Divided) → reply t r ≡ calls.split_entry base s b l flag
+  pub split_at : (t : State) (flag : Bool) (i : ℕ) (l : List ℕ) (r : Numbered (EntryId × Cursor × Cursor)) → reply t r ≡ calls.split_entry base s b l flag
       → moved t (divided_id_answer r) ≡ call_at s (row.split flag i l) a b
   unfolding call_at
-  split_at t flag i l r e = ap (λ (x : Reply Divided). told x divided_id_answer) e
+  split_at t flag i l r e = ap (λ (x : Reply (Numbered (EntryId × Cursor × Cursor))). told x divided_id_answer) e
 
   pub lookup_at : (v : ℕ) (index : ℕ) (m : Moved State) → m ≡ tree_step base s (row.lookup v index) → m ≡ call_at s (row.lookup v index) a b
   unfolding call_at tree_step
   lookup_at v index m e = e
 
-  pub rank_at_law : (v : ℕ) (i : ℕ) (r : Number) → r ≡ calls.entry_to_char_index base s v b → moved s (number_answer r) ≡ call_at s (row.rank v i) a b
+  pub rank_at_law : (v : ℕ) (i : ℕ) (r : Numbered ℕ) → r ≡ calls.entry_to_char_index base s v b → moved s (number_answer r) ≡ call_at s (row.rank v i) a b
   unfolding call_at
-  rank_at_law v i r e = ap (λ (x : Number). moved s (number_answer x)) e
+  rank_at_law v i r e = ap (λ (x : Numbered ℕ). moved s (number_answer x)) e
 
   pub next_at : (i : ℕ) (r : row.Answer) → r ≡ next_answer base s (calls.next_after base s b) → moved s r ≡ call_at s (row.next i) a b
   unfolding call_at
   next_at i r e = ap (moved s) e
 
-  pub compare_at : (i j : ℕ) (r : Compared) → r ≡ calls.cmp base s a b → moved s (compared_answer r) ≡ call_at s (row.compare i j) a b
+  pub compare_at : (i j : ℕ) (r : Numbered Ordering) → r ≡ calls.cmp base s a b → moved s (compared_answer r) ≡ call_at s (row.compare i j) a b
   unfolding call_at
-  compare_at i j r e = ap (λ (x : Compared). moved s (compared_answer x)) e
+  compare_at i j r e = ap (λ (x : Numbered Ordering). moved s (compared_answer x)) e
 
   pub lengths_at_law : (i : ℕ) (r : row.Answer) → r ≡ calls.entry_lengths base s b → moved s r ≡ call_at s (row.lengths i) a b
   unfolding call_at
@@ -91,7 +86,7 @@ module _ (s : State) (a b : Cursor) where
   unfolding call_at calls.update
   resize_at i l true = refl
   resize_at i l false =
-      without_position (λ (x : Reply Number). step_by (told x number_answer)) (λ (x : Reply Outcome). step_by (told x outcome_answer)) (λ (t : State). refl) (λ (t : State) (n : ℕ). refl) base s b l
+      without_position (λ (x : Reply (Numbered ℕ)). step_by (told x number_answer)) (λ (x : Reply (Numbered (Unit {0}))). step_by (told x outcome_answer)) (λ (t : State). refl) (λ (t : State) (n : ℕ). refl) base s b l
 
   -- the call k is x, which left a state and gave an answer
   module _ (k x : Call) (e : k ≡ x) (h : Head) (ls xs hs : List ℕ) where
@@ -100,11 +95,11 @@ module _ (s : State) (a b : Cursor) where
     by_call y m r q =
         ap (λ (z : Step). stepped (state z.head ls xs hs) z.answer) q ∙ ap step_by m ∙ ap (λ (z : Call). step_by (call_at s (call_of z) a b)) (sym e)
 
-  pub by_resize : (k : Call) (summed : Bool) (i : EntryId) (l : Lengths) → k ≡ call.Resize summed i l → (h : Head) (ls xs hs : List ℕ) (y : Number)
+  pub by_resize : (k : Call) (summed : Bool) (i : EntryId) (l : Lengths) → k ≡ call.Resize summed i l → (h : Head) (ls xs hs : List ℕ) (y : Numbered ℕ)
       → reply (state h ls xs hs) y ≡ resize base summed s b (list_of l) → (r : Step) → r ≡ step_of h (number_answer y)
       → stepped (state r.head ls xs hs) r.answer ≡ step_by (call_at s (call_of k) a b)
   by_resize k summed i l e h ls xs hs y m r q =
-      ap (λ (z : Step). stepped (state z.head ls xs hs) z.answer) q ∙ ap (λ (z : Reply Number). step_by (told z number_answer)) m ∙ resize_at i.0 (list_of l) summed
+      ap (λ (z : Step). stepped (state z.head ls xs hs) z.answer) q ∙ ap (λ (z : Reply (Numbered ℕ)). step_by (told z number_answer)) m ∙ resize_at i.0 (list_of l) summed
       ∙ ap (λ (z : Call). step_by (call_at s (call_of z) a b)) (sym e)
 
 -- too many line ends first, then what was found
@@ -114,14 +109,14 @@ module _ (s : State) (k : row.Call) where
   unfolding tree_step
   step_overlong h r q = rw h (ap (λ (z : Step). stepped (state z.head s.leaves s.inners s.homes) z.answer) q)
 
-  module _ (h : overlong base k ≡ false) (ids : Ids) (ei : ids ≡ ids_of k) (f : FoundCursors) (ef : f ≡ found_of s ids) where
-    by_entries : (x : FoundCursors) → f ≡ x → with_found s x (call_at s k) ≡ tree_step base s k
+  module _ (h : overlong base k ≡ false) (ids : Ids) (ei : ids ≡ ids_of k) (f : Numbered (Cursor × Cursor)) (ef : f ≡ found_of s ids) where
+    by_entries : (x : Numbered (Cursor × Cursor)) → f ≡ x → with_found s x (call_at s k) ≡ tree_step base s k
     unfolding tree_step
-    by_entries x d = rw h (ap (λ (y : FoundCursors). with_found s y (call_at s k)) (sym d ∙ ef ∙ ap (found_of s) ei) ∙ sym (by_found s k))
+    by_entries x d = rw h (ap (λ (y : Numbered (Cursor × Cursor)). with_found s y (call_at s k)) (sym d ∙ ef ∙ ap (found_of s) ei) ∙ sym (by_found s k))
 
-    pub step_refused : (n : ℕ) → f ≡ found.Refused n → (r : Step) → r ≡ step_of s.head (refused n)
+    pub step_refused : (n : ℕ) → f ≡ Err n → (r : Step) → r ≡ step_of s.head (refused n)
         → stepped (state r.head s.leaves s.inners s.homes) r.answer ≡ step_by (tree_step base s k)
-    step_refused n d r q = ap (λ (z : Step). stepped (state z.head s.leaves s.inners s.homes) z.answer) q ∙ ap step_by (by_entries (found.Refused n) d)
+    step_refused n d r q = ap (λ (z : Step). stepped (state z.head s.leaves s.inners s.homes) z.answer) q ∙ ap step_by (by_entries (Err n) d)
 
-    pub step_at : (a b : Cursor) → f ≡ found.At a b → (x : Stepped) → x ≡ step_by (call_at s k a b) → x ≡ step_by (tree_step base s k)
-    step_at a b d x q = q ∙ ap step_by (by_entries (found.At a b) d)
+    pub step_at : (a b : Cursor) → f ≡ Ok (a, b) → (x : Stepped) → x ≡ step_by (call_at s k a b) → x ≡ step_by (tree_step base s k)
+    step_at a b d x q = q ∙ ap step_by (by_entries (Ok (a, b)) d)

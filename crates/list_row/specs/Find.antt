@@ -1,5 +1,6 @@
 -- A call of a list as the entries that it names, which are found first, and the call there. Assumes nothing.
-use Rattle.std.specs.Prelude.{cond, ℕ, zero, suc, eqb}
+use Rattle.model.specs.Numbered.{Numbered}
+use Rattle.std.specs.Prelude.{cond, ℕ, zero, suc, eqb, Ok, Err}
 use Rattle.model.specs.Kind.{base}
 use Rattle.model.specs.Row as row
 use Rattle.model.specs.Row.{Moved, moved, refused, no_entry}
@@ -9,12 +10,8 @@ use Rattle.model.specs.Calls as calls
 use Rattle.model.specs.Calls.{cursor_at}
 use Rattle.model.specs.ById.{told, next_answer, divided_id_answer, tree_move}
 use Rattle.model.specs.declared.head.Cursor.{Cursor}
-use Rattle.model.specs.declared.answer.Standing.{Standing}
-use Rattle.model.specs.declared.answer.Standing.TheVariants as standing
 use Rattle.calls_by_id.specs.Target.{target_of}
 use Rattle.list_row.specs.declared.find.Ids.{Ids}
-use Rattle.list_row.specs.declared.find.FoundCursors.{FoundCursors}
-use Rattle.list_row.specs.declared.find.FoundCursors.TheVariants as found
 
 abbrev pub no_ids : Ids
 no_ids = record { count = 0; first = 0; second = 0 }
@@ -43,17 +40,17 @@ ids_of row.first = no_ids
 ids_of row.malformed = no_ids
 
 -- goes on with a cursor, or passes its refusal on
-abbrev pub onward : Standing → (Cursor → FoundCursors) → FoundCursors
-onward (standing.At c) f = f c
-onward (standing.Refused n) f = found.Refused n
+abbrev pub onward : Numbered Cursor → (Cursor → Numbered (Cursor × Cursor)) → Numbered (Cursor × Cursor)
+onward (Ok c) f = f c
+onward (Err n) f = Err n
 
 -- the last two cursors where as many entries are left, i and then j
-unfoldable pub found_from : State → ℕ → ℕ → ℕ → Cursor → Cursor → FoundCursors
-found_from s zero i j a b = found.At a b
+unfoldable pub found_from : State → ℕ → ℕ → ℕ → Cursor → Cursor → Numbered (Cursor × Cursor)
+found_from s zero i j a b = Ok (a, b)
 found_from s (suc n) i j a b = onward (calls.cursor base s i) (λ c. found_from s n j j b c)
 
 -- the cursors of the entries with these ids; in the place of one that isn't looked for stands a cursor of no account
-abbrev pub found_of : State → Ids → FoundCursors
+abbrev pub found_of : State → Ids → Numbered (Cursor × Cursor)
 found_of s k = found_from s k.count k.first k.second (cursor_at 0 0 0) (cursor_at 0 0 0)
 
 -- what a call does at the cursors of the entries that it names: b, and a for the first of two

@@ -1,6 +1,7 @@
 -- Records of kind 3, once add's (document 02, CR 6): a list with them gives, but for the kind byte, the answers of the list with 2 in its stead, and
 -- the answer record of one that isn't refused has kind 3, the new id and its position. Assumes nothing.
-use Rattle.std.specs.Prelude.{◌≡◌, ◌≢◌, Bool, true, false, cond, ◌&&◌, List, [], ◌∷◌, ◌++◌, map, length, take, drop, set, eqb}
+use Rattle.model.specs.Numbered.{Numbered}
+use Rattle.std.specs.Prelude.{◌≡◌, ◌≢◌, Bool, true, false, cond, ◌&&◌, List, [], ◌∷◌, ◌++◌, map, length, take, drop, set, eqb, Ok, Err}
 use Rattle.std.proofs.Math.Path.{refl, sym, ap₂, subst}
 use Rattle.std.proofs.Common.{ap, ◌∙◌, length-append, length-drop, length-set, length-take-le, take_at, drop_at, get_or-append-add}
 use Prim.Native.Nat.{ℕ, zero, suc, ◌+◌, ◌-◌, ◌*◌, ◌%◌, ◌/◌, ◌≤◌, ◌<◌}
@@ -18,8 +19,6 @@ use Rattle.model.specs.State.{State}
 use Rattle.model.specs.Calls.{make}
 use Rattle.model.specs.ById.{tree_step}
 use Rattle.model.specs.Promise.{answers, finally}
-use Rattle.model.specs.declared.answer.Outcome.{Outcome}
-use Rattle.model.specs.declared.answer.Outcome.TheVariants as outcome
 use Rattle.list_row.specs.Run.{records, records_of, calls_of, written, played, left, fit, Ran, ran, run_on}
 use Rattle.list_row.specs.Made.{run_made, make_and_run, door_row}
 
@@ -181,15 +180,15 @@ module _ (bs : List ℕ) where
 
 -- what `run` writes, and `make_and_run`
 abbrev whole_run : State → List ℕ → Ran
-whole_run s bs = ran (left (tree_step base) s (records_of bs)) outcome.Done (played (tree_step base) s (records_of bs))
+whole_run s bs = ran (left (tree_step base) s (records_of bs)) (Ok tt) (played (tree_step base) s (records_of bs))
 
 pub run_three : (s : State) (bs out : List ℕ) → RunAlike (run_on s (as_twos bs) out) (run_on s bs out)
 unfolding run_on
 run_three s bs out =
-    subst (λ (c : Bool). RunAlike (cond c (whole_run s (as_twos bs)) (ran s (outcome.Refused 11) out)) (cond (fit bs out) (whole_run s bs) (ran s (outcome.Refused 11) out)))
+    subst (λ (c : Bool). RunAlike (cond c (whole_run s (as_twos bs)) (ran s (Err 11) out)) (cond (fit bs out) (whole_run s bs) (ran s (Err 11) out)))
     (sym (same_fit bs out)) (go (fit bs out))
   where
-    go : (b : Bool) → RunAlike (cond b (whole_run s (as_twos bs)) (ran s (outcome.Refused 11) out)) (cond b (whole_run s bs) (ran s (outcome.Refused 11) out))
+    go : (b : Bool) → RunAlike (cond b (whole_run s (as_twos bs)) (ran s (Err 11) out)) (cond b (whole_run s bs) (ran s (Err 11) out))
     go true = record { after = left_three bs (tree_step base) s; answer = refl; out = played_three bs (tree_step base) s }
     go false = record { after = refl; answer = refl; out = alike out }
 
@@ -200,6 +199,6 @@ made_three fan limit l ls xs hs bs out = go (make base fan limit l ls xs hs).ans
     s : State
     s = (make base fan limit l ls xs hs).after
 
-    go : (a : Outcome) → RunAlike (run_made a s (as_twos bs) out) (run_made a s bs out)
-    go outcome.Done = run_three s bs out
-    go (outcome.Refused n) = record { after = refl; answer = refl; out = alike out }
+    go : (a : Numbered (Unit {0})) → RunAlike (run_made a s (as_twos bs) out) (run_made a s bs out)
+    go (Ok tt) = run_three s bs out
+    go (Err n) = record { after = refl; answer = refl; out = alike out }

@@ -1,13 +1,12 @@
 -- Records as a list of bytes, played on a tree or on the row, and their answer records (document 01, "Door and program"). Assumes nothing.
-use Rattle.std.specs.Prelude.{◌≡◌, Bool, cond, ◌&&◌, List, [], ◌∷◌, ◌++◌, map, ℕ, zero, suc, ◌%◌, ◌/◌, length, take, drop, eqb}
+use Rattle.model.specs.Numbered.{Numbered}
+use Rattle.std.specs.Prelude.{◌≡◌, Bool, cond, ◌&&◌, List, [], ◌∷◌, ◌++◌, map, ℕ, zero, suc, ◌%◌, ◌/◌, length, take, drop, eqb, Ok, Err}
 use Rattle.model.specs.Kind.{base}
 use Rattle.model.specs.Row.{Row, Call, Answer, Moved, row_step}
 use Rattle.model.specs.Record.{fields_of, decode, encode}
 use Rattle.model.specs.State.{State}
 use Rattle.model.specs.ById.{tree_step}
 use Rattle.model.specs.Promise.{answers, finally, Invariant}
-use Rattle.model.specs.declared.answer.Outcome.{Outcome}
-use Rattle.model.specs.declared.answer.Outcome.TheVariants as outcome
 
 -- the first n records of some bytes
 unfoldable pub records : ℕ → List ℕ → List (List ℕ)
@@ -55,15 +54,15 @@ fit bs out = eqb (length bs) (length out) && eqb (length bs % 16) 0
 -- a tree and an output after a run
 pub record Ran : Type 0 where
   pub after : State
-  pub answer : Outcome
+  pub answer : Numbered (Unit {0})
   pub out : List ℕ
 
-abbrev pub ran : State → Outcome → List ℕ → Ran
+abbrev pub ran : State → Numbered (Unit {0}) → List ℕ → Ran
 ran s a out = record { after = s; answer = a; out = out }
 
 -- records on a tree; refused, it leaves tree and output as they were
 unfoldable pub run_on : State → List ℕ → List ℕ → Ran
-run_on s bs out = cond (fit bs out) (let m = turns s (records_of bs) in ran m.after outcome.Done m.out) (ran s (outcome.Refused 11) out)
+run_on s bs out = cond (fit bs out) (let m = turns s (records_of bs) in ran m.after (Ok tt) m.out) (ran s (Err 11) out)
 
 -- where a tree of that fan stands for a row, the output is the row's, and the tree left stands for what the row becomes
 pub record AsRow (bs : List ℕ) (m : Ran) (fan : ℕ) (r : Row) : Type 0 where

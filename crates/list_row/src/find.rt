@@ -1,4 +1,5 @@
 // The entries that a call names by id, and their cursors.
+ghost use Rattle.model.specs.Numbered.{numbered};
 ghost use Rattle.std.specs.Prelude.{◌≡◌};
 ghost use Rattle.model.specs.State.{state};
 ghost use Rattle.list_records.specs.Said.{call_of};
@@ -6,9 +7,9 @@ ghost use Rattle.list_row.specs.Find.{no_ids, one_id, target_ids, ids_of, found_
 
 use calls_read::read::cursor;
 use list_records::call::Call;
-use model::answer::Standing;
 use model::head::{Cursor, Head};
 use model::number::{EntryId, LeafNo, NONE};
+use model::refusal::Refusal;
 
 // How many ids a call names, and which.
 #[derive(Clone, Copy)]
@@ -16,13 +17,6 @@ pub struct Ids {
     pub count: u32,
     pub first: u32,
     pub second: u32,
-}
-
-// The cursors of the last two entries looked for.
-#[derive(Clone, Copy)]
-pub enum FoundCursors {
-    At(Cursor, Cursor),
-    Refused(u32),
 }
 
 fn no_ids() -> Ids
@@ -49,11 +43,7 @@ fn one_id(id: EntryId) -> Ids
 fn target_ids(id: EntryId) -> Ids
     ensures { result ≡ target_ids id.0 }
 {
-    let i = id.0;
-    if i == NONE {
-        return no_ids();
-    }
-    one_id(id)
+    if id.0 == NONE { no_ids() } else { one_id(id) }
 }
 
 // The ids that a call names.
@@ -81,11 +71,15 @@ pub fn ids_of(call: Call) -> Ids
 }
 
 // The cursors of the entries with these ids. A loop for two of them at most: a function that is called at one place only is compiled into it.
-pub fn find(head: Head, leaves: &[u32], inners: &[u32], homes: &[u32], ids: Ids) -> FoundCursors
-    ensures { result ≡ found_of (state head leaves.now inners.now homes.now) ids }
+pub fn find(
+    head: Head,
+    leaves: &[u32],
+    inners: &[u32],
+    homes: &[u32],
+    ids: Ids,
+) -> Result<(Cursor, Cursor), Refusal>
+    ensures { numbered result ≡ found_of (state head leaves.now inners.now homes.now) ids }
 {
-    let second = ids.second;
-    let mut left = ids.count;
     let mut id = ids.first;
     let mut a = Cursor {
         leaf: LeafNo(0),
@@ -93,18 +87,11 @@ pub fn find(head: Head, leaves: &[u32], inners: &[u32], homes: &[u32], ids: Ids)
         stamp: 0,
     };
     let mut b = a;
-    while 0 < left {
-        match cursor(head, leaves, inners, homes, EntryId(id)) {
-            Standing::Refused(n) => {
-                return FoundCursors::Refused(n);
-            }
-            Standing::At(c) => {
-                a = b;
-                b = c;
-                id = second;
-                left -= 1;
-            }
-        }
+    for _ in 0..ids.count {
+        let c = cursor(head, leaves, inners, homes, EntryId(id))?;
+        a = b;
+        b = c;
+        id = ids.second;
     }
-    FoundCursors::At(a, b)
+    Ok((a, b))
 }

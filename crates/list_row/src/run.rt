@@ -1,4 +1,5 @@
 // Records on a tree, each answer into its own sixteen bytes of an output.
+ghost use Rattle.model.specs.Numbered.{numbered};
 ghost use Rattle.std.specs.Prelude.{◌≡◌, true, ◌%◌, length};
 ghost use Rattle.model.specs.State.{state};
 ghost use Rattle.model.specs.Kind.{base};
@@ -10,8 +11,9 @@ use crate::step::step;
 use list_records::answer::write;
 use list_records::call::decode;
 use list_records::fields::read;
-use model::answer::{Outcome, OutcomeReply};
+use model::answer::Reply;
 use model::head::Head;
+use model::refusal::Refusal;
 
 // One record and its answer record.
 fn one(
@@ -48,9 +50,8 @@ fn all(
     ensures { tree_output (state result leaves.new inners.new homes.new) out.new ≡ turns (state head leaves.old inners.old homes.old) (records_of records.now) }
 {
     let mut h = head;
-    let mut at = 0;
-    let mut more = records.len() / 16;
-    while more > 0 {
+    for i in 0..records.len() / 16 {
+        let at = 16 * i;
         let end = at + 16;
         h = one(
             h,
@@ -60,13 +61,11 @@ fn all(
             &records[at..end],
             &mut out[at..end],
         );
-        at = end;
-        more = more - 1;
     }
     h
 }
 
-// A list of records with an equally long output; 11 where the lengths are no such thing.
+// A list of records with an equally long output; Records where the lengths are no such thing.
 pub fn run(
     head: Head,
     leaves: &mut [u32],
@@ -74,25 +73,19 @@ pub fn run(
     homes: &mut [u32],
     records: &[u8],
     out: &mut [u8],
-) -> OutcomeReply
-    ensures out_after { ran (state result.head leaves.new inners.new homes.new) result.answer out.new ≡ run_on (state head leaves.old inners.old homes.old) records.now out.old }
-    ensures as_row { (q : Row) → fit records.now out.old ≡ true → Represents base (state head leaves.old inners.old homes.old) q → AsRow records.now (ran (state result.head leaves.new inners.new homes.new) result.answer out.new) head.fan q }
+) -> Reply<()>
+    ensures out_after { ran (state result.head leaves.new inners.new homes.new) (numbered result.answer) out.new ≡ run_on (state head leaves.old inners.old homes.old) records.now out.old }
+    ensures as_row { (q : Row) → fit records.now out.old ≡ true → Represents base (state head leaves.old inners.old homes.old) q → AsRow records.now (ran (state result.head leaves.new inners.new homes.new) (numbered result.answer) out.new) head.fan q }
 {
-    if records.len() != out.len() {
-        return OutcomeReply {
+    if records.len() != out.len() || records.len() % 16 != 0 {
+        return Reply {
             head: head,
-            answer: Outcome::Refused(11),
-        };
-    }
-    if records.len() % 16 != 0 {
-        return OutcomeReply {
-            head: head,
-            answer: Outcome::Refused(11),
+            answer: Err(Refusal::Records),
         };
     }
     let after = all(head, leaves, inners, homes, records, out);
-    OutcomeReply {
+    Reply {
         head: after,
-        answer: Outcome::Done,
+        answer: Ok(()),
     }
 }

@@ -12,7 +12,7 @@ use crate::answer::{
     Step, compared, divided, following, inserted, looked, measured, named, number, outcome, refuse,
     updated,
 };
-use crate::find::{FoundCursors, find, ids_of};
+use crate::find::{find, ids_of};
 use calls_by_id::iterate::{first, next};
 use calls_by_id::look::locate;
 use calls_by_id::read::len;
@@ -90,7 +90,7 @@ pub fn step(
         return refuse(head, 10);
     }
     match find(head, leaves, inners, homes, ids_of(call)) {
-        FoundCursors::Refused(n) => refuse(head, n),
-        FoundCursors::At(a, b) => call_at(head, leaves, inners, homes, call, a, b),
+        Err(why) => refuse(head, why.number()),
+        Ok((a, b)) => call_at(head, leaves, inners, homes, call, a, b),
     }
 }

@@ -1,10 +1,10 @@
 -- A block's records shown one by one are shown as a list. Assumes nothing.
 use mathlib.Core.Path.{◌≡◌, sym, ap, ap₂, ◌∙◌}
-use mathlib.Core.List.{List, ◌∷◌, ◌++◌}
-use Prim.Native.Nat.{ℕ, suc, ◌+◌, ◌-◌, ◌≤◌, ◌<◌}
+use mathlib.Core.List.{List, [], ◌∷◌, ◌++◌}
+use Prim.Native.Nat.{ℕ, suc, ◌+◌, ◌/◌, ◌≤◌, ◌<◌}
 use native.Mathlib.Omega.{arith}
-use lib.ListN.{length, take, drop, length-drop}
-use lib.Seq.{drop-drop, length-take-le}
+use lib.ListN.{length, length-append}
+use Rattle.std.proofs.lemmas.List.{take_at, drop_at}
 use Rattle.model.specs.Kind.{base}
 use Rattle.model.specs.Row.{Call}
 use Rattle.model.specs.Record.{Fields, fields_of, decode}
@@ -13,7 +13,7 @@ use Rattle.model.specs.ById.{tree_step}
 use Rattle.model.specs.Promise.{answers, finally}
 use Rattle.list_records.specs.Said.{said, answer_of}
 use Rattle.list_records.specs.declared.answer.Answer.{Answer}
-use Rattle.list_row.specs.Run.{records, calls_of}
+use Rattle.list_row.specs.Run.{records, records_of, calls_of}
 use Rattle.list_row.specs.Step.{Stepped, stepped, step_by}
 use Rattle.list_stream.specs.Text.{line, put}
 use Rattle.list_stream.proofs.TextLaws.{behind, put_more, put_nil, line_short}
@@ -53,25 +53,28 @@ module _ (s t : State) (c : Call) (at end : ℕ) (out o : List ℕ) (e : shown t
       ap (λ (x : State). both (finally (tree_step base) x cs) (put out at (line (answer_of (tree_step base s c).answer) ++ lines (answers (tree_step base) x cs)))) (sym tree)
       ∙ ap (λ (w : ℕ × List ℕ). both (finally (tree_step base) t cs) w) (sym (put_more out o at end (line (answer_of (tree_step base s c).answer)) (lines (answers (tree_step base) t cs)) text))
 
--- the part of a block that a record is
-sixteen : (at : ℕ) → at + 16 - at ≡ 16
-sixteen at = omega arith
+-- a whole record comes first, and fewer bytes are none
+records_more : (r more : List ℕ) → length r ≡ 16 → records_of (r ++ more) ≡ r ∷ records_of more
+unfolding records
+records_more r more h =
+    let n : length (r ++ more) / 16 ≡ suc (length more / 16) = omega (arith, length-append r more) in
+    rw (n, take_at r more 16 h, drop_at r more 16 h)
 
-pub part_long : (block : List ℕ) (at : ℕ) → at + 16 ≤ length block → length (take (at + 16 - at) (drop at block)) ≡ 16
-part_long block at h = length-take-le (at + 16 - at) (drop at block) (omega (arith, length-drop at block)) ∙ sixteen at
+records_none : (bs : List ℕ) → length bs < 16 → records_of bs ≡ []
+unfolding records
+records_none bs h =
+    let n : length bs / 16 ≡ 0 = omega arith in
+    rw n
 
 -- a turn of the loop, and its end
-pub turn : (whole : Shown) (s t : State) (block out o : List ℕ) (at left end next : ℕ) → whole ≡ show_from s (calls_of (records left (drop at block))) end out → 0 < left
-    → shown t next o ≡ show_one s (decode (take (at + 16 - at) (drop at block))) end out → whole ≡ show_from t (calls_of (records (left - 1) (drop (at + 16) block))) next o
-unfolding records
-turn whole s t block out o at left end next w pos e =
-    let l : left ≡ suc (left - 1) = omega arith in
+pub turn : (whole : Shown) (s t : State) (bs r rest out o : List ℕ) (end next : ℕ) → whole ≡ show_from s (calls_of (records_of bs)) end out → bs ≡ r ++ rest → length r ≡ 16
+    → shown t next o ≡ show_one s (decode r) end out → whole ≡ show_from t (calls_of (records_of rest)) next o
+turn whole s t bs r rest out o end next w b h e =
     w
-    ∙ ap (λ (k : ℕ). show_from s (calls_of (records k (drop at block))) end out) l
-    ∙ more s t (decode (take 16 (drop at block))) end next out o (e ∙ ap (λ (k : ℕ). show_one s (decode (take k (drop at block))) end out) (sixteen at))
-    (calls_of (records (left - 1) (drop 16 (drop at block))))
-    ∙ ap (λ (bs : List ℕ). show_from t (calls_of (records (left - 1) bs)) next o) (drop-drop 16 at block)
+    ∙ ap (λ (x : List ℕ). show_from s (calls_of (records_of x)) end out) b
+    ∙ ap (λ (rs : List (List ℕ)). show_from s (calls_of rs) end out) (records_more r rest h)
+    ∙ more s t (decode r) end next out o e (calls_of (records_of rest))
 
-pub finish : (whole : Shown) (s : State) (bs out : List ℕ) (left end : ℕ) → whole ≡ show_from s (calls_of (records left bs)) end out → left ≡ 0 → shown s end out ≡ whole
-unfolding records show_from lines answers finally
-finish whole s bs out left end w z = sym (w ∙ ap (λ (k : ℕ). show_from s (calls_of (records k bs)) end out) z ∙ ap (both s) (put_nil out end))
+pub finish : (whole : Shown) (s : State) (bs out : List ℕ) (end : ℕ) → whole ≡ show_from s (calls_of (records_of bs)) end out → length bs < 16 → shown s end out ≡ whole
+unfolding show_from lines answers finally
+finish whole s bs out end w h = sym (w ∙ ap (λ (rs : List (List ℕ)). show_from s (calls_of rs) end out) (records_none bs h) ∙ ap (both s) (put_nil out end))

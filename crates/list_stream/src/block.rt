@@ -56,16 +56,11 @@ pub fn show(
     ensures { shown (state result.head leaves.new inners.new homes.new) result.end out.new ≡ show_from (state head leaves.old inners.old homes.old) (calls_of (records_of block.now)) 0 out.old }
 {
     let mut after = head;
-    let mut at = 0;
     let mut end = 0;
-    let mut left = block.len() / 16;
-    while left > 0 {
-        let next = at + 16;
-        let played = show_record(after, leaves, inners, homes, &block[at..next], out, end);
+    for record in block.chunks_exact(16) {
+        let played = show_record(after, leaves, inners, homes, record, out, end);
         after = played.head;
         end = played.end;
-        at = next;
-        left -= 1;
     }
     Played {
         head: after,

@@ -12,11 +12,7 @@ pub fn keep(block: &mut [u8], from: usize, n: usize)
     requires { from + n ≤ length block.old }
     ensures { (n, block.new) ≡ put block.old 0 (part from n block.old) }
 {
-    let mut i = 0;
-    while i < n {
-        block[i] = block[from + i];
-        i += 1;
-    }
+    block.copy_within(from..from + n, 0);
 }
 
 // The line of a tail of stray bytes, none where there are no such.

@@ -1,6 +1,8 @@
 -- `audit` (document 01, "Audit"): soundness tested by numbers, node by node, each node's depth by climbing at most `levels` links.
 -- That it says yes exactly on sound trees is a theorem, not part of this definition. Assumes nothing.
-use Rattle.std.specs.Prelude.{Bool, true, false, not, cond, ◌&&◌, List, [], ℕ, zero, suc, ◌-◌, get_or, ltb, leb, eqb}
+use Rattle.model.specs.declared.way.Broken.{Broken}
+use Rattle.model.specs.Numbered.{Numbered}
+use Rattle.std.specs.Prelude.{Bool, true, false, not, cond, ◌&&◌, List, [], ℕ, zero, suc, ◌-◌, get_or, ltb, leb, eqb, Ok, Err, Some, None, Option, Result}
 use Rattle.model.specs.Lists.{sum_by, range}
 use Rattle.model.specs.Node.{Node, none, child, lengths, length_in, total, used, start}
 use Rattle.model.specs.Kind.{stride, prepare, too_many_lines, crossed}
@@ -11,12 +13,6 @@ use Rattle.model.specs.Sound.{leaf_in, inner_in, least_leaf, least_inner}
 use Rattle.model.specs.Refuse.{shape_of, total_of}
 use Rattle.model.specs.Calls.{unless, area_causes}
 use Rattle.model.specs.declared.head.Finger.{Finger}
-use Rattle.model.specs.declared.head.Held.{Held}
-use Rattle.model.specs.declared.head.Held.TheVariants as held
-use Rattle.model.specs.declared.way.Sum.{Sum}
-use Rattle.model.specs.declared.way.Sum.TheVariants as sum
-use Rattle.model.specs.declared.answer.Verdict.{Verdict}
-use Rattle.model.specs.declared.answer.Verdict.TheVariants as verdict
 
 -- whether q holds of the n numbers from i on
 unfoldable pub every : (ℕ → Bool) → ℕ → ℕ → Bool
@@ -30,9 +26,9 @@ in_views K q = every q 0 K.views
 abbrev pub is_empty_slot : Kind → List ℕ → Bool
 is_empty_slot K x = eqb (child x) none && in_views K (λ v. eqb (length_in v x) 0)
 
-abbrev pub is_sum : ℕ → Sum → Bool
-is_sum n (sum.Is m) = eqb n m
-is_sum n sum.Broken = false
+abbrev pub is_sum : ℕ → Result ℕ Broken → Bool
+is_sum n (Ok m) = eqb n m
+is_sum n (Err _) = false
 
 -- whether slot j holds another child than c
 abbrev pub is_other : Node → ℕ → ℕ → Bool
@@ -86,7 +82,7 @@ module _ (K : Kind) (t : State) where
       is_filled (least_leaf (stride K) t) n && is_held k n && eqb (depth_of n.parent) t.head.levels && every (is_entry k n) 0 n.len
 
   -- the finger's sums against those that the links give
-  abbrev pub leaf_start : ℕ → Node → Sum
+  abbrev pub leaf_start : ℕ → Node → Result ℕ Broken
   leaf_start v n = rank_up (shape_of K t.head) v t.head.levels n.parent n.at 0 t.inners
 
   unfoldable pub is_finger : Finger → Bool
@@ -97,9 +93,9 @@ module _ (K : Kind) (t : State) where
       && eqb f.within (start f.view f.slot n) && eqb f.effect_within (start K.effect f.slot n)
       && is_sum f.prepare (leaf_start prepare n) && eqb f.prepare_within (start prepare f.slot n)
 
-  abbrev pub is_held_finger : Held → Bool
-  is_held_finger held.Absent = true
-  is_held_finger (held.At f) = is_finger f
+  abbrev pub is_held_finger : Option Finger → Bool
+  is_held_finger None = true
+  is_held_finger (Some f) = is_finger f
 
   -- the head: counts within limit, levels, the root in use; then every node in use; as many slots in use as entries; totals within u32; the finger
   unfoldable pub is_sound : Bool
@@ -112,6 +108,6 @@ module _ (K : Kind) (t : State) where
       && in_views K (λ v. leb (total_of K t v) 4294967295) && is_held_finger h.finger
 
 -- never 9: no link is followed before it is tested
-unfoldable pub audit : Kind → State → Verdict
+unfoldable pub audit : Kind → State → Numbered Bool
 audit K t =
-    unless (area_causes K t.head.fan t.head.limit t.leaves t.inners t.homes) verdict.Refused (cond (is_sound K t) verdict.Yes verdict.No)
+    unless (area_causes K t.head.fan t.head.limit t.leaves t.inners t.homes) Err (cond (is_sound K t) (Ok true) (Ok false))

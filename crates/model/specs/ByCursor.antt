@@ -1,6 +1,8 @@
 -- The calls of lib.rs as they are, on cursors, in a list: what each does to a tree, its answer read with every cursor as the entry at which it
 -- stands in the tree after the call, and the call of the row that it means. Assumes nothing.
-use Rattle.std.specs.Prelude.{Bool, cond, List, [], ◌∷◌, ℕ, eqb, take}
+use Rattle.model.specs.declared.number.EntryId.{EntryId}
+use Rattle.model.specs.Numbered.{Numbered}
+use Rattle.std.specs.Prelude.{Bool, cond, List, [], ◌∷◌, ℕ, eqb, take, Ok, Err, Some, None, Option}
 use Rattle.model.specs.Lists.{refusal}
 use Rattle.model.specs.Kind.{too_many_lines}
 use Rattle.model.specs.declared.shape.Kind.{Kind}
@@ -13,19 +15,11 @@ use Rattle.model.specs.Calls as calls
 use Rattle.model.specs.Answer.{outcome_answer, number_answer, verdict_answer, named_answer, compared_answer, inserted_answer}
 use Rattle.model.specs.ById.{told, id_answer, standing_id_answer, next_answer, located_answer}
 use Rattle.model.specs.declared.head.Cursor.{Cursor}
-use Rattle.model.specs.declared.answer.Target.{Target}
-use Rattle.model.specs.declared.answer.Target.TheVariants as target
-use Rattle.model.specs.declared.answer.Named.{Named}
-use Rattle.model.specs.declared.answer.Named.TheVariants as named
-use Rattle.model.specs.declared.answer.Selected.{Selected}
-use Rattle.model.specs.declared.answer.Selected.TheVariants as selected
-use Rattle.model.specs.declared.answer.Divided.{Divided}
-use Rattle.model.specs.declared.answer.Divided.TheVariants as divided
 
 -- every public call of lib.rs but make and add
 pub data CursorCall : Type 0 where
   reset : List ℕ → CursorCall
-  insert : Target → List ℕ → CursorCall
+  insert : Option Cursor → List ℕ → CursorCall
   split : Bool → Cursor → List ℕ → CursorCall
   set_lengths : Cursor → List ℕ → CursorCall
   update : Cursor → List ℕ → CursorCall
@@ -44,19 +38,19 @@ pub data CursorCall : Type 0 where
 -- on a tree ---------------------------------------------------------------------------------------------------------------------------------
 
 -- answers read: a cursor as the id at which it stands in the tree after the call (ById's reading, `calls.id`); one that isn't current reads as its refusal
-abbrev pub selected_id_answer : Kind → State → Selected → Answer
-selected_id_answer K s (selected.At c offset) = id_answer (calls.id K s c) (offset ∷ [])
-selected_id_answer K s (selected.Refused n) = refused n
+abbrev pub selected_id_answer : Kind → State → Numbered (Cursor × ℕ) → Answer
+selected_id_answer K s (Ok (c, offset)) = id_answer (calls.id K s c) (offset ∷ [])
+selected_id_answer K s (Err n) = refused n
 
 -- the new id, and both parts in order
-abbrev pub parts_of : ℕ → Named → Named → Answer
-parts_of i (named.Entry a) (named.Entry b) = done (i ∷ a.0 ∷ b.0 ∷ [])
-parts_of i (named.Entry a) (named.Refused n) = refused n
-parts_of i (named.Refused n) b = refused n
+abbrev pub parts_of : ℕ → Numbered EntryId → Numbered EntryId → Answer
+parts_of i (Ok a) (Ok b) = done (i ∷ a.0 ∷ b.0 ∷ [])
+parts_of i (Ok a) (Err n) = refused n
+parts_of i (Err n) b = refused n
 
-abbrev pub parts_answer : Kind → State → Divided → Answer
-parts_answer K s (divided.At i a b) = parts_of i.0 (calls.id K s a) (calls.id K s b)
-parts_answer K s (divided.Refused n) = refused n
+abbrev pub parts_answer : Kind → State → Numbered (EntryId × Cursor × Cursor) → Answer
+parts_answer K s (Ok (i, a, b)) = parts_of i.0 (calls.id K s a) (calls.id K s b)
+parts_answer K s (Err n) = refused n
 
 unfoldable pub cursor_step : Kind → State → CursorCall → Moved State
 cursor_step K s (reset l) = told (calls.reset K s l) outcome_answer
@@ -121,8 +115,8 @@ standing_for K s l c f = cond (too_many_lines K l) (f (entry_at K s c)) (standin
 
 unfoldable pub meant : Kind → State → CursorCall → EntryCall
 meant K s (reset l) = plain (row.reset l)
-meant K s (insert (target.Before c) l) = standing_for K s l c (λ i. plain (row.insert i l))
-meant K s (insert target.End l) = plain (row.insert no_entry l)
+meant K s (insert (Some c) l) = standing_for K s l c (λ i. plain (row.insert i l))
+meant K s (insert None l) = plain (row.insert no_entry l)
 meant K s (split flag c l) = standing_for K s l c (λ i. parts flag i l)
 meant K s (set_lengths c l) = standing_for K s l c (λ i. plain (row.set_lengths i l))
 meant K s (update c l) = standing_for K s l c (λ i. plain (row.update i l))

@@ -1,6 +1,8 @@
 -- How many slots a lookup examines (document 02, CR 14). `examined` is the paper's number, read off the tree and the finger before the call by slot
 -- numbers; `look_slots` is what a lookup counts, on any words. On a sound tree they are one number (theory's Examined). Assumes nothing.
-use Rattle.std.specs.Prelude.{◌≡◌, Bool, true, cond, ◌&&◌, List, [], ◌∷◌, ◌++◌, ℕ, zero, suc, ◌+◌, ◌-◌, ◌*◌, ◌≤◌, ◌<◌, ltb, leb, eqb, get_or, take}
+use Rattle.model.specs.declared.head.Cursor.{Cursor}
+use Rattle.model.specs.Numbered.{Numbered}
+use Rattle.std.specs.Prelude.{◌≡◌, Bool, true, cond, ◌&&◌, List, [], ◌∷◌, ◌++◌, ℕ, zero, suc, ◌+◌, ◌-◌, ◌*◌, ◌≤◌, ◌<◌, ltb, leb, eqb, get_or, take, Ok, Err, Some, None, Option}
 use Rattle.model.specs.declared.shape.Kind.{Kind}
 use Rattle.model.specs.declared.shape.Shape.{Shape}
 use Rattle.model.specs.Node.{Node, child, length_in, total, used, half, wrap}
@@ -14,14 +16,8 @@ use Rattle.model.specs.Calls as calls
 use Rattle.model.specs.Calls.{Reply, reply, unless}
 use Rattle.model.specs.Deepest.{deepest}
 use Rattle.model.specs.declared.head.Finger.{Finger}
-use Rattle.model.specs.declared.head.Held.{Held}
-use Rattle.model.specs.declared.head.Held.TheVariants as held
-use Rattle.model.specs.declared.way.Search.{Search}
-use Rattle.model.specs.declared.way.Search.TheVariants as search
+use Rattle.model.specs.Locate.{Search}
 use Rattle.model.specs.declared.way.Searched.{Searched}
-use Rattle.model.specs.declared.answer.Located.{Located}
-use Rattle.model.specs.declared.answer.Located.TheVariants as located
-use Rattle.model.specs.declared.answer.Selected.{Selected}
 
 -- the paper's number ---------------------------------------------------------------------------------------------------------------------
 
@@ -65,9 +61,9 @@ module _ (K : Kind) (s : State) (v x : ℕ) where
       (cond (holds f) (span f.slot (slots_before v (x - f.start) (used (finger_leaf f)))) (((finger_leaf f).len - f.slot) + from_top))
       from_top
 
-  abbrev pub by_held : Held → ℕ
-  by_held held.Absent = from_top
-  by_held (held.At f) = by_finger f
+  abbrev pub by_held : Option Finger → ℕ
+  by_held None = from_top
+  by_held (Some f) = by_finger f
 
   unfoldable pub examined : ℕ
   examined = by_held s.head.finger
@@ -80,29 +76,29 @@ with_slots r n = record { found = r; examined = n }
 
 -- a search that finds nothing counts nothing
 abbrev pub found_slots : Search → ℕ → ℕ
-found_slots (search.At f offset) n = n
-found_slots search.Nothing n = 0
-found_slots search.Broken n = 0
+found_slots (Ok (Some (f, offset))) n = n
+found_slots (Ok None) n = 0
+found_slots (Err _) n = 0
 
 -- by the finger: from its own slot to the one found, or in vain to the last of the leaf's len
 abbrev pub finger_slots : Finger → ℕ → Search → ℕ
-finger_slots f len (search.At m offset) = span f.slot m.slot
-finger_slots f len search.Nothing = len - f.slot
-finger_slots f len search.Broken = 0
+finger_slots f len (Ok (Some (m, offset))) = span f.slot m.slot
+finger_slots f len (Ok None) = len - f.slot
+finger_slots f len (Err _) = 0
 
 module _ (v e : ℕ) (g : Shape) where
   unfoldable pub served_slots : Finger → ℕ → ℕ → List ℕ → ℕ
   served_slots f leaves x ls = cond (serves v x f) (finger_slots f (node_at g f.leaf ls).len (served v e g f leaves x ls)) 0
 
-  abbrev pub held_slots : Held → ℕ → ℕ → List ℕ → ℕ
-  held_slots held.Absent leaves x ls = 0
-  held_slots (held.At f) leaves x ls = served_slots f leaves x ls
+  abbrev pub held_slots : Option Finger → ℕ → ℕ → List ℕ → ℕ
+  held_slots None leaves x ls = 0
+  held_slots (Some f) leaves x ls = served_slots f leaves x ls
 
 -- a by the finger and b from the root, each with what it found
 abbrev pub looked_slots : Search → ℕ → Search → ℕ → ℕ
-looked_slots (search.At f offset) a again b = a
-looked_slots search.Nothing a again b = found_slots again (wrap (a + b))
-looked_slots search.Broken a again b = 0
+looked_slots (Ok (Some (f, offset))) a again b = a
+looked_slots (Ok None) a again b = found_slots again (wrap (a + b))
+looked_slots (Err _) a again b = 0
 
 module _ (K : Kind) (s : State) (v x : ℕ) where
   -- 0 where the lookup is refused
@@ -123,27 +119,27 @@ pub record Counted (A : Type 0) : Type 0 where
 abbrev pub counted : {A : Type 0} → A → ℕ → Counted A
 counted a n = record { answer = a; examined = n }
 
-unfoldable pub locate : Kind → State → ℕ → ℕ → Reply (Counted Located)
+unfoldable pub locate : Kind → State → ℕ → ℕ → Reply (Counted (Numbered (Cursor × ℕ × ℕ × ℕ)))
 locate K s v x = let r = calls.locate K s v x in reply r.after (counted r.answer (look_slots K s v x))
 
-unfoldable pub char_index_to_entry : Kind → State → ℕ → ℕ → Reply (Counted Selected)
+unfoldable pub char_index_to_entry : Kind → State → ℕ → ℕ → Reply (Counted (Numbered (Cursor × ℕ)))
 char_index_to_entry K s v x = let r = calls.char_index_to_entry K s v x in reply r.after (counted r.answer (look_slots K s v x))
 
 -- the number and values of such an answer: the count stands behind the others
-abbrev pub located_with : ℕ → Located → Answer
-located_with n (located.At c offset effect prepare) = done (cursor_values c ++ offset ∷ effect ∷ prepare ∷ n ∷ [])
-located_with n (located.Refused m) = refused m
+abbrev pub located_with : ℕ → Numbered (Cursor × ℕ × ℕ × ℕ) → Answer
+located_with n (Ok (c, offset, effect, prepare)) = done (cursor_values c ++ offset ∷ effect ∷ prepare ∷ n ∷ [])
+located_with n (Err m) = refused m
 
-abbrev pub located_answer : Counted Located → Answer
+abbrev pub located_answer : Counted (Numbered (Cursor × ℕ × ℕ × ℕ)) → Answer
 located_answer a = located_with a.examined a.answer
 
 -- how far a lookup goes ----------------------------------------------------------------------------------------------------------------------
 
 module _ (K : Kind) (s : State) (v x : ℕ) where
   -- the finger serves and its leaf holds the position
-  abbrev pub Near : Held → Type 0
-  Near held.Absent = ⊥
-  Near (held.At f) = (serves v x f ≡ true) × (holds K s v x f ≡ true)
+  abbrev pub Near : Option Finger → Type 0
+  Near None = ⊥
+  Near (Some f) = (serves v x f ≡ true) × (holds K s v x f ≡ true)
 
   -- the count n of a lookup that isn't refused
   pub record Far (n : ℕ) : Type 0 where

@@ -1,5 +1,6 @@
 pub mod Length
 pub mod Lists
+pub mod Numbered
 pub mod Node
 pub mod State
 pub mod Moments

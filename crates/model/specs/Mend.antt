@@ -1,6 +1,6 @@
 -- What repair tests and writes (document 02, CR 13), each word as a function of the trusted ones. What this comes to is said in Repair.antt and
 -- proved, so that nothing here has to be believed. s is the words of a slot. Assumes nothing.
-use Rattle.std.specs.Prelude.{Bool, true, not, cond, ◌&&◌, ℕ, zero, suc, ◌-◌, length, get_or, drop, set, replicate, ltb, leb, eqb}
+use Rattle.std.specs.Prelude.{Bool, true, not, cond, ◌&&◌, ℕ, zero, suc, ◌-◌, length, get_or, drop, set, replicate, ltb, leb, eqb, None}
 use mathlib.Core.List.{List, [], ◌∷◌, ◌++◌, map, flat_map}
 use Rattle.model.specs.Lists.{sum_by, times, range}
 use Rattle.model.specs.Kind.{stride, too_many_lines, crossed}
@@ -12,10 +12,9 @@ use Rattle.model.specs.Sound.{until, shape_in, leaf_in, inner_in, level, inners_
 use Rattle.model.specs.Audit.{every}
 use Rattle.model.specs.declared.shape.Shape.{Shape}
 use Rattle.model.specs.declared.head.Head.{Head}
-use Rattle.model.specs.declared.head.Held.TheVariants as held
 
 abbrev pub no_finger : Head → Head
-no_finger h = with_finger held.Absent h
+no_finger h = with_finger None h
 
 -- where a number stands -----------------------------------------------------------------------------------------------------------------------
 

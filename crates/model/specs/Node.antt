@@ -1,13 +1,9 @@
 -- One node: three words and then as many slots as the fan, each a child and its lengths (document 01, "Lengths, slots, nodes").
 -- A slot is `stride` words wide: column 0 is the child, column v + 1 the length in view v. Assumes nothing.
-use Rattle.std.specs.Prelude.{Bool, cond, ℕ, zero, suc, ◌+◌, ◌-◌, ◌%◌, ◌^◌, ◌/◌, length, get_or, take, drop, set, replicate, ltb, eqb}
+use Rattle.std.specs.Prelude.{Bool, cond, ℕ, zero, suc, ◌+◌, ◌-◌, ◌%◌, ◌^◌, ◌/◌, length, get_or, take, drop, set, replicate, ltb, eqb, Some, None, Option}
 use mathlib.Core.List.{List, [], ◌∷◌, ◌++◌, flat_map, zip_with}
 use Rattle.model.specs.Lists.{part, sum_by}
 use Rattle.model.specs.Kind.{prepare}
-use Rattle.model.specs.declared.shape.Found.{Found}
-use Rattle.model.specs.declared.shape.Found.TheVariants.{At, Nothing}
-use Rattle.model.specs.declared.shape.Place.{Place}
-use Rattle.model.specs.declared.shape.Place.TheVariants.{Slot, Missing}
 use Rattle.model.specs.declared.shape.Scan.{Scan}
 
 -- the child that no slot in use holds; also the root's parent, "none", and the place of an insertion at the end
@@ -89,24 +85,28 @@ totals_from (suc k) v slots = wrap (total v slots) ∷ totals_from k (suc v) slo
 unfoldable pub slot_for : ℕ → ℕ → Node → List ℕ
 slot_for s k n = k ∷ totals_from (s - 1) 0 n.slots
 
+-- the slot that holds a position, the offset into it, and the effect and the prepare lengths before it
+abbrev pub Found : Type 0
+Found = Option (ℕ × ℕ × ℕ × ℕ)
+
 -- `Node::find`: the first slot, counted from k, that holds position index of view v; the offset into it; a and the lengths in view e before it, b and those
 -- in prepare
 unfoldable pub find_from : ℕ → ℕ → ℕ → ℕ → ℕ → ℕ → List (List ℕ) → Found
-find_from v e k index a b [] = Nothing
+find_from v e k index a b [] = None
 find_from v e k index a b (x ∷ xs) =
-    cond (ltb index (length_in v x)) (At k index a b) (find_from v e (k + 1) (index - length_in v x) (a + length_in e x) (b + length_in prepare x) xs)
+    cond (ltb index (length_in v x)) (Some (k, index, a, b)) (find_from v e (k + 1) (index - length_in v x) (a + length_in e x) (b + length_in prepare x) xs)
 
 -- `Node::index_of`: the first slot, counted from k, that holds the child c
-unfoldable pub index_from : ℕ → ℕ → List (List ℕ) → Place
-index_from c k [] = Missing
-index_from c k (x ∷ xs) = cond (eqb (child x) c) (Slot k) (index_from c (k + 1) xs)
+unfoldable pub index_from : ℕ → ℕ → List (List ℕ) → Option ℕ
+index_from c k [] = None
+index_from c k (x ∷ xs) = cond (eqb (child x) c) (Some k) (index_from c (k + 1) xs)
 
 -- how many of n slots are read for it: those up to and with the first that holds the child, or all
-abbrev pub read_for : ℕ → Place → ℕ
-read_for n (Slot i) = i + 1
-read_for n Missing = n
+abbrev pub read_for : ℕ → Option ℕ → ℕ
+read_for n (Some i) = i + 1
+read_for n None = n
 
-abbrev pub scan : ℕ → Place → Scan
+abbrev pub scan : ℕ → Option ℕ → Scan
 scan n p = record { place = p; read = read_for n p }
 
 -- `Node::insert`: the slot x put at place i; what stood in the slots in use from there on moves up by one

@@ -1,6 +1,8 @@
 -- The changes of a tree at a slot of a leaf: other lengths, one entry more, one entry divided (document 01, "Insert and split").
 -- e is the effect view; a list of lengths has one for each view of the stride. Assumes nothing.
-use Rattle.std.specs.Prelude.{Bool, cond, ◌&&◌, List, [], ◌∷◌, ℕ, ◌+◌, ◌-◌, set, ltb, leb, eqb}
+use Rattle.model.specs.declared.head.Finger.{Finger}
+use Rattle.model.specs.declared.way.Broken.{Broken}
+use Rattle.std.specs.Prelude.{Bool, cond, ◌&&◌, List, [], ◌∷◌, ℕ, ◌+◌, ◌-◌, set, ltb, leb, eqb, Ok, Err, Option, Result}
 use Rattle.model.specs.Node.{Node, child, used, start, half, with_lengths, inserted, child_split, lower_half, upper_half, wrap}
 use Rattle.model.specs.State.{State, state, head_of, next_stamp, node_at, put_node}
 use Rattle.model.specs.Climb.{climb_up}
@@ -8,9 +10,6 @@ use Rattle.model.specs.Locate.{changing}
 use Rattle.model.specs.Grow.{areas, Top, top, add_child}
 use Rattle.model.specs.declared.shape.Shape.{Shape}
 use Rattle.model.specs.declared.head.Head.{Head}
-use Rattle.model.specs.declared.head.Held.{Held}
-use Rattle.model.specs.declared.way.Sum.{Sum}
-use Rattle.model.specs.declared.way.Sum.TheVariants as sum
 
 -- a change on its way: 0 or 9, the state so far, the slot at which it happens
 pub record Change : Type 0 where
@@ -23,10 +22,10 @@ abbrev pub change : ℕ → State → ℕ → ℕ → Change
 change n s k i = record { number = n; state = s; leaf = k; slot = i }
 
 -- the head with another finger, with one entry more, and after a leaf split
-abbrev pub with_finger : Held → Head → Head
+abbrev pub with_finger : Option Finger → Head → Head
 with_finger f h = head_of h.fan h.limit h.root.0 h.levels h.leaves h.inners h.entries h.stamp f
 
-abbrev pub with_entry : Held → Head → Head
+abbrev pub with_entry : Option Finger → Head → Head
 with_entry f h = head_of h.fan h.limit h.root.0 h.levels h.leaves h.inners (h.entries + 1) (next_stamp h.stamp) f
 
 abbrev pub with_leaf : Top → Head → Head
@@ -91,9 +90,9 @@ module _ (g : Shape) where
       change 0 (state (with_finger (changing k i s.head.finger) s.head) (put_node g k (with_lengths i ls (node_at g k s.leaves)) s.leaves) s.inners s.homes) k i
 
   -- `climb`: delta goes into the slots above the slot at which a change happened, whose effect position is summed up on the way
-  abbrev pub summed : Change → Sum × List ℕ → Change × ℕ
-  summed r (sum.Is n, xs) = (change 0 (state r.state.head r.state.leaves xs r.state.homes) r.leaf r.slot, wrap n)
-  summed r (sum.Broken, xs) = (change 9 (state r.state.head r.state.leaves xs r.state.homes) r.leaf r.slot, 0)
+  abbrev pub summed : Change → (Result ℕ Broken) × List ℕ → Change × ℕ
+  summed r (Ok n, xs) = (change 0 (state r.state.head r.state.leaves xs r.state.homes) r.leaf r.slot, wrap n)
+  summed r (Err _, xs) = (change 9 (state r.state.head r.state.leaves xs r.state.homes) r.leaf r.slot, 0)
 
   unfoldable pub climb : ℕ → List ℕ → Change → Change × ℕ
   climb e delta r =

@@ -1,6 +1,10 @@
 -- What is promised of all calls together (document 01, demands 1 and 3): what a refused call leaves, and what every list of calls answers.
 -- The theorems are model_theory's. Assumes nothing.
-use Rattle.std.specs.Prelude.{◌≡◌, ◌≢◌, ◌⊎◌, Bool, true, false, cond, ℕ, ◌-◌, ◌*◌, ◌^◌, ◌≤◌, ◌<◌, length, get_or}
+use Rattle.model.specs.declared.length.Lengths.{Lengths}
+use Rattle.model.specs.declared.number.EntryId.{EntryId}
+use Rattle.std.specs.declared.cmp.Ordering.{Ordering}
+use Rattle.model.specs.Numbered.{Numbered}
+use Rattle.std.specs.Prelude.{◌≡◌, ◌≢◌, ◌⊎◌, Bool, true, false, cond, ℕ, ◌-◌, ◌*◌, ◌^◌, ◌≤◌, ◌<◌, length, get_or, Ok, Err, Some, None, Option}
 use mathlib.Core.List.{List, [], ◌∷◌, zip_with}
 use Rattle.model.specs.Kind.{too_many_lines}
 use Rattle.model.specs.Lists.{All, cause, refusal}
@@ -19,28 +23,7 @@ use Rattle.model.specs.ByCursor as by
 use Rattle.model.specs.ByCursor.{CursorCall, cursor_step, entry_step, meant, meant_all}
 use Rattle.model.specs.Sound.{Sound, entries_of}
 use Rattle.model.specs.declared.head.Cursor.{Cursor}
-use Rattle.model.specs.declared.head.Held.TheVariants as held
-use Rattle.model.specs.declared.answer.Target.{Target}
-use Rattle.model.specs.declared.answer.Outcome.{Outcome}
-use Rattle.model.specs.declared.answer.Outcome.TheVariants as outcome
-use Rattle.model.specs.declared.answer.Number.{Number}
-use Rattle.model.specs.declared.answer.Verdict.{Verdict}
-use Rattle.model.specs.declared.answer.Named.{Named}
-use Rattle.model.specs.declared.answer.Measured.{Measured}
-use Rattle.model.specs.declared.answer.Compared.{Compared}
-use Rattle.model.specs.declared.answer.Inserted.{Inserted}
-use Rattle.model.specs.declared.answer.Named.TheVariants as named
-use Rattle.model.specs.declared.answer.Standing.{Standing}
-use Rattle.model.specs.declared.answer.Standing.TheVariants as standing
-use Rattle.model.specs.declared.answer.Next.{Next}
-use Rattle.model.specs.declared.answer.Next.TheVariants as next
 use Rattle.model.specs.Examined.{Examines}
-use Rattle.model.specs.declared.answer.Located.{Located}
-use Rattle.model.specs.declared.answer.Located.TheVariants as located
-use Rattle.model.specs.declared.answer.Selected.{Selected}
-use Rattle.model.specs.declared.answer.Selected.TheVariants as selected
-use Rattle.model.specs.declared.answer.Divided.{Divided}
-use Rattle.model.specs.declared.answer.Divided.TheVariants as divided
 
 -- calls in words --------------------------------------------------------------------------------------------------------------------------
 
@@ -81,7 +64,7 @@ pub record Leaves (n : ℕ) (s t : State) : Type 0 where
 -- every call that gives a tree back, by cursor and by id; the others only read
 pub record Refusals (K : Kind) (s : State) : Type 0 where
   pub reset : (l : List ℕ) → Words K l → Leaves (outcome_answer (calls.reset K s l).answer).number s (calls.reset K s l).after
-  pub insert : (t : Target) (l : List ℕ) → Words K l → Leaves (inserted_answer (calls.insert K s t l).answer).number s (calls.insert K s t l).after
+  pub insert : (t : Option Cursor) (l : List ℕ) → Words K l → Leaves (inserted_answer (calls.insert K s t l).answer).number s (calls.insert K s t l).after
   pub split : (c : Cursor) (l : List ℕ) (flag : Bool) → Words K l → Leaves (divided_answer (calls.split_entry K s c l flag).answer).number s (calls.split_entry K s c l flag).after
   pub set_lengths : (c : Cursor) (l : List ℕ) → Words K l → Leaves (outcome_answer (calls.set_lengths K s c l).answer).number s (calls.set_lengths K s c l).after
   pub update : (c : Cursor) (l : List ℕ) → Words K l → Leaves (number_answer (calls.update K s c l).answer).number s (calls.update K s c l).after
@@ -97,7 +80,7 @@ pub record Fixed (s t : State) : Type 0 where
 -- the same calls keep both
 pub record Fixes (K : Kind) (s : State) : Type 0 where
   pub reset : (l : List ℕ) → Fixed s (calls.reset K s l).after
-  pub insert : (t : Target) (l : List ℕ) → Fixed s (calls.insert K s t l).after
+  pub insert : (t : Option Cursor) (l : List ℕ) → Fixed s (calls.insert K s t l).after
   pub split : (c : Cursor) (l : List ℕ) (flag : Bool) → Fixed s (calls.split_entry K s c l flag).after
   pub set_lengths : (c : Cursor) (l : List ℕ) → Fixed s (calls.set_lengths K s c l).after
   pub update : (c : Cursor) (l : List ℕ) → Fixed s (calls.update K s c l).after
@@ -111,23 +94,23 @@ Bare a = a.number ≢ 0 → a.values ≡ []
 
 -- every answer of a call, by cursor and by id
 pub record Bares : Type 0 where
-  pub outcome : (a : Outcome) → Bare (outcome_answer a)
-  pub number : (a : Number) → Bare (number_answer a)
-  pub verdict : (a : Verdict) → Bare (verdict_answer a)
-  pub standing : (a : Standing) → Bare (standing_answer a)
-  pub next : (a : Next) → Bare (next_answer a)
-  pub named : (a : Named) → Bare (named_answer a)
-  pub measured : (a : Measured) → Bare (measured_answer a)
-  pub compared : (a : Compared) → Bare (compared_answer a)
-  pub selected : (a : Selected) → Bare (selected_answer a)
-  pub located : (a : Located) → Bare (located_answer a)
-  pub inserted : (a : Inserted) → Bare (inserted_answer a)
-  pub divided : (a : Divided) → Bare (divided_answer a)
+  pub outcome : (a : Numbered (Unit {0})) → Bare (outcome_answer a)
+  pub number : (a : Numbered ℕ) → Bare (number_answer a)
+  pub verdict : (a : Numbered Bool) → Bare (verdict_answer a)
+  pub standing : (a : Numbered Cursor) → Bare (standing_answer a)
+  pub next : (a : Numbered (Option Cursor)) → Bare (next_answer a)
+  pub named : (a : Numbered EntryId) → Bare (named_answer a)
+  pub measured : (a : Numbered Lengths) → Bare (measured_answer a)
+  pub compared : (a : Numbered Ordering) → Bare (compared_answer a)
+  pub selected : (a : Numbered (Cursor × ℕ)) → Bare (selected_answer a)
+  pub located : (a : Numbered (Cursor × ℕ × ℕ × ℕ)) → Bare (located_answer a)
+  pub inserted : (a : Numbered (EntryId × ℕ)) → Bare (inserted_answer a)
+  pub divided : (a : Numbered (EntryId × Cursor × Cursor)) → Bare (divided_answer a)
   pub step : (K : Kind) (s : State) (c : Call) → Bare (tree_step K s c).answer
 
 -- make gives a head back, and a head of zeros without finger where it is refused
 pub record Made (K : Kind) (fan limit : ℕ) (l ls xs hs : List ℕ) : Type 0 where
-  pub refused : (outcome_answer (calls.make K fan limit l ls xs hs).answer).number ≢ 0 → (calls.make K fan limit l ls xs hs).after ≡ state (head_of 0 0 0 0 0 0 0 0 held.Absent) ls xs hs
+  pub refused : (outcome_answer (calls.make K fan limit l ls xs hs).answer).number ≢ 0 → (calls.make K fan limit l ls xs hs).after ≡ state (head_of 0 0 0 0 0 0 0 0 None) ls xs hs
   pub leaves : length (calls.make K fan limit l ls xs hs).after.leaves ≡ length ls
   pub inners : length (calls.make K fan limit l ls xs hs).after.inners ≡ length xs
   pub homes : length (calls.make K fan limit l ls xs hs).after.homes ≡ length hs
@@ -271,7 +254,7 @@ pub record Demand3 (K : Kind) (fan limit : ℕ) (l ls xs hs : List ℕ) : Type 0
   -- and after each call the state is sound, its entries the row's, its fan and limit make's; 8 exactly, never 9; levels and floor
   pub each : (cs : List Call) → All (InWords K) cs → Along K fan (calls.make K fan limit l ls xs hs).after (made_row limit l) cs
   -- two lists alike but for lookups give their other calls the same answers, from other areas and at another fan too
-  pub alike : (fan' : ℕ) (ls' xs' hs' : List ℕ) → (calls.make K fan' limit l ls' xs' hs').answer ≡ outcome.Done
+  pub alike : (fan' : ℕ) (ls' xs' hs' : List ℕ) → (calls.make K fan' limit l ls' xs' hs').answer ≡ Ok tt
       → (cs ds : List Call) → All (InWords K) cs → All (InWords K) ds → others cs ≡ others ds
       → other_answers (tree_step K) (calls.make K fan limit l ls xs hs).after cs ≡ other_answers (tree_step K) (calls.make K fan' limit l ls' xs' hs').after ds
 
@@ -316,27 +299,27 @@ pub record Demand3ByCursor (K : Kind) (fan limit : ℕ) (l ls xs hs : List ℕ) 
 -- a cursor that is current and stands at the entry of that id
 pub record At (K : Kind) (s : State) (c : Cursor) (i : ℕ) : Type 0 where
   pub current : current K s c ≡ true
-  pub id : calls.id K s c ≡ named.Entry (entry_id i)
+  pub id : calls.id K s c ≡ Ok (entry_id i)
 
 -- what an answer says; it is a refusal only where the row's is
-abbrev pub StandsAt : Kind → State → Standing → ℕ → Type 0
-StandsAt K s (standing.At c) i = At K s c i
-StandsAt K s (standing.Refused n) i = ⊥
+abbrev pub StandsAt : Kind → State → Numbered Cursor → ℕ → Type 0
+StandsAt K s (Ok c) i = At K s c i
+StandsAt K s (Err n) i = ⊥
 
-abbrev pub NextAt : Kind → State → Next → ℕ → Type 0
-NextAt K s (next.At c) i = At K s c i
-NextAt K s next.Nothing i = i ≡ no_entry
-NextAt K s (next.Refused n) i = ⊥
+abbrev pub NextAt : Kind → State → Numbered (Option Cursor) → ℕ → Type 0
+NextAt K s (Ok (Some c)) i = At K s c i
+NextAt K s (Ok None) i = i ≡ no_entry
+NextAt K s (Err n) i = ⊥
 
-abbrev pub LocatedAt : Kind → State → Located → Answer → Type 0
-LocatedAt K s (located.At c offset effect prepare) a = (i : ℕ) × (a ≡ done (i ∷ offset ∷ effect ∷ prepare ∷ [])) × At K s c i
-LocatedAt K s (located.Refused n) a = a ≡ refused n
+abbrev pub LocatedAt : Kind → State → Numbered (Cursor × ℕ × ℕ × ℕ) → Answer → Type 0
+LocatedAt K s (Ok (c, offset, effect, prepare)) a = (i : ℕ) × (a ≡ done (i ∷ offset ∷ effect ∷ prepare ∷ [])) × At K s c i
+LocatedAt K s (Err n) a = a ≡ refused n
 
-abbrev pub SelectedAt : Kind → State → Selected → Answer → Type 0
-SelectedAt K s (selected.At c offset) a = (i : ℕ) × (effect : ℕ) × (prepare : ℕ) × (a ≡ done (i ∷ offset ∷ effect ∷ prepare ∷ [])) × At K s c i
-SelectedAt K s (selected.Refused n) a = a ≡ refused n
+abbrev pub SelectedAt : Kind → State → Numbered (Cursor × ℕ) → Answer → Type 0
+SelectedAt K s (Ok (c, offset)) a = (i : ℕ) × (effect : ℕ) × (prepare : ℕ) × (a ≡ done (i ∷ offset ∷ effect ∷ prepare ∷ [])) × At K s c i
+SelectedAt K s (Err n) a = a ≡ refused n
 
 -- the entry i divided: the new one has the id n and stands before it if so flagged, else after
-abbrev pub DividedAt : Kind → Bool → ℕ → ℕ → State → Divided → Answer → Type 0
-DividedAt K flag i n s (divided.At k c d) a = (a ≡ done (n ∷ [])) × (k ≡ entry_id n) × At K s c (cond flag n i) × At K s d (cond flag i n)
-DividedAt K flag i n s (divided.Refused m) a = a ≡ refused m
+abbrev pub DividedAt : Kind → Bool → ℕ → ℕ → State → Numbered (EntryId × Cursor × Cursor) → Answer → Type 0
+DividedAt K flag i n s (Ok (k, c, d)) a = (a ≡ done (n ∷ [])) × (k ≡ entry_id n) × At K s c (cond flag n i) × At K s d (cond flag i n)
+DividedAt K flag i n s (Err m) a = a ≡ refused m

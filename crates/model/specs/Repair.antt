@@ -1,6 +1,7 @@
 -- Repair (document 02, CR 13): what it trusts, what it answers, and what is promised of it. Hold `Agrees`, `changes`, `Mends` and `Repairs` beside the
 -- request; of `repair` only the order of its causes has to be read, for the rest follows from what is promised. Assumes nothing.
-use Rattle.std.specs.Prelude.{◌≡◌, ◌≢◌, Bool, cond, ◌&&◌, List, [], ◌∷◌, map, ℕ, ◌+◌, ◌*◌, ◌<◌, ◌≤◌, length, get_or, eqb}
+use Rattle.model.specs.Numbered.{Numbered}
+use Rattle.std.specs.Prelude.{◌≡◌, ◌≢◌, Bool, cond, ◌&&◌, List, [], ◌∷◌, map, ℕ, ◌+◌, ◌*◌, ◌<◌, ◌≤◌, length, get_or, eqb, Ok, Err, true}
 use Rattle.model.specs.Lists.{refusal}
 use Rattle.model.specs.Kind.{stride}
 use Rattle.model.specs.declared.shape.Kind.{Kind}
@@ -12,9 +13,6 @@ use Rattle.model.specs.Calls.{Reply, reply, unless, area_causes}
 use Rattle.model.specs.Seats.{Fair, is_fair}
 use Rattle.model.specs.SeatedCalls.{audit_seated}
 use Rattle.model.specs.declared.seats.Seats.{Seats}
-use Rattle.model.specs.declared.answer.Number.{Number}
-use Rattle.model.specs.declared.answer.Number.TheVariants as number
-use Rattle.model.specs.declared.answer.Verdict.TheVariants as verdict
 use Rattle.model.specs.Mend.{no_finger, mend, is_fit}
 
 -- b agrees with what is trusted of a: the head but for its finger, each node's len and child numbers in use, and the lengths in leaf slots; s is the
@@ -54,22 +52,22 @@ unfoldable pub changes : State → State → ℕ
 changes a b = differ a.leaves b.leaves + differ a.inners b.inners + differ a.homes b.homes
 
 -- 21, directly after 2, where the trusted words are those of no sound tree
-abbrev pub mend_if : Kind → Bool → State → Reply Number
-mend_if K b t = cond b (reply (mend (stride K) t) (number.Is (changes t (mend (stride K) t)))) (reply t (number.Refused 21))
+abbrev pub mend_if : Kind → Bool → State → Reply (Numbered ℕ)
+mend_if K b t = cond b (reply (mend (stride K) t) (Ok (changes t (mend (stride K) t)))) (reply t (Err 21))
 
 abbrev pub sizes_in : Kind → State → ℕ
 sizes_in K t = refusal (area_causes K t.head.fan t.head.limit t.leaves t.inners t.homes)
 
 -- fair: whether the seats' words are those of a sound tree. The seats stay as they are
-unfoldable pub repair_if : Kind → Bool → State → Reply Number
-repair_if K fair t = unless (area_causes K t.head.fan t.head.limit t.leaves t.inners t.homes) (λ n. reply t (number.Refused n)) (mend_if K (is_fit K t && fair) t)
+unfoldable pub repair_if : Kind → Bool → State → Reply (Numbered ℕ)
+repair_if K fair t = unless (area_causes K t.head.fan t.head.limit t.leaves t.inners t.homes) (λ n. reply t (Err n)) (mend_if K (is_fit K t && fair) t)
 
-abbrev pub repair : Kind → State → Seats → Reply Number
+abbrev pub repair : Kind → State → Seats → Reply (Numbered ℕ)
 repair K t b = repair_if K (is_fair t.head.limit t.head.entries b) t
 
 -- r is t put right
 pub record Mends (K : Kind) (t : State) (b : Seats) (r : State) : Type 0 where
-  pub audited : audit_seated K r b ≡ verdict.Yes
+  pub audited : audit_seated K r b ≡ Ok true
   pub agrees : Agrees (stride K) t r
   pub head : r.head ≡ no_finger t.head
   -- there was no choice
@@ -85,13 +83,13 @@ pub record Mends (K : Kind) (t : State) (b : Seats) (r : State) : Type 0 where
 -- what is promised of repair on any words, sound or not
 pub record Repairs (K : Kind) (t : State) (b : Seats) : Type 0 where
   -- 1 and 2 come first, and nothing changes
-  pub sizes : sizes_in K t ≢ 0 → repair K t b ≡ reply t (number.Refused (sizes_in K t))
+  pub sizes : sizes_in K t ≢ 0 → repair K t b ≡ reply t (Err (sizes_in K t))
   -- 21 exactly if no sound tree agrees with what is trusted, and nothing changes
-  pub refused : sizes_in K t ≡ 0 → (Agreeing K t b → ⊥) → repair K t b ≡ reply t (number.Refused 21)
+  pub refused : sizes_in K t ≡ 0 → (Agreeing K t b → ⊥) → repair K t b ≡ reply t (Err 21)
   pub exactly : (number_answer (repair K t b).answer).number ≡ 21 → Agreeing K t b → ⊥
   -- else the tree is put right, and the answer is the number of area words that differ from before
   pub mended : sizes_in K t ≡ 0 → Agreeing K t b → Mends K t b (repair K t b).after
-  pub counted : sizes_in K t ≡ 0 → Agreeing K t b → (repair K t b).answer ≡ number.Is (changes t (repair K t b).after)
+  pub counted : sizes_in K t ≡ 0 → Agreeing K t b → (repair K t b).answer ≡ Ok (changes t (repair K t b).after)
   -- which is 0 for a sound tree
-  pub sound : Sound K t → Fair t.head.limit t.head.entries b → repair K t b ≡ reply (state (no_finger t.head) t.leaves t.inners t.homes) (number.Is 0)
+  pub sound : Sound K t → Fair t.head.limit t.head.entries b → repair K t b ≡ reply (state (no_finger t.head) t.leaves t.inners t.homes) (Ok 0)
   pub nine : (number_answer (repair K t b).answer).number ≢ 9

@@ -1,6 +1,6 @@
 -- What is promised of seats (document 02, CR 10): what a refused call leaves, what every list of seated calls answers, by ids and on cursors, and what
 -- audit says. The theorems are model_theory's. Assumes nothing.
-use Rattle.std.specs.Prelude.{◌≡◌, ◌≢◌, Bool, true, false, List, [], ◌∷◌, ℕ, ◌+◌, ◌%◌, ◌^◌, ◌≤◌, ◌<◌, length}
+use Rattle.std.specs.Prelude.{◌≡◌, ◌≢◌, Bool, true, false, List, [], ◌∷◌, ℕ, ◌+◌, ◌%◌, ◌^◌, ◌≤◌, ◌<◌, length, Ok, Some, None, Option}
 use Rattle.model.specs.Kind.{too_many_lines, crossed}
 use Rattle.model.specs.Lists.{All, refusal}
 use Rattle.model.specs.declared.shape.Kind.{Kind}
@@ -20,13 +20,7 @@ use Rattle.model.specs.SeatedCalls.{SeatedReply, seated_reply, make_seated, rese
 use Rattle.model.specs.SeatedList as list
 use Rattle.model.specs.SeatedList.{Seated, seated, Naming, naming, Deed, cursor_deed, seated_row, seated_tree, seated_cursor, seated_entry, seated_meant, seated_meant_all}
 use Rattle.model.specs.declared.seats.Seats.{Seats}
-use Rattle.model.specs.declared.seats.Seat.{Seat}
-use Rattle.model.specs.declared.seats.Seat.TheVariants as seat
 use Rattle.model.specs.declared.head.Cursor.{Cursor}
-use Rattle.model.specs.declared.head.Held.TheVariants as held
-use Rattle.model.specs.declared.answer.Target.{Target}
-use Rattle.model.specs.declared.answer.Outcome.TheVariants as outcome
-use Rattle.model.specs.declared.answer.Verdict.TheVariants as verdict
 
 -- any words -----------------------------------------------------------------------------------------------------------------------------------
 
@@ -44,22 +38,22 @@ Replies f s r = SeatedLeaves (f r.answer).number s (seated r.after r.seats)
 -- the calls that change seats, and every call by id
 pub record SeatedRefusals (K : Kind) (s : Seated State) : Type 0 where
   pub reset : (l : List ℕ) → Words K l → Replies outcome_answer s (reset_seated K s.of s.seats l)
-  pub insert : (x : Seat) (t : Target) (l : List ℕ) → Words K l → Replies inserted_answer s (insert_seated K s.of s.seats x t l)
-  pub split : (x : Seat) (c : Cursor) (l : List ℕ) (flag : Bool) → Words K l → Replies divided_answer s (split_seated K s.of s.seats x c l flag)
+  pub insert : (x : Option ℕ) (t : Option Cursor) (l : List ℕ) → Words K l → Replies inserted_answer s (insert_seated K s.of s.seats x t l)
+  pub split : (x : Option ℕ) (c : Cursor) (l : List ℕ) (flag : Bool) → Words K l → Replies divided_answer s (split_seated K s.of s.seats x c l flag)
   pub step : (c : Naming Call) → InWords K c.call → SeatedLeaves (seated_tree K s c).answer.number s (seated_tree K s c).after
 
 -- a refused make gives a head of zeros and no seats; one that isn't makes the tree that make makes, with the shares given and no charges
 pub record SeatedMade (K : Kind) (fan limit : ℕ) (shares l ls xs hs : List ℕ) : Type 0 where
   pub refused : (outcome_answer (make_seated K fan limit shares l ls xs hs).answer).number ≢ 0
-      → make_seated K fan limit shares l ls xs hs ≡ seated_reply (state (head_of 0 0 0 0 0 0 0 0 held.Absent) ls xs hs) no_seats (make_seated K fan limit shares l ls xs hs).answer
-  pub done : (make_seated K fan limit shares l ls xs hs).answer ≡ outcome.Done
-      → ((calls.make K fan limit l ls xs hs).answer ≡ outcome.Done) × (make_seated K fan limit shares l ls xs hs ≡ seated_reply (calls.make K fan limit l ls xs hs).after (seats_of true shares no_charges) outcome.Done)
+      → make_seated K fan limit shares l ls xs hs ≡ seated_reply (state (head_of 0 0 0 0 0 0 0 0 None) ls xs hs) no_seats (make_seated K fan limit shares l ls xs hs).answer
+  pub done : (make_seated K fan limit shares l ls xs hs).answer ≡ Ok tt
+      → ((calls.make K fan limit l ls xs hs).answer ≡ Ok tt) × (make_seated K fan limit shares l ls xs hs ≡ seated_reply (calls.make K fan limit l ls xs hs).after (seats_of true shares no_charges) (Ok tt))
 
 -- in a tree without seats the calls that name nobody are those of Calls.antt, ById.antt and Audit.antt
 pub record WithoutSeats (K : Kind) (s : State) (b : Seats) : Type 0 where
-  pub insert : (t : Target) (l : List ℕ) → insert_seated K s b seat.Nobody t l ≡ seated_reply (calls.insert K s t l).after b (calls.insert K s t l).answer
-  pub split : (c : Cursor) (l : List ℕ) (flag : Bool) → split_seated K s b seat.Nobody c l flag ≡ seated_reply (calls.split_entry K s c l flag).after b (calls.split_entry K s c l flag).answer
-  pub step : (c : Call) → ((seated_tree K (seated s b) (naming seat.Nobody c)).answer ≡ (tree_step K s c).answer) × ((seated_tree K (seated s b) (naming seat.Nobody c)).after.of ≡ (tree_step K s c).after)
+  pub insert : (t : Option Cursor) (l : List ℕ) → insert_seated K s b None t l ≡ seated_reply (calls.insert K s t l).after b (calls.insert K s t l).answer
+  pub split : (c : Cursor) (l : List ℕ) (flag : Bool) → split_seated K s b None c l flag ≡ seated_reply (calls.split_entry K s c l flag).after b (calls.split_entry K s c l flag).answer
+  pub step : (c : Call) → ((seated_tree K (seated s b) (naming None c)).answer ≡ (tree_step K s c).answer) × ((seated_tree K (seated s b) (naming None c)).after.of ≡ (tree_step K s c).after)
   pub audit : audit_seated K s b ≡ audit K s
 
 -- a tree that is sound, seats and all: what audit says yes to
@@ -72,14 +66,14 @@ pub record SeatedDemand1 (K : Kind) : Type 0 where
   pub made : (fan limit : ℕ) (shares l ls xs hs : List ℕ) → SeatedMade K fan limit shares l ls xs hs
   pub refused : (s : Seated State) → SeatedRefusals K s
   pub without : (s : State) (b : Seats) → b.seated ≡ false → WithoutSeats K s b
-  pub audited : (t : Seated State) → (audit_seated K t.of t.seats ≡ verdict.Yes → SoundSeated K t) × (SoundSeated K t → audit_seated K t.of t.seats ≡ verdict.Yes)
+  pub audited : (t : Seated State) → (audit_seated K t.of t.seats ≡ Ok true → SoundSeated K t) × (SoundSeated K t → audit_seated K t.of t.seats ≡ Ok true)
 
 -- lists of seated calls -----------------------------------------------------------------------------------------------------------------------
 
 -- an insert or a split for seat i of a seated row
 pub record Asks (r : Seated Row) (c : Naming Call) (i : ℕ) : Type 0 where
   pub adds : Adds c.call
-  pub names : c.seat ≡ seat.Number i
+  pub names : c.seat ≡ Some i
   pub below : i < 8
   pub seated : r.seats.seated ≡ true
 
@@ -121,9 +115,9 @@ abbrev pub CursorNamingInWords : Kind → Naming CursorCall → Type 0
 CursorNamingInWords K c = CursorInWords K c.call
 
 -- a seat of a seated row that is below its share
-pub record BelowShare (r : Seated Row) (x : Seat) : Type 0 where
+pub record BelowShare (r : Seated Row) (x : Option ℕ) : Type 0 where
   pub number : ℕ
-  pub names : x ≡ seat.Number number
+  pub names : x ≡ Some number
   pub below : number < 8
   pub seated : r.seats.seated ≡ true
   pub unused : charge r.seats number < share r.seats number
@@ -139,7 +133,7 @@ AlongSeatedCursors K fan s r (c ∷ cs) =
     × AlongSeatedCursors K fan (seated_cursor K s c).after (seated_entry K r (seated_meant K s c)).after cs
 
 -- the stamp (document 02, CR 8): a reset makes its first entry, an insert or a split its new one, where it isn't refused
-unfoldable pub seated_makes : Kind → Seated State → Seat → Deed Target Cursor → ℕ
+unfoldable pub seated_makes : Kind → Seated State → Option ℕ → Deed (Option Cursor) Cursor → ℕ
 seated_makes K s x (list.resets l) = one (outcome_answer (reset_seated K s.of s.seats l).answer)
 seated_makes K s x (list.inserts t l) = one (inserted_answer (insert_seated K s.of s.seats x t l).answer)
 seated_makes K s x (list.splits flag c l) = one (divided_answer (split_seated K s.of s.seats x c l flag).answer)
@@ -170,12 +164,12 @@ pub record SeatedDemand3 (K : Kind) (fan : ℕ) (s : Seated State) (r : Seated R
   pub each_by_cursor : (cs : List (Naming CursorCall)) → All (CursorNamingInWords K) cs → AlongSeatedCursors K fan s r cs
   -- and the stamp counts as without seats: no cursor passes a reset until 2 ^ 64 entries were made since its issue; one with too many line ends or crossed bounds is refused
   pub counts : (cs : List (Naming CursorCall)) → SeatedCounts K (finally (seated_cursor K) s cs)
-  pub resets : (cs : List (Naming CursorCall)) → All (CursorNamingInWords K) cs → (x : Seat) (l : List ℕ) → too_many_lines K l ≡ false → crossed K l ≡ false
+  pub resets : (cs : List (Naming CursorCall)) → All (CursorNamingInWords K) cs → (x : Option ℕ) (l : List ℕ) → too_many_lines K l ≡ false → crossed K l ≡ false
       → seated_makes K (finally (seated_cursor K) s cs) x (list.resets l) ≡ 1
 
 -- of every make that isn't refused, with shares or without seats
 pub record SeatedLists (K : Kind) : Type 0 where
-  pub shared : (fan limit : ℕ) (shares l ls xs hs : List ℕ) → Words K l → (make_seated K fan limit shares l ls xs hs).answer ≡ outcome.Done
+  pub shared : (fan limit : ℕ) (shares l ls xs hs : List ℕ) → Words K l → (make_seated K fan limit shares l ls xs hs).answer ≡ Ok tt
       → (let r = make_seated K fan limit shares l ls xs hs in SeatedDemand3 K fan (seated r.after r.seats) (seated (made_row limit l) (seats_of true shares no_charges)))
-  pub without : (fan limit : ℕ) (l ls xs hs : List ℕ) → Words K l → (calls.make K fan limit l ls xs hs).answer ≡ outcome.Done
+  pub without : (fan limit : ℕ) (l ls xs hs : List ℕ) → Words K l → (calls.make K fan limit l ls xs hs).answer ≡ Ok tt
       → SeatedDemand3 K fan (seated (calls.make K fan limit l ls xs hs).after no_seats) (seated (made_row limit l) no_seats)

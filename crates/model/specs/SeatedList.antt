@@ -1,6 +1,6 @@
 -- Lists of seated calls (document 02, CR 10), by ids and on cursors: each call names a seat or nobody, the tree and the row have their seats beside
 -- them, and the row holds the charges. Assumes nothing.
-use Rattle.std.specs.Prelude.{Bool, false, cond, ◌||◌, List, [], ◌∷◌, ℕ, eqb, length}
+use Rattle.std.specs.Prelude.{Bool, false, cond, ◌||◌, List, [], ◌∷◌, ℕ, eqb, length, Some, None, Option}
 use Rattle.model.specs.Lists.{Cause}
 use Rattle.model.specs.declared.shape.Kind.{Kind}
 use Rattle.model.specs.State.{State}
@@ -14,10 +14,7 @@ use Rattle.model.specs.ByCursor.{CursorCall, EntryCall, cursor_step, entry_step,
 use Rattle.model.specs.Seats.{bad_seat, over, charged_to, uncharged}
 use Rattle.model.specs.SeatedCalls.{SeatedReply, reset_seated, insert_seated, split_seated}
 use Rattle.model.specs.declared.head.Cursor.{Cursor}
-use Rattle.model.specs.declared.answer.Target.{Target}
 use Rattle.model.specs.declared.seats.Seats.{Seats}
-use Rattle.model.specs.declared.seats.Seat.{Seat}
-use Rattle.model.specs.declared.seats.Seat.TheVariants as seat
 
 -- a tree or a row, and its seats
 pub record Seated (S : Type 0) : Type 0 where
@@ -29,10 +26,10 @@ seated s b = record { of = s; seats = b }
 
 -- a call, and the seat that it names; only inserts and splits name one, and in all other calls nobody looks at it
 pub record Naming (C : Type 0) : Type 0 where
-  pub seat : Seat
+  pub seat : Option ℕ
   pub call : C
 
-abbrev pub naming : {C : Type 0} → Seat → C → Naming C
+abbrev pub naming : {C : Type 0} → Option ℕ → C → Naming C
 naming seat c = record { seat = seat; call = c }
 
 -- a call that knows no seats leaves them as they were
@@ -47,7 +44,7 @@ pub data Deed (P E : Type 0) : Type 0 where
   nothing : Deed P E
 
 -- an insert or a split that names a wrong seat: 10
-abbrev pub misnamed : {P E : Type 0} → Seats → Seat → Deed P E → Bool
+abbrev pub misnamed : {P E : Type 0} → Seats → Option ℕ → Deed P E → Bool
 misnamed b seat (resets l) = false
 misnamed b seat (inserts i l) = bad_seat b seat
 misnamed b seat (splits flag i l) = bad_seat b seat
@@ -71,12 +68,12 @@ deed row.first = nothing
 deed row.malformed = nothing
 
 -- why one entry more has no space in the row: 8 without seats, with them 18
-abbrev pub row_space : Row → Seats → Seat → List Cause
-row_space r b seat.Nobody = row.full r ∷ []
-row_space r b (seat.Number i) = over r.limit (length r.entries) b i ∷ []
+abbrev pub row_space : Row → Seats → Option ℕ → List Cause
+row_space r b None = row.full r ∷ []
+row_space r b (Some i) = over r.limit (length r.entries) b i ∷ []
 
 -- the new entry is charged to the seat named; a refused call charges nobody
-abbrev pub charging : {S : Type 0} → Seat → Seats → Moved S → Moved (Seated S)
+abbrev pub charging : {S : Type 0} → Option ℕ → Seats → Moved S → Moved (Seated S)
 charging seat b m = moved (seated m.after (cond (eqb m.answer.number 0) (charged_to seat b) b)) m.answer
 
 -- a reset clears the charges; a refused one leaves them
@@ -84,7 +81,7 @@ abbrev pub clearing : {S : Type 0} → Seats → Moved S → Moved (Seated S)
 clearing b m = moved (seated m.after (cond (eqb m.answer.number 0) (uncharged b) b)) m.answer
 
 -- the row of a seated list
-unfoldable pub seated_row_move : Kind → Row → Seats → Seat → Call → Deed ℕ ℕ → Moved (Seated Row)
+unfoldable pub seated_row_move : Kind → Row → Seats → Option ℕ → Call → Deed ℕ ℕ → Moved (Seated Row)
 seated_row_move K r b seat c (resets l) = clearing b (row_move K r (row.reset l))
 seated_row_move K r b seat c (inserts i l) = charging seat b (row.insert_by K (row_space r b seat) r i l)
 seated_row_move K r b seat c (splits flag i l) = charging seat b (row.split_by K (row_space r b seat) r flag i l)
@@ -100,7 +97,7 @@ abbrev pub told_seated : {A : Type 0} → SeatedReply A → (A → Answer) → M
 told_seated r f = moved (seated r.after r.seats) (f r.answer)
 
 -- on a tree each is `cursor(id)` and then the call of the library, 10 before all else
-unfoldable pub seated_tree_move : Kind → State → Seats → Seat → Call → Deed ℕ ℕ → Moved (Seated State)
+unfoldable pub seated_tree_move : Kind → State → Seats → Option ℕ → Call → Deed ℕ ℕ → Moved (Seated State)
 seated_tree_move K s b seat c (resets l) = told_seated (reset_seated K s b l) outcome_answer
 seated_tree_move K s b seat c (inserts i l) = at_target (seated s b) i (calls.cursor K s i) (λ t. told_seated (insert_seated K s b seat t l) inserted_answer)
 seated_tree_move K s b seat c (splits flag i l) = with_cursor (seated s b) (calls.cursor K s i) (λ at. told_seated (split_seated K s b seat at l flag) divided_id_answer)
@@ -113,7 +110,7 @@ seated_tree K s c =
 
 -- on cursors --------------------------------------------------------------------------------------------------------------------------------
 
-abbrev pub cursor_deed : CursorCall → Deed Target Cursor
+abbrev pub cursor_deed : CursorCall → Deed (Option Cursor) Cursor
 cursor_deed (by.reset l) = resets l
 cursor_deed (by.insert t l) = inserts t l
 cursor_deed (by.split flag c l) = splits flag c l
@@ -132,7 +129,7 @@ cursor_deed by.len = nothing
 cursor_deed by.is_empty = nothing
 
 -- each is the call of the library, an answer's cursors read in the tree after the call
-unfoldable pub seated_cursor_move : Kind → State → Seats → Seat → CursorCall → Deed Target Cursor → Moved (Seated State)
+unfoldable pub seated_cursor_move : Kind → State → Seats → Option ℕ → CursorCall → Deed (Option Cursor) Cursor → Moved (Seated State)
 seated_cursor_move K s b seat c (resets l) = told_seated (reset_seated K s b l) outcome_answer
 seated_cursor_move K s b seat c (inserts t l) = told_seated (insert_seated K s b seat t l) inserted_answer
 seated_cursor_move K s b seat c (splits flag at l) = let r = split_seated K s b seat at l flag in told_seated r (parts_answer K r.after)
@@ -142,7 +139,7 @@ unfoldable pub seated_cursor : Kind → Seated State → Naming CursorCall → M
 seated_cursor K s c = seated_cursor_move K s.of s.seats c.seat c.call (cursor_deed c.call)
 
 -- what the row does where an entry stands for each cursor
-unfoldable pub seated_entry_move : Kind → Seated Row → Seat → EntryCall → Moved (Seated Row)
+unfoldable pub seated_entry_move : Kind → Seated Row → Option ℕ → EntryCall → Moved (Seated Row)
 seated_entry_move K r seat (by.plain c) = seated_row K r (naming seat c)
 seated_entry_move K r seat (by.parts flag i l) = let m = seated_row K r (naming seat (row.split flag i l)) in moved m.after (with_parts flag i m.answer)
 seated_entry_move K r seat (by.select v x) = beside r.seats (entry_step K r.of (by.select v x))

@@ -1,11 +1,9 @@
 -- Fair shares of a sheet (document 02, CR 10): each of eight seats has a share of the entries, and the entries made for it are charged to it.
 -- The rules on numbers alone: how many entries there are, of how many, and whose. Assumes nothing.
-use Rattle.std.specs.Prelude.{◌≡◌, Bool, true, false, cond, not, ◌&&◌, ◌||◌, List, ℕ, zero, suc, ◌+◌, ◌-◌, ◌≤◌, ◌<◌, ltb, leb, eqb, get_or, set, replicate}
+use Rattle.std.specs.Prelude.{◌≡◌, Bool, true, false, cond, not, ◌&&◌, ◌||◌, List, ℕ, zero, suc, ◌+◌, ◌-◌, ◌≤◌, ◌<◌, ltb, leb, eqb, get_or, set, replicate, Some, None, Option}
 use Rattle.model.specs.Lists.{Cause, cause}
 use Rattle.model.specs.Node.{wrap}
 use Rattle.model.specs.declared.seats.Seats.{Seats}
-use Rattle.model.specs.declared.seats.Seat.{Seat}
-use Rattle.model.specs.declared.seats.Seat.TheVariants as seat
 
 abbrev pub seats_of : Bool → List ℕ → List ℕ → Seats
 seats_of seated shares charges = record { seated = seated; shares = shares; charges = charges }
@@ -57,9 +55,9 @@ within_limit limit shares = ltb (sum shares) limit
 -- the causes of a refusal -------------------------------------------------------------------------------------------------------------------
 
 -- 10, before all else: a seat above 7, a seat in a tree without seats, none in a seated one
-abbrev pub bad_seat : Seats → Seat → Bool
-bad_seat b seat.Nobody = b.seated
-bad_seat b (seat.Number i) = not b.seated || ltb 7 i
+abbrev pub bad_seat : Seats → Option ℕ → Bool
+bad_seat b None = b.seated
+bad_seat b (Some i) = not b.seated || ltb 7 i
 
 -- 18: the seat is at or over its share, and the free entries don't outnumber all the other seats' unused shares together
 abbrev pub over : ℕ → ℕ → Seats → ℕ → Cause
@@ -75,9 +73,9 @@ too_high limit shares = cause 19 (not (within_limit limit shares))
 abbrev pub charged : ℕ → Seats → Seats
 charged i b = seats_of b.seated b.shares (set b.charges i (wrap (charge b i + 1)))
 
-abbrev pub charged_to : Seat → Seats → Seats
-charged_to seat.Nobody b = b
-charged_to (seat.Number i) b = charged i b
+abbrev pub charged_to : Option ℕ → Seats → Seats
+charged_to None b = b
+charged_to (Some i) b = charged i b
 
 -- reset sets all charges to zero; a tree without seats stays one
 abbrev pub uncharged : Seats → Seats

@@ -1,5 +1,7 @@
 -- The table played on a tree's words and on the plain row, each from nothing, and one theorem: both see what the table says.
-use Rattle.std.specs.Prelude.{◌≡◌, refl, ℕ, ◌-◌, take, replicate}
+use Rattle.model.specs.declared.head.Cursor.{Cursor}
+use Rattle.model.specs.Numbered.{Numbered}
+use Rattle.std.specs.Prelude.{◌≡◌, refl, ℕ, ◌-◌, take, replicate, Ok, Err, None, Bool, true}
 use mathlib.Core.List.{List, [], ◌∷◌, map, flat_map, zip_with}
 use Rattle.model.specs.Lists.{part, put_at, sum_by, some, range, refusal}
 use Rattle.model.specs.Node as node
@@ -18,11 +20,6 @@ use Rattle.model.specs.ById.{told, tree_move, tree_step}
 use Rattle.model.specs.Sound.{entries_of, level}
 use Rattle.model.specs.Audit as check
 use Rattle.model.specs.Audit.{audit}
-use Rattle.model.specs.declared.head.Held.TheVariants.{Absent}
-use Rattle.model.specs.declared.answer.Verdict.{Verdict}
-use Rattle.model.specs.declared.answer.Verdict.TheVariants as verdict
-use Rattle.model.specs.declared.answer.Standing.{Standing}
-use Rattle.model.specs.declared.answer.Standing.TheVariants as standing
 use Rattle.model.specs.Table.{Play, made, called, Case, table}
 use Rattle.model.specs.Spelling as spelling
 use Rattle.model.specs.Promise.{answers}
@@ -31,23 +28,23 @@ pub record Seen : Type 0 where
   pub answer : Answer
   pub order : List ℕ
   pub newest : List ℕ
-  pub audit : Verdict
+  pub audit : Numbered Bool
 
-abbrev pub seen : Answer → List ℕ → List ℕ → Verdict → Seen
+abbrev pub seen : Answer → List ℕ → List ℕ → Numbered Bool → Seen
 seen a o n v = record { answer = a; order = o; newest = n; audit = v }
 
 -- fan 4, limit 5: two nodes of 19 words in each area, five homes; what they held before make is of no account
 abbrev pub before_make : State
-before_make = state (head_of 0 0 0 0 0 0 0 0 Absent) (replicate 38 7) (replicate 38 7) (replicate 5 7)
+before_make = state (head_of 0 0 0 0 0 0 0 0 None) (replicate 38 7) (replicate 38 7) (replicate 5 7)
 
 unfoldable pub tree_play : State → Play → Moved State
 tree_play s (made l) = told (calls.make base 4 5 l s.leaves s.inners s.homes) outcome_answer
 tree_play s (called c) = tree_step base s c
 
 -- leaf and slot of the entry made last
-unfoldable pub newest_in : Standing → List ℕ
-newest_in (standing.At c) = c.leaf.0 ∷ c.slot ∷ []
-newest_in (standing.Refused n) = []
+unfoldable pub newest_in : Numbered Cursor → List ℕ
+newest_in (Ok c) = c.leaf.0 ∷ c.slot ∷ []
+newest_in (Err n) = []
 
 unfoldable pub tree_seen : Moved State → Seen
 tree_seen m = seen m.answer (map (λ e. e.id) (entries_of base m.after)) (newest_in (calls.cursor base m.after (m.after.head.entries - 1))) (audit base m.after)
@@ -61,14 +58,14 @@ row_play r (made l) = moved (made_row 5 l) (done [])
 row_play r (called c) = row_step base r c
 
 unfoldable pub row_seen : Case → Moved Row → Seen
-row_seen c m = seen m.answer (map (λ e. e.id) m.after.entries) c.newest verdict.Yes
+row_seen c m = seen m.answer (map (λ e. e.id) m.after.entries) c.newest (Ok true)
 
 unfoldable pub row_run : Row → List Case → List Seen
 row_run r [] = []
 row_run r (c ∷ cs) = let m = row_play r c.play in row_seen c m ∷ row_run m.after cs
 
 abbrev pub seen_in : Case → Seen
-seen_in c = seen c.answer c.order c.newest verdict.Yes
+seen_in c = seen c.answer c.order c.newest (Ok true)
 
 -- after each case the tree's audit says yes; a plain row has neither leaves nor an audit: these two are taken from the table
 pub table_holds : (tree_run before_make table ≡ map seen_in table) × (row_run (row.row 0 []) table ≡ map seen_in table)

@@ -1,6 +1,6 @@
 -- A sound tree, field by field as document 01's paragraph on audit has it, and its entries in order ("The plain row", last paragraph).
 -- s is the words of a slot, e the effect view; Coherent takes both from a kind, and Sound asks of the line ends and bounds too. Assumes nothing.
-use Rattle.std.specs.Prelude.{◌≡◌, false, cond, ℕ, zero, suc, ◌*◌, ◌≤◌, ◌<◌, length, get_or, take, eqb}
+use Rattle.std.specs.Prelude.{◌≡◌, false, cond, ℕ, zero, suc, ◌*◌, ◌≤◌, ◌<◌, length, get_or, take, eqb, Some, None, Option}
 use mathlib.Core.List.{List, [], ◌∷◌, map, flat_map}
 use Rattle.model.specs.Lists.{All, times, range}
 use Rattle.model.specs.Node.{Node, none, child, lengths, length_in, total, used, empty_slot, half}
@@ -10,8 +10,6 @@ use Rattle.model.specs.Row.{Entry, entry}
 use Rattle.model.specs.State.{State, shape, node_at}
 use Rattle.model.specs.declared.shape.Shape.{Shape}
 use Rattle.model.specs.declared.head.Finger.{Finger}
-use Rattle.model.specs.declared.head.Held.{Held}
-use Rattle.model.specs.declared.head.Held.TheVariants as held
 
 -- 0 to n - 1 once each, and nothing else
 pub record Once (n : ℕ) (ks : List ℕ) : Type 0 where
@@ -82,9 +80,9 @@ module _ (s : ℕ) (t : State) where
     pub prepare_start : f.prepare ≡ total prepare (slots_in (until f.leaf leaves_reached))
     pub within_prepare : f.prepare_within ≡ total prepare (take f.slot (used (leaf_in f.leaf)))
 
-  abbrev pub FingerRight : ℕ → Held → Type 0
-  FingerRight e held.Absent = Unit {0}
-  FingerRight e (held.At f) = FingerAt e f
+  abbrev pub FingerRight : ℕ → Option Finger → Type 0
+  FingerRight e None = Unit {0}
+  FingerRight e (Some f) = FingerAt e f
 
   pub record CoherentAt (e : ℕ) : Type 0 where
     -- good fan, limit and areas

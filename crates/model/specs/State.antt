@@ -1,10 +1,10 @@
 -- A tree as words: its head and the three areas that the caller lends (document 01, "Lengths, slots, nodes"). Assumes nothing.
-use Rattle.std.specs.Prelude.{cond, List, ℕ, suc, ◌+◌, ◌*◌, ◌/◌, ◌%◌, ◌^◌, ltb}
+use Rattle.model.specs.declared.head.Finger.{Finger}
+use Rattle.std.specs.Prelude.{cond, List, ℕ, suc, ◌+◌, ◌*◌, ◌/◌, ◌%◌, ◌^◌, ltb, Option}
 use Rattle.model.specs.Lists.{part, put_at}
 use Rattle.model.specs.Node.{Node, node_of, words_of, half}
 use Rattle.model.specs.declared.shape.Shape.{Shape}
 use Rattle.model.specs.declared.head.Head.{Head}
-use Rattle.model.specs.declared.head.Held.{Held}
 
 pub record State : Type 0 where
   pub head : Head
@@ -15,7 +15,7 @@ pub record State : Type 0 where
 abbrev pub state : Head → List ℕ → List ℕ → List ℕ → State
 state h ls xs hs = record { head = h; leaves = ls; inners = xs; homes = hs }
 
-abbrev pub head_of : ℕ → ℕ → ℕ → ℕ → ℕ → ℕ → ℕ → ℕ → Held → Head
+abbrev pub head_of : ℕ → ℕ → ℕ → ℕ → ℕ → ℕ → ℕ → ℕ → Option Finger → Head
 head_of fan limit root levels leaves inners entries stamp finger =
     record { fan = fan; limit = limit; root = record { 0 = root }; levels = levels; leaves = leaves; inners = inners; entries = entries; stamp = stamp; finger = finger }
 

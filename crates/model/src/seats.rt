@@ -7,10 +7,3 @@ pub struct Seats {
     pub shares: [u32; 8],
     pub charges: [u32; 8],
 }
-
-// The seat that an insert or a split names, or none.
-#[derive(Clone, Copy)]
-pub enum Seat {
-    Nobody,
-    Number(u32),
-}

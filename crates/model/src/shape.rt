@@ -1,4 +1,4 @@
-// What the functions over one node answer, and the sizes of a tree's nodes and areas.
+// The sizes of a tree's nodes and areas.
 ghost use Rattle.std.specs.Prelude.{◌≡◌, ◌≤◌};
 ghost use Rattle.model.specs.State.{shape_for};
 
@@ -34,23 +34,9 @@ pub struct Kind {
     pub ordered: bool,
 }
 
-// The slot that holds a position: slot, offset into it, and the effect and the prepare lengths before it.
-#[derive(Clone, Copy)]
-pub enum Found {
-    At(usize, u32, u64, u64),
-    Nothing,
-}
-
-// The slot that holds a child.
-#[derive(Clone, Copy)]
-pub enum Place {
-    Slot(usize),
-    Missing,
-}
-
-// The same, and how many slots were read to know it.
+// The slot that holds a child, and how many slots were read to know it.
 #[derive(Clone, Copy)]
 pub struct Scan {
-    pub place: Place,
+    pub place: Option<usize>,
     pub read: usize,
 }

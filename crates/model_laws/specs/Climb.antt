@@ -1,6 +1,7 @@
 -- One step of each walk up from a place in an inner node. A walk ends at no levels left, is broken outside the area, and else goes on at the node's parent.
 -- Assumes nothing.
-use Rattle.std.specs.Prelude.{◌≡◌, true, false, List, [], ◌∷◌, length, take, set, ltb}
+use Rattle.model.specs.Numbered.{broken}
+use Rattle.std.specs.Prelude.{◌≡◌, true, false, List, [], ◌∷◌, length, take, set, ltb, Ok, Err}
 use Rattle.std.proofs.Math.Path.{refl}
 use Prim.Native.Nat.{ℕ, zero, suc, ◌+◌, ◌-◌, ◌<◌, ◌≤◌}
 use native.Mathlib.Omega.{arith}
@@ -10,7 +11,6 @@ use Rattle.model.specs.Node.{start}
 use Rattle.model.specs.State.{node_at}
 use Rattle.model.specs.Climb.{inside, rank_up, raised, climb_up, steps_up}
 use Rattle.model.specs.declared.shape.Shape.{Shape}
-use Rattle.model.specs.declared.way.Sum.TheVariants as sum
 use Rattle.model_laws.specs.Lists.{and_true}
 use Rattle.model_laws.specs.Words.{part_none, part_front, part_after, set_put}
 
@@ -32,12 +32,12 @@ module _ (g : Shape) (k i : ℕ) where
 
 -- the rank
 module _ (g : Shape) (v k i s : ℕ) (xs : List ℕ) where
-  pub rank_end : (n : ℕ) → n ≤ 0 → rank_up g v n k i s xs ≡ sum.Is s
+  pub rank_end : (n : ℕ) → n ≤ 0 → rank_up g v n k i s xs ≡ Ok s
   unfolding rank_up
   rank_end zero h = refl
   rank_end (suc n) h = absurd (omega arith)
 
-  pub rank_broken : (n : ℕ) → 0 < n → inside g k i ≡ false → rank_up g v n k i s xs ≡ sum.Broken
+  pub rank_broken : (n : ℕ) → 0 < n → inside g k i ≡ false → rank_up g v n k i s xs ≡ Err broken
   unfolding rank_up
   rank_broken zero h e = absurd (omega arith)
   rank_broken (suc n) h e = rw e
@@ -52,12 +52,12 @@ module _ (g : Shape) (v k i s : ℕ) (xs : List ℕ) where
 
 -- the same with lengths added on the way
 module _ (g : Shape) (v : ℕ) (delta : List ℕ) (k i s : ℕ) (xs : List ℕ) where
-  pub climb_end : (n : ℕ) → n ≤ 0 → climb_up g v delta n k i s xs ≡ (sum.Is s, xs)
+  pub climb_end : (n : ℕ) → n ≤ 0 → climb_up g v delta n k i s xs ≡ (Ok s, xs)
   unfolding climb_up
   climb_end zero h = refl
   climb_end (suc n) h = absurd (omega arith)
 
-  pub climb_broken : (n : ℕ) → 0 < n → inside g k i ≡ false → climb_up g v delta n k i s xs ≡ (sum.Broken, xs)
+  pub climb_broken : (n : ℕ) → 0 < n → inside g k i ≡ false → climb_up g v delta n k i s xs ≡ (Err broken, xs)
   unfolding climb_up
   climb_broken zero h e = absurd (omega arith)
   climb_broken (suc n) h e = rw e

@@ -1,5 +1,6 @@
 -- One step of each walk down: by the first slots, by the last slots in use, to the leaf after a place, to a position. Assumes nothing.
-use Rattle.std.specs.Prelude.{◌≡◌, Bool, true, false, ◌&&◌, List, [], get_or, ltb, leb}
+use Rattle.model.specs.Numbered.{broken}
+use Rattle.std.specs.Prelude.{◌≡◌, Bool, true, false, ◌&&◌, List, [], get_or, ltb, leb, Ok, Err, Some, None}
 use Rattle.std.proofs.Math.Path.{refl}
 use Prim.Native.Nat.{ℕ, zero, suc, ◌+◌, ◌-◌, ◌<◌, ◌≤◌}
 use native.Mathlib.Omega.{arith}
@@ -9,10 +10,7 @@ use Rattle.model.specs.State.{node_at}
 use Rattle.model.specs.Climb.{leaf_no, first_down, last_down, next_up}
 use Rattle.model.specs.Locate.{descend}
 use Rattle.model.specs.declared.shape.Shape.{Shape}
-use Rattle.model.specs.declared.shape.Found.TheVariants.{At, Nothing}
-use Rattle.model.specs.declared.way.Leaf.TheVariants as leaf
-use Rattle.model.specs.declared.way.Descent.{Descent}
-use Rattle.model.specs.declared.way.Descent.TheVariants as descent
+use Rattle.model.specs.Locate.{Descent}
 use Rattle.model_laws.specs.Lists.{and_true}
 
 -- whether node k is in the area and says no more slots than it has
@@ -36,12 +34,12 @@ module _ (g : Shape) (k : ℕ) (xs : List ℕ) where
 
 -- by the first slots
 module _ (g : Shape) (k : ℕ) (xs : List ℕ) where
-  pub first_end : (n : ℕ) → n ≤ 0 → k < g.nodes → first_down g n k xs ≡ leaf.At (leaf_no k)
+  pub first_end : (n : ℕ) → n ≤ 0 → k < g.nodes → first_down g n k xs ≡ Ok (Some (leaf_no k))
   unfolding first_down
   first_end zero h e = rw (lt-ltb k g.nodes e)
   first_end (suc n) h e = absurd (omega arith)
 
-  pub first_broken : (n : ℕ) → g.nodes ≤ k → first_down g n k xs ≡ leaf.Broken
+  pub first_broken : (n : ℕ) → g.nodes ≤ k → first_down g n k xs ≡ Err broken
   unfolding first_down
   first_broken zero e = rw (le-ltb k g.nodes e)
   first_broken (suc n) e = rw (le-ltb k g.nodes e)
@@ -55,12 +53,12 @@ module _ (g : Shape) (k : ℕ) (xs : List ℕ) where
 
 -- by the last slots in use
 module _ (g : Shape) (k : ℕ) (xs : List ℕ) where
-  pub last_end : (n : ℕ) → n ≤ 0 → k < g.nodes → last_down g n k xs ≡ leaf.At (leaf_no k)
+  pub last_end : (n : ℕ) → n ≤ 0 → k < g.nodes → last_down g n k xs ≡ Ok (Some (leaf_no k))
   unfolding last_down
   last_end zero h e = rw (lt-ltb k g.nodes e)
   last_end (suc n) h e = absurd (omega arith)
 
-  pub last_out : (n : ℕ) → n ≤ 0 → g.nodes ≤ k → last_down g n k xs ≡ leaf.Broken
+  pub last_out : (n : ℕ) → n ≤ 0 → g.nodes ≤ k → last_down g n k xs ≡ Err broken
   unfolding last_down
   last_out zero h e = rw (le-ltb k g.nodes e)
   last_out (suc n) h e = absurd (omega arith)
@@ -70,12 +68,12 @@ module _ (g : Shape) (k : ℕ) (xs : List ℕ) where
   between true false c e = refl
   between false b c e = refl
 
-  pub last_broken : (n : ℕ) → 0 < n → sized g k xs ≡ false → last_down g n k xs ≡ leaf.Broken
+  pub last_broken : (n : ℕ) → 0 < n → sized g k xs ≡ false → last_down g n k xs ≡ Err broken
   unfolding last_down
   last_broken zero h e = absurd (omega arith)
   last_broken (suc n) h e = rw (between (ltb k g.nodes) (ltb 0 (node_at g k xs).len) (leb (node_at g k xs).len g.fan) e)
 
-  pub last_none : (n : ℕ) → 0 < n → sized g k xs ≡ true → (node_at g k xs).len ≡ 0 → last_down g n k xs ≡ leaf.Broken
+  pub last_none : (n : ℕ) → 0 < n → sized g k xs ≡ true → (node_at g k xs).len ≡ 0 → last_down g n k xs ≡ Err broken
   unfolding last_down
   last_none zero h e z = absurd (omega arith)
   last_none (suc n) h e z =
@@ -93,7 +91,7 @@ module _ (g : Shape) (k : ℕ) (xs : List ℕ) where
 
 -- to the leaf after a place
 module _ (g : Shape) (d k i : ℕ) (xs : List ℕ) where
-  pub next_end : (n : ℕ) → n ≤ 0 → next_up g n d k i xs ≡ leaf.Nothing
+  pub next_end : (n : ℕ) → n ≤ 0 → next_up g n d k i xs ≡ Ok None
   unfolding next_up
   next_end zero h = refl
   next_end (suc n) h = absurd (omega arith)
@@ -104,7 +102,7 @@ module _ (g : Shape) (d k i : ℕ) (xs : List ℕ) where
   outer true false c e p = refl
   outer false b c e p = refl
 
-  pub next_broken : (n : ℕ) → 0 < n → sized g k xs ≡ false → next_up g n d k i xs ≡ leaf.Broken
+  pub next_broken : (n : ℕ) → 0 < n → sized g k xs ≡ false → next_up g n d k i xs ≡ Err broken
   unfolding next_up
   next_broken zero h e = absurd (omega arith)
   next_broken (suc n) h e = rw (outer (ltb k g.nodes) (ltb i g.fan) (ltb i (node_at g k xs).len) (leb (node_at g k xs).len g.fan) e)
@@ -114,7 +112,7 @@ module _ (g : Shape) (d k i : ℕ) (xs : List ℕ) where
   inner true false e = refl
   inner false b e = refl
 
-  pub next_past : (n : ℕ) → 0 < n → (node_at g k xs).len ≤ i → next_up g n d k i xs ≡ leaf.Broken
+  pub next_past : (n : ℕ) → 0 < n → (node_at g k xs).len ≤ i → next_up g n d k i xs ≡ Err broken
   unfolding next_up
   next_past zero h l = absurd (omega arith)
   next_past (suc n) h l = rw (le-ltb i (node_at g k xs).len l, inner (ltb k g.nodes) (ltb i g.fan) (leb (node_at g k xs).len g.fan))
@@ -138,23 +136,23 @@ module _ (g : Shape) (d k i : ℕ) (xs : List ℕ) where
 
 -- to a position
 module _ (v e : ℕ) (g : Shape) (miss : Descent) (k rest a b : ℕ) (xs : List ℕ) where
-  pub descend_end : (n : ℕ) → n ≤ 0 → descend v e g miss n k rest a b xs ≡ descent.At (leaf_no k) rest a b
+  pub descend_end : (n : ℕ) → n ≤ 0 → descend v e g miss n k rest a b xs ≡ Ok (Some (leaf_no k, rest, a, b))
   unfolding descend
   descend_end zero h = refl
   descend_end (suc n) h = absurd (omega arith)
 
-  pub descend_broken : (n : ℕ) → 0 < n → sized g k xs ≡ false → descend v e g miss n k rest a b xs ≡ descent.Broken
+  pub descend_broken : (n : ℕ) → 0 < n → sized g k xs ≡ false → descend v e g miss n k rest a b xs ≡ Err broken
   unfolding descend
   descend_broken zero h q = absurd (omega arith)
   descend_broken (suc n) h q = rw q
 
-  pub descend_miss : (n : ℕ) → 0 < n → sized g k xs ≡ true → find_from v e 0 rest a b (used (node_at g k xs)) ≡ Nothing → descend v e g miss n k rest a b xs ≡ miss
+  pub descend_miss : (n : ℕ) → 0 < n → sized g k xs ≡ true → find_from v e 0 rest a b (used (node_at g k xs)) ≡ None → descend v e g miss n k rest a b xs ≡ miss
   unfolding descend
   descend_miss zero h q f = absurd (omega arith)
   descend_miss (suc n) h q f = rw (q, f)
 
-  pub descend_on : (n j o t u : ℕ) → 0 < n → sized g k xs ≡ true → find_from v e 0 rest a b (used (node_at g k xs)) ≡ At j o t u
-      → descend v e g miss n k rest a b xs ≡ descend v e g descent.Broken (n - 1) (child (get_or (node_at g k xs).slots j [])) o t u xs
+  pub descend_on : (n j o t u : ℕ) → 0 < n → sized g k xs ≡ true → find_from v e 0 rest a b (used (node_at g k xs)) ≡ Some (j, o, t, u)
+      → descend v e g miss n k rest a b xs ≡ descend v e g (Err broken) (n - 1) (child (get_or (node_at g k xs).slots j [])) o t u xs
   unfolding descend
   descend_on zero j o t u h q f = absurd (omega arith)
   descend_on (suc n) j o t u h q f =

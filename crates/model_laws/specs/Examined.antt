@@ -1,5 +1,5 @@
 -- How many slots a search examines: by slot numbers, and as the walks count them. Assumes nothing.
-use Rattle.std.specs.Prelude.{◌≡◌, refl, Bool, true, false, cond, ltb, length, take}
+use Rattle.std.specs.Prelude.{◌≡◌, refl, Bool, true, false, cond, ltb, length, take, Ok, Some, None}
 use Rattle.std.proofs.Math.Path.{sym, ap}
 use Rattle.std.proofs.Common.{ap₂, ◌∙◌, length-take}
 use mathlib.Core.List.{List, [], ◌∷◌}
@@ -17,16 +17,13 @@ use Rattle.model.specs.Climb.{leaf_no}
 use Rattle.model.specs.Locate.{finger, served, leaf_of}
 use Rattle.model.specs.Examined.{slots_before, downward, with_slots, found_slots, finger_slots, served_slots}
 use Rattle.model.specs.declared.shape.Shape.{Shape}
-use Rattle.model.specs.declared.shape.Found.{Found}
-use Rattle.model.specs.declared.shape.Found.TheVariants.{At, Nothing}
+use Rattle.model.specs.Node.{Found}
 use Rattle.model.specs.declared.head.Finger.{Finger}
-use Rattle.model.specs.declared.way.Descent.TheVariants as descent
-use Rattle.model.specs.declared.way.Search.{Search}
-use Rattle.model.specs.declared.way.Search.TheVariants as search
-use Rattle.model_laws.specs.Find.{find_ranged}
+use Rattle.model.specs.Locate.{Search}
+use Rattle.model_laws.specs.Find.{found_parts, find_ranged}
 use Rattle.model_laws.specs.Locate.{leaf_found}
 
-not_found : (j o t u : ℕ) → ◌≡◌ {A = Found} Nothing (At j o t u) → ⊥
+not_found : (j o t u : ℕ) → ◌≡◌ {A = Found} None (Some (j, o, t, u)) → ⊥
 not_found j o t u q = let z : ◌≡◌ {A = ℕ} 0 1 = cc in omega arith
 
 -- what `find` gives among slots counted from k: as many slots on as stand before it, and what their lengths leave of the position
@@ -34,23 +31,23 @@ pub record Taken (v k x : ℕ) (xs : List (List ℕ)) (j o : ℕ) : Type 0 where
   pub slot : j ≡ k + slots_before v x xs
   pub offset : o ≡ x - total v (take (slots_before v x xs) xs)
 
-pub find_taken : (v e k x a b : ℕ) (xs : List (List ℕ)) (j o t u : ℕ) → find_from v e k x a b xs ≡ At j o t u → Taken v k x xs j o
+pub find_taken : (v e k x a b : ℕ) (xs : List (List ℕ)) (j o t u : ℕ) → find_from v e k x a b xs ≡ Some (j, o, t, u) → Taken v k x xs j o
 unfolding find_from slots_before sum_by
 find_taken v e k x a b [] j o t u q = absurd (not_found j o t u q)
 find_taken v e k x a b (y ∷ ys) j o t u q =
     go (ltb x (length_in v y)) refl (find_taken v e (k + 1) (x - length_in v y) (a + length_in e y) (b + length_in prepare y) ys j o t u) q
   where
     go : (c : Bool) → ltb x (length_in v y) ≡ c
-        → (find_from v e (k + 1) (x - length_in v y) (a + length_in e y) (b + length_in prepare y) ys ≡ At j o t u → Taken v (k + 1) (x - length_in v y) ys j o)
-        → cond (ltb x (length_in v y)) (At k x a b) (find_from v e (k + 1) (x - length_in v y) (a + length_in e y) (b + length_in prepare y) ys) ≡ At j o t u
+        → (find_from v e (k + 1) (x - length_in v y) (a + length_in e y) (b + length_in prepare y) ys ≡ Some (j, o, t, u) → Taken v (k + 1) (x - length_in v y) ys j o)
+        → cond (ltb x (length_in v y)) (Some (k, x, a, b)) (find_from v e (k + 1) (x - length_in v y) (a + length_in e y) (b + length_in prepare y) ys) ≡ Some (j, o, t, u)
         → Taken v k x (y ∷ ys) j o
-    go true p i q = let r : At k x a b ≡ At j o t u = rw p at q in let d : k ≡ j = cc in let f : x ≡ o = cc in record { slot = rw p (omega arith); offset = rw p (omega arith) }
+    go true p i q = let r : Some (k, x, a, b) ≡ Some (j, o, t, u) = rw p at q in let w = found_parts k x a b j o t u r in record { slot = rw p (omega (arith, w.0)); offset = rw p (omega (arith, w.0, w.1)) }
     go false p i q = let r = i (rw p at q) in record { slot = rw p (omega (arith, r.slot)); offset = rw p (omega (arith, r.offset)) }
 
 pub used_short : (m : Node) → length (used m) ≤ m.len
 used_short m = rw length-take (min-le_left m.len (length m.slots))
 
-module _ (v e : ℕ) (g : Shape) (k rest a b : ℕ) (xs : List ℕ) (j o t u : ℕ) (q : find_from v e 0 rest a b (used (node_at g k xs)) ≡ At j o t u) where
+module _ (v e : ℕ) (g : Shape) (k rest a b : ℕ) (xs : List ℕ) (j o t u : ℕ) (q : find_from v e 0 rest a b (used (node_at g k xs)) ≡ Some (j, o, t, u)) where
   -- the slot found is in use
   pub found_in : j < (node_at g k xs).len
   found_in = omega (arith, (find_ranged v e 0 rest a b (used (node_at g k xs))).slot j o t u q, used_short (node_at g k xs))
@@ -96,14 +93,14 @@ downward_end v g ls xs (suc n) k x h = absurd (omega arith)
 
 -- what was found in it, after `taken` slots on the way
 pub leaf_counted : (v e : ℕ) (g : Shape) (leaves k index rest a b : ℕ) (ls : List ℕ) (j o t u taken : ℕ) → k < leaves → (node_at g k ls).len ≤ g.fan
-    → find_from v e 0 rest 0 0 (used (node_at g k ls)) ≡ At j o t u
-    → with_slots (search.At (finger v k (index - rest) (wrap a) j (rest - o) (wrap t) (wrap b) (wrap u)) o) (taken + j + 1)
-    ≡ (let r = leaf_of v e g leaves index ls (descent.At (leaf_no k) rest a b) in with_slots r (found_slots r (taken + (slots_before v rest (used (node_at g k ls)) + 1))))
+    → find_from v e 0 rest 0 0 (used (node_at g k ls)) ≡ Some (j, o, t, u)
+    → with_slots (Ok (Some (finger v k (index - rest) (wrap a) j (rest - o) (wrap t) (wrap b) (wrap u), o))) (taken + j + 1)
+    ≡ (let r = leaf_of v e g leaves index ls (Ok (Some (leaf_no k, rest, a, b))) in with_slots r (found_slots r (taken + (slots_before v rest (used (node_at g k ls)) + 1))))
 leaf_counted v e g leaves k index rest a b ls j o t u taken l n q =
     let z : taken + j + 1 ≡ taken + (slots_before v rest (used (node_at g k ls)) + 1) = omega (arith, (find_taken v e 0 rest 0 0 (used (node_at g k ls)) j o t u q).slot) in
-    ap (with_slots (search.At (finger v k (index - rest) (wrap a) j (rest - o) (wrap t) (wrap b) (wrap u)) o)) z
-    ∙ find_counted (taken + (slots_before v rest (used (node_at g k ls)) + 1)) (leaf_of v e g leaves index ls (descent.At (leaf_no k) rest a b))
-    (search.At (finger v k (index - rest) (wrap a) j (rest - o) (wrap t) (wrap b) (wrap u)) o) (leaf_found v e g leaves k index rest a b ls j o t u l n q)
+    ap (with_slots (Ok (Some (finger v k (index - rest) (wrap a) j (rest - o) (wrap t) (wrap b) (wrap u), o)))) z
+    ∙ find_counted (taken + (slots_before v rest (used (node_at g k ls)) + 1)) (leaf_of v e g leaves index ls (Ok (Some (leaf_no k, rest, a, b))))
+    (Ok (Some (finger v k (index - rest) (wrap a) j (rest - o) (wrap t) (wrap b) (wrap u), o))) (leaf_found v e g leaves k index rest a b ls j o t u l n q)
 
 -- by the finger, that serves and came to r, its leaf's len at hand
 pub served_counted : (v e : ℕ) (g : Shape) (f : Finger) (leaves index : ℕ) (ls : List ℕ) → f.view ≡ v → f.start ≤ index → (len : ℕ) → len ≡ (node_at g f.leaf ls).len → (r : Search)

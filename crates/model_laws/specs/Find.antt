@@ -1,22 +1,23 @@
 -- What a search through slots or down the levels can answer, and two lists of steps compared. Assumes nothing.
-use Rattle.std.specs.Prelude.{◌≡◌, refl, Bool, true, false, cond, List, [], ◌∷◌, ℕ, zero, suc, ◌+◌, ◌-◌, ◌*◌, ◌<◌, ◌≤◌, length, get_or, take, drop, ltb}
+use Rattle.std.specs.declared.cmp.Ordering.TheVariants.{Less, Equal, Greater}
+use Rattle.model.specs.Numbered.{broken}
+use Rattle.std.specs.Prelude.{◌≡◌, refl, Bool, true, false, cond, List, [], ◌∷◌, ℕ, zero, suc, ◌+◌, ◌-◌, ◌*◌, ◌<◌, ◌≤◌, length, get_or, take, drop, ltb, Ok, Err, Some, None}
 use Rattle.std.proofs.Common.{ap, ◌∙◌, arith, add-one, length-take, length-drop, drop_of_length-le, length-take-le, drop-cons, get_or-take, get_or-drop}
 use Rattle.std.proofs.Math.Nat.{min-le_left}
 use Rattle.std.proofs.Math.ListN.{get_or-eq_default}
 use borrow.Author.Tests.{lt-ltb, le-ltb, ltb-true, ltb-false}
 use Rattle.model.specs.Lists.{All, part}
 use Rattle.model.specs.Kind.{prepare}
+use Rattle.model.specs.Climb.{leaf_no}
 use Rattle.model.specs.Node.{Node, node_of, child, slots_from, length_in, used, find_from}
 use Rattle.model.specs.State.{node_at}
 use Rattle.model.specs.Locate.{descend, into}
 use Rattle.model.specs.Calls.{in_order}
 use Rattle.model.specs.declared.shape.Shape.{Shape}
-use Rattle.model.specs.declared.shape.Found.{Found}
-use Rattle.model.specs.declared.shape.Found.TheVariants.{At, Nothing}
+use Rattle.model.specs.Climb.{leaf_no}
+use Rattle.model.specs.Node.{Found}
 use Rattle.model.specs.declared.number.LeafNo.{LeafNo}
-use Rattle.model.specs.declared.way.Descent.{Descent}
-use Rattle.model.specs.declared.way.Descent.TheVariants as descent
-use Rattle.model.specs.declared.answer.Compared.TheVariants as compared
+use Rattle.model.specs.Locate.{Descent}
 use Rattle.model_laws.specs.Lists.{all_take, all_drop}
 use Rattle.model_laws.specs.Words.{get_d_part}
 use Rattle.model_laws.specs.Slots.{slots_length}
@@ -50,11 +51,16 @@ columns_fit s (suc n) p c ws h f = (rw (get_d_part p s c ws h) (f (p + c)), colu
 
 -- what was found: a slot passed in, and no more than the index is left
 pub record FoundWithin (k index count : ℕ) (r : Found) : Type 0 where
-  pub slot : (j o t u : ℕ) → r ≡ At j o t u → j < k + count
-  pub offset : (j o t u : ℕ) → r ≡ At j o t u → o ≤ index
+  pub slot : (j o t u : ℕ) → r ≡ Some (j, o, t, u) → j < k + count
+  pub offset : (j o t u : ℕ) → r ≡ Some (j, o, t, u) → o ≤ index
 
-not_found : (j o t u : ℕ) → ◌≡◌ {A = Found} Nothing (At j o t u) → ⊥
+not_found : (j o t u : ℕ) → ◌≡◌ {A = Found} None (Some (j, o, t, u)) → ⊥
 not_found j o t u q = let z : ◌≡◌ {A = ℕ} 0 1 = cc in omega arith
+
+-- two answers that are the same agree in each number
+pub found_parts : (k x a b j o t u : ℕ) → ◌≡◌ {A = Found} (Some (k, x, a, b)) (Some (j, o, t, u)) → (k ≡ j) × (x ≡ o) × (a ≡ t) × (b ≡ u)
+found_parts k x a b j o t u q =
+    let p : ◌≡◌ {A = ℕ × ℕ × ℕ × ℕ} (k, x, a, b) (j, o, t, u) = cc in (ap (λ w. w.0) p, ap (λ w. w.1) p, ap (λ w. w.2) p, ap (λ w. w.3) p)
 
 pub find_ranged : (v e k index a b : ℕ) (slots : List (List ℕ)) → FoundWithin k index (length slots) (find_from v e k index a b slots)
 unfolding find_from
@@ -62,23 +68,23 @@ find_ranged v e k index a b [] = record { slot = λ j o t u q. absurd (not_found
 find_ranged v e k index a b (x ∷ xs) = go (ltb index (length_in v x)) (find_ranged v e (k + 1) (index - length_in v x) (a + length_in e x) (b + length_in prepare x) xs)
   where
     go : (c : Bool) → FoundWithin (k + 1) (index - length_in v x) (length xs) (find_from v e (k + 1) (index - length_in v x) (a + length_in e x) (b + length_in prepare x) xs)
-        → FoundWithin k index (suc (length xs)) (cond c (At k index a b) (find_from v e (k + 1) (index - length_in v x) (a + length_in e x) (b + length_in prepare x) xs))
-    go true r = record { slot = λ j o t u q. let f : k ≡ j = cc in omega arith; offset = λ j o t u q. let f : index ≡ o = cc in omega arith }
+        → FoundWithin k index (suc (length xs)) (cond c (Some (k, index, a, b)) (find_from v e (k + 1) (index - length_in v x) (a + length_in e x) (b + length_in prepare x) xs))
+    go true r = record { slot = λ j o t u q. omega (arith, (found_parts k index a b j o t u q).0); offset = λ j o t u q. omega (arith, (found_parts k index a b j o t u q).1) }
     go false r = record { slot = λ j o t u q. omega (arith, r.slot j o t u q); offset = λ j o t u q. omega (arith, r.offset j o t u q) }
 
 -- and at most a word was added to each sum for each slot
 pub find_before : (v e k index a b : ℕ) (slots : List (List ℕ)) → All (λ x. Word (length_in e x)) slots → All (λ x. Word (length_in prepare x)) slots → (j o t u : ℕ)
-    → find_from v e k index a b slots ≡ At j o t u → (t ≤ a + length slots * 4294967295) × (u ≤ b + length slots * 4294967295)
+    → find_from v e k index a b slots ≡ Some (j, o, t, u) → (t ≤ a + length slots * 4294967295) × (u ≤ b + length slots * 4294967295)
 unfolding find_from All
 find_before v e k index a b [] w y j o t u q = absurd (not_found j o t u q)
 find_before v e k index a b (x ∷ xs) w y j o t u q =
     go (ltb index (length_in v x)) (find_before v e (k + 1) (index - length_in v x) (a + length_in e x) (b + length_in prepare x) xs w.1 y.1 j o t u) q
   where
-    go : (c : Bool) → (find_from v e (k + 1) (index - length_in v x) (a + length_in e x) (b + length_in prepare x) xs ≡ At j o t u
+    go : (c : Bool) → (find_from v e (k + 1) (index - length_in v x) (a + length_in e x) (b + length_in prepare x) xs ≡ Some (j, o, t, u)
         → (t ≤ a + length_in e x + length xs * 4294967295) × (u ≤ b + length_in prepare x + length xs * 4294967295))
-        → cond c (At k index a b) (find_from v e (k + 1) (index - length_in v x) (a + length_in e x) (b + length_in prepare x) xs) ≡ At j o t u
+        → cond c (Some (k, index, a, b)) (find_from v e (k + 1) (index - length_in v x) (a + length_in e x) (b + length_in prepare x) xs) ≡ Some (j, o, t, u)
         → (t ≤ a + suc (length xs) * 4294967295) × (u ≤ b + suc (length xs) * 4294967295)
-    go true r q = let f : a ≡ t = cc in let g : b ≡ u = cc in (omega arith, omega arith)
+    go true r q = let p = found_parts k index a b j o t u q in (omega (arith, p.2), omega (arith, p.3))
     go false r q = let z = r q in (omega (arith, z.0, w.0), omega (arith, z.1, y.0))
 
 -- the slots in use are as many as the node says, where it says no more than it has
@@ -101,54 +107,59 @@ module _ (g : Shape) (v e k from index a b : ℕ) (xs : List ℕ) (hl : (node_at
       all_drop (λ x. Word (length_in c x)) from (used (node_at g k xs))
       (all_take (λ x. Word (length_in c x)) (node_at g k xs).len (node_at g k xs).slots (columns_fit g.stride g.fan 3 (c + 1) (part (k * g.size) g.size xs) hc (part_fits (k * g.size) g.size xs w)))
 
-  pub used_before : e + 1 < g.stride → ((i : ℕ) → Word (get_or xs i 0)) → (j o t u : ℕ) → find_from v e from index a b (drop from (used (node_at g k xs))) ≡ At j o t u
+  pub used_before : e + 1 < g.stride → ((i : ℕ) → Word (get_or xs i 0)) → (j o t u : ℕ) → find_from v e from index a b (drop from (used (node_at g k xs))) ≡ Some (j, o, t, u)
       → (t ≤ a + g.fan * 4294967295) × (u ≤ b + g.fan * 4294967295)
   used_before he w j o t u q =
       let z = find_before v e from index a b (drop from (used (node_at g k xs))) (fits e he w) (fits prepare (omega arith) w) j o t u q in
       (omega (arith, left_length, z.0), omega (arith, left_length, z.1))
 
+-- the same of two searches from the root
+pub descent_parts : (k l : LeafNo) (x a b r t u : ℕ) → ◌≡◌ {A = Descent} (Ok (Some (k, x, a, b))) (Ok (Some (l, r, t, u))) → (k ≡ l) × (x ≡ r) × (a ≡ t) × (b ≡ u)
+descent_parts k l x a b r t u q =
+    let p : ◌≡◌ {A = LeafNo × ℕ × ℕ × ℕ} (k, x, a, b) (l, r, t, u) = cc in (ap (λ w. w.0) p, ap (λ w. w.1) p, ap (λ w. w.2) p, ap (λ w. w.3) p)
+
 -- the position left after a descent is no more than the position asked for
 pub record RestWithin (index : ℕ) (d : Descent) : Type 0 where
-  pub rest : (l : LeafNo) (r t u : ℕ) → d ≡ descent.At l r t u → r ≤ index
+  pub rest : (l : LeafNo) (r t u : ℕ) → d ≡ Ok (Some (l, r, t, u)) → r ≤ index
 
-no_rest : (index : ℕ) (d : Descent) → ((l : LeafNo) (r t u : ℕ) → d ≡ descent.At l r t u → ⊥) → RestWithin index d
+no_rest : (index : ℕ) (d : Descent) → ((l : LeafNo) (r t u : ℕ) → d ≡ Ok (Some (l, r, t, u)) → ⊥) → RestWithin index d
 no_rest index d never = record { rest = λ l r t u q. absurd (never l r t u q) }
 
-broken_rests : (index : ℕ) → RestWithin index descent.Broken
-broken_rests index = no_rest index descent.Broken (λ l r t u q. let z : ◌≡◌ {A = ℕ} 0 1 = cc in omega arith)
+broken_rests : (index : ℕ) → RestWithin index (Err broken)
+broken_rests index = no_rest index (Err broken) (λ l r t u q. let z : ◌≡◌ {A = ℕ} 0 1 = cc in omega arith)
 
-pub nothing_rests : (index : ℕ) → RestWithin index descent.Nothing
-nothing_rests index = no_rest index descent.Nothing (λ l r t u q. let z : ◌≡◌ {A = ℕ} 0 1 = cc in omega arith)
+pub nothing_rests : (index : ℕ) → RestWithin index (Ok None)
+nothing_rests index = no_rest index (Ok None) (λ l r t u q. let z : ◌≡◌ {A = ℕ} 0 1 = cc in omega arith)
 
-through : (go : ℕ → ℕ → ℕ → ℕ → Descent) (miss : Descent) (m : Node) (index : ℕ) (f : Found) → ((j o t u : ℕ) → f ≡ At j o t u → o ≤ index) → ((c r t u : ℕ) → RestWithin r (go c r t u)) → RestWithin index miss
+through : (go : ℕ → ℕ → ℕ → ℕ → Descent) (miss : Descent) (m : Node) (index : ℕ) (f : Found) → ((j o t u : ℕ) → f ≡ Some (j, o, t, u) → o ≤ index) → ((c r t u : ℕ) → RestWithin r (go c r t u)) → RestWithin index miss
     → RestWithin index (into go miss m f)
-through go miss m index (At j o t u) h on r = record { rest = λ l r y z q. omega (arith, h j o t u refl, (on (child (get_or m.slots j [])) o t u).rest l r y z q) }
-through go miss m index Nothing h on r = r
+through go miss m index (Some (j, o, t, u)) h on r = record { rest = λ l r y z q. omega (arith, h j o t u refl, (on (child (get_or m.slots j [])) o t u).rest l r y z q) }
+through go miss m index None h on r = r
 
 pub descend_rests : (v e : ℕ) (g : Shape) (miss : Descent) (n k index a b : ℕ) (xs : List ℕ) → RestWithin index miss → RestWithin index (descend v e g miss n k index a b xs)
 unfolding descend
-descend_rests v e g miss zero k index a b xs h = record { rest = λ l r t u q. let f : index ≡ r = cc in omega arith }
+descend_rests v e g miss zero k index a b xs h = record { rest = λ l r t u q. omega (arith, (descent_parts (leaf_no k) l index a b r t u q).1) }
 descend_rests v e g miss (suc n) k index a b xs h =
     either (sized g k xs)
-    (through (λ c r t u. descend v e g descent.Broken n c r t u xs) miss (node_at g k xs) index (find_from v e 0 index a b (used (node_at g k xs)))
-    (find_ranged v e 0 index a b (used (node_at g k xs))).offset (λ c r t u. descend_rests v e g descent.Broken n c r t u xs (broken_rests r)) h)
+    (through (λ c r t u. descend v e g (Err broken) n c r t u xs) miss (node_at g k xs) index (find_from v e 0 index a b (used (node_at g k xs)))
+    (find_ranged v e 0 index a b (used (node_at g k xs))).offset (λ c r t u. descend_rests v e g (Err broken) n c r t u xs (broken_rests r)) h)
   where
-    either : (b : Bool) {d : Descent} → RestWithin index d → RestWithin index (cond b d descent.Broken)
+    either : (b : Bool) {d : Descent} → RestWithin index d → RestWithin index (cond b d (Err broken))
     either true r = r
     either false r = broken_rests index
 
 -- two lists of steps, of which the first n and m count, compared from step j on
 module _ (n m j : ℕ) (xs ys : List ℕ) where
-  pub order_end : n ≤ j → in_order (drop j (take n xs)) (drop j (take m ys)) ≡ compared.Same
+  pub order_end : n ≤ j → in_order (drop j (take n xs)) (drop j (take m ys)) ≡ Ok Equal
   unfolding in_order
   order_end h = rw (drop_of_length-le (take n xs) {i = j} (omega (arith, take_short n xs)))
 
   module _ (hn : j < n) (hx : n ≤ length xs) (hm : j < m) (hy : m ≤ length ys) where
-    pub order_before : get_or xs j 0 < get_or ys j 0 → in_order (drop j (take n xs)) (drop j (take m ys)) ≡ compared.Before
+    pub order_before : get_or xs j 0 < get_or ys j 0 → in_order (drop j (take n xs)) (drop j (take m ys)) ≡ Ok Less
     unfolding in_order
     order_before h = rw (steps_from n j xs hn hx, steps_from m j ys hm hy, lt-ltb (get_or xs j 0) (get_or ys j 0) h)
 
-    pub order_after : get_or ys j 0 < get_or xs j 0 → in_order (drop j (take n xs)) (drop j (take m ys)) ≡ compared.After
+    pub order_after : get_or ys j 0 < get_or xs j 0 → in_order (drop j (take n xs)) (drop j (take m ys)) ≡ Ok Greater
     unfolding in_order
     order_after h = rw (steps_from n j xs hn hx, steps_from m j ys hm hy, le-ltb (get_or xs j 0) (get_or ys j 0) (omega arith), lt-ltb (get_or ys j 0) (get_or xs j 0) h)
 

@@ -10,6 +10,7 @@ pub mod Climb
 pub mod Differ
 pub mod Down
 pub mod Find
+pub mod Handed
 pub mod Grow
 pub mod Lens
 pub mod Locate

@@ -1,13 +1,11 @@
 -- One step of each walk over a node's slots: sums, the slot of a position, the slot of a child. Assumes nothing.
-use Rattle.std.specs.Prelude.{◌≡◌, refl, List, [], ◌∷◌, length, get_or, take, drop, set}
+use Rattle.std.specs.Prelude.{◌≡◌, refl, List, [], ◌∷◌, length, get_or, take, drop, set, Some, None}
 use Rattle.std.proofs.Common.{sym, ap, ◌∙◌, arith, add-zero, drop_of_length-le}
 use Prim.Native.Nat.{ℕ, zero, suc, ◌+◌, ◌-◌, ◌*◌, ◌%◌, ◌^◌, ◌<◌, ◌≤◌}
 use borrow.Author.Tests.{lt-ltb, le-ltb, eq-eqb, ne_eqb}
 use Rattle.model.specs.Lists.{part, sum_by}
 use Rattle.model.specs.Kind.{prepare}
 use Rattle.model.specs.Node.{slots_from, total, totals_from, wrap, find_from, index_from}
-use Rattle.model.specs.declared.shape.Found.TheVariants.{At, Nothing}
-use Rattle.model.specs.declared.shape.Place.TheVariants.{Slot, Missing}
 use Rattle.model_laws.specs.Lists.{sum_append}
 use Rattle.model_laws.specs.Words.{get_d_part}
 use Rattle.model_laws.specs.Slots.{slots_length, slots_add, slots_from_law}
@@ -46,7 +44,7 @@ module _ (s n p v e k index a b q : ℕ) (ws : List ℕ) (hv : v + 1 < s) (he : 
   word_first : get_or (part (p + k * s) s ws) (prepare + 1) 0 ≡ get_or ws q 0
   word_first = word prepare (omega arith) ∙ ap (λ (j : ℕ). get_or ws j 0) (add-zero q)
 
-  pub find_here : index < get_or ws (q + v) 0 → find_from v e k index a b (drop k (slots_from s n p ws)) ≡ At k index a b
+  pub find_here : index < get_or ws (q + v) 0 → find_from v e k index a b (drop k (slots_from s n p ws)) ≡ Some (k, index, a, b)
   unfolding find_from
   find_here h = rw (slots_from_law s n k p ws hk, word v hv, lt-ltb index (get_or ws (q + v) 0) h)
 
@@ -55,7 +53,7 @@ module _ (s n p v e k index a b q : ℕ) (ws : List ℕ) (hv : v + 1 < s) (he : 
   unfolding find_from
   find_on h = rw (slots_from_law s n k p ws hk, word v hv, word e he, word_first, le-ltb index (get_or ws (q + v) 0) h)
 
-pub find_none : (s n p v e k index a b : ℕ) (ws : List ℕ) → n ≤ k → find_from v e k index a b (drop k (slots_from s n p ws)) ≡ Nothing
+pub find_none : (s n p v e k index a b : ℕ) (ws : List ℕ) → n ≤ k → find_from v e k index a b (drop k (slots_from s n p ws)) ≡ None
 unfolding find_from
 find_none s n p v e k index a b ws h = rw (past s n k p ws h)
 
@@ -64,7 +62,7 @@ module _ (s n p c k q : ℕ) (ws : List ℕ) (hs : 0 < s) (hq : q ≡ p + k * s)
   held : get_or (part (p + k * s) s ws) 0 0 ≡ get_or ws q 0
   held = get_d_part (p + k * s) s 0 ws hs ∙ ap (λ (j : ℕ). get_or ws j 0) (add-zero (p + k * s) ∙ sym hq)
 
-  pub index_here : get_or ws q 0 ≡ c → index_from c k (drop k (slots_from s n p ws)) ≡ Slot k
+  pub index_here : get_or ws q 0 ≡ c → index_from c k (drop k (slots_from s n p ws)) ≡ Some k
   unfolding index_from
   index_here h = rw (slots_from_law s n k p ws hk, held, eq-eqb (get_or ws q 0) c h)
 
@@ -72,7 +70,7 @@ module _ (s n p c k q : ℕ) (ws : List ℕ) (hs : 0 < s) (hq : q ≡ p + k * s)
   unfolding index_from
   index_on h = rw (slots_from_law s n k p ws hk, held, ne_eqb (get_or ws q 0) c h)
 
-pub index_none : (s n p c k : ℕ) (ws : List ℕ) → n ≤ k → index_from c k (drop k (slots_from s n p ws)) ≡ Missing
+pub index_none : (s n p c k : ℕ) (ws : List ℕ) → n ≤ k → index_from c k (drop k (slots_from s n p ws)) ≡ None
 unfolding index_from
 index_none s n p c k ws h = rw (past s n k p ws h)
 

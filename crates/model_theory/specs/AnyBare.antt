@@ -1,5 +1,10 @@
 -- A refusal has no values, in every answer of a call by cursor and by id. Assumes nothing.
-use Rattle.std.specs.Prelude.{refl, Bool, cond, List, [], ◌∷◌, ◌++◌, ℕ, eqb}
+use Rattle.model.specs.declared.length.Lengths.{Lengths}
+use Rattle.model.specs.declared.number.EntryId.{EntryId}
+use Rattle.std.specs.declared.cmp.Ordering.TheVariants.{Less, Equal, Greater}
+use Rattle.std.specs.declared.cmp.Ordering.{Ordering}
+use Rattle.model.specs.Numbered.{Numbered}
+use Rattle.std.specs.Prelude.{refl, Bool, cond, List, [], ◌∷◌, ◌++◌, ℕ, eqb, Ok, Err, Some, None, Option}
 use Rattle.std.proofs.Math.Bool.{true, false}
 use Rattle.model.specs.declared.shape.Kind.{Kind}
 use Rattle.model.specs.Lists.{refusal}
@@ -15,32 +20,6 @@ use Rattle.model.specs.ById as by_id
 use Rattle.model.specs.ById.{with_cursor, with_target, told, tree_move, tree_step}
 use Rattle.model.specs.Promise.{Bare, Bares}
 use Rattle.model.specs.declared.head.Cursor.{Cursor}
-use Rattle.model.specs.declared.answer.Target.{Target}
-use Rattle.model.specs.declared.answer.Target.TheVariants as target
-use Rattle.model.specs.declared.answer.Outcome.{Outcome}
-use Rattle.model.specs.declared.answer.Outcome.TheVariants as outcome
-use Rattle.model.specs.declared.answer.Number.{Number}
-use Rattle.model.specs.declared.answer.Number.TheVariants as number
-use Rattle.model.specs.declared.answer.Verdict.{Verdict}
-use Rattle.model.specs.declared.answer.Verdict.TheVariants as verdict
-use Rattle.model.specs.declared.answer.Standing.{Standing}
-use Rattle.model.specs.declared.answer.Standing.TheVariants as standing
-use Rattle.model.specs.declared.answer.Next.{Next}
-use Rattle.model.specs.declared.answer.Next.TheVariants as next
-use Rattle.model.specs.declared.answer.Named.{Named}
-use Rattle.model.specs.declared.answer.Named.TheVariants as named
-use Rattle.model.specs.declared.answer.Measured.{Measured}
-use Rattle.model.specs.declared.answer.Measured.TheVariants as measured
-use Rattle.model.specs.declared.answer.Compared.{Compared}
-use Rattle.model.specs.declared.answer.Compared.TheVariants as compared
-use Rattle.model.specs.declared.answer.Selected.{Selected}
-use Rattle.model.specs.declared.answer.Selected.TheVariants as selected
-use Rattle.model.specs.declared.answer.Located.{Located}
-use Rattle.model.specs.declared.answer.Located.TheVariants as located
-use Rattle.model.specs.declared.answer.Inserted.{Inserted}
-use Rattle.model.specs.declared.answer.Inserted.TheVariants as inserted
-use Rattle.model.specs.declared.answer.Divided.{Divided}
-use Rattle.model.specs.declared.answer.Divided.TheVariants as divided
 
 -- an answer that is done has the number 0, one that is refused has no values
 done_bare : (vs : List ℕ) → Bare (row.done vs)
@@ -49,81 +28,81 @@ done_bare vs d = absurd (d refl)
 refused_bare : (n : ℕ) → Bare (row.refused n)
 refused_bare n d = refl
 
-outcome_bare : (a : Outcome) → Bare (outcome_answer a)
-outcome_bare outcome.Done = done_bare []
-outcome_bare (outcome.Refused n) = refused_bare n
+outcome_bare : (a : Numbered (Unit {0})) → Bare (outcome_answer a)
+outcome_bare (Ok tt) = done_bare []
+outcome_bare (Err n) = refused_bare n
 
-number_bare : (a : Number) → Bare (number_answer a)
-number_bare (number.Is n) = done_bare (n ∷ [])
-number_bare (number.Refused n) = refused_bare n
+number_bare : (a : Numbered ℕ) → Bare (number_answer a)
+number_bare (Ok n) = done_bare (n ∷ [])
+number_bare (Err n) = refused_bare n
 
-verdict_bare : (a : Verdict) → Bare (answer.verdict_answer a)
-verdict_bare verdict.Yes = done_bare (1 ∷ [])
-verdict_bare verdict.No = done_bare (0 ∷ [])
-verdict_bare (verdict.Refused n) = refused_bare n
+verdict_bare : (a : Numbered Bool) → Bare (answer.verdict_answer a)
+verdict_bare (Ok true) = done_bare (1 ∷ [])
+verdict_bare (Ok false) = done_bare (0 ∷ [])
+verdict_bare (Err n) = refused_bare n
 
-standing_bare : (a : Standing) → Bare (answer.standing_answer a)
-standing_bare (standing.At c) = done_bare _
-standing_bare (standing.Refused n) = refused_bare n
+standing_bare : (a : Numbered Cursor) → Bare (answer.standing_answer a)
+standing_bare (Ok c) = done_bare _
+standing_bare (Err n) = refused_bare n
 
-next_bare : (a : Next) → Bare (answer.next_answer a)
-next_bare (next.At c) = done_bare _
-next_bare next.Nothing = done_bare _
-next_bare (next.Refused n) = refused_bare n
+next_bare : (a : Numbered (Option Cursor)) → Bare (answer.next_answer a)
+next_bare (Ok (Some c)) = done_bare _
+next_bare (Ok None) = done_bare _
+next_bare (Err n) = refused_bare n
 
-named_bare : (a : Named) → Bare (named_answer a)
-named_bare (named.Entry i) = done_bare _
-named_bare (named.Refused n) = refused_bare n
+named_bare : (a : Numbered EntryId) → Bare (named_answer a)
+named_bare (Ok i) = done_bare _
+named_bare (Err n) = refused_bare n
 
-measured_bare : (a : Measured) → Bare (answer.measured_answer a)
-measured_bare (measured.Are l) = done_bare _
-measured_bare (measured.Refused n) = refused_bare n
+measured_bare : (a : Numbered Lengths) → Bare (answer.measured_answer a)
+measured_bare (Ok l) = done_bare _
+measured_bare (Err n) = refused_bare n
 
-compared_bare : (a : Compared) → Bare (compared_answer a)
-compared_bare compared.Before = done_bare _
-compared_bare compared.Same = done_bare _
-compared_bare compared.After = done_bare _
-compared_bare (compared.Refused n) = refused_bare n
+compared_bare : (a : Numbered Ordering) → Bare (compared_answer a)
+compared_bare (Ok Less) = done_bare _
+compared_bare (Ok Equal) = done_bare _
+compared_bare (Ok Greater) = done_bare _
+compared_bare (Err n) = refused_bare n
 
-selected_bare : (a : Selected) → Bare (answer.selected_answer a)
-selected_bare (selected.At c offset) = done_bare _
-selected_bare (selected.Refused n) = refused_bare n
+selected_bare : (a : Numbered (Cursor × ℕ)) → Bare (answer.selected_answer a)
+selected_bare (Ok (c, offset)) = done_bare _
+selected_bare (Err n) = refused_bare n
 
-located_bare : (a : Located) → Bare (answer.located_answer a)
-located_bare (located.At c offset effect prepare) = done_bare _
-located_bare (located.Refused n) = refused_bare n
+located_bare : (a : Numbered (Cursor × ℕ × ℕ × ℕ)) → Bare (answer.located_answer a)
+located_bare (Ok (c, offset, effect, prepare)) = done_bare _
+located_bare (Err n) = refused_bare n
 
-inserted_bare : (a : Inserted) → Bare (inserted_answer a)
-inserted_bare (inserted.At i position) = done_bare _
-inserted_bare (inserted.Refused n) = refused_bare n
+inserted_bare : (a : Numbered (EntryId × ℕ)) → Bare (inserted_answer a)
+inserted_bare (Ok (i, position)) = done_bare _
+inserted_bare (Err n) = refused_bare n
 
-divided_bare : (a : Divided) → Bare (answer.divided_answer a)
-divided_bare (divided.At i a b) = done_bare _
-divided_bare (divided.Refused n) = refused_bare n
+divided_bare : (a : Numbered (EntryId × Cursor × Cursor)) → Bare (answer.divided_answer a)
+divided_bare (Ok (i, a, b)) = done_bare _
+divided_bare (Err n) = refused_bare n
 
 -- by id -----------------------------------------------------------------------------------------------------------------------------------
 
-id_bare : (a : Named) (vs : List ℕ) → Bare (by_id.id_answer a vs)
-id_bare (named.Entry i) vs = done_bare _
-id_bare (named.Refused n) vs = refused_bare n
+id_bare : (a : Numbered EntryId) (vs : List ℕ) → Bare (by_id.id_answer a vs)
+id_bare (Ok i) vs = done_bare _
+id_bare (Err n) vs = refused_bare n
 
 module _ (K : Kind) (s : State) where
-  first_bare : (a : Standing) → Bare (by_id.standing_id_answer K s a)
-  first_bare (standing.At c) = id_bare (calls.id K s c) []
-  first_bare (standing.Refused n) = refused_bare n
+  first_bare : (a : Numbered Cursor) → Bare (by_id.standing_id_answer K s a)
+  first_bare (Ok c) = id_bare (calls.id K s c) []
+  first_bare (Err n) = refused_bare n
 
-  following_bare : (a : Next) → Bare (by_id.next_answer K s a)
-  following_bare (next.At c) = id_bare (calls.id K s c) []
-  following_bare next.Nothing = done_bare _
-  following_bare (next.Refused n) = refused_bare n
+  following_bare : (a : Numbered (Option Cursor)) → Bare (by_id.next_answer K s a)
+  following_bare (Ok (Some c)) = id_bare (calls.id K s c) []
+  following_bare (Ok None) = done_bare _
+  following_bare (Err n) = refused_bare n
 
-  looked_bare : (t : State) (a : Located) → Bare (by_id.located_answer K t a)
-  looked_bare t (located.At c offset effect prepare) = id_bare (calls.id K t c) (offset ∷ effect ∷ prepare ∷ [])
-  looked_bare t (located.Refused n) = refused_bare n
+  looked_bare : (t : State) (a : Numbered (Cursor × ℕ × ℕ × ℕ)) → Bare (by_id.located_answer K t a)
+  looked_bare t (Ok (c, offset, effect, prepare)) = id_bare (calls.id K t c) (offset ∷ effect ∷ prepare ∷ [])
+  looked_bare t (Err n) = refused_bare n
 
-  parted_bare : (a : Divided) → Bare (by_id.divided_id_answer a)
-  parted_bare (divided.At i a b) = done_bare _
-  parted_bare (divided.Refused n) = refused_bare n
+  parted_bare : (a : Numbered (EntryId × Cursor × Cursor)) → Bare (by_id.divided_id_answer a)
+  parted_bare (Ok (i, a, b)) = done_bare _
+  parted_bare (Err n) = refused_bare n
 
   measure_bare : (c : Cursor) → Bare (calls.entry_lengths K s c)
   unfolding calls.entry_lengths
@@ -133,16 +112,16 @@ module _ (K : Kind) (s : State) where
       go true = done_bare (lengths (calls.slot_at K s c))
       go false = refused_bare (refusal (opening K s ++ at_cursor K s c))
 
-  at_bare : (c : Standing) (f : Cursor → Moved State) → ((c : Cursor) → Bare (f c).answer) → Bare (with_cursor s c f).answer
-  at_bare (standing.At c) f h = h c
-  at_bare (standing.Refused n) f h = refused_bare n
+  at_bare : (c : Numbered Cursor) (f : Cursor → Moved State) → ((c : Cursor) → Bare (f c).answer) → Bare (with_cursor s c f).answer
+  at_bare (Ok c) f h = h c
+  at_bare (Err n) f h = refused_bare n
 
-  target_bare : (i : ℕ) (f : Target → Moved State) → ((t : Target) → Bare (f t).answer) → Bare (with_target K s i f).answer
+  target_bare : (i : ℕ) (f : Option Cursor → Moved State) → ((t : Option Cursor) → Bare (f t).answer) → Bare (with_target K s i f).answer
   target_bare i f h = go (eqb i no_entry)
     where
-      go : (b : Bool) → Bare (cond b (f target.End) (with_cursor s (calls.cursor K s i) (λ c. f (target.Before c)))).answer
-      go true = h target.End
-      go false = at_bare (calls.cursor K s i) (λ c. f (target.Before c)) (λ c. h (target.Before c))
+      go : (b : Bool) → Bare (cond b (f None) (with_cursor s (calls.cursor K s i) (λ c. f (Some c)))).answer
+      go true = h None
+      go false = at_bare (calls.cursor K s i) (λ c. f (Some c)) (λ c. h (Some c))
 
   move_bare : (c : Call) → Bare (tree_move K s c).answer
   unfolding tree_move
@@ -157,7 +136,7 @@ module _ (K : Kind) (s : State) where
   move_bare (row.compare i j) = at_bare (calls.cursor K s i) (λ a. with_cursor s (calls.cursor K s j) (λ b. row.moved s (compared_answer (calls.cmp K s a b))))
       (λ a. at_bare (calls.cursor K s j) (λ b. row.moved s (compared_answer (calls.cmp K s a b))) (λ b. compared_bare (calls.cmp K s a b)))
   move_bare (row.lengths i) = at_bare (calls.cursor K s i) (λ c. row.moved s (calls.entry_lengths K s c)) (λ c. measure_bare c)
-  move_bare row.count = let h = s.head in number_bare (calls.unless (calls.area_causes K h.fan h.limit s.leaves s.inners s.homes) number.Refused (calls.len h))
+  move_bare row.count = let h = s.head in number_bare (calls.unless (calls.area_causes K h.fan h.limit s.leaves s.inners s.homes) Err (calls.len h))
   move_bare row.first = first_bare (calls.first K s)
   move_bare row.malformed = refused_bare 10
 

@@ -1,5 +1,8 @@
 -- No call changes a tree's fan or its limit, on any state, sound or not. Assumes nothing.
-use Rattle.std.specs.Prelude.{◌≡◌, Bool, cond, ◌&&◌, List, [], ◌∷◌, ℕ, ◌+◌}
+use Rattle.model.specs.declared.number.LeafNo.{LeafNo}
+use Rattle.model.specs.declared.way.Broken.{Broken}
+use Rattle.model.specs.Numbered.{Numbered}
+use Rattle.std.specs.Prelude.{◌≡◌, Bool, cond, ◌&&◌, List, [], ◌∷◌, ℕ, ◌+◌, Ok, Err, Some, None, Option, Result}
 use Rattle.std.proofs.Math.Path.{refl}
 use Rattle.std.proofs.Common.{◌∙◌}
 use Rattle.std.proofs.Math.Bool.{true, false}
@@ -22,21 +25,7 @@ use Rattle.model.specs.Calls.{Reply}
 use Rattle.model.specs.Promise.{Fixed, Fixes}
 use Rattle.model.specs.declared.shape.Shape.{Shape}
 use Rattle.model.specs.declared.head.Cursor.{Cursor}
-use Rattle.model.specs.declared.way.Sum.{Sum}
-use Rattle.model.specs.declared.way.Sum.TheVariants as sum
-use Rattle.model.specs.declared.way.Leaf.{Leaf}
-use Rattle.model.specs.declared.way.Leaf.TheVariants as leaf
-use Rattle.model.specs.declared.way.Search.{Search}
-use Rattle.model.specs.declared.way.Search.TheVariants as search
-use Rattle.model.specs.declared.answer.Target.{Target}
-use Rattle.model.specs.declared.answer.Target.TheVariants as target
-use Rattle.model.specs.declared.answer.Standing.{Standing}
-use Rattle.model.specs.declared.answer.Standing.TheVariants as standing
-use Rattle.model.specs.declared.answer.Outcome.TheVariants as outcome
-use Rattle.model.specs.declared.answer.Number.TheVariants as number
-use Rattle.model.specs.declared.answer.Located.TheVariants as located
-use Rattle.model.specs.declared.answer.Inserted.TheVariants as inserted'
-use Rattle.model.specs.declared.answer.Divided.TheVariants as divided
+use Rattle.model.specs.Locate.{Search}
 
 abbrev same : (s : State) → Fixed s s
 same s = record { fan = refl; limit = refl }
@@ -98,9 +87,9 @@ module _ (g : Shape) where
   unfolding place.replace
   replace_fixed s k i ls = record { fan = refl; limit = refl }
 
-  summed_fixed : (s : State) (r : Change) (p : Sum × List ℕ) → Fixed s r.state → Fixed s (place.summed g r p).0.state
-  summed_fixed s r (sum.Is n, xs) h = record { fan = h.fan; limit = h.limit }
-  summed_fixed s r (sum.Broken, xs) h = record { fan = h.fan; limit = h.limit }
+  summed_fixed : (s : State) (r : Change) (p : Result ℕ Broken × List ℕ) → Fixed s r.state → Fixed s (place.summed g r p).0.state
+  summed_fixed s r (Ok n, xs) h = record { fan = h.fan; limit = h.limit }
+  summed_fixed s r (Err _, xs) h = record { fan = h.fan; limit = h.limit }
 
   climb_fixed : (s : State) (e : ℕ) (delta : List ℕ) (r : Change) → Fixed s r.state → Fixed s (place.climb g e delta r).0.state
   unfolding place.climb
@@ -128,19 +117,19 @@ unless_fixed {A} s cs refuse r h = go (eqb (refusal cs) 0) refl
 module _ (K : Kind) (s : State) where
   reset_fixed : (l : List ℕ) → Fixed s (calls.reset K s l).after
   unfolding calls.reset calls.begun
-  reset_fixed l = unless_fixed s (calls.make_causes K s.head.fan s.head.limit l s.leaves s.inners s.homes) outcome.Refused
-      (calls.reply (calls.begun K s.head.fan s.head.limit (next_stamp s.head.stamp) l s.leaves s.inners s.homes) outcome.Done) (record { fan = refl; limit = refl })
+  reset_fixed l = unless_fixed s (calls.make_causes K s.head.fan s.head.limit l s.leaves s.inners s.homes) Err
+      (calls.reply (calls.begun K s.head.fan s.head.limit (next_stamp s.head.stamp) l s.leaves s.inners s.homes) (Ok tt)) (record { fan = refl; limit = refl })
 
-  end_fixed : (k : Leaf) → Fixed s (calls.end_of K s k).state
-  end_fixed (leaf.At k) = same s
-  end_fixed leaf.Nothing = same s
-  end_fixed leaf.Broken = same s
+  end_fixed : (k : Result (Option LeafNo) Broken) → Fixed s (calls.end_of K s k).state
+  end_fixed (Ok (Some k)) = same s
+  end_fixed (Ok None) = same s
+  end_fixed (Err _) = same s
 
-  aim_fixed : (t : Target) → Fixed s (calls.aim K s t).state
-  aim_fixed (target.Before c) = same s
-  aim_fixed target.End = end_fixed (last_down (shape_of K s.head) s.head.levels s.head.root.0 s.inners)
+  aim_fixed : (t : Option Cursor) → Fixed s (calls.aim K s t).state
+  aim_fixed (Some c) = same s
+  aim_fixed None = end_fixed (last_down (shape_of K s.head) s.head.levels s.head.root.0 s.inners)
 
-  placed_fixed : (t : Target) (l : List ℕ) → Fixed s (calls.placed K s t l).0.state
+  placed_fixed : (t : Option Cursor) (l : List ℕ) → Fixed s (calls.placed K s t l).0.state
   placed_fixed t l =
       let g = shape_of K s.head in
       let r = calls.aim K s t in
@@ -155,54 +144,54 @@ module _ (K : Kind) (s : State) where
       climb_fixed (shape_of K s.head) s K.effect (minus l (lengths (calls.slot_at K s c))) (place.replace (shape_of K s.head) s c.leaf.0 c.slot l)
       (replace_fixed (shape_of K s.head) s c.leaf.0 c.slot l)
 
-  pub insert_fixed : (room : List Cause) (t : Target) (l : List ℕ) → Fixed s (calls.insert_by K room s t l).after
+  pub insert_fixed : (room : List Cause) (t : Option Cursor) (l : List ℕ) → Fixed s (calls.insert_by K room s t l).after
   unfolding calls.insert_by
-  insert_fixed room t l = let r = calls.placed K s t l in let a = inserted'.At (calls.entry_id s.head.entries) r.1 in
-      unless_fixed s (calls.insert_causes K room s t l) inserted'.Refused (calls.settled s r.0 inserted'.Refused a) (settled_fixed s r.0 inserted'.Refused a (placed_fixed t l))
+  insert_fixed room t l = let r = calls.placed K s t l in let a = Ok (calls.entry_id s.head.entries, r.1) in
+      unless_fixed s (calls.insert_causes K room s t l) Err (calls.settled s r.0 Err a) (settled_fixed s r.0 Err a (placed_fixed t l))
 
   set_fixed : (c : Cursor) (l : List ℕ) → Fixed s (calls.set_lengths K s c l).after
   unfolding calls.set_lengths
   set_fixed c l = let r = calls.resized K s c l in
-      unless_fixed s (calls.resize_causes K s c l) outcome.Refused (calls.settled s r.0 outcome.Refused outcome.Done) (settled_fixed s r.0 outcome.Refused outcome.Done (resized_fixed c l))
+      unless_fixed s (calls.resize_causes K s c l) Err (calls.settled s r.0 Err (Ok tt)) (settled_fixed s r.0 Err (Ok tt) (resized_fixed c l))
 
   update_fixed : (c : Cursor) (l : List ℕ) → Fixed s (calls.update K s c l).after
   unfolding calls.update
   update_fixed c l = let r = calls.resized K s c l in
-      unless_fixed s (calls.resize_causes K s c l) number.Refused (calls.settled s r.0 number.Refused (number.Is r.1)) (settled_fixed s r.0 number.Refused (number.Is r.1) (resized_fixed c l))
+      unless_fixed s (calls.resize_causes K s c l) Err (calls.settled s r.0 Err (Ok r.1)) (settled_fixed s r.0 Err (Ok r.1) (resized_fixed c l))
 
   pub split_entry_fixed : (room : List Cause) (c : Cursor) (l : List ℕ) (flag : Bool) → Fixed s (calls.split_by K room s c l flag).after
   unfolding calls.split_by
   split_entry_fixed room c l flag = let r = place.divide (shape_of K s.head) flag s c.leaf.0 c.slot l in
       let a = calls.divided_at s.head.entries (next_stamp s.head.stamp) r.leaf r.slot in
-      unless_fixed s (calls.split_causes K room s c l) divided.Refused (calls.settled s r divided.Refused a)
-      (settled_fixed s r divided.Refused a (divide_fixed (shape_of K s.head) flag s c.leaf.0 c.slot l))
+      unless_fixed s (calls.split_causes K room s c l) Err (calls.settled s r Err a)
+      (settled_fixed s r Err a (divide_fixed (shape_of K s.head) flag s c.leaf.0 c.slot l))
 
   search_fixed : (b : Search) → Fixed s (calls.by_search s b).after
-  search_fixed (search.At f offset) = record { fan = refl; limit = refl }
-  search_fixed search.Nothing = same s
-  search_fixed search.Broken = same s
+  search_fixed (Ok (Some (f, offset))) = record { fan = refl; limit = refl }
+  search_fixed (Ok None) = same s
+  search_fixed (Err _) = same s
 
   finger_fixed : (a b : Search) → Fixed s (calls.by_finger s a b).after
-  finger_fixed (search.At f offset) b = record { fan = refl; limit = refl }
-  finger_fixed search.Nothing b = search_fixed b
-  finger_fixed search.Broken b = same s
+  finger_fixed (Ok (Some (f, offset))) b = record { fan = refl; limit = refl }
+  finger_fixed (Ok None) b = search_fixed b
+  finger_fixed (Err _) b = same s
 
   locate_fixed : (v x : ℕ) → Fixed s (calls.locate K s v x).after
   unfolding calls.locate
   locate_fixed v x = let h = s.head in let g = shape_of K h in
       let a = served_by v K.effect g h.finger h.leaves x s.leaves in let b = from_root v K.effect g h.levels h.root.0 h.leaves x s.leaves s.inners in
-      unless_fixed s (opening K s) located.Refused (calls.by_finger s a b) (finger_fixed a b)
+      unless_fixed s (opening K s) Err (calls.by_finger s a b) (finger_fixed a b)
 
-  at_fixed : (c : Standing) (f : Cursor → Moved State) → ((c : Cursor) → Fixed s (f c).after) → Fixed s (with_cursor s c f).after
-  at_fixed (standing.At c) f h = h c
-  at_fixed (standing.Refused n) f h = same s
+  at_fixed : (c : Numbered Cursor) (f : Cursor → Moved State) → ((c : Cursor) → Fixed s (f c).after) → Fixed s (with_cursor s c f).after
+  at_fixed (Ok c) f h = h c
+  at_fixed (Err n) f h = same s
 
-  target_fixed : (i : ℕ) (f : Target → Moved State) → ((t : Target) → Fixed s (f t).after) → Fixed s (with_target K s i f).after
+  target_fixed : (i : ℕ) (f : Option Cursor → Moved State) → ((t : Option Cursor) → Fixed s (f t).after) → Fixed s (with_target K s i f).after
   target_fixed i f h = go (eqb i no_entry) refl
     where
       go : (b : Bool) → eqb i no_entry ≡ b → Fixed s (with_target K s i f).after
-      go true e = rw e (h target.End)
-      go false e = rw e (at_fixed (calls.cursor K s i) (λ c. f (target.Before c)) (λ c. h (target.Before c)))
+      go true e = rw e (h None)
+      go false e = rw e (at_fixed (calls.cursor K s i) (λ c. f (Some c)) (λ c. h (Some c)))
 
   move_fixed : (c : Call) → Fixed s (tree_move K s c).after
   unfolding tree_move

@@ -1,5 +1,6 @@
 -- A change on any words: its number is 0 or 9, and every area is as long as it was. Assumes nothing.
-use Rattle.std.specs.Prelude.{◌≡◌, ◌≢◌, Bool, cond, ◌&&◌, eqb, get_or, set}
+use Rattle.model.specs.declared.way.Broken.{Broken}
+use Rattle.std.specs.Prelude.{◌≡◌, ◌≢◌, Bool, cond, ◌&&◌, eqb, get_or, set, Ok, Err, Result}
 use Rattle.std.proofs.Math.Path.{refl}
 use Rattle.std.proofs.Common.{◌∙◌, arith, length-drop}
 use Rattle.std.proofs.Math.Bool.{true, false}
@@ -16,8 +17,6 @@ use Rattle.model.specs.Grow.{Areas, areas, Linked, Top, top, Grown, grown, Above
 use Rattle.model.specs.Place as place
 use Rattle.model.specs.Place.{Change}
 use Rattle.model.specs.declared.shape.Shape.{Shape}
-use Rattle.model.specs.declared.way.Sum.{Sum}
-use Rattle.model.specs.declared.way.Sum.TheVariants as sum
 use Rattle.model_laws.specs.Lists.{length_zip, all_at_at}
 use Rattle.model_laws.specs.Slots.{Long}
 use Rattle.model_laws.specs.Nodes.{Formed}
@@ -352,16 +351,16 @@ module _ (g : Shape) where
   unfolding climb_up
   up_spans v delta e zero k i s ls xs r = refl
   up_spans v delta e (suc n) k i s ls xs r =
-      by_test (λ (p : Sum × List ℕ). length p.1 ≡ length xs) (inside g k i) _ _
+      by_test (λ (p : Result ℕ Broken × List ℕ). length p.1 ≡ length xs) (inside g k i) _ _
       (λ q. let b = both _ _ q in
       let l = raised_spans delta k i ls xs r e (ltb-true _ _ b.0) (ltb-true _ _ b.1) in
       up_spans v delta e n (node_at g k xs).parent (node_at g k xs).at (s + start v i (node_at g k xs)) ls (raised g delta k i xs)
       (roomy_on g (areas ls xs) 0 (areas ls (raised g delta k i xs)) r (record { ends = zero_ends; leaves = refl; inners = l })) ∙ l)
       (λ _. refl)
 
-  summed_left : (s : State) (r : Change) (p : Sum × List ℕ) → KeepsLengths s r.number r.state → length p.1 ≡ length r.state.inners → KeepsLengths s (place.summed g r p).0.number (place.summed g r p).0.state
-  summed_left s r (sum.Is n, xs) o e = record { ends = zero_ends; leaves = o.leaves; inners = e ∙ o.inners; homes = o.homes }
-  summed_left s r (sum.Broken, xs) o e = record { ends = nine_ends; leaves = o.leaves; inners = e ∙ o.inners; homes = o.homes }
+  summed_left : (s : State) (r : Change) (p : Result ℕ Broken × List ℕ) → KeepsLengths s r.number r.state → length p.1 ≡ length r.state.inners → KeepsLengths s (place.summed g r p).0.number (place.summed g r p).0.state
+  summed_left s r (Ok n, xs) o e = record { ends = zero_ends; leaves = o.leaves; inners = e ∙ o.inners; homes = o.homes }
+  summed_left s r (Err _, xs) o e = record { ends = nine_ends; leaves = o.leaves; inners = e ∙ o.inners; homes = o.homes }
 
   pub climb_left : (s : State) (v : ℕ) (delta : List ℕ) (r : Change) → RoomyInUse g s → length delta + 1 ≡ g.stride → KeepsLengths s r.number r.state
       → KeepsLengths s (place.climb g v delta r).0.number (place.climb g v delta r).0.state

@@ -1,6 +1,10 @@
 -- What a call leaves where it is refused (document 01, demand 1), on any words, sound or not: a number other than 0 and 9 leaves the tree,
 -- 9 leaves the head, and every area is as long as it was in any case. Assumes nothing.
-use Rattle.std.specs.Prelude.{◌≡◌, true, false, cond, ◌||◌, ℕ, ◌+◌, ◌-◌, ◌*◌, ◌^◌, ◌<◌, eqb}
+use Rattle.model.specs.declared.number.LeafNo.{LeafNo}
+use Rattle.model.specs.declared.number.EntryId.{EntryId}
+use Rattle.model.specs.declared.way.Broken.{Broken}
+use Rattle.model.specs.Numbered.{Numbered}
+use Rattle.std.specs.Prelude.{◌≡◌, true, false, cond, ◌||◌, ℕ, ◌+◌, ◌-◌, ◌*◌, ◌^◌, ◌<◌, eqb, Ok, Err, Some, None, Option, Result}
 use Rattle.std.proofs.Math.Path.{refl, ap}
 use Rattle.std.proofs.Common.{◌∙◌}
 use Rattle.std.proofs.Math.Bool.{Bool}
@@ -31,24 +35,7 @@ use Rattle.model.specs.Promise.{Words, InWords, Leaves, Refusals, Made, Demand1}
 use Rattle.model.specs.declared.shape.Shape.{Shape}
 use Rattle.model.specs.declared.head.Cursor.{Cursor}
 use Rattle.model.specs.declared.head.Finger.{Finger}
-use Rattle.model.specs.declared.head.Held.TheVariants as held
-use Rattle.model.specs.declared.way.Leaf.{Leaf}
-use Rattle.model.specs.declared.way.Leaf.TheVariants as leaf
-use Rattle.model.specs.declared.way.Search.{Search}
-use Rattle.model.specs.declared.way.Search.TheVariants as search
-use Rattle.model.specs.declared.answer.Target.{Target}
-use Rattle.model.specs.declared.answer.Target.TheVariants as target
-use Rattle.model.specs.declared.answer.Standing.{Standing}
-use Rattle.model.specs.declared.answer.Standing.TheVariants as standing
-use Rattle.model.specs.declared.answer.Outcome.TheVariants as outcome
-use Rattle.model.specs.declared.answer.Number.TheVariants as number
-use Rattle.model.specs.declared.answer.Named.{Named}
-use Rattle.model.specs.declared.answer.Named.TheVariants as named
-use Rattle.model.specs.declared.answer.Located.{Located}
-use Rattle.model.specs.declared.answer.Located.TheVariants as located
-use Rattle.model.specs.declared.answer.Inserted.TheVariants as inserted
-use Rattle.model.specs.declared.answer.Divided.{Divided}
-use Rattle.model.specs.declared.answer.Divided.TheVariants as divided
+use Rattle.model.specs.Locate.{Search}
 use Rattle.model_laws.specs.Lists.{length_zip}
 use Rattle.model_laws.specs.Lens.{by_test, Roomy}
 use Rattle.model_laws.specs.Formed.{formed_new}
@@ -61,9 +48,9 @@ use Rattle.model_theory.specs.AnySearch.{SlotInUse, Finds, held_finds, root_find
 use Rattle.model_theory.specs.AnyLengths.{KeepsLengths, RoomyInUse, put_leaf, put_inner, place_left, divide_left, replace_left, climb_left, leaf_slot}
 
 -- the id that a split answers by id, and its cursors: the same number
-pub id_number : (a : Divided) → (by_id.divided_id_answer a).number ≡ (divided_answer a).number
-id_number (divided.At i a b) = refl
-id_number (divided.Refused n) = refl
+pub id_number : (a : Numbered (EntryId × Cursor × Cursor)) → (by_id.divided_id_answer a).number ≡ (divided_answer a).number
+id_number (Ok (i, a, b)) = refl
+id_number (Err n) = refl
 
 pub unmoved : (n : ℕ) (s : State) → Leaves n s s
 unmoved n s = record { refused = λ a b. refl; broken = λ e. refl; leaves = refl; inners = refl; homes = refl }
@@ -172,20 +159,20 @@ module _ (K : Kind) (s : State) where
   unfolding calls.reset
   reset_leaves l w =
       let h = s.head in
-      unless_leaves outcome_answer outcome.Refused (λ n. refl) s (calls.make_causes K h.fan h.limit l s.leaves s.inners s.homes) (calls.reply (calls.begun K h.fan h.limit (next_stamp h.stamp) l s.leaves s.inners s.homes) outcome.Done)
+      unless_leaves outcome_answer Err (λ n. refl) s (calls.make_causes K h.fan h.limit l s.leaves s.inners s.homes) (calls.reply (calls.begun K h.fan h.limit (next_stamp h.stamp) l s.leaves s.inners s.homes) (Ok tt))
       (λ e. let b = begun_spans h.fan h.limit (next_stamp h.stamp) l s.leaves s.inners s.homes (sizes_of K h.fan h.limit s.leaves s.inners s.homes (level_made K h.fan h.limit l s.leaves s.inners s.homes (few K l _ e)).0) w in
       finished 0 s (calls.begun K h.fan h.limit (next_stamp h.stamp) l s.leaves s.inners s.homes) refl b.0 b.1 b.2)
 
-  end_left : (k : Leaf) → KeepsLengths s (calls.end_of K s k).number (calls.end_of K s k).state
-  end_left (leaf.At k) = record { ends = λ z. absurd (z refl); leaves = refl; inners = refl; homes = refl }
-  end_left leaf.Nothing = record { ends = λ z. refl; leaves = refl; inners = refl; homes = refl }
-  end_left leaf.Broken = record { ends = λ z. refl; leaves = refl; inners = refl; homes = refl }
+  end_left : (k : Result (Option LeafNo) Broken) → KeepsLengths s (calls.end_of K s k).number (calls.end_of K s k).state
+  end_left (Ok (Some k)) = record { ends = λ z. absurd (z refl); leaves = refl; inners = refl; homes = refl }
+  end_left (Ok None) = record { ends = λ z. refl; leaves = refl; inners = refl; homes = refl }
+  end_left (Err _) = record { ends = λ z. refl; leaves = refl; inners = refl; homes = refl }
 
-  aim_left : (t : Target) → KeepsLengths s (calls.aim K s t).number (calls.aim K s t).state
-  aim_left (target.Before c) = record { ends = λ z. absurd (z refl); leaves = refl; inners = refl; homes = refl }
-  aim_left target.End = end_left (last_down (shape_of K s.head) s.head.levels s.head.root.0 s.inners)
+  aim_left : (t : Option Cursor) → KeepsLengths s (calls.aim K s t).number (calls.aim K s t).state
+  aim_left (Some c) = record { ends = λ z. absurd (z refl); leaves = refl; inners = refl; homes = refl }
+  aim_left None = end_left (last_down (shape_of K s.head) s.head.levels s.head.root.0 s.inners)
 
-  placed_left : (t : Target) (l : List ℕ) → Words K l → RoomyInUse (shape_of K s.head) s → KeepsLengths s (calls.placed K s t l).0.number (calls.placed K s t l).0.state
+  placed_left : (t : Option Cursor) (l : List ℕ) → Words K l → RoomyInUse (shape_of K s.head) s → KeepsLengths s (calls.placed K s t l).0.number (calls.placed K s t l).0.state
   placed_left t l w h =
       climb_left (shape_of K s.head) s K.effect l (cond (eqb (calls.aim K s t).number 0) (place.place (shape_of K s.head) s (calls.aim K s t).leaf (calls.aim K s t).slot l) (calls.aim K s t)) h (let e = w.long in omega arith)
       (aimed (calls.aim K s t) (aim_left t) (eqb (calls.aim K s t).number 0))
@@ -204,53 +191,53 @@ module _ (K : Kind) (s : State) where
       climb_left (shape_of K s.head) s K.effect (minus l (lengths (calls.slot_at K s c))) (place.replace (shape_of K s.head) s c.leaf.0 c.slot l) h (omega arith)
       (replace_left (shape_of K s.head) s c.leaf.0 c.slot l h (omega arith) hk)
 
-  pub insert_leaves : (room : List Cause) (t : Target) (l : List ℕ) → Words K l → Leaves (inserted_answer (calls.insert_by K room s t l).answer).number s (calls.insert_by K room s t l).after
+  pub insert_leaves : (room : List Cause) (t : Option Cursor) (l : List ℕ) → Words K l → Leaves (inserted_answer (calls.insert_by K room s t l).answer).number s (calls.insert_by K room s t l).after
   unfolding calls.insert_by opening
-  insert_leaves room t l w = let r = calls.placed K s t l in let a = inserted.At (calls.entry_id s.head.entries) r.1 in
-      unless_leaves inserted_answer inserted.Refused (λ n. refl) s (calls.insert_causes K room s t l) (calls.settled s r.0 inserted.Refused a)
-      (λ e. settled_leaves inserted_answer inserted.Refused (λ n. refl) s r.0 a refl (placed_left t l w (opened K s (calls.target_causes K s t ++ crossed_bounds K l ∷ past K s [] l ∷ room) (few K l _ e)).0))
+  insert_leaves room t l w = let r = calls.placed K s t l in let a = Ok (calls.entry_id s.head.entries, r.1) in
+      unless_leaves inserted_answer Err (λ n. refl) s (calls.insert_causes K room s t l) (calls.settled s r.0 Err a)
+      (λ e. settled_leaves inserted_answer Err (λ n. refl) s r.0 a refl (placed_left t l w (opened K s (calls.target_causes K s t ++ crossed_bounds K l ∷ past K s [] l ∷ room) (few K l _ e)).0))
 
   set_leaves : (c : Cursor) (l : List ℕ) → Words K l → Leaves (outcome_answer (calls.set_lengths K s c l).answer).number s (calls.set_lengths K s c l).after
   unfolding calls.set_lengths opening
   set_leaves c l w = let r = calls.resized K s c l in
-      unless_leaves outcome_answer outcome.Refused (λ n. refl) s (calls.resize_causes K s c l) (calls.settled s r.0 outcome.Refused outcome.Done)
-      (λ e. let o = opened K s (at_cursor K s c ++ crossed_bounds K l ∷ past K s (lengths (calls.slot_at K s c)) l ∷ []) (few K l _ e) in settled_leaves outcome_answer outcome.Refused (λ n. refl) s r.0 outcome.Done refl (resized_left c l w o.0 (current_of K s c (crossed_bounds K l ∷ past K s (lengths (calls.slot_at K s c)) l ∷ []) o.1)))
+      unless_leaves outcome_answer Err (λ n. refl) s (calls.resize_causes K s c l) (calls.settled s r.0 Err (Ok tt))
+      (λ e. let o = opened K s (at_cursor K s c ++ crossed_bounds K l ∷ past K s (lengths (calls.slot_at K s c)) l ∷ []) (few K l _ e) in settled_leaves outcome_answer Err (λ n. refl) s r.0 (Ok tt) refl (resized_left c l w o.0 (current_of K s c (crossed_bounds K l ∷ past K s (lengths (calls.slot_at K s c)) l ∷ []) o.1)))
 
   update_leaves : (c : Cursor) (l : List ℕ) → Words K l → Leaves (number_answer (calls.update K s c l).answer).number s (calls.update K s c l).after
   unfolding calls.update opening
   update_leaves c l w = let r = calls.resized K s c l in
-      unless_leaves number_answer number.Refused (λ n. refl) s (calls.resize_causes K s c l) (calls.settled s r.0 number.Refused (number.Is r.1))
-      (λ e. let o = opened K s (at_cursor K s c ++ crossed_bounds K l ∷ past K s (lengths (calls.slot_at K s c)) l ∷ []) (few K l _ e) in settled_leaves number_answer number.Refused (λ n. refl) s r.0 (number.Is r.1) refl (resized_left c l w o.0 (current_of K s c (crossed_bounds K l ∷ past K s (lengths (calls.slot_at K s c)) l ∷ []) o.1)))
+      unless_leaves number_answer Err (λ n. refl) s (calls.resize_causes K s c l) (calls.settled s r.0 Err (Ok r.1))
+      (λ e. let o = opened K s (at_cursor K s c ++ crossed_bounds K l ∷ past K s (lengths (calls.slot_at K s c)) l ∷ []) (few K l _ e) in settled_leaves number_answer Err (λ n. refl) s r.0 (Ok r.1) refl (resized_left c l w o.0 (current_of K s c (crossed_bounds K l ∷ past K s (lengths (calls.slot_at K s c)) l ∷ []) o.1)))
 
   pub split_leaves : (room : List Cause) (c : Cursor) (l : List ℕ) (flag : Bool) → Words K l → Leaves (divided_answer (calls.split_by K room s c l flag).answer).number s (calls.split_by K room s c l flag).after
   unfolding calls.split_by opening
   split_leaves room c l flag w = let r = place.divide (shape_of K s.head) flag s c.leaf.0 c.slot l in
       let a = calls.divided_at s.head.entries (next_stamp s.head.stamp) r.leaf r.slot in
-      unless_leaves divided_answer divided.Refused (λ m. refl) s (calls.split_causes K room s c l) (calls.settled s r divided.Refused a)
-      (λ e. settled_leaves divided_answer divided.Refused (λ m. refl) s r a refl (divide_left (shape_of K s.head) flag s c.leaf.0 c.slot l (opened K s (at_cursor K s c ++ too_much K l (lengths (calls.slot_at K s c)) ∷ hollow_part K l (lengths (calls.slot_at K s c)) ∷ crossed_parts K l (lengths (calls.slot_at K s c)) ∷ room) (few K l _ e)).0 (let z = w.long in omega arith)))
+      unless_leaves divided_answer Err (λ m. refl) s (calls.split_causes K room s c l) (calls.settled s r Err a)
+      (λ e. settled_leaves divided_answer Err (λ m. refl) s r a refl (divide_left (shape_of K s.head) flag s c.leaf.0 c.slot l (opened K s (at_cursor K s c ++ too_much K l (lengths (calls.slot_at K s c)) ∷ hollow_part K l (lengths (calls.slot_at K s c)) ∷ crossed_parts K l (lengths (calls.slot_at K s c)) ∷ room) (few K l _ e)).0 (let z = w.long in omega arith)))
 
   -- a lookup writes no area, and keeps a finger only where it finds an entry
   search_leaves : (b : Search) → Leaves (located_answer (calls.by_search s b).answer).number s (calls.by_search s b).after
-  search_leaves (search.At f offset) = finished 0 s (calls.hit s f offset).after refl refl refl refl
-  search_leaves search.Nothing = unmoved 5 s
-  search_leaves search.Broken = unmoved 9 s
+  search_leaves (Ok (Some (f, offset))) = finished 0 s (calls.hit s f offset).after refl refl refl refl
+  search_leaves (Ok None) = unmoved 5 s
+  search_leaves (Err _) = unmoved 9 s
 
   finger_leaves : (a b : Search) → Leaves (located_answer (calls.by_finger s a b).answer).number s (calls.by_finger s a b).after
-  finger_leaves (search.At f offset) b = finished 0 s (calls.hit s f offset).after refl refl refl refl
-  finger_leaves search.Nothing b = search_leaves b
-  finger_leaves search.Broken b = unmoved 9 s
+  finger_leaves (Ok (Some (f, offset))) b = finished 0 s (calls.hit s f offset).after refl refl refl refl
+  finger_leaves (Ok None) b = search_leaves b
+  finger_leaves (Err _) b = unmoved 9 s
 
   locate_leaves : (v x : ℕ) → Leaves (located_answer (calls.locate K s v x).answer).number s (calls.locate K s v x).after
   unfolding calls.locate
   locate_leaves v x =
       let h = s.head in
-      unless_leaves located_answer located.Refused (λ n. refl) s (opening K s) _
+      unless_leaves located_answer Err (λ n. refl) s (opening K s) _
       (λ e. finger_leaves (served_by v K.effect (shape_of K s.head) h.finger h.leaves x s.leaves) (from_root v K.effect (shape_of K s.head) h.levels h.root.0 h.leaves x s.leaves s.inners))
 
   -- the number is the same without the two positions
-  less_number : (a : Located) → (selected_answer (calls.less_positions a)).number ≡ (located_answer a).number
-  less_number (located.At c offset effect prepare) = refl
-  less_number (located.Refused n) = refl
+  less_number : (a : Numbered (Cursor × ℕ × ℕ × ℕ)) → (selected_answer (calls.less_positions a)).number ≡ (located_answer a).number
+  less_number (Ok (c, offset, effect, prepare)) = refl
+  less_number (Err n) = refl
 
   select_leaves : (v x : ℕ) → Leaves (selected_answer (calls.char_index_to_entry K s v x).answer).number s (calls.char_index_to_entry K s v x).after
   unfolding calls.char_index_to_entry
@@ -258,16 +245,16 @@ module _ (K : Kind) (s : State) where
 
   -- by id ---------------------------------------------------------------------------------------------------------------------------------
 
-  at_leaves : (c : Standing) (f : Cursor → Moved State) → ((c : Cursor) → Leaves (f c).answer.number s (f c).after) → Leaves (with_cursor s c f).answer.number s (with_cursor s c f).after
-  at_leaves (standing.At c) f h = h c
-  at_leaves (standing.Refused n) f h = unmoved n s
+  at_leaves : (c : Numbered Cursor) (f : Cursor → Moved State) → ((c : Cursor) → Leaves (f c).answer.number s (f c).after) → Leaves (with_cursor s c f).answer.number s (with_cursor s c f).after
+  at_leaves (Ok c) f h = h c
+  at_leaves (Err n) f h = unmoved n s
 
-  target_leaves : (i : ℕ) (f : Target → Moved State) → ((t : Target) → Leaves (f t).answer.number s (f t).after) → Leaves (with_target K s i f).answer.number s (with_target K s i f).after
+  target_leaves : (i : ℕ) (f : Option Cursor → Moved State) → ((t : Option Cursor) → Leaves (f t).answer.number s (f t).after) → Leaves (with_target K s i f).answer.number s (with_target K s i f).after
   target_leaves i f h = go (eqb i no_entry) refl
     where
       go : (b : Bool) → eqb i no_entry ≡ b → Leaves (with_target K s i f).answer.number s (with_target K s i f).after
-      go true e = rw e (h target.End)
-      go false e = rw e (at_leaves (calls.cursor K s i) (λ c. f (target.Before c)) (λ c. h (target.Before c)))
+      go true e = rw e (h None)
+      go false e = rw e (at_leaves (calls.cursor K s i) (λ c. f (Some c)) (λ c. h (Some c)))
 
   -- the new id alone
   -- a finger found stands at a slot in use, so its id is read
@@ -279,21 +266,21 @@ module _ (K : Kind) (s : State) where
       let c = calls.cursor_at s.head.stamp f.leaf f.slot in
       let n = (node_at (shape_of K s.head) f.leaf s.leaves).len in
       let at : refusal (at_cursor K t c) ≡ 0 = rw (eq-eqb s.head.stamp s.head.stamp refl, lt-leb s.head.leaves f.leaf h.leaf, lt-leb n f.slot h.slot, le-ltb s.head.fan n h.filled) in
-      ap (λ (a : Named). (by_id.id_answer a vs).number) (passed (opening K t ++ at_cursor K t c) named.Refused (named.Entry (calls.entry_id (child (calls.slot_at K t c)))) (none_more (opening K t) (at_cursor K t c) e at))
+      ap (λ (a : Numbered EntryId). (by_id.id_answer a vs).number) (passed (opening K t ++ at_cursor K t c) Err (Ok (calls.entry_id (child (calls.slot_at K t c)))) (none_more (opening K t) (at_cursor K t c) e at))
 
   found_leaves : (a b : Search) → refusal (opening K s) ≡ 0 → Finds K s a → Finds K s b
       → Leaves (by_id.located_answer K (calls.by_finger s a b).after (calls.by_finger s a b).answer).number s (calls.by_finger s a b).after
-  found_leaves (search.At f offset) b e h k = finished _ s (calls.hit s f offset).after (id_read f offset (offset ∷ effect_at f ∷ prepare_at f ∷ []) e h) refl refl refl
-  found_leaves search.Nothing (search.At f offset) e h k = finished _ s (calls.hit s f offset).after (id_read f offset (offset ∷ effect_at f ∷ prepare_at f ∷ []) e k) refl refl refl
-  found_leaves search.Nothing search.Nothing e h k = unmoved 5 s
-  found_leaves search.Nothing search.Broken e h k = unmoved 9 s
-  found_leaves search.Broken b e h k = unmoved 9 s
+  found_leaves (Ok (Some (f, offset))) b e h k = finished _ s (calls.hit s f offset).after (id_read f offset (offset ∷ effect_at f ∷ prepare_at f ∷ []) e h) refl refl refl
+  found_leaves (Ok None) (Ok (Some (f, offset))) e h k = finished _ s (calls.hit s f offset).after (id_read f offset (offset ∷ effect_at f ∷ prepare_at f ∷ []) e k) refl refl refl
+  found_leaves (Ok None) (Ok None) e h k = unmoved 5 s
+  found_leaves (Ok None) (Err _) e h k = unmoved 9 s
+  found_leaves (Err _) b e h k = unmoved 9 s
 
   look_leaves : (v x : ℕ) → Leaves (tree_move K s (row.lookup v x)).answer.number s (tree_move K s (row.lookup v x)).after
   unfolding tree_move calls.locate
   look_leaves v x =
       let h = s.head in
-      by_test (λ (r : Reply Located). Leaves (by_id.located_answer K r.after r.answer).number s r.after) (eqb (refusal (opening K s)) 0) _ _
+      by_test (λ (r : Reply (Numbered (Cursor × ℕ × ℕ × ℕ))). Leaves (by_id.located_answer K r.after r.answer).number s r.after) (eqb (refusal (opening K s)) 0) _ _
       (λ e. found_leaves (served_by v K.effect (shape_of K h) h.finger h.leaves x s.leaves) (from_root v K.effect (shape_of K h) h.levels h.root.0 h.leaves x s.leaves s.inners)
       (eqb-true _ _ e) (held_finds K s v h.finger x) (root_finds K s v x))
       (λ _. unmoved (refusal (opening K s)) s)
@@ -340,7 +327,7 @@ make_leaves K fan limit l ls xs hs w = go (eqb (refusal (calls.make_causes K fan
   where
     go : (b : Bool) → eqb (refusal (calls.make_causes K fan limit l ls xs hs)) 0 ≡ b → Made K fan limit l ls xs hs
     go true e =
-        let b = begun_spans K (state (head_of 0 0 0 0 0 0 0 0 held.Absent) ls xs hs) fan limit 1 l ls xs hs (sizes_of K fan limit ls xs hs (level_made K fan limit l ls xs hs (few K l _ (eqb-true _ _ e))).0) w in
+        let b = begun_spans K (state (head_of 0 0 0 0 0 0 0 0 None) ls xs hs) fan limit 1 l ls xs hs (sizes_of K fan limit ls xs hs (level_made K fan limit l ls xs hs (few K l _ (eqb-true _ _ e))).0) w in
         record { refused = rw e (λ d. absurd (d refl)); leaves = rw e b.0; inners = rw e b.1; homes = rw e b.2 }
     go false e = record { refused = rw e (λ d. refl); leaves = rw e refl; inners = rw e refl; homes = rw e refl }
 

@@ -1,5 +1,7 @@
 -- Audit's theorem: on any state, audit says yes exactly when the state is sound.
-use Rattle.std.specs.Prelude.{◌≡◌, refl, Bool, true, false, cond, List, [], ℕ, zero, suc, ◌+◌, ◌≤◌, ◌<◌, eqb, length, get_or}
+use Rattle.model.specs.Numbered.{Numbered}
+use Rattle.model.specs.declared.head.Finger.{Finger}
+use Rattle.std.specs.Prelude.{◌≡◌, refl, Bool, true, false, cond, List, [], ℕ, zero, suc, ◌+◌, ◌≤◌, ◌<◌, eqb, length, get_or, Ok, Err, Some, None, Option}
 use Rattle.std.proofs.Common.{sym, ap, ◌∙◌, subst, zero-add, arith, eq-eqb, ne_eqb}
 use Rattle.std.proofs.Math.Decide.{ℕ_discrete}
 use Rattle.std.proofs.lemmas.List.{length-map}
@@ -12,10 +14,6 @@ use Rattle.model.specs.Climb.{rank_up}
 use Rattle.model.specs.Sound.{shape_in, leaf_in, inner_in, Coherent, Sound, FingerRight}
 use Rattle.model.specs.Calls.{area_causes}
 use Rattle.model.specs.Audit.{depth_of, is_sound, audit}
-use Rattle.model.specs.declared.head.Held.{Held}
-use Rattle.model.specs.declared.head.Held.TheVariants as held
-use Rattle.model.specs.declared.way.Sum.TheVariants as sum
-use Rattle.model.specs.declared.answer.Verdict.TheVariants as verdict
 use Rattle.model_laws.specs.Areas.{formed_at}
 use Rattle.model_theory.specs.WordFits.{fits}
 use Rattle.model_tree.specs.Lists.{all_map}
@@ -124,15 +122,15 @@ module _ (K : Kind) (t : State) (s : Sound K t) where
             });
       }
 
-  hand_by : (h : Held) → FingerRight (stride K) t K.effect h → HandBy K t h
-  hand_by held.Absent r = tt
-  hand_by (held.At f) r =
+  hand_by : (h : Option Finger) → FingerRight (stride K) t K.effect h → HandBy K t h
+  hand_by None r = tt
+  hand_by (Some f) r =
       let k : ℕ = f.leaf in
-      let q = finger_of_law (stride K) t K.effect w (held.At f) r in
+      let q = finger_of_law (stride K) t K.effect w (Some f) r in
       let td : Tidy (stride K) t.head.fan (leaf_in (stride K) t k) = nt.leaf_tidy k r.leaf in
       let sl : f.slot ≤ length (slots_of (leaf_in (stride K) t k)) = (let y = q.slot_in_law in omega arith) in
-      let st : (v n : ℕ) → n ≡ climb v T.body.leaf T.body.inner t.head.levels k → rank_up (shape_in (stride K) t) v t.head.levels (leaf_in (stride K) t k).parent (leaf_in (stride K) t k).at 0 t.inners ≡ sum.Is n =
-      λ v n e. climb_of (stride K) t nt b k r.leaf v ∙ ap sum.Is (zero-add (climb v T.body.leaf T.body.inner t.head.levels k) ∙ sym e) in
+      let st : (v n : ℕ) → n ≡ climb v T.body.leaf T.body.inner t.head.levels k → rank_up (shape_in (stride K) t) v t.head.levels (leaf_in (stride K) t k).parent (leaf_in (stride K) t k).at 0 t.inners ≡ Ok n =
+      λ v n e. climb_of (stride K) t nt b k r.leaf v ∙ ap Ok (zero-add (climb v T.body.leaf T.body.inner t.head.levels k) ∙ sym e) in
       record {
         view = (let y = r.view in omega arith);
         leaf = r.leaf;
@@ -162,30 +160,30 @@ module _ (K : Kind) (t : State) (s : Sound K t) where
   }
 
 -- yes on every sound state
-audit_sound : (K : Kind) (t : State) → Sound K t → audit K t ≡ verdict.Yes
+audit_sound : (K : Kind) (t : State) → Sound K t → audit K t ≡ Ok true
 unfolding audit refusal
 audit_sound K t w =
     let h = t.head in
-    passed (area_causes K h.fan h.limit t.leaves t.inners t.homes) verdict.Refused (cond (is_sound K t) verdict.Yes verdict.No)
+    passed (area_causes K h.fan h.limit t.leaves t.inners t.homes) Err (cond (is_sound K t) (Ok true) (Ok false))
     (good_areas K t w.coherent []) ∙ rw (sound_test K t (sound_facts K t w))
 
 -- and on no other
-audit_yes : (K : Kind) (t : State) → audit K t ≡ verdict.Yes → Sound K t
+audit_yes : (K : Kind) (t : State) → audit K t ≡ Ok true → Sound K t
 unfolding audit
 audit_yes K t e = go (refusal (area_causes K t.head.fan t.head.limit t.leaves t.inners t.homes)) refl
   where
-    true_of : (b : Bool) → cond b verdict.Yes verdict.No ≡ verdict.Yes → b ≡ true
+    true_of : (b : Bool) → ◌≡◌ {A = Numbered Bool} (cond b (Ok true) (Ok false)) (Ok true) → b ≡ true
     true_of true q = refl
     true_of false q = absurd (let z : ◌≡◌ {A = ℕ} 0 1 = cc in omega arith)
 
     go : (n : ℕ) → refusal (area_causes K t.head.fan t.head.limit t.leaves t.inners t.homes) ≡ n → Sound K t
     go zero q =
         let z : Sizes K t.head.fan t.head.limit t.leaves t.inners t.homes = sizes_of K t.head.fan t.head.limit t.leaves t.inners t.homes q in
-        let s : is_sound K t ≡ true = true_of (is_sound K t) (sym (passed (area_causes K t.head.fan t.head.limit t.leaves t.inners t.homes) verdict.Refused (cond (is_sound K t) verdict.Yes verdict.No) q) ∙ e) in
+        let s : is_sound K t ≡ true = true_of (is_sound K t) (sym (passed (area_causes K t.head.fan t.head.limit t.leaves t.inners t.homes) Err (cond (is_sound K t) (Ok true) (Ok false)) q) ∙ e) in
         let f : SoundBy K t = sound_by_law K t (λ k lt. formed_at (shape_in (stride K) t) k t.inners refl (fits (shape_in (stride K) t) k t.inners lt z.inner_area)) (λ k lt. formed_at (shape_in (stride K) t) k t.leaves refl (fits (shape_in (stride K) t) k t.leaves lt z.leaf_area)) s in
         record { coherent = facts_sound K t z f; lines = λ k i lk li. ((f.leaf k lk).entries i li).few; bounds = λ k i lk li. ((f.leaf k lk).entries i li).level }
-    go (suc n) q = absurd (let r : verdict.Refused (suc n) ≡ verdict.Yes = sym (stopped (area_causes K t.head.fan t.head.limit t.leaves t.inners t.homes) verdict.Refused (cond (is_sound K t) verdict.Yes verdict.No) n q) ∙ e in
+    go (suc n) q = absurd (let r : ◌≡◌ {A = Numbered Bool} (Err (suc n)) (Ok true) = sym (stopped (area_causes K t.head.fan t.head.limit t.leaves t.inners t.homes) Err (cond (is_sound K t) (Ok true) (Ok false)) n q) ∙ e in
         let z : ◌≡◌ {A = ℕ} 0 1 = cc in omega arith)
 
-pub audit_exactly : (K : Kind) (t : State) → (audit K t ≡ verdict.Yes → Sound K t) × (Sound K t → audit K t ≡ verdict.Yes)
+pub audit_exactly : (K : Kind) (t : State) → (audit K t ≡ Ok true → Sound K t) × (Sound K t → audit K t ≡ Ok true)
 audit_exactly K t = (audit_yes K t, audit_sound K t)

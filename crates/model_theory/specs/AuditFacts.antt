@@ -1,5 +1,6 @@
 -- What each test of audit says, and that the tests say exactly that, on any state whose areas are long enough.
-use Rattle.std.specs.Prelude.{◌≡◌, ◌≢◌, false, ◌&&◌}
+use Rattle.model.specs.declared.way.Broken.{Broken}
+use Rattle.std.specs.Prelude.{◌≡◌, ◌≢◌, false, ◌&&◌, Ok, Err, Some, None, Option, Result}
 use Rattle.std.proofs.Math.Path.{refl}
 use Rattle.std.proofs.Common.{sym, ap, arith}
 use Rattle.std.proofs.Math.Bool.{Bool, true, cond, not}
@@ -19,10 +20,6 @@ use Rattle.model.specs.Sound.{shape_in, leaf_in, inner_in, least_leaf, least_inn
 use Rattle.model.specs.Refuse.{total_of}
 use Rattle.model.specs.Audit.{every, is_other, is_sum, depth_of, is_filled, is_held, is_child, is_inner, is_entry, is_leaf, leaf_start, is_finger, is_held_finger, is_sound}
 use Rattle.model.specs.declared.head.Finger.{Finger}
-use Rattle.model.specs.declared.head.Held.{Held}
-use Rattle.model.specs.declared.head.Held.TheVariants as held
-use Rattle.model.specs.declared.way.Sum.{Sum}
-use Rattle.model.specs.declared.way.Sum.TheVariants as sum
 use Rattle.model_laws.specs.Nodes.{Formed}
 use Rattle.model_theory.specs.AuditTests.{both, join, every_at, every_of, FilledBy, filled_by, filled_test}
 
@@ -47,9 +44,9 @@ not_so : (b : Bool) → not b ≡ true → b ≡ false
 not_so true e = absurd (let z : ◌≡◌ {A = ℕ} 0 1 = cc in omega arith)
 not_so false e = refl
 
-is_sum_law : (n : ℕ) (s : Sum) → is_sum n s ≡ true → s ≡ sum.Is n
-is_sum_law n (sum.Is m) e = ap sum.Is (sym (eqb-true n m e))
-is_sum_law n sum.Broken e = absurd (let z : ◌≡◌ {A = ℕ} 0 1 = cc in omega arith)
+is_sum_law : (n : ℕ) (s : Result ℕ Broken) → is_sum n s ≡ true → s ≡ Ok n
+is_sum_law n (Ok m) e = ap Ok (sym (eqb-true n m e))
+is_sum_law n (Err _) e = absurd (let z : ◌≡◌ {A = ℕ} 0 1 = cc in omega arith)
 
 module _ (K : Kind) (t : State) where
   pub record HeldBy (k : ℕ) (n : Node) : Type 0 where
@@ -95,16 +92,16 @@ module _ (K : Kind) (t : State) where
     pub view : f.view < K.views
     pub leaf : f.leaf < t.head.leaves
     pub slot : f.slot < (leaf_in (stride K) t f.leaf).len
-    pub start : leaf_start K t f.view (leaf_in (stride K) t f.leaf) ≡ sum.Is f.start
-    pub effect : leaf_start K t K.effect (leaf_in (stride K) t f.leaf) ≡ sum.Is f.effect
+    pub start : leaf_start K t f.view (leaf_in (stride K) t f.leaf) ≡ Ok f.start
+    pub effect : leaf_start K t K.effect (leaf_in (stride K) t f.leaf) ≡ Ok f.effect
     pub within : f.within ≡ node.start f.view f.slot (leaf_in (stride K) t f.leaf)
     pub within_effect : f.effect_within ≡ node.start K.effect f.slot (leaf_in (stride K) t f.leaf)
-    pub prepare_start : leaf_start K t 0 (leaf_in (stride K) t f.leaf) ≡ sum.Is f.prepare
+    pub prepare_start : leaf_start K t 0 (leaf_in (stride K) t f.leaf) ≡ Ok f.prepare
     pub within_prepare : f.prepare_within ≡ node.start 0 f.slot (leaf_in (stride K) t f.leaf)
 
-  abbrev pub HandBy : Held → Type 0
-  HandBy held.Absent = Unit {0}
-  HandBy (held.At f) = FingerBy f
+  abbrev pub HandBy : Option Finger → Type 0
+  HandBy None = Unit {0}
+  HandBy (Some f) = FingerBy f
 
   pub record SoundBy : Type 0 where
     pub entry_count : t.head.entries ≤ t.head.limit
@@ -288,13 +285,13 @@ module _ (K : Kind) (t : State) where
         eq-eqb f.prepare_within (node.start 0 f.slot n) h.within_prepare,
       )
 
-  hand_by : (h : Held) → is_held_finger K t h ≡ true → HandBy h
-  hand_by held.Absent e = tt
-  hand_by (held.At f) e = finger_by_law f e
+  hand_by : (h : Option Finger) → is_held_finger K t h ≡ true → HandBy h
+  hand_by None e = tt
+  hand_by (Some f) e = finger_by_law f e
 
-  hand_test : (h : Held) → HandBy h → is_held_finger K t h ≡ true
-  hand_test held.Absent h = refl
-  hand_test (held.At f) h = finger_test f h
+  hand_test : (h : Option Finger) → HandBy h → is_held_finger K t h ≡ true
+  hand_test None h = refl
+  hand_test (Some f) h = finger_test f h
 
   module _ (inners : (k : ℕ) → k < (shape_in (stride K) t).nodes → Formed (stride K) t.head.fan (inner_in (stride K) t k)) (leaves : (k : ℕ) → k < (shape_in (stride K) t).nodes → Formed (stride K) t.head.fan (leaf_in (stride K) t k)) where
     pub sound_by_law : is_sound K t ≡ true → SoundBy

@@ -1,5 +1,7 @@
 -- A state of which audit's facts hold is sound.
-use Rattle.std.specs.Prelude.{◌≡◌, refl, Bool, true, false, cond, List, [], ℕ, ◌+◌, ◌≤◌, ◌<◌, eqb, length, get_or, take}
+use Rattle.model.specs.declared.way.Broken.{Broken}
+use Rattle.model.specs.declared.head.Finger.{Finger}
+use Rattle.std.specs.Prelude.{◌≡◌, refl, Bool, true, false, cond, List, [], ℕ, ◌+◌, ◌≤◌, ◌<◌, eqb, length, get_or, take, Ok, Some, None, Option, Result}
 use Rattle.std.proofs.Common.{sym, ap, ◌∙◌, subst, zero-add, arith, eq-eqb, ne_eqb}
 use Rattle.std.proofs.Math.Decide.{dec_lt}
 use Rattle.std.proofs.lemmas.List.{length-map}
@@ -12,9 +14,6 @@ use Rattle.model.specs.State.{State}
 use Rattle.model.specs.Sound.{shape_in, leaf_in, inner_in, least_inner, Coherent}
 use Rattle.model.specs.Climb.{rank_up}
 use Rattle.model.specs.Audit.{depth_of}
-use Rattle.model.specs.declared.head.Held.{Held}
-use Rattle.model.specs.declared.head.Held.TheVariants as held
-use Rattle.model.specs.declared.way.Sum.TheVariants as sum
 use Rattle.model_laws.specs.Lists.{all_at_at}
 use Rattle.model_laws.specs.Slots.{Wide}
 use Rattle.model_laws.specs.Nodes.{Formed}
@@ -48,10 +47,10 @@ start_at s fan v i n td h =
 
 -- what the links above a leaf sum up to
 pub climb_of : (s : ℕ) (t : State) (nt : Neat s t) → Body (tree_of s t) → (k : ℕ) → k < t.head.leaves → (v : ℕ)
-    → rank_up (shape_in s t) v t.head.levels (leaf_in s t k).parent (leaf_in s t k).at 0 t.inners ≡ sum.Is (0 + climb v (tree_of s t).body.leaf (tree_of s t).body.inner t.head.levels k)
+    → rank_up (shape_in s t) v t.head.levels (leaf_in s t k).parent (leaf_in s t k).at 0 t.inners ≡ Ok (0 + climb v (tree_of s t).body.leaf (tree_of s t).body.inner t.head.levels k)
 climb_of s t nt b k lk v = go (is_in k (order (tree_of s t)) (b.leaf_all k lk))
   where
-    go : In k (order (tree_of s t)) → rank_up (shape_in s t) v t.head.levels (leaf_in s t k).parent (leaf_in s t k).at 0 t.inners ≡ sum.Is (0 + climb v (tree_of s t).body.leaf (tree_of s t).body.inner t.head.levels k)
+    go : In k (order (tree_of s t)) → rank_up (shape_in s t) v t.head.levels (leaf_in s t k).parent (leaf_in s t k).at 0 t.inners ≡ Ok (0 + climb v (tree_of s t).body.leaf (tree_of s t).body.inner t.head.levels k)
     go i =
         let T : Tree = tree_of s t in
         rank_up_law s t nt v t.head.levels T.body.leaf k 0
@@ -68,9 +67,9 @@ module _ (K : Kind) (t : State) (z : Sizes K t.head.fan t.head.limit t.leaves t.
   inner_formed : (k : ℕ) → k < t.head.inners → Formed (stride K) t.head.fan (inner_in (stride K) t k)
   inner_formed k lt = formed_at (shape_in (stride K) t) k t.inners refl (fits (shape_in (stride K) t) k t.inners (let y = f.inner_count in omega arith) z.inner_area)
 
-  hand_view : (h : Held) → HandBy K t h → Viewed (stride K) h
-  hand_view held.Absent r = tt
-  hand_view (held.At g) r = (let y = r.view in omega arith)
+  hand_view : (h : Option Finger) → HandBy K t h → Viewed (stride K) h
+  hand_view None r = tt
+  hand_view (Some g) r = (let y = r.view in omega arith)
 
   neat : Neat (stride K) t
   neat = record {
@@ -222,15 +221,15 @@ module _ (K : Kind) (t : State) (z : Sizes K t.head.fan t.head.limit t.leaves t.
   body = checks_body T checks
 
   -- the finger
-  leaf_sum : (k v : ℕ) → k < t.head.leaves → (n : ℕ) → rank_up (shape_in (stride K) t) v t.head.levels (leaf_in (stride K) t k).parent (leaf_in (stride K) t k).at 0 t.inners ≡ sum.Is n → n ≡ climb v T.body.leaf T.body.inner t.head.levels k
+  leaf_sum : (k v : ℕ) → k < t.head.leaves → (n : ℕ) → rank_up (shape_in (stride K) t) v t.head.levels (leaf_in (stride K) t k).parent (leaf_in (stride K) t k).at 0 t.inners ≡ Ok n → n ≡ climb v T.body.leaf T.body.inner t.head.levels k
   leaf_sum k v lk n e = sum_inj (sym e ∙ climb_of (stride K) t neat body k lk v) ∙ zero-add (climb v T.body.leaf T.body.inner t.head.levels k)
     where
-      sum_inj : {a b : ℕ} → sum.Is a ≡ sum.Is b → a ≡ b
+      sum_inj : {a b : ℕ} → ◌≡◌ {A = Result ℕ Broken} (Ok a) (Ok b) → a ≡ b
       sum_inj q = cc
 
-  right : (h : Held) → HandBy K t h → tree.Right K.effect T h
-  right held.Absent r = tt
-  right (held.At g) r =
+  right : (h : Option Finger) → HandBy K t h → tree.Right K.effect T h
+  right None r = tt
+  right (Some g) r =
       let k : ℕ = g.leaf in
       let td : Tidy (stride K) t.head.fan (leaf_in (stride K) t k) = neat.leaf_tidy k r.leaf in
       let sl : g.slot < length (slots_of (leaf_in (stride K) t k)) = (let y = leaf_size k r.leaf in let x = r.slot in omega arith) in

@@ -1,5 +1,6 @@
 -- Two entries of a sound state are compared as the row compares them: by slots within a leaf, else by their paths from the root.
-use Rattle.std.specs.Prelude.{◌≡◌, ◌⊎◌, cond, ltb, eqb}
+use Rattle.std.specs.declared.cmp.Ordering.TheVariants.{Less, Equal, Greater}
+use Rattle.std.specs.Prelude.{◌≡◌, ◌⊎◌, cond, ltb, eqb, Ok, Err}
 use Rattle.std.proofs.Math.Path.{refl, ap, ap₂}
 use Rattle.std.proofs.Common.{◌∙◌, subst, inl, inr, arith}
 use mathlib.Core.List.{List, [], ◌∷◌, ◌++◌, append-nil}
@@ -20,7 +21,6 @@ use Rattle.model.specs.Calls.{cursor_at, in_order, by_path}
 use Rattle.model.specs.ById.{with_cursor, tree_move}
 use Rattle.model.specs.Answer.{compared_answer}
 use Rattle.model.specs.declared.head.Cursor.{Cursor}
-use Rattle.model.specs.declared.answer.Compared.TheVariants as compared
 use Rattle.model_tree.specs.Levels.{total}
 use Rattle.model_tree.specs.Next.{Lex}
 use Rattle.model_tree.specs.Tree.{Tree, above}
@@ -35,25 +35,25 @@ use Rattle.model_theory.specs.WalkUp.{WayUp, way, steps_up_law}
 use Rattle.model_theory.specs.CallSimulates.{Simulates, Mirrors, row_of, row_passed, own, by_id, before_is}
 
 -- paths that differ
-lex_before : (xs ys : List ℕ) → Lex xs ys → by_path xs ys ≡ compared.Before
+lex_before : (xs ys : List ℕ) → Lex xs ys → by_path xs ys ≡ Ok Less
 unfolding in_order
 lex_before [] ys h = absurd h
 lex_before (x ∷ xs) [] h = absurd h
 lex_before (x ∷ xs) (y ∷ ys) h = more (x ∷ xs) (y ∷ ys) h
   where
-    more : (xs ys : List ℕ) → Lex xs ys → in_order xs ys ≡ compared.Before
+    more : (xs ys : List ℕ) → Lex xs ys → in_order xs ys ≡ Ok Less
     more [] ys h = absurd h
     more (x ∷ xs) [] h = absurd h
     more (x ∷ xs) (y ∷ ys) (inl h) = rw (lt-ltb x y h)
     more (x ∷ xs) (y ∷ ys) (inr h) = let z : x ≡ y = h.0 in rw (le-ltb x y (omega arith), le-ltb y x (omega arith)) (more xs ys h.1)
 
-lex_after : (xs ys : List ℕ) → Lex ys xs → by_path xs ys ≡ compared.After
+lex_after : (xs ys : List ℕ) → Lex ys xs → by_path xs ys ≡ Ok Greater
 unfolding in_order
 lex_after xs [] h = absurd h
 lex_after [] (y ∷ ys) h = absurd h
 lex_after (x ∷ xs) (y ∷ ys) h = more (x ∷ xs) (y ∷ ys) h
   where
-    more : (xs ys : List ℕ) → Lex ys xs → in_order xs ys ≡ compared.After
+    more : (xs ys : List ℕ) → Lex ys xs → in_order xs ys ≡ Ok Greater
     more xs [] h = absurd h
     more [] (y ∷ ys) h = absurd h
     more (x ∷ xs) (y ∷ ys) (inl h) = rw (le-ltb x y (omega arith), lt-ltb y x h)
@@ -94,10 +94,10 @@ module _ (K : Kind) (t : State) (w : Coherent K t) where
         ne_eqb (length (front a.cur)) (length (front c.cur)) (λ q. let z = r.1 in omega arith),
       )
 
-      slots : (x y m n : ℕ) → m + y ≡ n + x → compared_answer (cond (ltb x y) compared.Before (cond (ltb y x) compared.After compared.Same)) ≡ done (cond (ltb m n) 0 (cond (eqb m n) 1 2) ∷ [])
+      slots : (x y m n : ℕ) → m + y ≡ n + x → compared_answer (cond (ltb x y) (Ok Less) (cond (ltb y x) (Ok Greater) (Ok Equal))) ≡ done (cond (ltb m n) 0 (cond (eqb m n) 1 2) ∷ [])
       slots x y m n e = by (dec_lt x y) (dec_lt y x)
         where
-          by : Dec (x < y) → Dec (y < x) → compared_answer (cond (ltb x y) compared.Before (cond (ltb y x) compared.After compared.Same)) ≡ done (cond (ltb m n) 0 (cond (eqb m n) 1 2) ∷ [])
+          by : Dec (x < y) → Dec (y < x) → compared_answer (cond (ltb x y) (Ok Less) (cond (ltb y x) (Ok Greater) (Ok Equal))) ≡ done (cond (ltb m n) 0 (cond (eqb m n) 1 2) ∷ [])
           by (yes lt) d = rw (lt-ltb x y lt, lt-ltb m n (omega arith))
           by (no ge) (yes lt) = rw (le-ltb x y (omega arith), lt-ltb y x lt, le-ltb m n (omega arith), ne_eqb m n (λ q. omega arith))
           by (no ge) (no le) = rw (le-ltb x y (omega arith), le-ltb y x (omega arith), le-ltb m n (omega arith), eq-eqb m n (omega arith))
@@ -118,7 +118,7 @@ module _ (K : Kind) (t : State) (w : Coherent K t) where
       at a c =
           let ca : Cursor = cursor_at t.head.stamp a.leaf a.slot in
           let cc : Cursor = cursor_at t.head.stamp c.leaf c.slot in
-          ap compared_answer (passed (opening K t ++ (stale K t ca ++ stale K t cc)) compared.Refused _
+          ap compared_answer (passed (opening K t ++ (stale K t ca ++ stale K t cc)) Err _
           (opens K t w (stale K t ca ++ stale K t cc) ∙ fresh K t w a.leaf a.slot (stale K t cc) a.leaf_in_law a.slot_in_law ∙ fresh K t w c.leaf c.slot [] c.leaf_in_law c.slot_in_law))
           ∙ ap₂ (λ (p q : List ℕ). compared_answer (cond (eqb a.leaf c.leaf) (in_order (a.slot ∷ []) (c.slot ∷ [])) (by_path p q))) (path_is i a) (path_is j c)
           ∙ compared_is i j a c

@@ -1,5 +1,6 @@
 -- Insert on a sound state does what it does on the row.
-use Rattle.std.specs.Prelude.{◌≡◌, ◌≢◌, Bool, cond, ◌&&◌, not, ℕ, zero, suc, ◌+◌, ◌<◌, ltb, leb, length}
+use Rattle.model.specs.declared.head.Cursor.{Cursor}
+use Rattle.std.specs.Prelude.{◌≡◌, ◌≢◌, Bool, cond, ◌&&◌, not, ℕ, zero, suc, ◌+◌, ◌<◌, ltb, leb, length, Ok, Err, Some, None, Option}
 use Rattle.std.proofs.Math.Path.{refl, ap, ap₂}
 use Rattle.std.proofs.Common.{sym, ◌∙◌, subst}
 use Rattle.std.proofs.Math.Bool.{true, false}
@@ -26,10 +27,6 @@ use Rattle.model.specs.Calls as calls
 use Rattle.model.specs.Calls.{cursor_at, entry_id, placed, insert_causes}
 use Rattle.model.specs.ById.{with_target, told, tree_move}
 use Rattle.model.specs.Answer.{inserted_answer}
-use Rattle.model.specs.declared.answer.Target.{Target}
-use Rattle.model.specs.declared.answer.Target.TheVariants as target
-use Rattle.model.specs.declared.answer.Inserted.TheVariants as insertion
-use Rattle.model.specs.declared.way.Leaf.TheVariants as leaf
 use Rattle.model_laws.specs.Lists.{some_views}
 use Rattle.model_tree.specs.Lists.{sum_by_append, all_map}
 use Rattle.model_tree.specs.Levels.{Slot, len}
@@ -63,7 +60,7 @@ abbrev number_of : Bool → Bool → ℕ → ℕ
 number_of a b n = cond a 20 (cond b 7 n)
 
 -- an insertion at a place between R₁ and R₂ of the row, by a call that answers X where the row answers a
-module _ (K : Kind) (t : State) (w : Coherent K t) (room rowRoom : List Cause) (space : Space t room rowRoom) (i : ℕ) (l : List ℕ) (wl : length l ≡ K.views) (tg : Target) (k j : ℕ) (R₁ R₂ : List Slot)
+module _ (K : Kind) (t : State) (w : Coherent K t) (room rowRoom : List Cause) (space : Space t room rowRoom) (i : ℕ) (l : List ℕ) (wl : length l ≡ K.views) (tg : Option Cursor) (k j : ℕ) (R₁ R₂ : List Slot)
     (whole : tree.row (tree_of (stride K) t) ≡ R₁ ++ R₂)
     (ins : inserted i (new_entry (row_of K t) l) (entries_of K t) ≡ map (entry_from K.views) R₁ ++ entry t.head.entries l ∷ map (entry_from K.views) R₂)
     (aimed : placed K t tg l ≡ climb (shape_in (stride K) t) K.effect l (place.place (shape_in (stride K) t) t k j l))
@@ -148,12 +145,12 @@ and_false false = refl
 
 -- the calls, with the answer of a call that answers X
 module _ (K : Kind) (ok : K.effect < K.views) (t : State) (w : Coherent K t) (room rowRoom : List Cause) (space : Space t room rowRoom) (i : ℕ) (l : List ℕ) (wl : length l ≡ K.views) (lines : too_many_lines K l ≡ false) {X : Type 0} (refuse : ℕ → X) (answer : ℕ → X) (say : X → Answer) (a : Answer) (says : (n : ℕ) → say (refuse n) ≡ refused n) where
-  abbrev call : Target → Moved State
+  abbrev call : Option Cursor → Moved State
   call tg = told (calls.unless (insert_causes K room t tg l) (λ n. calls.reply t (refuse n)) (calls.settled t (placed K t tg l).0 refuse (answer (placed K t tg l).1))) say
 
-  before_step : (c : EntryFound K t w i) → say (answer (sum_by (len K.effect) (front c.cur))) ≡ a → Simulates (Mirrors K) (call (target.Before (cursor_at t.head.stamp c.leaf c.slot))) (unless (row_of K t) (behind_place K rowRoom t i l) (inserted i (new_entry (row_of K t) l) (entries_of K t)) a)
+  before_step : (c : EntryFound K t w i) → say (answer (sum_by (len K.effect) (front c.cur))) ≡ a → Simulates (Mirrors K) (call (Some (cursor_at t.head.stamp c.leaf c.slot))) (unless (row_of K t) (behind_place K rowRoom t i l) (inserted i (new_entry (row_of K t) l) (entries_of K t)) a)
   before_step c right =
-      insert_step K t w room rowRoom space i l wl (target.Before (cursor_at t.head.stamp c.leaf c.slot)) c.leaf c.slot (front c.cur) (c.cur.e ∷ behind c.cur) c.cur.row
+      insert_step K t w room rowRoom space i l wl (Some (cursor_at t.head.stamp c.leaf c.slot)) c.leaf c.slot (front c.cur) (c.cur.e ∷ behind c.cur) c.cur.row
       (ap₂ (λ (b : List Entry) (n : ℕ). b ++ entry n l ∷ from i (entries_of K t)) (before_is K t w i c) (count_is K t w) ∙ ap (λ (b : List Entry). map (entry_from K.views) (front c.cur) ++ entry t.head.entries l ∷ b) (from_is K t w i c))
       refl
       (few_lines K l _ lines ∙ ap refusal (append_assoc (opening K t) (at_cursor K t (cursor_at t.head.stamp c.leaf c.slot)) (behind_target K room t l))
@@ -174,20 +171,20 @@ module _ (K : Kind) (ok : K.effect < K.views) (t : State) (w : Coherent K t) (ro
   last_in : last < t.head.leaves
   last_in = leaf_here (tree_of (stride K) t) last_at_law.0 last [] (above (tree_of (stride K) t)) last_body
 
-  aim_end : calls.aim K t target.End ≡ change 0 t last (length (slots_of (leaf_in (stride K) t last)))
+  aim_end : calls.aim K t None ≡ change 0 t last (length (slots_of (leaf_in (stride K) t last)))
   aim_end =
       ap (calls.end_of K t) (last_down_law (stride K) t (neat_of (stride K) t K.effect w) (body_of (stride K) t K.effect w) t.head.levels 0 t.head.root.0 (let z : 0 + t.head.levels ≡ t.head.levels = omega arith in z) (record { before = []; after = []; row = refl })
-      ∙ ap (λ (k : ℕ). leaf.At (leaf_no k)) (last_top (tree_of (stride K) t).body.inner t.head.root.0 t.head.levels))
+      ∙ ap (λ (k : ℕ). Ok (Some (leaf_no k))) (last_top (tree_of (stride K) t).body.inner t.head.root.0 t.head.levels))
       ∙ ap (change 0 t last) (sym (size_is (stride K) t.head.fan (leaf_in (stride K) t last) ((neat_of (stride K) t K.effect w).leaf_tidy last last_in)))
 
   without : i ≡ no_entry → plain.RowWithout i (entries_of K t)
   without e = subst (plain.RowWithout i) (sym (entries_are K t w)) (without_entries K.views i (tree.row (tree_of (stride K) t))
       (all_map (λ (x : Slot). x.child < t.head.entries) (λ (x : Slot). x.child ≢ i) (λ x lt q. let z = w.entry_count in let y = w.limit_most in omega arith) (tree.row (tree_of (stride K) t)) (below K t w)))
 
-  end_step : i ≡ no_entry → say (answer (sum_by (len K.effect) (tree.row (tree_of (stride K) t)))) ≡ a → Simulates (Mirrors K) (call target.End) (unless (row_of K t) (behind_place K rowRoom t i l) (inserted i (new_entry (row_of K t) l) (entries_of K t)) a)
+  end_step : i ≡ no_entry → say (answer (sum_by (len K.effect) (tree.row (tree_of (stride K) t)))) ≡ a → Simulates (Mirrors K) (call None) (unless (row_of K t) (behind_place K rowRoom t i l) (inserted i (new_entry (row_of K t) l) (entries_of K t)) a)
   unfolding refusal
   end_step e right =
-      insert_step K t w room rowRoom space i l wl target.End last (length (slots_of (leaf_in (stride K) t last))) (tree.row (tree_of (stride K) t)) [] (sym (append-nil (tree.row (tree_of (stride K) t))))
+      insert_step K t w room rowRoom space i l wl None last (length (slots_of (leaf_in (stride K) t last))) (tree.row (tree_of (stride K) t)) [] (sym (append-nil (tree.row (tree_of (stride K) t))))
       (ap₂ (λ (b f : List Entry). b ++ new_entry (row_of K t) l ∷ f) (before_end i (entries_of K t) (without e)) (from_end i (entries_of K t) (without e)) ∙ ap₂ (λ (b : List Entry) (n : ℕ). b ++ entry n l ∷ []) (entries_are K t w) (count_is K t w))
       (ap (λ (r : Change). climb (shape_in (stride K) t) K.effect l (cond (eqb r.number 0) (place.place (shape_in (stride K) t) t r.leaf r.slot l) r)) aim_end)
       (few_lines K l (opening K t ++ [] ++ behind_target K room t l) lines ∙ ap refusal (append_assoc (opening K t) [] (behind_target K room t l)) ∙ opens K t w (behind_target K room t l))
@@ -207,13 +204,13 @@ module _ (K : Kind) (ok : K.effect < K.views) (t : State) (w : Coherent K t) (ro
           (end_step q (right (sum_by (len K.effect) (tree.row (tree_of (stride K) t))) (ap (row.total K.effect) (before_end i (entries_of K t) (without q) ∙ entries_are K t w) ∙ total_entries K.views K.effect (tree.row (tree_of (stride K) t)) (ok))))
       go false e =
           rw (e, and_true (leb (length (entries_of K t)) i))
-          (by_id K t w i (λ c. call (target.Before c)) (behind_place K rowRoom t i l) (inserted i (new_entry (row_of K t) l) (entries_of K t)) a (λ c. before_step c (right (sum_by (len K.effect) (front c.cur)) (total_before K t w i c K.effect (ok)))))
+          (by_id K t w i (λ c. call (Some c)) (behind_place K rowRoom t i l) (inserted i (new_entry (row_of K t) l) (entries_of K t)) a (λ c. before_step c (right (sum_by (len K.effect) (front c.cur)) (total_before K t w i c K.effect (ok)))))
 
 module _ (K : Kind) (ok : K.effect < K.views) (t : State) (w : Coherent K t) where
   pub step_insert_by : (room rowRoom : List Cause) (space : Space t room rowRoom) (i : ℕ) (l : List ℕ) (wl : length l ≡ K.views) → too_many_lines K l ≡ false
       → Simulates (Mirrors K) (with_target K t i (λ tg. told (calls.insert_by K room t tg l) inserted_answer)) (row.insert_by K rowRoom (row_of K t) i l)
   unfolding calls.insert_by
-  step_insert_by room rowRoom space i l wl lines = target_step K ok t w room rowRoom space i l wl lines insertion.Refused (λ p. insertion.At (entry_id t.head.entries) p) inserted_answer (done (length (entries_of K t) ∷ row.total K.effect (before i (entries_of K t)) ∷ [])) (λ n. refl)
+  step_insert_by room rowRoom space i l wl lines = target_step K ok t w room rowRoom space i l wl lines Err (λ p. Ok (entry_id t.head.entries, p)) inserted_answer (done (length (entries_of K t) ∷ row.total K.effect (before i (entries_of K t)) ∷ [])) (λ n. refl)
       (λ n e. ap₂ (λ (c p : ℕ). done (c ∷ p ∷ [])) (sym (count_is K t w)) (sym e))
 
   pub step_insert : (i : ℕ) (l : List ℕ) (wl : length l ≡ K.views) → too_many_lines K l ≡ false → Simulates (Mirrors K) (tree_move K t (row.insert i l)) (row_move K (row_of K t) (row.insert i l))

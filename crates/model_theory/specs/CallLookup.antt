@@ -1,5 +1,8 @@
 -- The call `lookup` on a sound state answers what the row answers; the finger that it leaves is right.
-use Rattle.std.specs.Prelude.{◌≡◌, ◌⊎◌, ℕ, suc, ◌+◌, ◌%◌, ◌^◌, ◌≤◌, ◌<◌}
+use Rattle.model.specs.declared.number.EntryId.{EntryId}
+use Rattle.model.specs.declared.head.Cursor.{Cursor}
+use Rattle.model.specs.Numbered.{Numbered}
+use Rattle.std.specs.Prelude.{◌≡◌, ◌⊎◌, ℕ, suc, ◌+◌, ◌%◌, ◌^◌, ◌≤◌, ◌<◌, Ok, Err, Some, None}
 use Rattle.std.proofs.Math.Path.{refl, sym, ap, ap₂, subst}
 use Rattle.std.proofs.Common.{◌∙◌, inl, inr, le-leb}
 use mathlib.Core.List.{List, [], ◌∷◌, ◌++◌, map}
@@ -19,12 +22,7 @@ use Rattle.model.specs.Refuse.{opening}
 use Rattle.model.specs.Calls as calls
 use Rattle.model.specs.ById.{id_answer, located_answer, tree_move}
 use Rattle.model.specs.declared.head.Finger.{Finger}
-use Rattle.model.specs.declared.head.Held.TheVariants as held
-use Rattle.model.specs.declared.way.Search.{Search}
-use Rattle.model.specs.declared.way.Search.TheVariants as search
-use Rattle.model.specs.declared.answer.Named.{Named}
-use Rattle.model.specs.declared.answer.Located.{Located}
-use Rattle.model.specs.declared.answer.Located.TheVariants as located
+use Rattle.model.specs.Locate.{Search}
 use Rattle.model_tree.specs.Lists.{sum_by_append}
 use Rattle.model_tree.specs.Levels.{Slot, len}
 use Rattle.model_tree.specs.Tree as tree
@@ -44,7 +42,7 @@ use Rattle.model_theory.specs.WalkLookup.{Got, served_by_is, searched, root_hit,
 
 -- the state with another finger
 abbrev pub fingered : State → Finger → State
-fingered t f = state (with_finger (held.At f) t.head) t.leaves t.inners t.homes
+fingered t f = state (with_finger (Some f) t.head) t.leaves t.inners t.homes
 
 module _ (K : Kind) (ok : K.effect < K.views) (t : State) (w : Coherent K t) where
   body_fingered : (f : Finger) → Body (tree_of (stride K) (fingered t f))
@@ -124,7 +122,7 @@ module _ (K : Kind) (ok : K.effect < K.views) (t : State) (w : Coherent K t) whe
       let tv : row.total v (map (entry_from K.views) k.front) ≡ sum_by (len v) k.front = total_entries K.views v k.front lv in
       let te : row.total K.effect (map (entry_from K.views) k.front) ≡ sum_by (len K.effect) k.front = total_entries K.views K.effect k.front (ok) in
       rw (row_passed (row_of K t) (row.no_such_position (row_of K t) v x ∷ []) (entries_of K t) (done (found K v x 0 0 0 (entries_of K t))) (rw (lt-leb (row.total v (entries_of K t)) x (below_total v lv x f offset k)))) (record {
-        same = ap (λ (n : Named). id_answer n (offset ∷ effect_at f ∷ prepare_at f ∷ [])) (id_at K t' w' f.leaf f.slot k.right.leaf_in_law lf)
+        same = ap (λ (n : Numbered EntryId). id_answer n (offset ∷ effect_at f ∷ prepare_at f ∷ [])) (id_at K t' w' f.leaf f.slot k.right.leaf_in_law lf)
             ∙ ap₂ (λ (p q : ℕ). done (e.child ∷ offset ∷ p ∷ q ∷ [])) (pos ∙ (let z : sum_by (len K.effect) k.front ≡ 0 + row.total K.effect (map (entry_from K.views) k.front) = omega arith in z))
             (pre ∙ (let z : sum_by (len 0) k.front ≡ 0 + row.total 0 (map (entry_from K.views) k.front) = omega arith in z))
             ∙ sym (ap (λ (l : List Entry). done (found K v x 0 0 0 l)) es ∙ ap done (found_at K v x 0 0 0 (map (entry_from K.views) k.front) (entry_from K.views e) (map (entry_from K.views) k.behind) offset (omega (arith, k.sums))
@@ -139,8 +137,8 @@ module _ (K : Kind) (ok : K.effect < K.views) (t : State) (w : Coherent K t) whe
       rw (row_stopped (row_of K t) (row.no_such_position (row_of K t) v x ∷ []) (entries_of K t) (done (found K v x 0 0 0 (entries_of K t))) 4 (rw (le-leb (row.total v (entries_of K t)) x (omega (arith, total_is v lv, le)))))
       (record { same = refl; kept = own K t w })
 
-  by_search_law : (v : ℕ) (lv : v < K.views) (x : ℕ) (a b : Search) → (Got (stride K) K.effect t v x a) ⊎ (a ≡ search.Nothing)
-      → (x < sum_by (len v) (tree.row (tree_of (stride K) t)) → Got (stride K) K.effect t v x b) → (sum_by (len v) (tree.row (tree_of (stride K) t)) ≤ x → b ≡ search.Nothing)
+  by_search_law : (v : ℕ) (lv : v < K.views) (x : ℕ) (a b : Search) → (Got (stride K) K.effect t v x a) ⊎ (a ≡ Ok None)
+      → (x < sum_by (len v) (tree.row (tree_of (stride K) t)) → Got (stride K) K.effect t v x b) → (sum_by (len v) (tree.row (tree_of (stride K) t)) ≤ x → b ≡ Ok None)
       → Simulates (Mirrors K) (let r = calls.by_finger t a b in moved r.after (located_answer K r.after r.answer)) (row_move K (row_of K t) (row.lookup v x))
   by_search_law v lv x a b (inl g) hit miss = rw g.is (found_step v lv x g.finger g.offset g.view g.looked)
   by_search_law v lv x a b (inr q) hit miss = go (dec_lt x (sum_by (len v) (tree.row (tree_of (stride K) t))))
@@ -154,6 +152,6 @@ module _ (K : Kind) (ok : K.effect < K.views) (t : State) (w : Coherent K t) whe
   step_lookup v lv x =
       let a : Search = served_by v K.effect (shape_in (stride K) t) t.head.finger t.head.leaves x t.leaves in
       let b : Search = from_root v K.effect (shape_in (stride K) t) t.head.levels t.head.root.0 t.head.leaves x t.leaves t.inners in
-      subst (λ (r : calls.Reply Located). Simulates (Mirrors K) (moved r.after (located_answer K r.after r.answer)) (row_move K (row_of K t) (row.lookup v x)))
-      (sym (passed (opening K t) (λ n. calls.reply t (located.Refused n)) (calls.by_finger t a b) (opens K t w [])))
+      subst (λ (r : calls.Reply (Numbered (Cursor × ℕ × ℕ × ℕ))). Simulates (Mirrors K) (moved r.after (located_answer K r.after r.answer)) (row_move K (row_of K t) (row.lookup v x)))
+      (sym (passed (opening K t) (λ n. calls.reply t (Err n)) (calls.by_finger t a b) (opens K t w [])))
       (by_search_law v lv x a b (served_by_is (stride K) K.effect t w v t.head.finger (sound_of (stride K) t K.effect w).finger x) (root_hit (stride K) K.effect t w v x) (root_miss (stride K) K.effect t w v x))

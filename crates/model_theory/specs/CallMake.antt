@@ -1,5 +1,6 @@
 -- Make and reset leave a sound state that stands for the row of one entry.
-use Rattle.std.specs.Prelude.{◌≡◌, Bool, true, false, cond, ◌||◌, ltb, length}
+use Rattle.model.specs.Numbered.{Numbered}
+use Rattle.std.specs.Prelude.{◌≡◌, Bool, true, false, cond, ◌||◌, ltb, length, Ok, Err}
 use Rattle.std.proofs.Math.Path.{refl, ap}
 use Rattle.std.proofs.Common.{◌∙◌, not-suc-le-zero, add-one, arith, length-set, ltb-false}
 use mathlib.Core.List.{List, [], ◌∷◌, ◌++◌, map}
@@ -20,8 +21,6 @@ use Rattle.model.specs.ById.{told, tree_move}
 use Rattle.model.specs.Answer.{outcome_answer}
 use Rattle.model.specs.Promise.{Words}
 use Rattle.model.specs.declared.shape.Shape.{Shape}
-use Rattle.model.specs.declared.answer.Outcome.{Outcome}
-use Rattle.model.specs.declared.answer.Outcome.TheVariants as outcome
 use Rattle.model_laws.specs.Areas.{node_same}
 use Rattle.model_theory.specs.WordFits.{fits}
 use Rattle.model_tree.specs.Begin.{Fresh, fresh_body, fresh_row}
@@ -167,11 +166,11 @@ module _ (K : Kind) (t : State) (w : Coherent K t) (l : List ℕ) (few : too_man
   abbrev cs : List Cause
   cs = make_causes K t.head.fan t.head.limit l t.leaves t.inners t.homes
 
-  abbrev refuse : ℕ → calls.Reply Outcome
-  refuse n = calls.reply t (outcome.Refused n)
+  abbrev refuse : ℕ → calls.Reply (Numbered (Unit {0}))
+  refuse n = calls.reply t (Err n)
 
-  abbrev answered : calls.Reply Outcome
-  answered = calls.reply (begun K t.head.fan t.head.limit (next_stamp t.head.stamp) l t.leaves t.inners t.homes) outcome.Done
+  abbrev answered : calls.Reply (Numbered (Unit {0}))
+  answered = calls.reply (begun K t.head.fan t.head.limit (next_stamp t.head.stamp) l t.leaves t.inners t.homes) (Ok tt)
 
   causes : refusal cs ≡ refusal (crossed_bounds K l ∷ [])
   unfolding refusal
@@ -181,7 +180,7 @@ module _ (K : Kind) (t : State) (w : Coherent K t) (l : List ℕ) (few : too_man
   unfolding calls.reset refusal
   reset_is level = passed cs refuse answered (causes ∙ level_bounds K l [] level)
 
-  pub reset_stops : crossed K l ≡ true → calls.reset K t l ≡ calls.reply t (outcome.Refused 20)
+  pub reset_stops : crossed K l ≡ true → calls.reset K t l ≡ calls.reply t (Err 20)
   unfolding calls.reset refusal
   reset_stops e = stopped cs refuse answered 19 (causes ∙ crossed_bounds_law K l [] e)
 

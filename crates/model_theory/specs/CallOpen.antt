@@ -1,5 +1,5 @@
 -- On a sound state a call's opening refuses nothing, and the cursor of an id in use stands at its entry.
-use Rattle.std.specs.Prelude.{◌≡◌, ◌≢◌, Bool, true, false}
+use Rattle.std.specs.Prelude.{◌≡◌, ◌≢◌, Bool, true, false, Ok, Err, Some}
 use Rattle.std.proofs.Math.Path.{refl}
 use Rattle.std.proofs.Common.{ap, ◌∙◌, not-suc-le-zero}
 use mathlib.Core.List.{List, [], ◌∷◌, ◌++◌, map}
@@ -17,8 +17,6 @@ use Rattle.model.specs.Sound.{shape_in, leaf_in, Coherent}
 use Rattle.model.specs.Refuse.{opening, many_lines, crossed_bounds, bad_size, too_short, astray, stale, overfull, at_cursor, no_such_id}
 use Rattle.model.specs.Calls as calls
 use Rattle.model.specs.Calls.{unless, cursor_at}
-use Rattle.model.specs.declared.shape.Place.TheVariants as slot
-use Rattle.model.specs.declared.answer.Standing.TheVariants as standing
 use Rattle.model_tree.specs.Tree.{above}
 use Rattle.model_tree.specs.Follows.{levels_most}
 use Rattle.model_tree.specs.Cursor.{index_of}
@@ -60,13 +58,13 @@ clear n true cs d e = absurd (d e)
 clear n false cs d e = (refl, e)
 
 -- the first of some slots that holds a child
-pub index_lift : (c k : ℕ) (xs : List (List ℕ)) → index_of c (map slot_of xs) < length xs → index_from c k xs ≡ slot.Slot (k + index_of c (map slot_of xs))
+pub index_lift : (c k : ℕ) (xs : List (List ℕ)) → index_of c (map slot_of xs) < length xs → index_from c k xs ≡ Some (k + index_of c (map slot_of xs))
 unfolding index_from
 index_lift c k [] h = absurd (not-suc-le-zero h)
 index_lift c k (x ∷ xs) h = elim (ℕ_discrete (child x) c) [
-  | yes q ↦ (let z : k ≡ k + 0 = omega arith in rw (eq-eqb (child x) c q, index_of) (ap slot.Slot z))
+  | yes q ↦ (let z : k ≡ k + 0 = omega arith in rw (eq-eqb (child x) c q, index_of) (ap Some z))
   | no ne ↦ (let e : index_of c (map slot_of (x ∷ xs)) ≡ suc (index_of c (map slot_of xs)) = rw (ne_eqb (child x) c ne, index_of) in
-      rw (ne_eqb (child x) c ne, index_of) (index_lift c (k + 1) xs (omega arith) ∙ ap slot.Slot (let z : k + 1 + index_of c (map slot_of xs) ≡ k + suc (index_of c (map slot_of xs)) = omega arith in z)))
+      rw (ne_eqb (child x) c ne, index_of) (index_lift c (k + 1) xs (omega arith) ∙ ap Some (let z : k + 1 + index_of c (map slot_of xs) ≡ k + suc (index_of c (map slot_of xs)) = omega arith in z)))
 ]
 
 module _ (K : Kind) (t : State) (w : Coherent K t) where
@@ -121,7 +119,7 @@ module _ (K : Kind) (t : State) (w : Coherent K t) where
     pub leaf : ℕ
     pub slot : ℕ
     pub cur : Cur K.effect (tree_of (stride K) t) i leaf slot
-    pub is : calls.cursor K t i ≡ standing.At (cursor_at t.head.stamp leaf slot)
+    pub is : calls.cursor K t i ≡ Ok (cursor_at t.head.stamp leaf slot)
     pub leaf_in_law : leaf < t.head.leaves
     pub slot_in_law : slot < (leaf_in (stride K) t leaf).len
 
@@ -131,7 +129,7 @@ module _ (K : Kind) (t : State) (w : Coherent K t) where
       let c : Cur K.effect (tree_of (stride K) t) i (get_or t.homes i 0) (index_of i (slots_of (leaf_in (stride K) t (get_or t.homes i 0)))) = cur K.effect (tree_of (stride K) t) (sound_of (stride K) t K.effect w) i lt in
       (leaf_here (tree_of (stride K) t) c.A (get_or t.homes i 0) c.B (above (tree_of (stride K) t)) c.body, c.inside)
 
-  pub cursor_is : (i : ℕ) → i < t.head.entries → calls.cursor K t i ≡ standing.At (cursor_at t.head.stamp (get_or t.homes i 0) (index_of i (slots_of (leaf_in (stride K) t (get_or t.homes i 0)))))
+  pub cursor_is : (i : ℕ) → i < t.head.entries → calls.cursor K t i ≡ Ok (cursor_at t.head.stamp (get_or t.homes i 0) (index_of i (slots_of (leaf_in (stride K) t (get_or t.homes i 0)))))
   unfolding calls.cursor refusal
   cursor_is i lt =
       let k : ℕ = get_or t.homes i 0 in
@@ -140,7 +138,7 @@ module _ (K : Kind) (t : State) (w : Coherent K t) where
       let o = own_slot i lt in
       let lm : length (slots_of n) ≡ length (used n) = length-map (used n) slot_of in
       let z : 0 + j ≡ j = omega arith in
-      passed (opening K t ++ no_such_id t i ∷ []) standing.Refused _ (opens (no_such_id t i ∷ []) ∙ known i [] lt)
+      passed (opening K t ++ no_such_id t i ∷ []) Err _ (opens (no_such_id t i ∷ []) ∙ known i [] lt)
       ∙ rw (lt-ltb k t.head.leaves o.0, le-leb n.len t.head.fan (w.leaf_filled k o.0).high, index_lift i 0 (used n) (let y = o.1 in omega arith), z)
 
   pub entry_found : (i : ℕ) → i < t.head.entries → EntryFound i
@@ -156,6 +154,6 @@ module _ (K : Kind) (t : State) (w : Coherent K t) where
         slot_in_law = (let sz : length (slots_of (leaf_in (stride K) t k)) ≡ (leaf_in (stride K) t k).len = size_is (stride K) t.head.fan (leaf_in (stride K) t k) ((neat_of (stride K) t K.effect w).leaf_tidy k o.0) in let y = o.1 in omega arith);
       }
 
-  pub entry_absent : (i : ℕ) → t.head.entries ≤ i → calls.cursor K t i ≡ standing.Refused 4
+  pub entry_absent : (i : ℕ) → t.head.entries ≤ i → calls.cursor K t i ≡ Err 4
   unfolding calls.cursor refusal
-  entry_absent i le = stopped (opening K t ++ no_such_id t i ∷ []) standing.Refused _ 3 (opens (no_such_id t i ∷ []) ∙ unknown i [] le)
+  entry_absent i le = stopped (opening K t ++ no_such_id t i ∷ []) Err _ 3 (opens (no_such_id t i ∷ []) ∙ unknown i [] le)

@@ -1,6 +1,9 @@
 -- The sheet on paper (change request 2). On a sound state print meets the entries in order, so that it writes the sheet of the row that the state stands
 -- for. On any words a number other than 0 and 9 leaves the buffer, which keeps its length in any case. Assumes nothing.
-use Rattle.std.specs.Prelude.{◌≡◌, ◌≢◌, Bool, true, false, cond, ltb, eqb, get_or, drop}
+use Rattle.model.specs.declared.number.LeafNo.{LeafNo}
+use Rattle.model.specs.declared.way.Broken.{Broken}
+use Rattle.model.specs.Numbered.{Numbered}
+use Rattle.std.specs.Prelude.{◌≡◌, ◌≢◌, Bool, true, false, cond, ltb, eqb, get_or, drop, Ok, Err, Some, None, Option, Result}
 use Rattle.std.proofs.Math.Path.{refl, sym, ap}
 use Rattle.std.proofs.Common.{ap₂, ◌∙◌, subst, arith, take-take, length-take-le, get_or-drop, take_at, drop_at}
 use mathlib.Core.List.{List, [], ◌∷◌, ◌++◌, map, flat_map, append_assoc, append-nil}
@@ -24,10 +27,6 @@ use Rattle.model.specs.Answer.{number_answer}
 use Rattle.model.specs.Promise.{Represents}
 use Rattle.model.specs.Sheet.{line, lines, pages_for, fill, sheet}
 use Rattle.model.specs.Print.{small_buffer, print_causes, slots_met, slot_lines, print, PrintLeaves, PrintsRow}
-use Rattle.model.specs.declared.way.Leaf.{Leaf}
-use Rattle.model.specs.declared.way.Leaf.TheVariants as leaf
-use Rattle.model.specs.declared.answer.Number.{Number}
-use Rattle.model.specs.declared.answer.Number.TheVariants as number
 use Rattle.model_laws.specs.AreaRead.{slots_are}
 use Rattle.model_laws.specs.Words.{length_put}
 use Rattle.model_laws.specs.Sheet.{length_slot_lines, length_filled, length_sheet}
@@ -67,13 +66,13 @@ front n len c xs rest h e = go (ltb len n) refl
         rw (z, y) (append-nil (take n xs) ∙ sym (take-append-le n (take len xs) rest (omega (arith, lu)) ∙ take-take n len xs l))
 
 module _ (K : Kind) (t : State) (w : Coherent K t) where
-  abbrev met_in : ℕ → Leaf → List (List ℕ)
+  abbrev met_in : ℕ → Result (Option LeafNo) Broken → List (List ℕ)
   met_in n l = met (shape_in (stride K) t) t.head.levels t.leaves t.inners n l
 
   -- from a leaf of the order on
   from_leaf : (A C : List ℕ) (n : ℕ) → order (tree_of (stride K) t) ≡ A ++ C → met_in n (leaf_head C) ≡ take n (slots_in (stride K) t C)
   unfolding flat_map All
-  from_leaf A [] n o = met_nothing _ _ _ _ n 0 leaf.Nothing refl ∙ sym (take-nil n)
+  from_leaf A [] n o = met_nothing _ _ _ _ n 0 (Ok None) refl ∙ sym (take-nil n)
   from_leaf A (k ∷ B) n o = go (cond (ltb len n) len n) refl (λ m. from_leaf (A ++ k ∷ []) B m (o ∙ sym (append_assoc A (k ∷ []) B)))
     where
       len : ℕ
@@ -85,7 +84,7 @@ module _ (K : Kind) (t : State) (w : Coherent K t) where
       some : 0 < (leaf_in (stride K) t k).len
       some = let z = size_is (stride K) t.head.fan (leaf_in (stride K) t k) ((neat_of (stride K) t K.effect w).leaf_tidy k lk) in let y = (body_of (stride K) t K.effect w).leaf_one k lk in omega arith
 
-      go : (c : ℕ) → c ≡ cond (ltb len n) len n → ((m : ℕ) → met_in m (leaf_head B) ≡ take m (slots_in (stride K) t B)) → met_in n (leaf.At (leaf_no k)) ≡ take n (used (leaf_in (stride K) t k) ++ slots_in (stride K) t B)
+      go : (c : ℕ) → c ≡ cond (ltb len n) len n → ((m : ℕ) → met_in m (leaf_head B) ≡ take m (slots_in (stride K) t B)) → met_in n (Ok (Some (leaf_no k))) ≡ take n (used (leaf_in (stride K) t k) ++ slots_in (stride K) t B)
       go c e ih =
           met_leaf _ _ _ _ (leaf_no k) len refl (w.leaf_filled k lk).high n c some e
           ∙ ap (λ (ys : List (List ℕ)). take c (leaf_in (stride K) t k).slots ++ ys) (ap (met_in (n - c)) (next_leaf (stride K) t (neat_of (stride K) t K.effect w) (body_of (stride K) t K.effect w) A k B o) ∙ ih (n - c))
@@ -98,7 +97,7 @@ module _ (K : Kind) (t : State) (w : Coherent K t) where
       let b = body_of (stride K) t K.effect w in
       let r = first_of_law up t.head.root.0 t.head.levels (full (tree_of (stride K) t) b) in
       first_down_law (stride K) t (neat_of (stride K) t K.effect w) b t.head.levels 0 t.head.root.0 (let z : 0 + t.head.levels ≡ t.head.levels = omega arith in z) (record { before = []; after = []; row = refl })
-      ∙ ap (λ (k : ℕ). leaf.At (leaf_no k)) (first_top up t.head.root.0 t.head.levels) ∙ ap leaf_head (sym r.1)
+      ∙ ap (λ (k : ℕ). Ok (Some (leaf_no k))) (first_top up t.head.root.0 t.head.levels) ∙ ap leaf_head (sym r.1)
 
   abbrev slots : List (List ℕ)
   slots = slots_in (stride K) t (leaves_reached (stride K) t)
@@ -141,15 +140,15 @@ module _ (K : Kind) (t : State) (w : Coherent K t) (v : K.effect < K.views) wher
   unfolding opening refusal
   inside = sym (good_areas K t w (astray (shape_of K t.head) t.head ∷ [])) ∙ opens K t w []
 
-  abbrev refuse : List ℕ → ℕ → Number × List ℕ
-  refuse page n = (number.Refused n, page)
+  abbrev refuse : List ℕ → ℕ → (Numbered ℕ) × List ℕ
+  refuse page n = (Err n, page)
 
-  pub print_short : (page : List ℕ) → length page < 2750 * pages_for t.head.entries → print K t page ≡ (number.Refused 12, page)
+  pub print_short : (page : List ℕ) → length page < 2750 * pages_for t.head.entries → print K t page ≡ (Err 12, page)
   unfolding print print_causes refusal
   print_short page h =
       stopped (print_causes K t (length page)) (refuse page) _ 11 (good_areas K t w (small_buffer t.head.entries (length page) ∷ astray (shape_of K t.head) t.head ∷ []) ∙ rw (lt-ltb (length page) (2750 * pages_for t.head.entries) h))
 
-  pub print_is : (page : List ℕ) → 2750 * pages_for t.head.entries ≤ length page → print K t page ≡ (number.Is (pages_for t.head.entries), put_at 0 (sheet K (entries_of K t)) page)
+  pub print_is : (page : List ℕ) → 2750 * pages_for t.head.entries ≤ length page → print K t page ≡ (Ok (pages_for t.head.entries), put_at 0 (sheet K (entries_of K t)) page)
   unfolding print print_causes refusal sheet
   print_is page h =
       passed (print_causes K t (length page)) (refuse page) _ (good_areas K t w (small_buffer t.head.entries (length page) ∷ astray (shape_of K t.head) t.head ∷ [])
@@ -169,9 +168,9 @@ behind_it n xs ws e = drop_at xs _ n e ∙ ap (λ (k : ℕ). drop k ws) (let z :
 pub prints_row : (K : Kind) → K.effect < K.views → (t : State) (r : Row) → Represents K t r → (page : List ℕ) → PrintsRow K t r page
 prints_row K v t r st page = record {
   short = λ h. print_short K t w v page (subst (λ (n : ℕ). length page < 2750 * pages_for n) (sym count) h);
-  pages = λ h. ap (λ (a : Number × List ℕ). a.0) (is h);
-  written = λ h. ap (λ (a : Number × List ℕ). take (2750 * pages_for (length r.entries)) a.1) (is h) ∙ written_front _ (sheet K r.entries) page (length_sheet K r.entries);
-  rest = λ h. ap (λ (a : Number × List ℕ). drop (2750 * pages_for (length r.entries)) a.1) (is h) ∙ behind_it _ (sheet K r.entries) page (length_sheet K r.entries);
+  pages = λ h. ap (λ (a : Numbered ℕ × List ℕ). a.0) (is h);
+  written = λ h. ap (λ (a : Numbered ℕ × List ℕ). take (2750 * pages_for (length r.entries)) a.1) (is h) ∙ written_front _ (sheet K r.entries) page (length_sheet K r.entries);
+  rest = λ h. ap (λ (a : Numbered ℕ × List ℕ). drop (2750 * pages_for (length r.entries)) a.1) (is h) ∙ behind_it _ (sheet K r.entries) page (length_sheet K r.entries);
 }
   where
     w : Coherent K t
@@ -180,16 +179,16 @@ prints_row K v t r st page = record {
     count : t.head.entries ≡ length r.entries
     count = sym (count_is K t st.sound.coherent) ∙ ap length st.entries
 
-    is : 2750 * pages_for (length r.entries) ≤ length page → print K t page ≡ (number.Is (pages_for (length r.entries)), put_at 0 (sheet K r.entries) page)
-    is h = print_is K t st.sound.coherent v page (subst (λ (n : ℕ). 2750 * pages_for n ≤ length page) (sym count) h) ∙ ap₂ (λ (n : ℕ) (es : List Entry). (number.Is (pages_for n), put_at 0 (sheet K es) page)) count st.entries
+    is : 2750 * pages_for (length r.entries) ≤ length page → print K t page ≡ (Ok (pages_for (length r.entries)), put_at 0 (sheet K r.entries) page)
+    is h = print_is K t st.sound.coherent v page (subst (λ (n : ℕ). 2750 * pages_for n ≤ length page) (sym count) h) ∙ ap₂ (λ (n : ℕ) (es : List Entry). (Ok (pages_for n), put_at 0 (sheet K es) page)) count st.entries
 
 -- on any words ----------------------------------------------------------------------------------------------------------------------------
 
-abbrev Spared : List ℕ → Number × List ℕ → Type 0
-Spared page a = ((number_answer a.0).number ≢ 0 → (number_answer a.0).number ≢ 9 → a.1 ≡ page) × (length a.1 ≡ length page) × ((n : ℕ) → a.0 ≡ number.Is n → 2750 * n ≤ length page)
+abbrev Spared : List ℕ → (Numbered ℕ) × List ℕ → Type 0
+Spared page a = ((number_answer a.0).number ≢ 0 → (number_answer a.0).number ≢ 9 → a.1 ≡ page) × (length a.1 ≡ length page) × ((n : ℕ) → a.0 ≡ Ok n → 2750 * n ≤ length page)
 
 -- a refusal is no answer
-never : {A : Type 0} (m n : ℕ) → number.Refused m ≡ number.Is n → A
+never : {A : Type 0} (m n : ℕ) → Err m ≡ Ok n → A
 never m n e = absurd (let z : ◌≡◌ {A = ℕ} 0 1 = cc in omega arith)
 
 module _ (K : Kind) (s : State) (page : List ℕ) where
@@ -217,10 +216,10 @@ module _ (K : Kind) (s : State) (page : List ℕ) where
     some : length (put_at 0 (slot_lines K 0 0 (slots_met K s)) page) ≡ length page
     some = length_put 0 (slot_lines K 0 0 (slots_met K s)) page (omega (arith, text_long, met_most))
 
-    written : Spared page (cond (eqb (length (slots_met K s)) s.head.entries) (number.Is (pages_for s.head.entries), put_at 0 (slot_lines K 0 0 (slots_met K s) ++ fill s.head.entries) page) (number.Refused 9, put_at 0 (slot_lines K 0 0 (slots_met K s)) page))
+    written : Spared page (cond (eqb (length (slots_met K s)) s.head.entries) (Ok (pages_for s.head.entries), put_at 0 (slot_lines K 0 0 (slots_met K s) ++ fill s.head.entries) page) (Err 9, put_at 0 (slot_lines K 0 0 (slots_met K s)) page))
     written = by_test (Spared page) (eqb (length (slots_met K s)) s.head.entries) _ _ (λ q. (λ x y. absurd (x refl), whole (eqb-true _ _ q), answered)) (λ q. (λ x y. absurd (y refl), some, λ n e. never 9 n e))
       where
-        answered : (n : ℕ) → number.Is (pages_for s.head.entries) ≡ number.Is n → 2750 * n ≤ length page
+        answered : (n : ℕ) → ◌≡◌ {A = Numbered ℕ} (Ok (pages_for s.head.entries)) (Ok n) → 2750 * n ≤ length page
         answered n e = let z : pages_for s.head.entries ≡ n = cc in subst (λ (k : ℕ). 2750 * k ≤ length page) z room
 
   spared : Spared page (print K s page)

@@ -1,5 +1,7 @@
 -- Other lengths for an entry: `set` and `update` on a sound state do what they do on the row.
-use Rattle.std.specs.Prelude.{◌≡◌, Bool, true, false, cond, ltb, eqb, length}
+use Rattle.model.specs.declared.head.Finger.{Finger}
+use Rattle.model.specs.declared.way.Broken.{Broken}
+use Rattle.std.specs.Prelude.{◌≡◌, Bool, true, false, cond, ltb, eqb, length, Ok, Err, Some, None, Option, Result}
 use Rattle.std.proofs.Math.Path.{refl, sym, ap, ap₂, fun_ext}
 use Rattle.std.proofs.Common.{◌∙◌, subst, length-drop, lt-ltb, le-ltb, ltb-false}
 use mathlib.Core.List.{List, [], ◌∷◌, ◌++◌, map, append_assoc}
@@ -26,11 +28,6 @@ use Rattle.model.specs.declared.head.Cursor.{Cursor}
 use Rattle.model.specs.Calls.{cursor_at, resized, resize_causes}
 use Rattle.model.specs.ById.{told, tree_move}
 use Rattle.model.specs.Answer.{outcome_answer, number_answer}
-use Rattle.model.specs.declared.head.Held.{Held}
-use Rattle.model.specs.declared.head.Held.TheVariants as held
-use Rattle.model.specs.declared.way.Sum.{Sum}
-use Rattle.model.specs.declared.answer.Outcome.TheVariants as outcome
-use Rattle.model.specs.declared.answer.Number.TheVariants as number
 use Rattle.model_laws.specs.Lists.{all_at_at, length_zip, some_views}
 use Rattle.model_laws.specs.Areas.{node_same}
 use Rattle.model_theory.specs.RowViews.{none_in, firsts_of}
@@ -59,11 +56,11 @@ use Rattle.model_theory.specs.ChangeSums.{minus_at, lengths_at_law, lengths_tidy
 use Rattle.model_theory.specs.CallRead.{front_small, rank_is}
 use Rattle.model_theory.specs.CallSimulates.{Simulates, Mirrors, row_of, row_passed, row_stopped, own, entries_are, by_id, before_is, from_is, slot_is, total_before}
 
-pub viewed_changing : (s k j : ℕ) (h : Held) → Viewed s h → Viewed s (changing k j h)
-viewed_changing s k j held.Absent v = tt
-viewed_changing s k j (held.At f) v = go (eqb f.leaf k) (ltb j f.slot)
+pub viewed_changing : (s k j : ℕ) (h : Option Finger) → Viewed s h → Viewed s (changing k j h)
+viewed_changing s k j None v = tt
+viewed_changing s k j (Some f) v = go (eqb f.leaf k) (ltb j f.slot)
   where
-    go : (a b : Bool) → Viewed s (cond a (cond b (held.At (rewound f)) (held.At f)) held.Absent)
+    go : (a b : Bool) → Viewed s (cond a (cond b (Some (rewound f)) (Some f)) None)
     go true true = v
     go true false = v
     go false b = tt
@@ -256,7 +253,7 @@ module _ (K : Kind) (t : State) (w : Coherent K t) (i : ℕ) (c : EntryFound K t
       let r : Change = replace g t c.leaf c.slot l in
       ap (λ (m : Node). summed g r (climb_up g K.effect delta t.head.levels m.parent m.at (start K.effect c.slot m) t.inners)) read_back
       ∙ ap (λ (a : ℕ). summed g r (climb_up g K.effect delta t.head.levels (leaf_in (stride K) t c.leaf).parent (leaf_in (stride K) t c.leaf).at a t.inners)) st
-      ∙ ap (summed g r) (carried.is ∙ ap (λ (z : Sum). (z, carried.words)) (rank_is K t w i c K.effect))
+      ∙ ap (summed g r) (carried.is ∙ ap (λ (z : Result ℕ Broken). (z, carried.words)) (rank_is K t w i c K.effect))
       ∙ ap (λ (m : ℕ). (change 0 (state r.state.head r.state.leaves carried.words r.state.homes) c.leaf c.slot, m)) small
 
   -- the causes of both calls come to the same
@@ -304,9 +301,9 @@ module _ (K : Kind) (ok : K.effect < K.views) (t : State) (w : Coherent K t) whe
   pub step_set : (i : ℕ) (l : List ℕ) (wl : length l ≡ K.views) → too_many_lines K l ≡ false → Simulates (Mirrors K) (tree_move K t (row.set_lengths i l)) (row_move K (row_of K t) (row.set_lengths i l))
   unfolding tree_move row_move calls.set_lengths
   step_set i l wl lines = by_id K t w i (λ c. told (calls.set_lengths K t c l) outcome_answer) (behind_id K t i l) (changed i l (entries_of K t)) (done [])
-      (λ c. resize_step K t w i c l wl lines outcome.Refused (λ n. outcome.Done) outcome_answer (done []) (λ n. refl) refl)
+      (λ c. resize_step K t w i c l wl lines Err (λ n. (Ok tt)) outcome_answer (done []) (λ n. refl) refl)
 
   pub step_update : (i : ℕ) (l : List ℕ) (wl : length l ≡ K.views) → too_many_lines K l ≡ false → Simulates (Mirrors K) (tree_move K t (row.update i l)) (row_move K (row_of K t) (row.update i l))
   unfolding tree_move row_move calls.update
   step_update i l wl lines = by_id K t w i (λ c. told (calls.update K t c l) number_answer) (behind_id K t i l) (changed i l (entries_of K t)) (done (row.total K.effect (before i (entries_of K t)) ∷ []))
-      (λ c. resize_step K t w i c l wl lines number.Refused number.Is number_answer (done (row.total K.effect (before i (entries_of K t)) ∷ [])) (λ n. refl) (ap (λ (n : ℕ). done (n ∷ [])) (sym (total_before K t w i c K.effect (ok)))))
+      (λ c. resize_step K t w i c l wl lines Err Ok number_answer (done (row.total K.effect (before i (entries_of K t)) ∷ [])) (λ n. refl) (ap (λ (n : ℕ). done (n ∷ [])) (sym (total_before K t w i c K.effect (ok)))))

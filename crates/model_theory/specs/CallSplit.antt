@@ -1,5 +1,8 @@
 -- Split on a sound state does what it does on the row.
-use Rattle.std.specs.Prelude.{◌≡◌, Bool, true, false, ◌||◌, ltb}
+use Rattle.model.specs.declared.number.EntryId.{EntryId}
+use Rattle.model.specs.declared.head.Cursor.{Cursor}
+use Rattle.model.specs.Numbered.{Numbered}
+use Rattle.std.specs.Prelude.{◌≡◌, Bool, true, false, ◌||◌, ltb, Err}
 use Rattle.std.proofs.Math.Path.{refl, sym, ap, ap₂}
 use Rattle.std.proofs.Common.{◌∙◌, subst, add-zero, arith, drop-cons}
 use Rattle.std.proofs.Math.Bool.{cond}
@@ -25,8 +28,6 @@ use Rattle.model.specs.Refuse as refuse'
 use Rattle.model.specs.Calls as calls
 use Rattle.model.specs.Calls.{cursor_at, divided_at, split_causes}
 use Rattle.model.specs.ById.{with_cursor, told, tree_move, divided_id_answer}
-use Rattle.model.specs.declared.answer.Divided.{Divided}
-use Rattle.model.specs.declared.answer.Divided.TheVariants as division
 use Rattle.model_tree.specs.Lists.{cat, sum_by_append, map_append}
 use Rattle.model_tree.specs.Levels.{no_slot, Slot, len}
 use Rattle.model_tree.specs.Insert as insert
@@ -277,19 +278,19 @@ module _ (K : Kind) (t : State) (w : Coherent K t) (i : ℕ) (c : EntryFound K t
     row_answer = done (length (entries_of K t) ∷ [])
 
     -- where both stop at the same number, or the entry is parted and the state stands for the row
-    pub split_by_law : (P : calls.Reply Divided → Moved Row → Type 0) → ((n : ℕ) → P (calls.reply t (division.Refused n)) (moved (row_of K t) (refused n)))
+    pub split_by_law : (P : calls.Reply (Numbered (EntryId × Cursor × Cursor)) → Moved Row → Type 0) → ((n : ℕ) → P (calls.reply t (Err n)) (moved (row_of K t) (refused n)))
         → ((s : State) (k j : ℕ) → TwoParts K flag i t.head.entries (next_stamp t.head.stamp) s k j → Mirrors K s (row.row t.head.limit entries')
         → P (calls.reply s (divided_at t.head.entries (next_stamp t.head.stamp) k j)) (moved (row.row t.head.limit entries') row_answer))
         → P (calls.split_by K room t (cursor_at t.head.stamp c.leaf c.slot) l flag) (unless (row_of K t) row_causes entries' row_answer)
     unfolding refusal calls.split_by
     split_by_law P refusing parting = go short refl empty refl fallen refl (refusal rowRoom) refl
       where
-        answered : calls.Reply Divided
+        answered : calls.Reply (Numbered (EntryId × Cursor × Cursor))
         answered = let r = place.divide (shape_in (stride K) t) flag t c.leaf c.slot l in
-            calls.settled t r division.Refused (divided_at t.head.entries (next_stamp t.head.stamp) r.leaf r.slot)
+            calls.settled t r Err (divided_at t.head.entries (next_stamp t.head.stamp) r.leaf r.slot)
 
-        refuse : ℕ → calls.Reply Divided
-        refuse n = calls.reply t (division.Refused n)
+        refuse : ℕ → calls.Reply (Numbered (EntryId × Cursor × Cursor))
+        refuse n = calls.reply t (Err n)
 
         stop : (n : ℕ) → refusal row_causes ≡ suc n → P (calls.unless causes refuse answered) (unless (row_of K t) row_causes entries' row_answer)
         stop n z = rw (stopped causes refuse answered n (both_causes ∙ z), row_stopped (row_of K t) row_causes entries' row_answer n z) (refusing (suc n))

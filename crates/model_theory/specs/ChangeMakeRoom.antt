@@ -1,5 +1,5 @@
 -- Room for one entry more: the model's `make_room` is the abstract one; and the climb above a leaf of a neat state.
-use Rattle.std.specs.Prelude.{◌≡◌, refl, Bool, true, false, cond, List, ◌∷◌, ◌++◌, ℕ, ◌+◌, ◌-◌, ◌<◌, ◌≤◌, ltb, length, take}
+use Rattle.std.specs.Prelude.{◌≡◌, refl, Bool, true, false, cond, List, ◌∷◌, ◌++◌, ℕ, ◌+◌, ◌-◌, ◌<◌, ◌≤◌, ltb, length, take, Ok}
 use Rattle.std.proofs.Common.{sym, ap, ◌∙◌, subst, arith, lt-ltb, le-ltb, le-leb}
 use Rattle.std.proofs.Math.Decide.{dec_lt}
 use Rattle.model.specs.Lists.{sum_by}
@@ -9,7 +9,6 @@ use Rattle.model.specs.Climb.{rank_up}
 use Rattle.model.specs.Place as place
 use Rattle.model.specs.Place.{change}
 use Rattle.model.specs.Sound.{shape_in, leaf_in}
-use Rattle.model.specs.declared.way.Sum.TheVariants as sum
 use Rattle.model_tree.specs.Lists.{cat}
 use Rattle.model_tree.specs.Levels.{total, len, climb}
 use Rattle.model_tree.specs.Tree.{Tree, leaf_slots, BodyAt}
@@ -120,7 +119,7 @@ module _ (s : ℕ) (pos : 0 < s) (t : State) (nt : Neat s t) (A : List ℕ) (k :
       (way (total (tree_of s t).body.leaf) (tree_of s t).body.leaf (tree_of s t).body.inner t.head.root.0 t.head.inners A k B st b.links b.inner_in_law)))
 
   pub rank_sum : (v j : ℕ) → j ≤ length (slots_of (leaf_in s t k))
-      → rank_up (shape_in s t) v t.head.levels (leaf_in s t k).parent (leaf_in s t k).at (start v j (leaf_in s t k)) t.inners ≡ sum.Is (sum_by (len v) (cat (tree_of s t).body.leaf.slots A ++ take j (slots_of (leaf_in s t k))))
+      → rank_up (shape_in s t) v t.head.levels (leaf_in s t k).parent (leaf_in s t k).at (start v j (leaf_in s t k)) t.inners ≡ Ok (sum_by (len v) (cat (tree_of s t).body.leaf.slots A ++ take j (slots_of (leaf_in s t k))))
   rank_sum v j le =
       rank_up_law s t nt v t.head.levels (tree_of s t).body.leaf k (start v j (leaf_in s t k)) leaf_way
-      ∙ ap sum.Is (ap (λ (m : ℕ). m + climb v (tree_of s t).body.leaf (tree_of s t).body.inner t.head.levels k) (start_leaf s t nt v j k (leaf_here (tree_of s t) A k B st b) le) ∙ rank_here (tree_of s t) A k B st b v j)
+      ∙ ap Ok (ap (λ (m : ℕ). m + climb v (tree_of s t).body.leaf (tree_of s t).body.inner t.head.levels k) (start_leaf s t nt v j k (leaf_here (tree_of s t) A k B st b) le) ∙ rank_here (tree_of s t) A k B st b v j)

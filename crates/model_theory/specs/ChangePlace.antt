@@ -1,5 +1,6 @@
 -- An entry placed before a slot of a leaf: with room made and its lengths carried up, the state is sound and stands for the row with the entry in it.
-use Rattle.std.specs.Prelude.{◌≡◌, length, get_or}
+use Rattle.model.specs.declared.way.Broken.{Broken}
+use Rattle.std.specs.Prelude.{◌≡◌, length, get_or, Ok, Result}
 use Rattle.std.proofs.Math.Path.{refl, sym, ap, ap₂}
 use Rattle.std.proofs.Common.{◌∙◌, subst, arith}
 use mathlib.Core.List.{List, ◌∷◌, ◌++◌, map}
@@ -18,8 +19,6 @@ use Rattle.model.specs.Place as place
 use Rattle.model.specs.Place.{Change, change, enter, climb, summed}
 use Rattle.model.specs.Row.{entry}
 use Rattle.model.specs.Sound.{shape_in, leaf_in, Coherent, entries_of}
-use Rattle.model.specs.declared.way.Sum.{Sum}
-use Rattle.model.specs.declared.way.Sum.TheVariants as sum
 use Rattle.model_tree.specs.Lists.{sum_by_append}
 use Rattle.model_tree.specs.Levels.{Slot, Area, len}
 use Rattle.model_tree.specs.Insert as insert
@@ -143,7 +142,7 @@ module _ (K : Kind) (t : State) (w : Coherent K t) (A : List ℕ) (k : ℕ) (B :
       ap (λ (y : Node). summed g c (climb_up g K.effect l q.levels y.parent y.at (start K.effect q.slot y) q.xs)) (entered_read (stride K) (omega arith) t₁ q.neat q.leaf q.slot gp.leaf_in_law m₂ td₂ pa at few)
       ∙ ap₂ (λ (u v : ℕ). summed g c (climb_up g K.effect l q.levels u v (start K.effect q.slot m₂) q.xs)) (sym pa) (sym at)
       ∙ ap (λ (a : ℕ). summed g c (climb_up g K.effect l q.levels (leaf_in (stride K) t₁ q.leaf).parent (leaf_in (stride K) t₁ q.leaf).at a q.xs)) start_same
-      ∙ ap (summed g c) (cr.is ∙ ap (λ (z : Sum). (z, cr.words)) (rank_sum (stride K) (omega arith) t₁ q.neat gp.made.room.A q.leaf gp.made.room.B gp.made.room.st gp.made.room.body K.effect q.slot gp.made.room.fits ∙ ap (λ (R : List Slot). sum.Is (sum_by (len K.effect) R)) gp.made.room.front))
+      ∙ ap (summed g c) (cr.is ∙ ap (λ (z : Result ℕ Broken). (z, cr.words)) (rank_sum (stride K) (omega arith) t₁ q.neat gp.made.room.A q.leaf gp.made.room.B gp.made.room.st gp.made.room.body K.effect q.slot gp.made.room.fits ∙ ap (λ (R : List Slot). Ok (sum_by (len K.effect) R)) gp.made.room.front))
       ∙ ap (λ (z : ℕ). (change 0 (state c.state.head c.state.leaves cr.words c.state.homes) q.leaf q.slot, z)) small
 
   pub placed_is : EntryPlaced K t k i R₁ R₂ l

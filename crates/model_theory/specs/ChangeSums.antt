@@ -1,5 +1,7 @@
 -- A change of lengths, at a slot and on the way up: the model's climb writes what `carry` writes and sums what `rank_up` sums.
-use Rattle.std.specs.Prelude.{◌≡◌, ◌≢◌, true, get_or}
+use Rattle.model.specs.declared.way.Broken.{Broken}
+use Rattle.model.specs.Numbered.{broken}
+use Rattle.std.specs.Prelude.{◌≡◌, ◌≢◌, true, get_or, Err, Result}
 use Rattle.std.proofs.Math.Path.{refl, fun_ext}
 use Rattle.std.proofs.Common.{sym, ap, ◌∙◌, subst, add-one, arith, length-set, length-drop, lt-ltb}
 use Rattle.std.proofs.Math.Bool.{cond}
@@ -13,8 +15,6 @@ use Rattle.model.specs.Node.{Node, child, lengths, length_in, used, start, plus,
 use Rattle.model.specs.State.{node_at, put_node}
 use Rattle.model.specs.Climb.{inside, rank_up, raised, climb_up}
 use Rattle.model.specs.declared.shape.Shape.{Shape}
-use Rattle.model.specs.declared.way.Sum.{Sum}
-use Rattle.model.specs.declared.way.Sum.TheVariants as sum
 use Rattle.model_laws.specs.Lists.{all_at_at, all_set, length_zip}
 use Rattle.model_laws.specs.Areas.{node_other}
 use Rattle.model_theory.specs.WordFits.{NodeSized, fits}
@@ -169,7 +169,7 @@ module _ (g : Shape) (sized : NodeSized g) (pos : 0 < g.stride) (delta : List �
   rank_off v n p xs lp td h (suc d) c a o =
       let q : ℕ = (node_at g c xs).parent in
       let e : node_at g q (put_node g p n xs) ≡ node_at g q xs = node_other g p xs sized (fits g p xs (omega (arith, h.few)) h.long) n (tidy_formed g.stride g.fan n td pos) q o.0 in
-      rw e (ap (λ (z : Sum). cond (inside g q (node_at g c xs).at) z sum.Broken) (rank_off v n p xs lp td h d q (a + start v (node_at g c xs).at (node_at g q xs)) o.1))
+      rw e (ap (λ (z : Result ℕ Broken). cond (inside g q (node_at g c xs).at) z (Err broken)) (rank_off v n p xs lp td h d q (a + start v (node_at g c xs).at (node_at g q xs)) o.1))
 
   pub climb_up_law : (v d k i a : ℕ) (xs : List ℕ) → Keeps g count xs → Up (area_of g xs) count d k i → ClimbCarried g delta count v d k i a xs
   unfolding climb_up rank_up
@@ -197,7 +197,7 @@ module _ (g : Shape) (sized : NodeSized g) (pos : 0 < g.stride) (delta : List �
       next : ClimbCarried g delta count v d (node_at g k xs).parent (node_at g k xs).at (a + start v i (node_at g k xs)) (raised g delta k i xs) → ClimbCarried g delta count v (suc d) k i a xs
       next r = record {
         words = r.words;
-        is = rw inside_is (r.is ∙ ap (λ (z : Sum). (z, r.words)) (rank_off v (raised_node k i xs) k xs u.0 (raised_tidy k i xs u.0 u.1 h) h d k (a + start v i (node_at g k xs)) u.2));
+        is = rw inside_is (r.is ∙ ap (λ (z : Result ℕ Broken). (z, r.words)) (rank_off v (raised_node k i xs) k xs u.0 (raised_tidy k i xs u.0 u.1 h) h d k (a + start v i (node_at g k xs)) u.2));
         keeps = r.keeps;
         area = r.area ∙ ap (λ (b : Area). carry (added delta) d b (node_at g k xs).parent (node_at g k xs).at) (raised_area k i xs u.0 u.1 h);
       }

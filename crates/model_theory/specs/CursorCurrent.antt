@@ -1,5 +1,5 @@
 -- Every current cursor of a sound state is the cursor of the entry at which it stands, so the calls on cursors are the calls by id; any other is refused by 3, 13 or 14.
-use Rattle.std.specs.Prelude.{◌≡◌, refl, ◌≢◌, ◌⊎◌, Bool, true, false, cond, ◌&&◌, List, [], ◌∷◌, ◌++◌, ℕ, zero, suc, ◌≤◌, ◌<◌, ltb, eqb, length, get_or}
+use Rattle.std.specs.Prelude.{◌≡◌, refl, ◌≢◌, ◌⊎◌, Bool, true, false, cond, ◌&&◌, List, [], ◌∷◌, ◌++◌, ℕ, zero, suc, ◌≤◌, ◌<◌, ltb, eqb, length, get_or, Ok}
 use Rattle.std.proofs.Common.{sym, ap, ap₂, ◌∙◌, arith}
 use Rattle.std.proofs.Math.Logic.{inl, inr}
 use Rattle.std.proofs.Math.Decide.{ℕ_discrete, dec_lt}
@@ -15,7 +15,6 @@ use Rattle.model.specs.Refuse.{opening, stale, current}
 use Rattle.model.specs.Calls as calls
 use Rattle.model.specs.Calls.{cursor_at, slot_at}
 use Rattle.model.specs.declared.head.Cursor.{Cursor}
-use Rattle.model.specs.declared.answer.Standing.TheVariants as standing
 use Rattle.model_tree.specs.Levels.{Slot}
 use Rattle.model_tree.specs.Cursor.{index_of}
 use Rattle.model_tree.specs.CheckBack.{body_checks}
@@ -88,7 +87,7 @@ module _ (K : Kind) (t : State) (w : Coherent K t) (c : Cursor) where
       let s = both (eqb c.stamp t.head.stamp) (ltb k t.head.leaves) r.0 in
       (eqb-true c.stamp t.head.stamp s.0, ltb-true k t.head.leaves s.1, ltb-true c.slot n.len r.1)
 
-  pub is_current : current K t c ≡ true → (child (slot_at K t c) < t.head.entries) × (calls.cursor K t (child (slot_at K t c)) ≡ standing.At c)
+  pub is_current : current K t c ≡ true → (child (slot_at K t c) < t.head.entries) × (calls.cursor K t (child (slot_at K t c)) ≡ Ok c)
   is_current e =
       let k : ℕ = c.leaf.0 in
       let j : ℕ = c.slot in
@@ -106,6 +105,6 @@ module _ (K : Kind) (t : State) (w : Coherent K t) (c : Cursor) where
       let first : index_of i (slots_of n) ≡ j = ap (λ (y : Slot). index_of y.child (slots_of n)) (sym (get_d_slot (used n) j lu)) ∙ (body_checks (tree_of (stride K) t) b).firsts k lk j ls in (
         rw x below,
         ap (calls.cursor K t) x ∙ cursor_is K t w i below
-            ∙ ap₂ (λ (l s : ℕ). standing.At (cursor_at t.head.stamp l s)) home (ap (λ (m : ℕ). index_of i (slots_of (leaf_in (stride K) t m))) home ∙ first)
-            ∙ ap (λ (m : ℕ). standing.At (cursor_at m k j)) (sym r.0),
+            ∙ ap₂ (λ (l s : ℕ). Ok (cursor_at t.head.stamp l s)) home (ap (λ (m : ℕ). index_of i (slots_of (leaf_in (stride K) t m))) home ∙ first)
+            ∙ ap (λ (m : ℕ). Ok (cursor_at m k j)) (sym r.0),
       )

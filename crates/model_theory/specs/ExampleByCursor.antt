@@ -1,5 +1,5 @@
 -- The premises of the list theorem's cursor form are met by a list on cursors good and bad; what its calls mean and what they answer is computed.
-use Rattle.std.specs.Prelude.{◌≡◌, refl, true, replicate}
+use Rattle.std.specs.Prelude.{◌≡◌, refl, true, replicate, None}
 use Rattle.std.proofs.Common.{ap, arith}
 use mathlib.Core.List.{List, [], ◌∷◌, flat_map, zip_with}
 use Rattle.model.specs.Kind.{base}
@@ -17,14 +17,13 @@ use Rattle.model.specs.Calls.{cursor_at}
 use Rattle.model.specs.ByCursor as by
 use Rattle.model.specs.ByCursor.{CursorCall, cursor_step, entry_step, meant, meant_all}
 use Rattle.model.specs.Promise.{CursorInWords, answers}
-use Rattle.model.specs.declared.answer.Target.TheVariants as target
 use Rattle.model_theory.specs.TopByCursor.{demand3_by_cursor}
 use Rattle.model_theory.specs.ExampleById.{pair, area_words, start, made, first_words, three}
 
 -- an insert makes a cursor stale whose slot still holds its entry (3); a leaf not in use (13); a slot at its leaf's len (14); the cursors of a split
 -- used at once; of two bad cursors the first decides; too many line ends, whatever the cursor (10)
 abbrev cursor_calls : List CursorCall
-cursor_calls = by.next (cursor_at 1 0 0) ∷ by.insert target.End (pair 2 0) ∷ by.id (cursor_at 1 0 0) ∷ by.lengths (cursor_at 2 1 0) ∷ by.rank 1 (cursor_at 2 0 2)
+cursor_calls = by.next (cursor_at 1 0 0) ∷ by.insert None (pair 2 0) ∷ by.id (cursor_at 1 0 0) ∷ by.lengths (cursor_at 2 1 0) ∷ by.rank 1 (cursor_at 2 0 2)
     ∷ by.split true (cursor_at 2 0 0) (pair 1 1) ∷ by.compare (cursor_at 3 0 1) (cursor_at 3 0 0) ∷ by.lengths (cursor_at 3 0 1) ∷ by.compare (cursor_at 3 0 3) (cursor_at 3 1 0)
     ∷ by.compare (cursor_at 3 0 0) (cursor_at 3 1 3) ∷ by.select 0 1 ∷ by.first ∷ by.set_lengths (cursor_at 1 0 0) (1 ∷ 1 ∷ 65536 ∷ []) ∷ by.set_lengths (cursor_at 1 0 0) (1 ∷ 1 ∷ 65535 ∷ []) ∷ []
 

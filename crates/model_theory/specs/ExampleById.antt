@@ -1,6 +1,6 @@
 -- The premises of the theorems are met: a make of fan 4 and limit 5 that isn't refused, a list of calls in words with every kind in it,
 -- two lists alike but for lookups, a split that is answered, and a cursor at an entry; and a lookup on a tree that is not sound.
-use Rattle.std.specs.Prelude.{◌≡◌, refl, true, ℕ, ◌+◌, ◌*◌, ◌≤◌, ◌<◌, replicate}
+use Rattle.std.specs.Prelude.{◌≡◌, refl, true, ℕ, ◌+◌, ◌*◌, ◌≤◌, ◌<◌, replicate, Ok, None, false}
 use Rattle.std.proofs.Common.{ap, inr, arith}
 use mathlib.Core.List.{List, [], ◌∷◌, ◌++◌, flat_map, zip_with}
 use Rattle.model.specs.Kind.{base}
@@ -18,9 +18,6 @@ use Rattle.model.specs.Audit as check
 use Rattle.model.specs.Audit.{audit}
 use Rattle.model.specs.Print.{PrintsRow}
 use Rattle.model.specs.Promise.{Words, InWords, Represents, NotHollow, Parts, answers, finally, others, other_answers, StandsAt}
-use Rattle.model.specs.declared.head.Held.TheVariants as held
-use Rattle.model.specs.declared.answer.Outcome.TheVariants as outcome
-use Rattle.model.specs.declared.answer.Verdict.TheVariants as verdict
 use Rattle.model_theory.specs.CallById.{step}
 use Rattle.model_theory.specs.RowSeven.{Passes, wanted, seven}
 use Rattle.model_theory.specs.RowHollow.{hollow_yes}
@@ -40,7 +37,7 @@ area_words = replicate 38 7
 abbrev pub start : State
 start = (make base 4 5 (pair 3 3) area_words area_words (replicate 5 7)).after
 
-pub made : (make base 4 5 (pair 3 3) area_words area_words (replicate 5 7)).answer ≡ outcome.Done
+pub made : (make base 4 5 (pair 3 3) area_words area_words (replicate 5 7)).answer ≡ Ok tt
 unfolding make refusal
 made = refl
 
@@ -95,14 +92,14 @@ pub sound_start : Sound base start
 unfolding finally All
 sound_start = (whole base (omega arith) 4 5 (pair 3 3) area_words area_words (replicate 5 7) first_words made [] tt).1.sound
 
-pub audited_start : audit base start ≡ verdict.Yes
+pub audited_start : audit base start ≡ Ok true
 audited_start = (audit_exactly base start).1 sound_start
 
 -- 65,535 line ends in a leaf slot are sound, one more is not
 abbrev lined : ℕ → State
 lined n = begun base 4 5 1 (3 ∷ 3 ∷ n ∷ []) area_words area_words (replicate 5 7)
 
-pub audited_lines : (audit base (lined 65535) ≡ verdict.Yes) × (audit base (lined 65536) ≡ verdict.No)
+pub audited_lines : (audit base (lined 65535) ≡ Ok true) × (audit base (lined 65536) ≡ Ok false)
 unfolding begun refusal part put_at sum_by range node_of slots_from words_of empty_slot flat_map check.every check.depth check.is_filled check.is_held check.is_child check.is_inner check.is_entry check.is_leaf check.is_sound audit
 audited_lines = (refl, refl)
 
@@ -152,7 +149,7 @@ cursor_start = cursor_at_law base (omega arith) start sound_start.coherent 0 (om
 
 -- a root that leads to leaf 1, which is not in use: 9, and no finger is set
 abbrev pub loose : State
-loose = state (head_of 4 5 0 1 1 1 1 1 held.Absent) (replicate 19 7 ++ 1 ∷ 0 ∷ 0 ∷ 0 ∷ 3 ∷ 3 ∷ 0 ∷ replicate 12 7) (1 ∷ none ∷ 0 ∷ 1 ∷ 3 ∷ 3 ∷ 0 ∷ replicate 31 7) (replicate 5 0)
+loose = state (head_of 4 5 0 1 1 1 1 1 None) (replicate 19 7 ++ 1 ∷ 0 ∷ 0 ∷ 0 ∷ 3 ∷ 3 ∷ 0 ∷ replicate 12 7) (1 ∷ none ∷ 0 ∷ 1 ∷ 3 ∷ 3 ∷ 0 ∷ replicate 31 7) (replicate 5 0)
 
 pub not_followed : tree_step base loose (row.lookup 0 0) ≡ moved loose (refused 9)
 unfolding tree_move tree_step locate opening refusal from_root descend node_of slots_from part find_from

@@ -1,6 +1,6 @@
 -- What some lookups examine, played on a tree's words: fan 4, limit 8, eight entries of lengths (1, 2, 0) in three leaves; the premises of the bounds
 -- are met by them; and the deepest tree that some counts of entries allow.
-use Rattle.std.specs.Prelude.{◌≡◌, refl, ℕ, replicate}
+use Rattle.std.specs.Prelude.{◌≡◌, refl, ℕ, replicate, Ok}
 use mathlib.Core.List.{List, [], ◌∷◌, flat_map, zip_with}
 use Rattle.std.proofs.Common.{arith}
 use Rattle.model.specs.Kind.{base}
@@ -20,7 +20,6 @@ use Rattle.model.specs.Deepest.{largest, deepest}
 use Rattle.model.specs.Examined as count
 use Rattle.model.specs.Examined.{examined, look_slots, Near, Far}
 use Rattle.model.specs.Promise.{InWords, finally}
-use Rattle.model.specs.declared.answer.Outcome.TheVariants as outcome
 use Rattle.model_theory.specs.TopById.{whole}
 use Rattle.model_theory.specs.ExampleById.{three}
 
@@ -61,7 +60,7 @@ pub deepest_are : (deepest 2 8 ≡ 2) × (deepest 2 7 ≡ 1) × (deepest 2 1 ≡
 unfolding largest deepest
 deepest_are = (refl, refl, refl, refl)
 
-made : (calls.make base 4 8 lengths (replicate 76 7) (replicate 76 7) (replicate 8 7)).answer ≡ outcome.Done
+made : (calls.make base 4 8 lengths (replicate 76 7) (replicate 76 7) (replicate 8 7)).answer ≡ Ok tt
 unfolding calls.make refusal
 made = refl
 

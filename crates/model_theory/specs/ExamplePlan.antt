@@ -1,6 +1,6 @@
 -- The premises of the planning tree's list theorem are met by a list of every one of its calls, refused ones among them; the answers are computed, and
 -- a choice of lengths shows what could be held.
-use Rattle.std.specs.Prelude.{◌≡◌, refl, true, ℕ, ◌<◌, replicate}
+use Rattle.std.specs.Prelude.{◌≡◌, refl, true, ℕ, ◌<◌, replicate, Ok, false}
 use mathlib.Core.List.{List, [], ◌∷◌, ◌++◌, zip_with, flat_map}
 use Rattle.std.proofs.Common.{arith}
 use Rattle.model.specs.Kind.{planning}
@@ -17,8 +17,6 @@ use Rattle.model.specs.Audit.{audit}
 use Rattle.model.specs.Promise.{Words, answers, finally}
 use Rattle.model.specs.Plan as plan
 use Rattle.model.specs.Plan.{PlanCall, InPlan, row_plan, tree_plan, PlanDemand}
-use Rattle.model.specs.declared.answer.Outcome.TheVariants as outcome
-use Rattle.model.specs.declared.answer.Verdict.TheVariants as verdict
 use Rattle.model_tree.specs.Lists.{all_append}
 use Rattle.model_theory.specs.TopPlan.{plan_whole}
 
@@ -29,7 +27,7 @@ words = replicate 45 7
 abbrev start : State
 start = (make planning 4 6 (4 ∷ 8 ∷ []) words words (replicate 6 7)).after
 
-made : (make planning 4 6 (4 ∷ 8 ∷ []) words words (replicate 6 7)).answer ≡ outcome.Done
+made : (make planning 4 6 (4 ∷ 8 ∷ []) words words (replicate 6 7)).answer ≡ Ok tt
 unfolding make refusal
 made = refl
 
@@ -101,6 +99,6 @@ could_hold = record { chosen = 4 ∷ 2 ∷ 1 ∷ 0 ∷ []; within = ((omega arit
 abbrev slotted : ℕ → State
 slotted low = begun planning 4 6 1 (low ∷ 4 ∷ []) words words (replicate 6 7)
 
-pub audited_bounds : (audit planning (slotted 4) ≡ verdict.Yes) × (audit planning (slotted 5) ≡ verdict.No)
+pub audited_bounds : (audit planning (slotted 4) ≡ Ok true) × (audit planning (slotted 5) ≡ Ok false)
 unfolding begun refusal lists.part lists.put_at sum_by range node.node_of node.slots_from node.words_of node.empty_slot flat_map check.every check.depth check.is_filled check.is_held check.is_child check.is_inner check.is_entry check.is_leaf check.is_sound audit
 audited_bounds = (refl, refl)

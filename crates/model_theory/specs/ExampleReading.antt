@@ -1,7 +1,7 @@
 -- The premises of the agreement of the reading copy are met: two makes of fan 4 and limit 4 that aren't refused, and a list with every call of the
 -- copy in it, some of them refused in both trees: by 4, 5 and 8, and by 6 for two lengths at once, the effect one among them. And the refusals that the
 -- proviso leaves out exist.
-use Rattle.std.specs.Prelude.{◌≡◌, refl, ◌≢◌, ◌⊎◌, true, false, ℕ, ◌*◌, ◌+◌, ◌≤◌, ◌<◌, replicate}
+use Rattle.std.specs.Prelude.{◌≡◌, refl, ◌≢◌, ◌⊎◌, true, false, ℕ, ◌*◌, ◌+◌, ◌≤◌, ◌<◌, replicate, Ok}
 use Rattle.std.proofs.Common.{sym, subst, inl, inr, arith}
 use mathlib.Core.List.{List, [], ◌∷◌, zip_with, map}
 use Rattle.model.specs.Kind.{base, reading, stride}
@@ -12,7 +12,6 @@ use Rattle.model.specs.Row.{Row, Entry, Call, Answer, done, refused, no_entry, m
 use Rattle.model.specs.ById.{tree_step}
 use Rattle.model.specs.Calls.{make}
 use Rattle.model.specs.Sound.{entries_of}
-use Rattle.model.specs.declared.answer.Outcome.TheVariants as outcome
 use Rattle.model.specs.Promise.{Words, InWords, Represents, answers, finally}
 use Rattle.model.specs.Reading.{Reads, effect_of, here, effect_part, Other, ProvidedOf, Provided, Agreement}
 use Rattle.model_theory.specs.CallById.{step}
@@ -34,11 +33,11 @@ full = (make base 4 4 first (replicate 38 7) (replicate 38 7) (replicate 4 7)).a
 abbrev copy : State
 copy = (make reading 4 4 (effect_of base first) (replicate 22 8) (replicate 22 8) (replicate 4 8)).after
 
-made_full : (make base 4 4 first (replicate 38 7) (replicate 38 7) (replicate 4 7)).answer ≡ outcome.Done
+made_full : (make base 4 4 first (replicate 38 7) (replicate 38 7) (replicate 4 7)).answer ≡ Ok tt
 unfolding make refusal
 made_full = refl
 
-made_copy : (make reading 4 4 (effect_of base first) (replicate 22 8) (replicate 22 8) (replicate 4 8)).answer ≡ outcome.Done
+made_copy : (make reading 4 4 (effect_of base first) (replicate 22 8) (replicate 22 8) (replicate 4 8)).answer ≡ Ok tt
 unfolding make refusal
 made_copy = refl
 

@@ -1,6 +1,6 @@
 -- The premises of the list theorem with seats are met by a tree of five entries with shares of 1 and 2: a seat below its share is served by the last free
 -- entry, others are refused by 18 before; wrong seats are 10, and what the calls answer and charge is computed.
-use Rattle.std.specs.Prelude.{◌≡◌, refl, true, false, ℕ, replicate}
+use Rattle.std.specs.Prelude.{◌≡◌, refl, true, false, ℕ, replicate, Ok, Some, None}
 use mathlib.Core.List.{List, [], ◌∷◌, flat_map, map, zip_with}
 use Rattle.std.proofs.Common.{arith}
 use Rattle.model.specs.Kind.{base}
@@ -26,10 +26,6 @@ use Rattle.model.specs.SeatedCalls.{make_seated, audit_seated}
 use Rattle.model.specs.SeatedList as list
 use Rattle.model.specs.SeatedList.{Seated, seated, Naming, naming, seated_row, seated_tree, seated_cursor, seated_entry, seated_meant_all}
 use Rattle.model.specs.SeatPromise.{NamingInWords, CursorNamingInWords, AlongSeats, SeatedDemand3}
-use Rattle.model.specs.declared.seats.Seat.TheVariants as seat
-use Rattle.model.specs.declared.answer.Target.TheVariants as target
-use Rattle.model.specs.declared.answer.Outcome.TheVariants as outcome
-use Rattle.model.specs.declared.answer.Verdict.TheVariants as verdict
 use Rattle.model_theory.specs.ExampleById.{pair, area_words, first_words, three}
 use Rattle.model_theory.specs.SeatRefused.{audit_seated_law}
 use Rattle.model_theory.specs.TopSeats.{seated_lists}
@@ -52,7 +48,7 @@ start_seated = let r = make_seated base 4 5 shares (pair 3 3) area_words area_wo
 abbrev start_row : Seated Row
 start_row = seated (made_row 5 (pair 3 3)) (seats_of true shares no_charges)
 
-seated_given : (make_seated base 4 5 shares (pair 3 3) area_words area_words (replicate 5 7)).answer ≡ outcome.Done
+seated_given : (make_seated base 4 5 shares (pair 3 3) area_words area_words (replicate 5 7)).answer ≡ Ok tt
 unfolding make_seated lists.refusal seats.sum_from
 seated_given = refl
 
@@ -62,12 +58,12 @@ promised = (seated_lists base (omega arith)).shared 4 5 shares (pair 3 3) area_w
 -- seat 0 takes its share and, while three are free and two are seat 1's, one more; then it and seat 2 are over the rules. Seat 1 takes its two, the last
 -- by the last free entry, and is then over the rules too. A refused call charges nobody, and a reset starts again
 abbrev seated_calls : List (Naming Call)
-seated_calls = naming (seat.Number 0) (row.insert no_entry (pair 2 0)) ∷ naming (seat.Number 0) (row.insert 0 (pair 1 1)) ∷ naming (seat.Number 0) (row.insert 0 (pair 1 1))
-    ∷ naming (seat.Number 8) (row.insert 9 (pair 1 1)) ∷ naming seat.Nobody (row.split true 0 (pair 1 1)) ∷ naming (seat.Number 1) (row.insert 9 (pair 1 1)) ∷ naming (seat.Number 1) (row.split true 0 (pair 1 1))
-    ∷ naming (seat.Number 2) (row.insert no_entry (pair 1 1)) ∷ naming seat.Nobody row.count ∷ naming (seat.Number 1) (row.insert no_entry (pair 1 1)) ∷ naming (seat.Number 1) (row.split true 0 (pair 1 1)) ∷ []
+seated_calls = naming (Some 0) (row.insert no_entry (pair 2 0)) ∷ naming (Some 0) (row.insert 0 (pair 1 1)) ∷ naming (Some 0) (row.insert 0 (pair 1 1))
+    ∷ naming (Some 8) (row.insert 9 (pair 1 1)) ∷ naming None (row.split true 0 (pair 1 1)) ∷ naming (Some 1) (row.insert 9 (pair 1 1)) ∷ naming (Some 1) (row.split true 0 (pair 1 1))
+    ∷ naming (Some 2) (row.insert no_entry (pair 1 1)) ∷ naming None row.count ∷ naming (Some 1) (row.insert no_entry (pair 1 1)) ∷ naming (Some 1) (row.split true 0 (pair 1 1)) ∷ []
 
 abbrev again : List (Naming Call)
-again = naming seat.Nobody (row.reset (pair 3 3)) ∷ naming (seat.Number 0) (row.insert no_entry (pair 2 0)) ∷ []
+again = naming None (row.reset (pair 3 3)) ∷ naming (Some 0) (row.insert no_entry (pair 2 0)) ∷ []
 
 in_words : All (NamingInWords base) seated_calls
 unfolding All
@@ -93,9 +89,9 @@ seated_charges = (refl, refl)
 
 -- on cursors: a wrong seat is 10 even with a bad cursor (3); seat 0 takes two, and is then over the rules
 abbrev cursor_calls : List (Naming CursorCall)
-cursor_calls = naming (seat.Number 9) (by.insert (target.Before (cursor_at 7 0 0)) (pair 1 1)) ∷ naming (seat.Number 0) (by.insert (target.Before (cursor_at 7 0 0)) (pair 1 1))
-    ∷ naming (seat.Number 0) (by.insert (target.Before (cursor_at 1 0 0)) (pair 2 0)) ∷ naming (seat.Number 0) (by.split false (cursor_at 2 0 1) (pair 1 1)) ∷ naming (seat.Number 0) (by.insert target.End (pair 1 1))
-    ∷ naming seat.Nobody (by.id (cursor_at 3 0 2)) ∷ []
+cursor_calls = naming (Some 9) (by.insert (Some (cursor_at 7 0 0)) (pair 1 1)) ∷ naming (Some 0) (by.insert (Some (cursor_at 7 0 0)) (pair 1 1))
+    ∷ naming (Some 0) (by.insert (Some (cursor_at 1 0 0)) (pair 2 0)) ∷ naming (Some 0) (by.split false (cursor_at 2 0 1) (pair 1 1)) ∷ naming (Some 0) (by.insert None (pair 1 1))
+    ∷ naming None (by.id (cursor_at 3 0 2)) ∷ []
 
 cursors_in_words : All (CursorNamingInWords base) cursor_calls
 unfolding All
@@ -116,7 +112,7 @@ unfolding seated_meant_all list.seated_meant by.meant by.standing by.standing_fo
 cursors_mean = refl
 
 -- the tree that make leaves is sound, seats and all
-pub audited : audit_seated base start_seated.of start_seated.seats ≡ verdict.Yes
+pub audited : audit_seated base start_seated.of start_seated.seats ≡ Ok true
 unfolding AlongSeats All
 audited = (audit_seated_law base start_seated).1 (promised.each [] tt).sound
 

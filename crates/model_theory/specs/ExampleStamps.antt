@@ -1,6 +1,6 @@
 -- The premises of CR 8's theorems are met: a sheet of two entries, a reset, and two entries again; a reset on a tree that is not sound; 2 ^ 64 resets;
 -- and a stamp that goes round at once.
-use Rattle.std.specs.Prelude.{◌≡◌, refl, ◌^◌, ◌<◌, replicate}
+use Rattle.std.specs.Prelude.{◌≡◌, refl, ◌^◌, ◌<◌, replicate, None}
 use mathlib.Core.List.{List, [], ◌∷◌, ◌++◌, flat_map, zip_with}
 use Rattle.std.proofs.Common.{arith}
 use Rattle.model.specs.Kind.{base}
@@ -21,7 +21,6 @@ use Rattle.model.specs.ByCursor as by
 use Rattle.model.specs.ByCursor.{CursorCall, cursor_step}
 use Rattle.model.specs.Promise.{CursorInWords, answers, finally, Represents}
 use Rattle.model.specs.Stamp.{makes, makes_all, GoesRound, Stamped, restamped, SameById}
-use Rattle.model.specs.declared.answer.Target.TheVariants as target
 use Rattle.model_theory.specs.StampById.{same_by_id, any_stamp, same_row}
 use Rattle.model_theory.specs.TopStamps.{never_again, goes_round, stamped}
 use Rattle.model_theory.specs.ExampleById as example
@@ -29,10 +28,10 @@ use Rattle.model_theory.specs.ExampleById.{pair, area_words, start, made, first_
 
 -- a second entry, whose cursor bears the stamp 2; then a reset and another second entry: as many entries as before, and the stamp is 4
 abbrev sheet : List CursorCall
-sheet = by.insert target.End (pair 2 0) ∷ []
+sheet = by.insert None (pair 2 0) ∷ []
 
 abbrev next : List CursorCall
-next = by.insert target.End (pair 4 4) ∷ []
+next = by.insert None (pair 4 4) ∷ []
 
 sheet_in_words : All (CursorInWords base) sheet
 unfolding All

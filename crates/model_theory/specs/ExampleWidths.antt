@@ -1,6 +1,6 @@
 -- The list theorem at one length, at two and at three: its premises are met, and the answers are computed on the row, where a view more or less
 -- would show. At three the last view counts line ends; a kind of fewer has none, so that no length is too large for it.
-use Rattle.std.specs.Prelude.{◌≡◌, refl, true, false, ℕ, ◌<◌, replicate}
+use Rattle.std.specs.Prelude.{◌≡◌, refl, true, false, ℕ, ◌<◌, replicate, Ok}
 use mathlib.Core.List.{List, [], ◌∷◌, zip_with}
 use Rattle.std.proofs.Common.{arith}
 use Rattle.model.specs.Kind.{kind, base}
@@ -10,7 +10,6 @@ use Rattle.model.specs.Row.{Call, done, refused, no_entry, made_row, row_step}
 use Rattle.model.specs.Calls.{make}
 use Rattle.model.specs.ById.{tree_step}
 use Rattle.model.specs.declared.shape.Kind.{Kind}
-use Rattle.model.specs.declared.answer.Outcome.TheVariants as outcome
 use Rattle.model.specs.Promise.{Words, InWords, answers}
 use Rattle.model_theory.specs.TopById.{whole}
 
@@ -25,15 +24,15 @@ abbrev one : Kind
 one = kind 1 0
 
 -- fan 4 and limit 5: two nodes of 3 + 4 × 4 words, of 3 + 4 × 3, and of 3 + 4 × 2
-three_made : (make three 4 5 (3 ∷ 3 ∷ 1 ∷ []) (replicate 38 7) (replicate 38 7) (replicate 5 7)).answer ≡ outcome.Done
+three_made : (make three 4 5 (3 ∷ 3 ∷ 1 ∷ []) (replicate 38 7) (replicate 38 7) (replicate 5 7)).answer ≡ Ok tt
 unfolding make refusal
 three_made = refl
 
-both_made : (make both 4 5 (3 ∷ 70000 ∷ []) (replicate 30 7) (replicate 30 7) (replicate 5 7)).answer ≡ outcome.Done
+both_made : (make both 4 5 (3 ∷ 70000 ∷ []) (replicate 30 7) (replicate 30 7) (replicate 5 7)).answer ≡ Ok tt
 unfolding make refusal
 both_made = refl
 
-one_made : (make one 4 5 (3 ∷ []) (replicate 22 7) (replicate 22 7) (replicate 5 7)).answer ≡ outcome.Done
+one_made : (make one 4 5 (3 ∷ []) (replicate 22 7) (replicate 22 7) (replicate 5 7)).answer ≡ Ok tt
 unfolding make refusal
 one_made = refl
 

@@ -1,5 +1,6 @@
 -- A sound state's abstract tree is sound.
-use Rattle.std.specs.Prelude.{◌≡◌, ◌≢◌, Bool, true, false, cond, List, [], ◌∷◌, map, eqb, length, get_or, take}
+use Rattle.model.specs.declared.head.Finger.{Finger}
+use Rattle.std.specs.Prelude.{◌≡◌, ◌≢◌, Bool, true, false, cond, List, [], ◌∷◌, map, eqb, length, get_or, take, Some, None, Option}
 use Rattle.std.proofs.Math.Path.{refl}
 use Rattle.std.proofs.Common.{sym, ap, ◌∙◌, subst, zero-add, not-suc-le-zero, arith, eq-eqb, ne_eqb}
 use Prim.Native.Nat.{ℕ, zero, suc, ◌+◌, ◌≤◌, ◌<◌}
@@ -10,8 +11,6 @@ use Rattle.model.specs.Node as node
 use Rattle.model.specs.Node.{Node, child, used, half}
 use Rattle.model.specs.State.{State}
 use Rattle.model.specs.Sound.{leaf_in, inner_in, inners_reached, leaves_reached, slots_in, below, Child, least_inner, CoherentAt, FingerRight, until}
-use Rattle.model.specs.declared.head.Held.{Held}
-use Rattle.model.specs.declared.head.Held.TheVariants as held
 use Rattle.model_laws.specs.Lists.{all_at_at}
 use Rattle.model_laws.specs.Slots.{Wide}
 use Rattle.model_tree.specs.Lists.{cat, sum_by_cat, take_map, NoDup, all_map, all_map₂, uncat}
@@ -231,9 +230,9 @@ module _ (s : ℕ) (t : State) (e : ℕ) (w : CoherentAt s t e) where
       → node.total v (slots_in s t (until k (leaves_reached s t))) ≡ climb v (tree_of s t).body.leaf (tree_of s t).body.inner t.head.levels k
   start_of k lt v = start_at s t body_of k (is_in k (order (tree_of s t)) (leaf_all k lt)) v
 
-  pub finger_of_law : (f : Held) → FingerRight s t e f → tree.Right e (tree_of s t) f
-  finger_of_law held.Absent r = tt
-  finger_of_law (held.At f) r =
+  pub finger_of_law : (f : Option Finger) → FingerRight s t e f → tree.Right e (tree_of s t) f
+  finger_of_law None r = tt
+  finger_of_law (Some f) r =
       let k : ℕ = f.leaf in
       let td : Tidy s t.head.fan (leaf_in s t k) = (neat_of s t e w).leaf_tidy k r.leaf in
       record {

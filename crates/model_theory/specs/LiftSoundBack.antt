@@ -1,5 +1,6 @@
 -- A state whose words are neat and whose abstract tree is sound is sound.
-use Rattle.std.specs.Prelude.{◌≡◌, refl, ◌≢◌, Bool, true, false, cond, eqb, length, get_or}
+use Rattle.model.specs.declared.head.Finger.{Finger}
+use Rattle.std.specs.Prelude.{◌≡◌, refl, ◌≢◌, Bool, true, false, cond, eqb, length, get_or, Some, None, Option}
 use Rattle.std.proofs.Common.{sym, ap, ◌∙◌, zero-add, not-suc-le-zero, arith, eq-eqb, ne_eqb, eqb-true}
 use Rattle.std.proofs.Math.Path.{subst}
 use mathlib.Core.List.{List, [], ◌∷◌, map, flat_map}
@@ -12,8 +13,6 @@ use Rattle.model.specs.Node as node
 use Rattle.model.specs.Node.{Node, child, used, half}
 use Rattle.model.specs.State.{State}
 use Rattle.model.specs.Sound.{leaf_in, inner_in, level, inners_reached, leaves_reached, slots_in, below, Child, Filled, least_leaf, least_inner, CoherentAt, FingerRight, Once, until}
-use Rattle.model.specs.declared.head.Held.{Held}
-use Rattle.model.specs.declared.head.Held.TheVariants as held
 use Rattle.model_tree.specs.Lists.{cat, NoDup, all_map, all_map₂, pairs_append, all_cat}
 use Rattle.model_tree.specs.Levels.{Slot, Area, Links, total, len, climb}
 use Rattle.model_tree.specs.Apart.{links_nodup}
@@ -154,9 +153,9 @@ module _ (s : ℕ) (t : State) (e : ℕ) (n : Neat s t) (b : Body (tree_of s t))
       → climb v (tree_of s t).body.leaf (tree_of s t).body.inner t.head.levels k ≡ node.total v (slots_in s t (until k (leaves_reached s t)))
   start_is k lt v = sym (start_at s t b k (is_in k (order (tree_of s t)) (b.leaf_all k lt)) v)
 
-  finger_right : (f : Held) → Viewed s f → tree.Right e (tree_of s t) f → FingerRight s t e f
-  finger_right held.Absent v r = tt
-  finger_right (held.At f) v r = record {
+  finger_right : (f : Option Finger) → Viewed s f → tree.Right e (tree_of s t) f → FingerRight s t e f
+  finger_right None v r = tt
+  finger_right (Some f) v r = record {
     view = v;
     leaf = r.leaf_in_law;
     slot = omega (arith, r.slot_in_law, leaf_size f.leaf r.leaf_in_law);

@@ -1,6 +1,7 @@
 -- What a lookup counts on a sound state is the paper's number of slots examined, within its bounds: at most fan × (levels + 2), at most fan where the
 -- finger serves and its leaf holds the position, and at most fan × (k + 2) by the floor on entries.
-use Rattle.std.specs.Prelude.{◌≡◌, Bool, ◌&&◌, List, [], ◌∷◌, ltb, get_or, take}
+use Rattle.model.specs.Numbered.{broken}
+use Rattle.std.specs.Prelude.{◌≡◌, Bool, ◌&&◌, List, [], ◌∷◌, ltb, get_or, take, Ok, Err, Some, None, Option}
 use Rattle.std.proofs.Math.Path.{refl, ap}
 use Rattle.std.proofs.Common.{◌∙◌, not-suc-le-zero, mul_comm, mul-le-mul_right}
 use Rattle.std.proofs.Math.Bool.{true, false, cond}
@@ -23,15 +24,10 @@ use Rattle.model.specs.Sound.{leaf_in, shape_in, Coherent, FingerRight}
 use Rattle.model.specs.Refuse.{opening}
 use Rattle.model.specs.Deepest.{deepest, Deepest}
 use Rattle.model.specs.Examined.{span, slots_before, downward, from_top, by_held, examined, found_slots, served_slots, held_slots, looked_slots, look_slots, Near, Far}
-use Rattle.model.specs.declared.shape.Found.{Found}
-use Rattle.model.specs.declared.shape.Found.TheVariants.{At, Nothing}
+use Rattle.model.specs.Node.{Found}
 use Rattle.model.specs.declared.head.Finger.{Finger}
-use Rattle.model.specs.declared.head.Held.{Held}
-use Rattle.model.specs.declared.head.Held.TheVariants as held
-use Rattle.model.specs.declared.way.Descent.{Descent}
-use Rattle.model.specs.declared.way.Descent.TheVariants as descent
-use Rattle.model.specs.declared.way.Search.{Search}
-use Rattle.model.specs.declared.way.Search.TheVariants as search
+use Rattle.model.specs.Locate.{Descent}
+use Rattle.model.specs.Locate.{Search}
 use Rattle.model_laws.specs.Find.{find_ranged}
 use Rattle.model_laws.specs.Lists.{and_true}
 use Rattle.model_laws.specs.Examined.{find_taken, used_short, found_in, downward_on}
@@ -57,22 +53,22 @@ before_at v index (suc j) o (y ∷ ys) l e h = rw (le-ltb index (length_in v y) 
 -- from the root ------------------------------------------------------------------------------------------------------------------------------
 
 module _ (v e : ℕ) (g : Shape) (leaves index : ℕ) (ls xs : List ℕ) (f : Finger) (o : ℕ) where
-  broken_apart : ◌≡◌ {A = Search} search.Broken (search.At f o) → ⊥
+  broken_apart : ◌≡◌ {A = Search} (Err broken) (Ok (Some (f, o))) → ⊥
   broken_apart q = let z : ◌≡◌ {A = ℕ} 0 1 = cc in omega arith
 
-  nothing_apart : ◌≡◌ {A = Search} search.Nothing (search.At f o) → ⊥
+  nothing_apart : ◌≡◌ {A = Search} (Ok None) (Ok (Some (f, o))) → ⊥
   nothing_apart q = let z : ◌≡◌ {A = ℕ} 0 1 = cc in omega arith
 
   -- a search that finds examines at most fan slots in each node on the way; on any words
-  down_most : (miss : Descent) → (leaf_of v e g leaves index ls miss ≡ search.At f o → ⊥) → (n k rest a b : ℕ)
-      → leaf_of v e g leaves index ls (descend v e g miss n k rest a b xs) ≡ search.At f o → downward v g ls xs n k rest ≤ (n + 1) * g.fan
+  down_most : (miss : Descent) → (leaf_of v e g leaves index ls miss ≡ Ok (Some (f, o)) → ⊥) → (n k rest a b : ℕ)
+      → leaf_of v e g leaves index ls (descend v e g miss n k rest a b xs) ≡ Ok (Some (f, o)) → downward v g ls xs n k rest ≤ (n + 1) * g.fan
   unfolding descend downward
   down_most miss never zero k rest a b q = go (ltb k leaves && leb (node_at g k ls).len g.fan) refl (find_from v e 0 rest 0 0 (used (node_at g k ls))) refl q
     where
       go : (c : Bool) → (ltb k leaves && leb (node_at g k ls).len g.fan) ≡ c → (r : Found) → find_from v e 0 rest 0 0 (used (node_at g k ls)) ≡ r
-          → cond (ltb k leaves && leb (node_at g k ls).len g.fan) (set_in v e g k index rest a b (find_from v e 0 rest 0 0 (used (node_at g k ls)))) search.Broken ≡ search.At f o
+          → cond (ltb k leaves && leb (node_at g k ls).len g.fan) (set_in v e g k index rest a b (find_from v e 0 rest 0 0 (used (node_at g k ls)))) (Err broken) ≡ Ok (Some (f, o))
           → slots_before v rest (used (node_at g k ls)) + 1 ≤ (0 + 1) * g.fan
-      go true p (At j u z y) r q =
+      go true p (Some (j, u, z, y)) r q =
           omega (
             arith,
             (find_taken v e 0 rest 0 0 (used (node_at g k ls)) j u z y r).slot,
@@ -80,23 +76,23 @@ module _ (v e : ℕ) (g : Shape) (leaves index : ℕ) (ls xs : List ℕ) (f : Fi
             used_short (node_at g k ls),
             leb-true (node_at g k ls).len g.fan (and_true (ltb k leaves) (leb (node_at g k ls).len g.fan) p).1,
           )
-      go true p Nothing r q = absurd (broken_apart (rw (p, r) at q))
+      go true p None r q = absurd (broken_apart (rw (p, r) at q))
       go false p d r q = absurd (broken_apart (rw p at q))
   down_most miss never (suc n) k rest a b q =
-      go (ltb k g.nodes && leb (node_at g k xs).len g.fan) refl (find_from v e 0 rest a b (used (node_at g k xs))) refl q (λ c r t u. down_most descent.Broken (λ z. broken_apart z) n c r t u)
+      go (ltb k g.nodes && leb (node_at g k xs).len g.fan) refl (find_from v e 0 rest a b (used (node_at g k xs))) refl q (λ c r t u. down_most (Err broken) (λ z. broken_apart z) n c r t u)
     where
       go : (c : Bool) → (ltb k g.nodes && leb (node_at g k xs).len g.fan) ≡ c → (r : Found) → find_from v e 0 rest a b (used (node_at g k xs)) ≡ r
-          → leaf_of v e g leaves index ls (cond (ltb k g.nodes && leb (node_at g k xs).len g.fan) (into (λ c r t u. descend v e g descent.Broken n c r t u xs) miss (node_at g k xs) (find_from v e 0 rest a b (used (node_at g k xs)))) descent.Broken) ≡ search.At f o
-          → ((c r t u : ℕ) → leaf_of v e g leaves index ls (descend v e g descent.Broken n c r t u xs) ≡ search.At f o → downward v g ls xs n c r ≤ (n + 1) * g.fan)
+          → leaf_of v e g leaves index ls (cond (ltb k g.nodes && leb (node_at g k xs).len g.fan) (into (λ c r t u. descend v e g (Err broken) n c r t u xs) miss (node_at g k xs) (find_from v e 0 rest a b (used (node_at g k xs)))) (Err broken)) ≡ Ok (Some (f, o))
+          → ((c r t u : ℕ) → leaf_of v e g leaves index ls (descend v e g (Err broken) n c r t u xs) ≡ Ok (Some (f, o)) → downward v g ls xs n c r ≤ (n + 1) * g.fan)
           → downward v g ls xs (suc n) k rest ≤ (suc n + 1) * g.fan
-      go true p (At j u z y) r q ih =
+      go true p (Some (j, u, z, y)) r q ih =
           let c : (node_at g k xs).len ≤ g.fan = leb-true (node_at g k xs).len g.fan (and_true (ltb k g.nodes) (leb (node_at g k xs).len g.fan) p).1 in
           let here : j < (node_at g k xs).len = found_in v e g k rest a b xs j u z y r in
           let i : downward v g ls xs n (child (get_or (node_at g k xs).slots j [])) u ≤ (n + 1) * g.fan = ih (child (get_or (node_at g k xs).slots j [])) u z y (rw (p, r) at q) in
           let d : downward v g ls xs (suc n) k rest ≡ j + 1 + downward v g ls xs n (child (get_or (node_at g k xs).slots j [])) u =
           downward_on v e g k rest a b xs j u z y r ls (suc n) (omega arith) ∙ ap (λ (i : ℕ). j + 1 + downward v g ls xs i (child (get_or (node_at g k xs).slots j [])) u) (let one : suc n - 1 ≡ n = omega arith in one) in
           omega (arith, suc-mul (n + 1) g.fan)
-      go true p Nothing r q ih = absurd (never (rw (p, r) at q))
+      go true p None r q ih = absurd (never (rw (p, r) at q))
       go false p d r q ih = absurd (broken_apart (rw p at q))
 
 -- a lookup on a sound state -------------------------------------------------------------------------------------------------------------------
@@ -114,7 +110,7 @@ module _ (K : Kind) (t : State) (w : Coherent K t) (v x : ℕ) (lt : x < sum_by 
   top =
       let r = root_hit (stride K) K.effect t w v x lt in (
         λ n. rw r.is,
-        down_most v K.effect (shape_in (stride K) t) t.head.leaves x t.leaves t.inners r.finger r.offset descent.Nothing
+        down_most v K.effect (shape_in (stride K) t) t.head.leaves x t.leaves t.inners r.finger r.offset (Ok None)
             (λ q. nothing_apart v K.effect (shape_in (stride K) t) t.head.leaves x t.leaves t.inners r.finger r.offset q) t.head.levels t.head.root.0 x 0 0 r.is,
       )
 
@@ -125,15 +121,15 @@ module _ (K : Kind) (t : State) (w : Coherent K t) (v x : ℕ) (lt : x < sum_by 
       omega (arith, top.1, w.fan_most)
 
   -- what is counted with that finger, the paper's number, and its bounds
-  pub record Told (h : Held) : Type 0 where
+  pub record Told (h : Option Finger) : Type 0 where
     pub is : looked_slots (served_by v K.effect (shape_in (stride K) t) h t.head.leaves x t.leaves) (held_slots v K.effect (shape_in (stride K) t) h t.head.leaves x t.leaves) root (from_top K t v x) ≡ by_held K t v x h
     pub most : by_held K t v x h ≤ (t.head.levels + 1) * t.head.fan + t.head.fan
     pub near : Near K t v x h → by_held K t v x h ≤ t.head.fan
 
-  told : (h : Held) → FingerRight (stride K) t K.effect h → Told h
+  told : (h : Option Finger) → FingerRight (stride K) t K.effect h → Told h
   unfolding served served_slots
-  told held.Absent r = record { is = top.0 _ ∙ few 0 (omega arith) ∙ omega arith; most = omega (arith, top.1); near = λ z. absurd z }
-  told (held.At f) r = go (ℕ_discrete f.view v) (dec_lt x f.start)
+  told None r = record { is = top.0 _ ∙ few 0 (omega arith) ∙ omega arith; most = omega (arith, top.1); near = λ z. absurd z }
+  told (Some f) r = go (ℕ_discrete f.view v) (dec_lt x f.start)
     where
       size : (leaf_in (stride K) t f.leaf).len ≡ length (used (leaf_in (stride K) t f.leaf))
       size = len_used (stride K) t.head.fan (leaf_in (stride K) t f.leaf) ((neat_of (stride K) t K.effect w).leaf_tidy f.leaf r.leaf)
@@ -144,7 +140,7 @@ module _ (K : Kind) (t : State) (w : Coherent K t) (v x : ℕ) (lt : x < sum_by 
       fits : f.slot < length (used (leaf_in (stride K) t f.leaf))
       fits = let a = r.slot in let b = size in omega arith
 
-      go : Dec (f.view ≡ v) → Dec (x < f.start) → Told (held.At f)
+      go : Dec (f.view ≡ v) → Dec (x < f.start) → Told (Some f)
       go (no ne) d = record {
         is = rw (ne_eqb f.view v ne) (top.0 _ ∙ few 0 (omega arith) ∙ omega arith);
         most = rw (ne_eqb f.view v ne) (omega (arith, top.1));
@@ -163,7 +159,7 @@ module _ (K : Kind) (t : State) (w : Coherent K t) (v x : ℕ) (lt : x < sum_by 
           wi : f.within ≡ node.total v (take f.slot (used (leaf_in (stride K) t f.leaf)))
           wi = r.within ∙ ap (λ (u : ℕ). node.total u (take f.slot (used (leaf_in (stride K) t f.leaf)))) e
 
-          walk : Dec (x - f.start < node.total v (used (leaf_in (stride K) t f.leaf))) → Told (held.At f)
+          walk : Dec (x - f.start < node.total v (used (leaf_in (stride K) t f.leaf))) → Told (Some f)
           walk (yes h) =
               let q : WalkReached v K.effect (used (leaf_in (stride K) t f.leaf)) f (x - f.start) = walk_hit v K.effect (used (leaf_in (stride K) t f.leaf)) (small v) (small K.effect) (small 0) f (x - f.start) (let z = fits in omega arith) wi r.within_effect r.within_prepare h in
               let b : slots_before v (x - f.start) (used (leaf_in (stride K) t f.leaf)) ≡ q.slot = before_at v (x - f.start) q.slot q.offset (used (leaf_in (stride K) t f.leaf)) q.slot_in_law q.sums q.inside in

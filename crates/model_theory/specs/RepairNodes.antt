@@ -1,6 +1,6 @@
 -- The nodes and homes that repair leaves, each as a function of the trusted words before it; a tree that fits becomes sound by them.
 -- s is the words of a slot. Assumes nothing.
-use Rattle.std.specs.Prelude.{◌≡◌, refl, Bool, true, false, cond, ℕ, zero, suc, ◌+◌, ◌-◌, ◌<◌, ◌≤◌, length, get_or, eqb}
+use Rattle.std.specs.Prelude.{◌≡◌, refl, Bool, true, false, cond, ℕ, zero, suc, ◌+◌, ◌-◌, ◌<◌, ◌≤◌, length, get_or, eqb, None}
 use Rattle.std.proofs.Common.{sym, ap, ap₂, subst, ◌∙◌, arith, add-one, get_or-take, length-take-le, eqb-true}
 use mathlib.Core.List.{List, [], ◌∷◌, map, flat_map}
 use Rattle.std.proofs.lemmas.List.{length-map}
@@ -10,7 +10,6 @@ use Rattle.model.specs.Node.{none, child, length_in, total, used, empty_slot}
 use Rattle.model.specs.State.{State, state}
 use Rattle.model.specs.Sound.{Child, shape_in, leaf_in, inner_in, level, inners_reached, below}
 use Rattle.model.specs.declared.head.Head.{Head}
-use Rattle.model.specs.declared.head.Held.TheVariants as held
 use Rattle.model_laws.specs.Nodes.{Formed}
 use Rattle.model_laws.specs.Areas.{formed_at}
 use Rattle.model_laws.specs.AreaRead.{node_end}
@@ -99,7 +98,7 @@ module _ (s e : ℕ) (t : State) (f : TrustedCoherent s t) (areas : LongAreas s 
     agrees = record { head = refl; leaf_len = m.leaf_len; leaf_slots_law = m.leaf_slots_law; inner_len = m.inner_len; inner_children = inner_children }
 
     levels_here : (d : ℕ) → d ≤ h.levels → level s R d ≡ level s t d
-    levels_here d l = levels_as s (no_finger h) h.finger held.Absent t.leaves t.inners t.homes lr xr hr f m.leaf_len m.leaf_slots_law m.inner_len inner_children d l
+    levels_here d l = levels_as s (no_finger h) h.finger None t.leaves t.inners t.homes lr xr hr f m.leaf_len m.leaf_slots_law m.inner_len inner_children d l
 
     -- as many children as slots in use
     formed : (k : ℕ) → k < h.inners → Formed s h.fan (inner_in s t k)

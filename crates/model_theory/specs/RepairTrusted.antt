@@ -1,5 +1,6 @@
 -- What soundness asks of the words that repair trusts, and of nothing else. A tree with which some sound tree agrees has it. Assumes nothing.
-use Rattle.std.specs.Prelude.{◌≡◌, refl, ℕ, suc, ◌*◌, ◌<◌, ◌≤◌, length, get_or}
+use Rattle.model.specs.declared.head.Finger.{Finger}
+use Rattle.std.specs.Prelude.{◌≡◌, refl, ℕ, suc, ◌*◌, ◌<◌, ◌≤◌, length, get_or, None, Option}
 use Rattle.std.proofs.Common.{sym, ap, subst, ◌∙◌, arith}
 use mathlib.Core.List.{List, [], map}
 use Rattle.model.specs.Lists.{All, range}
@@ -8,8 +9,6 @@ use Rattle.model.specs.State.{State, state}
 use Rattle.model.specs.Place.{with_finger}
 use Rattle.model.specs.Sound.{Once, CoherentAt, shape_in, leaf_in, inner_in, level, inners_reached, leaves_reached, slots_in, least_leaf, least_inner, Child, FingerRight}
 use Rattle.model.specs.declared.head.Head.{Head}
-use Rattle.model.specs.declared.head.Held.{Held}
-use Rattle.model.specs.declared.head.Held.TheVariants as held
 use Rattle.model.specs.Mend.{no_finger}
 use Rattle.model.specs.Repair.{Agrees, Same}
 use Rattle.model_theory.specs.RepairLists.{In, all_in, in_all, in_flat, in_range, in_range_below, flat_same}
@@ -40,7 +39,7 @@ pub record Settled (s : ℕ) (t : State) : Type 0 where
   pub root_at : (inner_in s t t.head.root.0).at ≡ 0
   pub children : (d : ℕ) → d < t.head.levels → All (λ p. (i : ℕ) → i < (inner_in s t p).len → Child s t d p i (get_or (inner_in s t p).slots i [])) (level s t d)
   pub homes : (k i : ℕ) → k < t.head.leaves → i < (leaf_in s t k).len → get_or t.homes (child (get_or (leaf_in s t k).slots i [])) 0 ≡ k
-  pub finger : t.head.finger ≡ held.Absent
+  pub finger : t.head.finger ≡ None
 
 -- areas as long as the limit needs
 pub record LongAreas (s : ℕ) (t : State) : Type 0 where
@@ -98,7 +97,7 @@ module _ (s e : ℕ) (t : State) where
 pub fit_below : (s : ℕ) (t : State) → TrustedCoherent s t → (d p : ℕ) → d < t.head.levels → In p (level s t d) → p < t.head.inners
 fit_below s t f d p h i = all_in (λ k. k < t.head.inners) (in_flat (level s t) (in_range 0 t.head.levels d (omega arith) (omega arith)) i) f.inners_once.below
 
-module _ (s : ℕ) (h : Head) (fa fb : Held) (la xa ha lb xb hb : List ℕ) where
+module _ (s : ℕ) (h : Head) (fa fb : Option Finger) (la xa ha lb xb hb : List ℕ) where
   abbrev A : State
   A = state (with_finger fa h) la xa ha
 

@@ -1,5 +1,6 @@
 -- Two sound trees that agree on what repair trusts are the same in every node in use and every home: repair has no choice. Assumes nothing.
-use Rattle.std.specs.Prelude.{◌≡◌, refl, Bool, true, false, ℕ, zero, suc, ◌+◌, ◌-◌, ◌<◌, ◌≤◌, length, get_or, take, ltb}
+use Rattle.model.specs.declared.head.Finger.{Finger}
+use Rattle.std.specs.Prelude.{◌≡◌, refl, Bool, true, false, ℕ, zero, suc, ◌+◌, ◌-◌, ◌<◌, ◌≤◌, length, get_or, take, ltb, Option}
 use Rattle.std.proofs.Common.{sym, ap, ap₂, subst, ◌∙◌, arith, add-one, ext_get_or, get_or-take, eq-eqb, ne_eqb, ltb-true, ltb-false}
 use mathlib.Core.List.{List, [], ◌∷◌, map, flat_map}
 use Rattle.std.proofs.Math.ListN.{get_or-map}
@@ -9,7 +10,6 @@ use Rattle.model.specs.State.{State, state}
 use Rattle.model.specs.Place.{with_finger}
 use Rattle.model.specs.Sound.{CoherentAt, Child, shape_in, leaf_in, inner_in, level, inners_reached, leaves_reached, slots_in, below}
 use Rattle.model.specs.declared.head.Head.{Head}
-use Rattle.model.specs.declared.head.Held.{Held}
 use Rattle.model_laws.specs.Lists.{all_at_at}
 use Rattle.model_laws.specs.Slots.{Long}
 use Rattle.model_laws.specs.Nodes.{Formed}
@@ -131,7 +131,7 @@ level_as s a b r n same (suc d) g =
 
 -- two trees -----------------------------------------------------------------------------------------------------------------------------------
 
-module _ (s e : ℕ) (h : Head) (fa fb : Held) (la xa ha lb xb hb : List ℕ) where
+module _ (s e : ℕ) (h : Head) (fa fb : Option Finger) (la xa ha lb xb hb : List ℕ) where
   abbrev A : State
   A = state (with_finger fa h) la xa ha
 
@@ -298,10 +298,10 @@ same s e a b wa wb g = back
     r : Beside s e a b (no_finger a.head)
     r = beside s e a b wb g
 
-    fa : Held
+    fa : Option Finger
     fa = a.head.finger
 
-    fb : Held
+    fb : Option Finger
     fb = b.head.finger
 
     heads : (Q : Head → Type 0) → Q (no_finger a.head) → Q (no_finger b.head)

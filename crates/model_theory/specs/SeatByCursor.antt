@@ -1,8 +1,10 @@
 -- One call of a seated list on cursors does on a tree that stands for a row with the same seats what the call of the row that it means does there: a
 -- current cursor is its entry's, so that it is the seated call by id, and any other is refused by its own number.
+use Rattle.model.specs.declared.number.EntryId.{EntryId}
+use Rattle.model.specs.Numbered.{Numbered}
 use Rattle.std.proofs.Math.Path.{◌≡◌, refl, ap, subst}
 use Rattle.std.proofs.Common.{sym, ap₂, ◌∙◌}
-use Rattle.std.specs.Prelude.{Bool, ◌||◌, List, ◌++◌, eqb, length}
+use Rattle.std.specs.Prelude.{Bool, ◌||◌, List, ◌++◌, eqb, length, Err, Some, None, Option}
 use Rattle.std.proofs.Math.Bool.{true, false, cond}
 use Prim.Native.Nat.{ℕ, zero, suc, ◌<◌}
 use native.Mathlib.Omega.{arith}
@@ -25,15 +27,7 @@ use Rattle.model.specs.Seats.{bad_seat, Fair}
 use Rattle.model.specs.SeatedCalls.{seated_reply, SeatedReply, space, insert_seated, split_seated, reset_seated}
 use Rattle.model.specs.SeatedList as list
 use Rattle.model.specs.SeatedList.{Seated, seated, Naming, naming, deed, cursor_deed, misnamed, beside, told_seated, row_space, seated_row, seated_row_move, seated_tree, seated_tree_move, seated_cursor_move, seated_cursor, seated_entry_move, seated_entry, seated_meant}
-use Rattle.model.specs.declared.seats.Seat.{Seat}
 use Rattle.model.specs.declared.head.Cursor.{Cursor}
-use Rattle.model.specs.declared.answer.Target.{Target}
-use Rattle.model.specs.declared.answer.Target.TheVariants as target
-use Rattle.model.specs.declared.answer.Outcome.TheVariants as outcome
-use Rattle.model.specs.declared.answer.Inserted.{Inserted}
-use Rattle.model.specs.declared.answer.Inserted.TheVariants as inserted
-use Rattle.model.specs.declared.answer.Divided.{Divided}
-use Rattle.model.specs.declared.answer.Divided.TheVariants as divided
 use Rattle.model_theory.specs.CallOpen.{stopped, few_lines, many_lines_law}
 use Rattle.model_theory.specs.CallSimulates.{Simulates, row_of}
 use Rattle.model_theory.specs.CursorCurrent.{first_applies, is_current}
@@ -93,7 +87,7 @@ module _ (K : Kind) (s : State) where
   meant_still by.is_empty e = tt
 
 -- the seated row does what the row does, and leaves the seats
-entry_still : (K : Kind) (r : Seated Row) (x : Seat) (e : EntryCall) → Still e → seated_entry_move K r x e ≡ beside r.seats (entry_step K r.of e)
+entry_still : (K : Kind) (r : Seated Row) (x : Option ℕ) (e : EntryCall) → Still e → seated_entry_move K r x e ≡ beside r.seats (entry_step K r.of e)
 unfolding seated_entry_move entry_step seated_row seated_row_move row_step
 entry_still K r x (by.plain c) q = rw q (go (overlong K c))
   where
@@ -121,23 +115,23 @@ entry_count K t w (by.failed n) q = refl
 
 -- a call that some cause stops, in either form of the causes for want of space -----------------------------------------------------------------------
 
-insert_stops : (K : Kind) (s : Seated State) (x : Seat) (t : Target) (l : List ℕ) → bad_seat s.seats x ≡ false → (n : ℕ) → refusal (calls.insert_causes K (space s.of s.seats x) s.of t l) ≡ suc n
-    → insert_seated K s.of s.seats x t l ≡ seated_reply s.of s.seats (inserted.Refused (suc n))
+insert_stops : (K : Kind) (s : Seated State) (x : Option ℕ) (t : Option Cursor) (l : List ℕ) → bad_seat s.seats x ≡ false → (n : ℕ) → refusal (calls.insert_causes K (space s.of s.seats x) s.of t l) ≡ suc n
+    → insert_seated K s.of s.seats x t l ≡ seated_reply s.of s.seats (Err (suc n))
 unfolding insert_seated calls.insert_by
-insert_stops K s x t l g n e = rw (g, stopped (calls.insert_causes K (space s.of s.seats x) s.of t l) (λ m. calls.reply s.of (inserted.Refused m)) _ n e)
+insert_stops K s x t l g n e = rw (g, stopped (calls.insert_causes K (space s.of s.seats x) s.of t l) (λ m. calls.reply {A = Numbered (EntryId × ℕ)} s.of (Err m)) _ n e)
 
-split_stops : (K : Kind) (s : Seated State) (x : Seat) (c : Cursor) (l : List ℕ) (flag : Bool) → bad_seat s.seats x ≡ false → (n : ℕ) → refusal (calls.split_causes K (space s.of s.seats x) s.of c l) ≡ suc n
-    → split_seated K s.of s.seats x c l flag ≡ seated_reply s.of s.seats (divided.Refused (suc n))
+split_stops : (K : Kind) (s : Seated State) (x : Option ℕ) (c : Cursor) (l : List ℕ) (flag : Bool) → bad_seat s.seats x ≡ false → (n : ℕ) → refusal (calls.split_causes K (space s.of s.seats x) s.of c l) ≡ suc n
+    → split_seated K s.of s.seats x c l flag ≡ seated_reply s.of s.seats (Err (suc n))
 unfolding split_seated calls.split_by
-split_stops K s x c l flag g n e = rw (g, stopped (calls.split_causes K (space s.of s.seats x) s.of c l) (λ m. calls.reply s.of (divided.Refused m)) _ n e)
+split_stops K s x c l flag g n e = rw (g, stopped (calls.split_causes K (space s.of s.seats x) s.of c l) (λ m. calls.reply {A = Numbered (EntryId × Cursor × Cursor)} s.of (Err m)) _ n e)
 
-overlong_row : (K : Kind) (r : Seated Row) (x : Seat) (c : Call) → overlong K c ≡ true → seated_row K r (naming x c) ≡ moved r (refused 10)
+overlong_row : (K : Kind) (r : Seated Row) (x : Option ℕ) (c : Call) → overlong K c ≡ true → seated_row K r (naming x c) ≡ moved r (refused 10)
 unfolding seated_row
 overlong_row K r x c e = rw e
 
 -- calls that name a seat ---------------------------------------------------------------------------------------------------------------------------
 
-module _ (K : Kind) (ok : K.effect < K.views) (s : Seated State) (r : Seated Row) (h : SeatedRepresents K s r) (x : Seat) where
+module _ (K : Kind) (ok : K.effect < K.views) (s : Seated State) (r : Seated Row) (h : SeatedRepresents K s r) (x : Option ℕ) where
   abbrev t : State
   t = s.of
 
@@ -177,30 +171,30 @@ module _ (K : Kind) (ok : K.effect < K.views) (s : Seated State) (r : Seated Row
       go false e = few e
 
   module _ (good : bad_seat s.seats x ≡ false) where
-    inserting : (tg : Target) (l : List ℕ) → Moved (Seated State)
+    inserting : (tg : Option Cursor) (l : List ℕ) → Moved (Seated State)
     inserting tg l = told_seated (insert_seated K t s.seats x tg l) inserted_answer
 
-    insert_refused : (tg : Target) (l : List ℕ) (n : ℕ) → refusal (calls.insert_causes K (space t s.seats x) t tg l) ≡ suc n → inserting tg l ≡ moved s (refused (suc n))
+    insert_refused : (tg : Option Cursor) (l : List ℕ) (n : ℕ) → refusal (calls.insert_causes K (space t s.seats x) t tg l) ≡ suc n → inserting tg l ≡ moved s (refused (suc n))
     unfolding inserting
-    insert_refused tg l n e = ap (λ (z : SeatedReply Inserted). told_seated z inserted_answer) (insert_stops K s x tg l good n e)
+    insert_refused tg l n e = ap (λ (z : SeatedReply (Numbered (EntryId × ℕ))). told_seated z inserted_answer) (insert_stops K s x tg l good n e)
 
-    by_insert : (c : Cursor) (l : List ℕ) → Words K l → Simulates (SeatedRepresents K) (inserting (target.Before c) l) (seated_entry_move K r x (meant K t (by.insert (target.Before c) l)))
+    by_insert : (c : Cursor) (l : List ℕ) → Words K l → Simulates (SeatedRepresents K) (inserting (Some c) l) (seated_entry_move K r x (meant K t (by.insert (Some c) l)))
     unfolding inserting meant seated_entry_move seated_row seated_tree seated_tree_move
-    by_insert c l k = with_lines l c (inserting (target.Before c) l) (λ i. by.plain (row.insert i l))
-        (λ o. (insert_refused (target.Before c) l 9 (many_lines_law K l _ o), rw o))
-        (λ o. with_one c (inserting (target.Before c) l) (λ i. by.plain (row.insert i l))
+    by_insert c l k = with_lines l c (inserting (Some c) l) (λ i. by.plain (row.insert i l))
+        (λ o. (insert_refused (Some c) l 9 (many_lines_law K l _ o), rw o))
+        (λ o. with_one c (inserting (Some c) l) (λ i. by.plain (row.insert i l))
         (λ e. subst (λ (z : Moved (Seated State)). Simulates (SeatedRepresents K) z (seated_row K r (naming x (row.insert (entry_at K t c) l))))
         (rw (o, good, ne_eqb (entry_at K t c) no_entry (λ z. let y = small K ok t w c e in omega arith), (is_current K t w c e).1))
         (seated_step K ok s r h (naming x (row.insert (entry_at K t c) l)) (word K ok t w c e, k)))
-        (λ n q. insert_refused (target.Before c) l n (few_lines K l _ o ∙ first_applies (opening K t ++ at_cursor K t c) _ n (stops K ok t w c n q))))
+        (λ n q. insert_refused (Some c) l n (few_lines K l _ o ∙ first_applies (opening K t ++ at_cursor K t c) _ n (stops K ok t w c n q))))
 
     -- the end: too many line ends are 10 by id, and by the call itself
-    by_end : (l : List ℕ) → Words K l → Simulates (SeatedRepresents K) (inserting target.End l) (seated_entry_move K r x (meant K t (by.insert target.End l)))
+    by_end : (l : List ℕ) → Words K l → Simulates (SeatedRepresents K) (inserting None l) (seated_entry_move K r x (meant K t (by.insert None l)))
     unfolding inserting meant seated_entry_move seated_tree seated_tree_move
     by_end l k = subst (λ (z : Moved (Seated State)). Simulates (SeatedRepresents K) z (seated_row K r (naming x (row.insert no_entry l)))) (go (too_many_lines K l) refl) (seated_step K ok s r h (naming x (row.insert no_entry l)) (omega arith, k))
       where
-        go : (p : Bool) → too_many_lines K l ≡ p → cond (too_many_lines K l || bad_seat s.seats x) (moved s (refused 10)) (told_seated (insert_seated K t s.seats x target.End l) inserted_answer) ≡ told_seated (insert_seated K t s.seats x target.End l) inserted_answer
-        go true o = rw o (sym (insert_refused target.End l 9 (many_lines_law K l _ o)))
+        go : (p : Bool) → too_many_lines K l ≡ p → cond (too_many_lines K l || bad_seat s.seats x) (moved s (refused 10)) (told_seated (insert_seated K t s.seats x None l) inserted_answer) ≡ told_seated (insert_seated K t s.seats x None l) inserted_answer
+        go true o = rw o (sym (insert_refused None l 9 (many_lines_law K l _ o)))
         go false o = rw (o, good)
 
     dividing : (flag : Bool) (c : Cursor) (l : List ℕ) → Moved (Seated State)
@@ -208,7 +202,7 @@ module _ (K : Kind) (ok : K.effect < K.views) (s : Seated State) (r : Seated Row
 
     split_refused : (flag : Bool) (c : Cursor) (l : List ℕ) (n : ℕ) → refusal (calls.split_causes K (space t s.seats x) t c l) ≡ suc n → dividing flag c l ≡ moved s (refused (suc n))
     unfolding dividing
-    split_refused flag c l n e = ap (λ (z : SeatedReply Divided). told_seated z (parts_answer K z.after)) (split_stops K s x c l flag good n e)
+    split_refused flag c l n e = ap (λ (z : SeatedReply (Numbered (EntryId × Cursor × Cursor))). told_seated z (parts_answer K z.after)) (split_stops K s x c l flag good n e)
 
     -- the parts of an entry that is split by a current cursor
     parts_of_law : (flag : Bool) (c : Cursor) (l : List ℕ) → length l ≡ K.views → too_many_lines K l ≡ false → current K t c ≡ true
@@ -240,7 +234,7 @@ module _ (K : Kind) (ok : K.effect < K.views) (s : Seated State) (r : Seated Row
   by_reset l k = subst (λ (z : Moved (Seated State)). Simulates (SeatedRepresents K) z (seated_row K r (naming x (row.reset l)))) (go (too_many_lines K l) refl) (seated_step K ok s r h (naming x (row.reset l)) k)
     where
       go : (p : Bool) → too_many_lines K l ≡ p → cond (too_many_lines K l || false) (moved s (refused 10)) (told_seated (reset_seated K t s.seats l) outcome_answer) ≡ told_seated (reset_seated K t s.seats l) outcome_answer
-      go true o = rw (stopped (calls.make_causes K t.head.fan t.head.limit l t.leaves t.inners t.homes) (λ m. calls.reply t (outcome.Refused m)) _ 9 (many_lines_law K l _ o), o)
+      go true o = rw (stopped (calls.make_causes K t.head.fan t.head.limit l t.leaves t.inners t.homes) (λ m. calls.reply {A = Numbered (Unit {0})} t (Err m)) _ 9 (many_lines_law K l _ o), o)
       go false o = rw o
 
   by_other : (c : CursorCall) → cursor_deed c ≡ list.nothing → CursorInWords K c → Simulates (SeatedRepresents K) (beside s.seats (cursor_step K t c)) (seated_entry_move K r x (meant K t c))
@@ -256,14 +250,14 @@ module _ (K : Kind) (ok : K.effect < K.views) (s : Seated State) (r : Seated Row
   abbrev Same : CursorCall → Type 0
   Same c = CursorInWords K c → Simulates (SeatedRepresents K) (seated_cursor_move K t s.seats x c (cursor_deed c)) (seated_entry_move K r x (cond (misnamed s.seats x (cursor_deed c)) (by.failed 10) (meant K t c)))
 
-  insert_same : (tg : Target) (l : List ℕ) → Same (by.insert tg l)
+  insert_same : (tg : Option Cursor) (l : List ℕ) → Same (by.insert tg l)
   unfolding seated_cursor_move insert_seated inserting seated_entry_move entry_step
   insert_same tg l k = go (bad_seat s.seats x) refl tg
     where
-      go : (p : Bool) → bad_seat s.seats x ≡ p → (tg : Target) → Simulates (SeatedRepresents K) (told_seated (insert_seated K t s.seats x tg l) inserted_answer) (seated_entry_move K r x (cond p (by.failed 10) (meant K t (by.insert tg l))))
+      go : (p : Bool) → bad_seat s.seats x ≡ p → (tg : Option Cursor) → Simulates (SeatedRepresents K) (told_seated (insert_seated K t s.seats x tg l) inserted_answer) (seated_entry_move K r x (cond p (by.failed 10) (meant K t (by.insert tg l))))
       go true q tg = rw q (stays 10)
-      go false q (target.Before c) = by_insert q c l k
-      go false q target.End = by_end q l k
+      go false q (Some c) = by_insert q c l k
+      go false q None = by_end q l k
 
   split_same : (flag : Bool) (c : Cursor) (l : List ℕ) → Same (by.split flag c l)
   unfolding seated_cursor_move split_seated dividing seated_entry_move entry_step

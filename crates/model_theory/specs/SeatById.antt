@@ -2,7 +2,7 @@
 -- row becomes, with the same charges. A call that names a seat is the call without seats with other causes for want of space, and then a charge.
 use Rattle.std.proofs.Math.Path.{◌≡◌, refl, sym, subst}
 use Rattle.std.proofs.Common.{ap, ap₂, ◌∙◌, arith, length-set, ne_eqb, ltb-false}
-use Rattle.std.specs.Prelude.{Bool, cond, not, ◌||◌, eqb, ltb, leb, length}
+use Rattle.std.specs.Prelude.{Bool, cond, not, ◌||◌, eqb, ltb, leb, length, Err, Some, None, Option}
 use Rattle.std.proofs.Math.Bool.{true, false}
 use mathlib.Core.List.{List, [], ◌∷◌}
 use Prim.Native.Nat.{ℕ, zero, suc, ◌+◌, ◌<◌}
@@ -26,13 +26,7 @@ use Rattle.model.specs.SeatedCalls.{space, after_insert, after_split, insert_sea
 use Rattle.model.specs.SeatedList as list
 use Rattle.model.specs.SeatedList.{Seated, seated, Naming, deed, misnamed, charging, clearing, row_space, told_seated, seated_row_move, seated_row, seated_tree_move, seated_tree}
 use Rattle.model.specs.declared.seats.Seats.{Seats}
-use Rattle.model.specs.declared.seats.Seat.{Seat}
-use Rattle.model.specs.declared.seats.Seat.TheVariants as seat'
 use Rattle.model.specs.declared.head.Cursor.{Cursor}
-use Rattle.model.specs.declared.answer.Target.{Target}
-use Rattle.model.specs.declared.answer.Target.TheVariants as target
-use Rattle.model.specs.declared.answer.Inserted.TheVariants as insertion
-use Rattle.model.specs.declared.answer.Divided.TheVariants as division
 use Rattle.model_theory.specs.RowViews.{or_false}
 use Rattle.model_theory.specs.CallOpen.{clear, level_bounds, crossed_bounds_law, entry_found, entry_absent}
 use Rattle.model_theory.specs.CallSimulates.{Simulates, Mirrors, Space, row_of, row_passed, row_stopped, count_is, by_limit}
@@ -57,19 +51,19 @@ pub record SeatedRepresents (K : Kind) (s : Seated State) (r : Seated Row) : Typ
   pub fair : Fair r.of.limit (length r.of.entries) r.seats
 
 -- a seat that may be named: nobody in a tree without seats, one of the eight in a seated one
-pub nobody_in : (b : Seats) → bad_seat b seat'.Nobody ≡ false → b.seated ≡ true → ⊥
+pub nobody_in : (b : Seats) → bad_seat b None ≡ false → b.seated ≡ true → ⊥
 nobody_in b e q = (let z : ◌≡◌ {A = ℕ} 0 1 = cc in omega arith)
 
-pub number_in : (b : Seats) (i : ℕ) → bad_seat b (seat'.Number i) ≡ false → (b.seated ≡ true) × (i < 8)
+pub number_in : (b : Seats) (i : ℕ) → bad_seat b (Some i) ≡ false → (b.seated ≡ true) × (i < 8)
 number_in b i e = let r = or_false (not b.seated) (ltb 7 i) e in (go b.seated r.0, (let z = ltb-false 7 i r.1 in omega arith))
   where
     go : (a : Bool) → not a ≡ false → a ≡ true
     go true q = refl
     go false q = sym q
 
-eight_charged : (b : Seats) (x : Seat) → length b.charges ≡ 8 → length (charged_to x b).charges ≡ 8
-eight_charged b seat'.Nobody e = e
-eight_charged b (seat'.Number i) e = length-set b.charges i _ ∙ e
+eight_charged : (b : Seats) (x : Option ℕ) → length b.charges ≡ 8 → length (charged_to x b).charges ≡ 8
+eight_charged b None e = e
+eight_charged b (Some i) e = length-set b.charges i _ ∙ e
 
 -- a call's answer charges its seat exactly where the number is 0
 charges : {A : Type 0} (f : A → Answer) (refuse : ℕ → A) (after : A → Seats) (b d : Seats) (cs : List Cause) (s : State) (r : Change) (a : A)
@@ -92,10 +86,10 @@ module _ (K : Kind) (ok : K.effect < K.views) (t : State) (w : Sound K t) (b : S
 
   -- why one entry more has no space -----------------------------------------------------------------------------------------------------------
 
-  pub spaces : (x : Seat) → bad_seat b x ≡ false → Space t (space t b x) (row_space (row_of K t) b x)
+  pub spaces : (x : Option ℕ) → bad_seat b x ≡ false → Space t (space t b x) (row_space (row_of K t) b x)
   unfolding refusal
-  spaces seat'.Nobody e = by_limit K t w.coherent
-  spaces (seat'.Number i) e =
+  spaces None e = by_limit K t w.coherent
+  spaces (Some i) e =
       let q = number_in b i e in
       record {
         same = subst (λ (n : ℕ). ◌≡◌ {A = ℕ} (cond (over t.head.limit n b i).applies 18 (cond (leb t.head.limit n) 9 0)) (cond (over t.head.limit (length (entries_of K t)) b i).applies 18 0)) (count_is K t w.coherent)
@@ -108,15 +102,15 @@ module _ (K : Kind) (ok : K.effect < K.views) (t : State) (w : Sound K t) (b : S
       go false q = (let r = number_in b i e in let y = outnumber t.head.limit (length (entries_of K t)) b (fair r.0) i r.1 q in rw (lt-leb t.head.limit (length (entries_of K t)) (omega arith)))
 
   -- where it has, the charge is fair
-  pub takes : (x : Seat) → bad_seat b x ≡ false → refusal (row_space (row_of K t) b x) ≡ 0 → Fair t.head.limit (length (entries_of K t) + 1) (charged_to x b)
-  takes seat'.Nobody e z s = absurd (nobody_in b e s)
-  takes (seat'.Number i) e z s =
+  pub takes : (x : Option ℕ) → bad_seat b x ≡ false → refusal (row_space (row_of K t) b x) ≡ 0 → Fair t.head.limit (length (entries_of K t) + 1) (charged_to x b)
+  takes None e z s = absurd (nobody_in b e s)
+  takes (Some i) e z s =
       let q = number_in b i e in
       fair_take t.head.limit (length (entries_of K t)) b (fair q.0) i q.1 eight w.coherent.limit_most (clear 18 (over t.head.limit (length (entries_of K t)) b i).applies [] (λ z. omega arith) z).0
 
   -- a call that names a seat ----------------------------------------------------------------------------------------------------------------
 
-  charged_step : (x : Seat) (cs : List Cause) (es : List Entry) (vs : List ℕ) (m : Moved State) → Simulates (Mirrors K) m (row.unless (row_of K t) cs es (done vs)) → FewLines K es → (refusal cs ≡ 0 → Level K es)
+  charged_step : (x : Option ℕ) (cs : List Cause) (es : List Entry) (vs : List ℕ) (m : Moved State) → Simulates (Mirrors K) m (row.unless (row_of K t) cs es (done vs)) → FewLines K es → (refusal cs ≡ 0 → Level K es)
       → (refusal cs ≡ 0 → Fair t.head.limit (length es) (charged_to x b)) → Simulates (SeatedRepresents K) (charging x b m) (charging x b (row.unless (row_of K t) cs es (done vs)))
   charged_step x cs es vs m a f g more = go (refusal cs) refl
     where
@@ -135,17 +129,17 @@ module _ (K : Kind) (ok : K.effect < K.views) (t : State) (w : Sound K t) (b : S
           (rw (same, ne_eqb (suc k) 0 (λ z. omega arith)) (record { same = refl; kept = record { stands = represents_of K m.after (row_of K t) kept few level; seats = refl; eight = eight; fair = fair } }))
 
   -- the calls by id: those of the library, then the charge
-  one_insert : (x : Seat) (l : List ℕ) → bad_seat b x ≡ false → (tg : Target) → told_seated (insert_seated K t b x tg l) inserted_answer ≡ charging x b (told (calls.insert_by K (space t b x) t tg l) inserted_answer)
+  one_insert : (x : Option ℕ) (l : List ℕ) → bad_seat b x ≡ false → (tg : Option Cursor) → told_seated (insert_seated K t b x tg l) inserted_answer ≡ charging x b (told (calls.insert_by K (space t b x) t tg l) inserted_answer)
   unfolding insert_seated calls.insert_by
   one_insert x l e tg = rw e (ap (λ (d : Seats). moved (seated (calls.insert_by K (space t b x) t tg l).after d) (inserted_answer (calls.insert_by K (space t b x) t tg l).answer))
-      (charges inserted_answer insertion.Refused (after_insert x b) b (charged_to x b) (calls.insert_causes K (space t b x) t tg l) t (calls.placed K t tg l).0 _ (λ n. refl) refl (λ n. refl) refl))
+      (charges inserted_answer Err (after_insert x b) b (charged_to x b) (calls.insert_causes K (space t b x) t tg l) t (calls.placed K t tg l).0 _ (λ n. refl) refl (λ n. refl) refl))
 
-  one_split : (x : Seat) (l : List ℕ) (flag : Bool) → bad_seat b x ≡ false → (c : Cursor) → told_seated (split_seated K t b x c l flag) divided_id_answer ≡ charging x b (told (calls.split_by K (space t b x) t c l flag) divided_id_answer)
+  one_split : (x : Option ℕ) (l : List ℕ) (flag : Bool) → bad_seat b x ≡ false → (c : Cursor) → told_seated (split_seated K t b x c l flag) divided_id_answer ≡ charging x b (told (calls.split_by K (space t b x) t c l flag) divided_id_answer)
   unfolding split_seated calls.split_by
   one_split x l flag e c = rw e (ap (λ (d : Seats). moved (seated (calls.split_by K (space t b x) t c l flag).after d) (divided_id_answer (calls.split_by K (space t b x) t c l flag).answer))
-      (charges divided_id_answer division.Refused (after_split x b) b (charged_to x b) (calls.split_causes K (space t b x) t c l) t (divide (shape_of K t.head) flag t c.leaf.0 c.slot l) _ (λ n. refl) refl (λ n. refl) refl))
+      (charges divided_id_answer Err (after_split x b) b (charged_to x b) (calls.split_causes K (space t b x) t c l) t (divide (shape_of K t.head) flag t c.leaf.0 c.slot l) _ (λ n. refl) refl (λ n. refl) refl))
 
-  at_cursor_law : (x : Seat) (i : ℕ) (F : Cursor → Moved (Seated State)) (G : Cursor → Moved State) → ((c : Cursor) → F c ≡ charging x b (G c))
+  at_cursor_law : (x : Option ℕ) (i : ℕ) (F : Cursor → Moved (Seated State)) (G : Cursor → Moved State) → ((c : Cursor) → F c ≡ charging x b (G c))
       → with_cursor (seated t b) (calls.cursor K t i) F ≡ charging x b (with_cursor t (calls.cursor K t i) G)
   at_cursor_law x i F G h = go (dec_lt i t.head.entries)
     where
@@ -153,15 +147,15 @@ module _ (K : Kind) (ok : K.effect < K.views) (t : State) (w : Sound K t) (b : S
       go (yes lt) = let c = entry_found K t w.coherent i lt in rw c.is (h (calls.cursor_at t.head.stamp c.leaf c.slot))
       go (no ge) = rw (entry_absent K t w.coherent i (omega arith))
 
-  at_target_law : (x : Seat) (i : ℕ) (F : Target → Moved (Seated State)) (G : Target → Moved State) → ((tg : Target) → F tg ≡ charging x b (G tg))
+  at_target_law : (x : Option ℕ) (i : ℕ) (F : Option Cursor → Moved (Seated State)) (G : Option Cursor → Moved State) → ((tg : Option Cursor) → F tg ≡ charging x b (G tg))
       → at_target (seated t b) i (calls.cursor K t i) F ≡ charging x b (with_target K t i G)
   at_target_law x i F G h = go (eqb i no_entry) refl
     where
       go : (p : Bool) → eqb i no_entry ≡ p → at_target (seated t b) i (calls.cursor K t i) F ≡ charging x b (with_target K t i G)
-      go true e = rw e (h target.End)
-      go false e = rw e (at_cursor_law x i (λ c. F (target.Before c)) (λ c. G (target.Before c)) (λ c. h (target.Before c)))
+      go true e = rw e (h None)
+      go false e = rw e (at_cursor_law x i (λ c. F (Some c)) (λ c. G (Some c)) (λ c. h (Some c)))
 
-  insert_seated_law : (x : Seat) (i : ℕ) (l : List ℕ) → length l ≡ K.views → overlong K (row.insert i l) ≡ false → bad_seat b x ≡ false
+  insert_seated_law : (x : Option ℕ) (i : ℕ) (l : List ℕ) → length l ≡ K.views → overlong K (row.insert i l) ≡ false → bad_seat b x ≡ false
       → Simulates (SeatedRepresents K) (seated_tree_move K t b x (row.insert i l) (list.inserts i l)) (seated_row_move K (row_of K t) b x (row.insert i l) (list.inserts i l))
   unfolding seated_tree_move seated_row_move
   insert_seated_law x i l wl o e =
@@ -172,7 +166,7 @@ module _ (K : Kind) (ok : K.effect < K.views) (t : State) (w : Sound K t) (b : S
       (λ z. subst (λ (n : ℕ). Fair t.head.limit n (charged_to x b)) (let y = one_more i (new_entry (row_of K t) l) (entries_of K t) in omega arith)
       (takes x e (clear 7 (row.past K es).applies _ (λ z. omega arith) (clear 20 (crossed K l) _ (λ z. omega arith) (clear 4 (row.no_such_place (row_of K t) i).applies _ (λ z. omega arith) z).1).1).1)))
 
-  split_seated_law : (x : Seat) (flag : Bool) (i : ℕ) (l : List ℕ) → length l ≡ K.views → overlong K (row.split flag i l) ≡ false → bad_seat b x ≡ false
+  split_seated_law : (x : Option ℕ) (flag : Bool) (i : ℕ) (l : List ℕ) → length l ≡ K.views → overlong K (row.split flag i l) ≡ false → bad_seat b x ≡ false
       → Simulates (SeatedRepresents K) (seated_tree_move K t b x (row.split flag i l) (list.splits flag i l)) (seated_row_move K (row_of K t) b x (row.split flag i l) (list.splits flag i l))
   unfolding seated_tree_move seated_row_move
   split_seated_law x flag i l wl o e =
@@ -187,7 +181,7 @@ module _ (K : Kind) (ok : K.effect < K.views) (t : State) (w : Sound K t) (b : S
 
   -- the others ----------------------------------------------------------------------------------------------------------------------------------
 
-  reset_seated_law : (x : Seat) (l : List ℕ) → Words K l → overlong K (row.reset l) ≡ false
+  reset_seated_law : (x : Option ℕ) (l : List ℕ) → Words K l → overlong K (row.reset l) ≡ false
       → Simulates (SeatedRepresents K) (seated_tree_move K t b x (row.reset l) (list.resets l)) (seated_row_move K (row_of K t) b x (row.reset l) (list.resets l))
   unfolding seated_tree_move seated_row_move reset_seated tree_step row_step tree_move row_move refusal
   reset_seated_law x l k o = go (crossed K l) refl
@@ -207,14 +201,14 @@ module _ (K : Kind) (ok : K.effect < K.views) (t : State) (w : Sound K t) (b : S
           rw (reset_is K t w.coherent l o e, n)
           (record { same = refl; kept = record { stands = rw (reset_is K t w.coherent l o e, n) at a.kept; seats = refl; eight = refl; fair = λ s. fair_begun t.head.limit b.seated b.shares (fair s).shares } })
 
-  other_seated : (x : Seat) (c : Call) → deed c ≡ list.nothing → overlong K c ≡ false → InWords K c → Simulates (SeatedRepresents K) (seated_tree_move K t b x c (deed c)) (seated_row_move K (row_of K t) b x c (deed c))
+  other_seated : (x : Option ℕ) (c : Call) → deed c ≡ list.nothing → overlong K c ≡ false → InWords K c → Simulates (SeatedRepresents K) (seated_tree_move K t b x c (deed c)) (seated_row_move K (row_of K t) b x c (deed c))
   unfolding seated_tree_move seated_row_move tree_step row_step
   other_seated x c e o k =
       let a : Simulates (Represents K) (tree_move K t c) (row_move K (row_of K t) c) = rw o at (step K ok t (row_of K t) (record { sound = w; entries = refl; limit = refl }) c k) in
       let l : (row_move K (row_of K t) c).after.limit ≡ t.head.limit = sym a.kept.limit ∙ rw o at ((fixes K t).step c).limit in
       rw e (record { same = a.same; kept = record { stands = a.kept; seats = refl; eight = eight; fair = subst (λ (m : ℕ). Fair m (length (row_move K (row_of K t) c).after.entries) b) (sym l) (subst (λ (n : ℕ). Fair t.head.limit n b) (sym (other_count K t w.coherent c e)) fair) } })
 
-  move_seated : (x : Seat) (c : Call) → overlong K c ≡ false → misnamed b x (deed c) ≡ false → InWords K c → Simulates (SeatedRepresents K) (seated_tree_move K t b x c (deed c)) (seated_row_move K (row_of K t) b x c (deed c))
+  move_seated : (x : Option ℕ) (c : Call) → overlong K c ≡ false → misnamed b x (deed c) ≡ false → InWords K c → Simulates (SeatedRepresents K) (seated_tree_move K t b x c (deed c)) (seated_row_move K (row_of K t) b x c (deed c))
   move_seated x c o e k = by_deed (λ c. overlong K c ≡ false → misnamed b x (deed c) ≡ false → InWords K c → Simulates (SeatedRepresents K) (seated_tree_move K t b x c (deed c)) (seated_row_move K (row_of K t) b x c (deed c)))
       (λ l o e k. reset_seated_law x l k o) (λ i l o e k. insert_seated_law x i l k.1.long o e) (λ flag i l o e k. split_seated_law x flag i l k.1.long o e) (λ c n o e k. other_seated x c n o k) c o e k
 

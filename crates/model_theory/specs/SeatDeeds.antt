@@ -1,5 +1,5 @@
 -- A call of a list resets, inserts, splits, or has nothing to do with seats: what holds of each of the four holds of every call, by id and on cursors.
-use Rattle.std.specs.Prelude.{◌≡◌, refl, Bool, List, ℕ}
+use Rattle.std.specs.Prelude.{◌≡◌, refl, Bool, List, ℕ, Option}
 use Rattle.std.proofs.Common.{arith}
 use Rattle.model.specs.Row as row
 use Rattle.model.specs.Row.{Call}
@@ -9,7 +9,6 @@ use Rattle.model.specs.Promise.{Adds}
 use Rattle.model.specs.SeatedList as list
 use Rattle.model.specs.SeatedList.{deed, cursor_deed}
 use Rattle.model.specs.declared.head.Cursor.{Cursor}
-use Rattle.model.specs.declared.answer.Target.{Target}
 
 pub by_deed : (P : Call → Type 0) → ((l : List ℕ) → P (row.reset l)) → ((i : ℕ) (l : List ℕ) → P (row.insert i l)) → ((flag : Bool) (i : ℕ) (l : List ℕ) → P (row.split flag i l))
     → ((c : Call) → deed c ≡ list.nothing → P c) → (c : Call) → P c
@@ -43,7 +42,7 @@ nothing_added row.count e h = h
 nothing_added row.first e h = h
 nothing_added row.malformed e h = h
 
-pub by_cursor_deed : (P : CursorCall → Type 0) → ((l : List ℕ) → P (by.reset l)) → ((t : Target) (l : List ℕ) → P (by.insert t l)) → ((flag : Bool) (c : Cursor) (l : List ℕ) → P (by.split flag c l))
+pub by_cursor_deed : (P : CursorCall → Type 0) → ((l : List ℕ) → P (by.reset l)) → ((t : Option Cursor) (l : List ℕ) → P (by.insert t l)) → ((flag : Bool) (c : Cursor) (l : List ℕ) → P (by.split flag c l))
     → ((c : CursorCall) → cursor_deed c ≡ list.nothing → P c) → (c : CursorCall) → P c
 by_cursor_deed P r i s n (by.reset l) = r l
 by_cursor_deed P r i s n (by.insert t l) = i t l

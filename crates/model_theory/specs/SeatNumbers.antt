@@ -2,7 +2,7 @@
 -- the earlier checks alone. All of the row, and so of a tree that stands for it.
 use Rattle.std.proofs.Math.Path.{◌≡◌, refl}
 use Rattle.std.proofs.Common.{sym, ap, ◌∙◌, arith, le-ltb}
-use Rattle.std.specs.Prelude.{◌≢◌, ◌⊎◌, Bool, ◌||◌, ℕ, zero, suc, ◌<◌, length}
+use Rattle.std.specs.Prelude.{◌≢◌, ◌⊎◌, Bool, ◌||◌, ℕ, zero, suc, ◌<◌, length, Some, None, Option}
 use Rattle.std.proofs.Math.Logic.{inl, inr}
 use Rattle.std.proofs.Math.Bool.{true, false, cond}
 use mathlib.Core.List.{List, [], ◌∷◌, ◌++◌}
@@ -17,8 +17,6 @@ use Rattle.model.specs.Seats.{bad_seat, over}
 use Rattle.model.specs.SeatedList as list
 use Rattle.model.specs.SeatedList.{Seated, seated, Naming, naming, Deed, deed, misnamed, charging, row_space, seated_row_move, seated_row, seated_tree}
 use Rattle.model.specs.SeatPromise.{Asks, Over, SeatedNumbers}
-use Rattle.model.specs.declared.seats.Seat.{Seat}
-use Rattle.model.specs.declared.seats.Seat.TheVariants as seat
 use Rattle.model_laws.specs.Lists.{all_append}
 use Rattle.model_theory.specs.RowNumbers.{number_is, no_cause, comes_only, comes_then}
 use Rattle.model_theory.specs.CursorCurrent.{first_applies}
@@ -52,7 +50,7 @@ nine_apart = record { done = λ z. omega arith; four = λ z. omega arith; five =
 pub eighteen_apart : Apart 18
 eighteen_apart = record { done = λ z. omega arith; four = λ z. omega arith; five = λ z. omega arith; six = λ z. omega arith; seven = λ z. omega arith; ten = λ z. omega arith; seventeen = λ z. omega arith; twenty = λ z. omega arith }
 
-module _ (K : Kind) (r : Seated Row) (x : Seat) where
+module _ (K : Kind) (r : Seated Row) (x : Option ℕ) where
   -- the causes of an insert or a split before want of space
   abbrev front : Deed ℕ ℕ → List Cause
   front (list.inserts i l) = cause 10 (too_many_lines K l) ∷ row.no_such_place r.of i ∷ row.crossed_bounds K l ∷ row.past K (row.inserted i (row.new_entry r.of l) r.of.entries) ∷ []
@@ -131,9 +129,9 @@ module _ (K : Kind) (r : Seated Row) (x : Seat) where
   unfolding All
   eighteen_only c e = go (adds_or 18 eighteen_apart c)
     where
-      by : (y : Seat) → x ≡ y → bad_seat r.seats y ≡ false → Adds c → refusal (front (deed c) ++ row_space r.of r.seats y) ≡ 18 → (i : ℕ) × Asks r (naming x c) i × Over r i
-      by seat.Nobody q ok h z = absurd (no_cause 18 _ (λ z. omega arith) (all_append (λ z. z.number ≢ 18) (front (deed c)) _ (front_not 18 eighteen_apart.four eighteen_apart.six eighteen_apart.seven eighteen_apart.ten eighteen_apart.seventeen eighteen_apart.twenty (deed c)) ((λ z. omega arith), tt)) z)
-      by (seat.Number i) q ok h z =
+      by : (y : Option ℕ) → x ≡ y → bad_seat r.seats y ≡ false → Adds c → refusal (front (deed c) ++ row_space r.of r.seats y) ≡ 18 → (i : ℕ) × Asks r (naming x c) i × Over r i
+      by None q ok h z = absurd (no_cause 18 _ (λ z. omega arith) (all_append (λ z. z.number ≢ 18) (front (deed c)) _ (front_not 18 eighteen_apart.four eighteen_apart.six eighteen_apart.seven eighteen_apart.ten eighteen_apart.seventeen eighteen_apart.twenty (deed c)) ((λ z. omega arith), tt)) z)
+      by (Some i) q ok h z =
           let n = number_in r.seats i ok in
           let o = comes_only 18 (front (deed c)) [] (over r.of.limit (length r.of.entries) r.seats i).applies (λ z. omega arith) (front_not 18 eighteen_apart.four eighteen_apart.six eighteen_apart.seven eighteen_apart.ten eighteen_apart.seventeen eighteen_apart.twenty (deed c)) tt z in
           (i, record { adds = h; names = q; below = n.1; seated = n.0 }, over_when r.of.limit (length r.of.entries) r.seats i o.1)
@@ -148,7 +146,7 @@ module _ (K : Kind) (r : Seated Row) (x : Seat) where
 
   -- a seat of a seated tree
   module _ (c : Call) (i : ℕ) (a : Asks r (naming x c) i) where
-    good : bad_seat r.seats (seat.Number i) ≡ false
+    good : bad_seat r.seats (Some i) ≡ false
     good = rw (a.seated, le-ltb 7 i (let z = a.below in omega arith))
 
     asked : number_of c ≡ refusal (front (deed c) ++ over r.of.limit (length r.of.entries) r.seats i ∷ [])
@@ -184,9 +182,9 @@ module _ (K : Kind) (r : Seated Row) (x : Seat) where
   unfolding All
   eight_not c s = go (adds_or 8 eight_apart c)
     where
-      room : (y : Seat) → bad_seat r.seats y ≡ false → All (λ z. z.number ≢ 8) (row_space r.of r.seats y)
-      room seat.Nobody e = absurd (let z : ◌≡◌ {A = ℕ} 0 1 = cc in omega arith)
-      room (seat.Number i) e = ((λ z. omega arith), tt)
+      room : (y : Option ℕ) → bad_seat r.seats y ≡ false → All (λ z. z.number ≢ 8) (row_space r.of r.seats y)
+      room None e = absurd (let z : ◌≡◌ {A = ℕ} 0 1 = cc in omega arith)
+      room (Some i) e = ((λ z. omega arith), tt)
 
       go : Adds c ⊎ (number_of c ≢ 8) → number_of c ≢ 8
       go (inl h) = space_not 8 eight_apart c h (room x)
@@ -196,9 +194,9 @@ module _ (K : Kind) (r : Seated Row) (x : Seat) where
   unfolding All
   nine_not c = go (adds_or 9 nine_apart c)
     where
-      room : (y : Seat) → All (λ z. z.number ≢ 9) (row_space r.of r.seats y)
-      room seat.Nobody = ((λ z. omega arith), tt)
-      room (seat.Number i) = ((λ z. omega arith), tt)
+      room : (y : Option ℕ) → All (λ z. z.number ≢ 9) (row_space r.of r.seats y)
+      room None = ((λ z. omega arith), tt)
+      room (Some i) = ((λ z. omega arith), tt)
 
       go : Adds c ⊎ (number_of c ≢ 9) → number_of c ≢ 9
       go (inl h) = space_not 9 nine_apart c h (λ e. room x)

@@ -1,5 +1,7 @@
 -- The stamp counts the entries that seated calls make, on any tree: a call that names a seat makes its entry as one that names none does.
-use Rattle.std.specs.Prelude.{◌≡◌, refl, Bool, true, false, cond, List, [], ◌∷◌, ℕ, ◌+◌, ◌%◌, ◌^◌, ◌<◌}
+use Rattle.model.specs.declared.number.EntryId.{EntryId}
+use Rattle.model.specs.Numbered.{Numbered}
+use Rattle.std.specs.Prelude.{◌≡◌, refl, Bool, true, false, cond, List, [], ◌∷◌, ℕ, ◌+◌, ◌%◌, ◌^◌, ◌<◌, Err, Option}
 use Rattle.std.proofs.Common.{sym, subst, arith, ne_eqb}
 use Rattle.model.specs.Kind.{too_many_lines, crossed}
 use Rattle.model.specs.declared.shape.Kind.{Kind}
@@ -17,13 +19,7 @@ use Rattle.model.specs.SeatedList as list
 use Rattle.model.specs.SeatedList.{Seated, Naming, cursor_deed, seated_cursor_move, seated_cursor}
 use Rattle.model.specs.SeatPromise.{seated_makes, seated_makes_all, SeatedCounts}
 use Rattle.model.specs.Calls as calls
-use Rattle.model.specs.declared.seats.Seat.{Seat}
 use Rattle.model.specs.declared.head.Cursor.{Cursor}
-use Rattle.model.specs.declared.answer.Target.{Target}
-use Rattle.model.specs.declared.answer.Inserted.{Inserted}
-use Rattle.model.specs.declared.answer.Inserted.TheVariants as inserted
-use Rattle.model.specs.declared.answer.Divided.{Divided}
-use Rattle.model.specs.declared.answer.Divided.TheVariants as divided
 use Rattle.model_theory.specs.StampCount.{After, none_made, reset_made, insert_made, split_made, made_after, below_64}
 use Rattle.model_theory.specs.TopStamps.{reset_makes}
 use Rattle.model_theory.specs.SeatDeeds.{by_cursor_deed}
@@ -48,18 +44,18 @@ none_made_by K s by.first e = refl
 none_made_by K s by.len e = refl
 none_made_by K s by.is_empty e = refl
 
-module _ (K : Kind) (s : Seated State) (small : s.of.head.stamp < 2 ^ 64) (x : Seat) where
+module _ (K : Kind) (s : Seated State) (small : s.of.head.stamp < 2 ^ 64) (x : Option ℕ) where
   abbrev Made : CursorCall → Type 0
   Made c = After K s.of small (seated_makes K s x (cursor_deed c)) (seated_cursor_move K s.of s.seats x c (cursor_deed c)).after.of
 
-  insert_counts : (t : Target) (l : List ℕ) → Made (by.insert t l)
+  insert_counts : (t : Option Cursor) (l : List ℕ) → Made (by.insert t l)
   unfolding seated_makes seated_cursor_move insert_seated
   insert_counts t l = go (bad_seat s.seats x)
     where
-      r : calls.Reply Inserted
+      r : calls.Reply (Numbered (EntryId × ℕ))
       r = calls.insert_by K (space s.of s.seats x) s.of t l
 
-      go : (p : Bool) → (let q = cond p (seated_reply s.of s.seats (inserted.Refused 10)) (seated_reply r.after (after_insert x s.seats r.answer) r.answer) in After K s.of small (one (inserted_answer q.answer)) q.after)
+      go : (p : Bool) → (let q = cond p (seated_reply s.of s.seats (Err 10)) (seated_reply r.after (after_insert x s.seats r.answer) r.answer) in After K s.of small (one (inserted_answer q.answer)) q.after)
       go true = none_made K s.of small s.of refl
       go false = insert_made K s.of small (space s.of s.seats x) t l
 
@@ -67,10 +63,10 @@ module _ (K : Kind) (s : Seated State) (small : s.of.head.stamp < 2 ^ 64) (x : S
   unfolding seated_makes seated_cursor_move split_seated
   split_counts flag c l = go (bad_seat s.seats x)
     where
-      r : calls.Reply Divided
+      r : calls.Reply (Numbered (EntryId × Cursor × Cursor))
       r = calls.split_by K (space s.of s.seats x) s.of c l flag
 
-      go : (p : Bool) → (let q = cond p (seated_reply s.of s.seats (divided.Refused 10)) (seated_reply r.after (after_split x s.seats r.answer) r.answer) in After K s.of small (one (divided_answer q.answer)) q.after)
+      go : (p : Bool) → (let q = cond p (seated_reply s.of s.seats (Err 10)) (seated_reply r.after (after_split x s.seats r.answer) r.answer) in After K s.of small (one (divided_answer q.answer)) q.after)
       go true = none_made K s.of small s.of refl
       go false = split_made K s.of small (space s.of s.seats x) flag c l
 
@@ -97,6 +93,6 @@ pub still_small : (K : Kind) (s : Seated State) → s.of.head.stamp < 2 ^ 64 →
 still_small K s small cs = subst (λ (n : ℕ). n < 2 ^ 64) (sym (seated_by K s small cs)) (below_64 (s.of.head.stamp + seated_makes_all K s cs))
 
 -- a reset of a sound tree makes one
-pub reset_one : (K : Kind) (s : Seated State) → Coherent K s.of → (x : Seat) (l : List ℕ) → too_many_lines K l ≡ false → crossed K l ≡ false → seated_makes K s x (list.resets l) ≡ 1
+pub reset_one : (K : Kind) (s : Seated State) → Coherent K s.of → (x : Option ℕ) (l : List ℕ) → too_many_lines K l ≡ false → crossed K l ≡ false → seated_makes K s x (list.resets l) ≡ 1
 unfolding seated_makes reset_seated makes
 reset_one K s w x l few level = reset_makes K l few level s.of w

@@ -1,6 +1,11 @@
 -- A list that goes by ids sees no difference between two trees that differ in the stamp alone: on any tree, sound or not, each call gets the same
 -- answer, and what it leaves differs in the stamp alone. Any stamp is sound.
-use Rattle.std.specs.Prelude.{◌≡◌, Bool, true, false, cond, ◌&&◌, ℕ, ◌+◌, ◌<◌, ltb, eqb}
+use Rattle.model.specs.declared.number.LeafNo.{LeafNo}
+use Rattle.model.specs.declared.number.EntryId.{EntryId}
+use Rattle.std.specs.declared.cmp.Ordering.{Ordering}
+use Rattle.model.specs.declared.way.Broken.{Broken}
+use Rattle.model.specs.Numbered.{Numbered}
+use Rattle.std.specs.Prelude.{◌≡◌, Bool, true, false, cond, ◌&&◌, ℕ, ◌+◌, ◌<◌, ltb, eqb, Ok, Err, Some, None, Option, Result}
 use Rattle.std.proofs.Math.Path.{refl, ap, ap₂, subst}
 use Rattle.std.proofs.Common.{sym, ◌∙◌, eq-eqb}
 use mathlib.Core.List.{List, [], ◌∷◌, ◌++◌}
@@ -27,30 +32,9 @@ use Rattle.model.specs.Sound.{Sound}
 use Rattle.model.specs.Audit.{is_sound, audit}
 use Rattle.model.specs.Promise.{InWords, answers, finally, Represents}
 use Rattle.model.specs.Stamp.{restamped, AnyStamp, SameById}
-use Rattle.model.specs.declared.shape.Place.{Place}
-use Rattle.model.specs.declared.shape.Place.TheVariants as slot
 use Rattle.model.specs.declared.head.Cursor.{Cursor}
 use Rattle.model.specs.declared.head.Finger.{Finger}
-use Rattle.model.specs.declared.way.Leaf.{Leaf}
-use Rattle.model.specs.declared.way.Leaf.TheVariants as leaf
-use Rattle.model.specs.declared.way.Search.{Search}
-use Rattle.model.specs.declared.way.Search.TheVariants as search
-use Rattle.model.specs.declared.answer.Target.{Target}
-use Rattle.model.specs.declared.answer.Target.TheVariants as target
-use Rattle.model.specs.declared.answer.Standing.{Standing}
-use Rattle.model.specs.declared.answer.Standing.TheVariants as standing
-use Rattle.model.specs.declared.answer.Verdict.TheVariants as verdict
-use Rattle.model.specs.declared.answer.Next.{Next}
-use Rattle.model.specs.declared.answer.Next.TheVariants as next
-use Rattle.model.specs.declared.answer.Named.{Named}
-use Rattle.model.specs.declared.answer.Named.TheVariants as named
-use Rattle.model.specs.declared.answer.Compared.{Compared}
-use Rattle.model.specs.declared.answer.Compared.TheVariants as compared
-use Rattle.model.specs.declared.answer.Located.{Located}
-use Rattle.model.specs.declared.answer.Outcome.TheVariants as outcome
-use Rattle.model.specs.declared.answer.Number.TheVariants as number
-use Rattle.model.specs.declared.answer.Inserted.TheVariants as inserted'
-use Rattle.model.specs.declared.answer.Divided.TheVariants as divided
+use Rattle.model.specs.Locate.{Search}
 use Rattle.model_theory.specs.WordNeat.{Neat, neat_of}
 use Rattle.model_theory.specs.LiftSound.{sound_of}
 use Rattle.model_theory.specs.LiftSoundBack.{sound_up}
@@ -108,7 +92,7 @@ module _ (K : Kind) (m : ℕ) (s : State) where
 
   id_same : (k j : ℕ) → calls.id K s' (there k j) ≡ calls.id K s (here k j)
   unfolding calls.id
-  id_same k j = past_same k j named.Refused _
+  id_same k j = past_same k j Err _
 
   -- a call on a cursor by its id
   with_moves : (i : ℕ) (f f' : Cursor → Moved State) → ((k j : ℕ) → Moves (f (here k j)) (f' (there k j))) → Moves (with_cursor s (calls.cursor K s i) f) (with_cursor s' (calls.cursor K s' i) f')
@@ -118,25 +102,25 @@ module _ (K : Kind) (m : ℕ) (s : State) where
       let n = node_at (shape_of K s.head) k s.leaves in
       both At (eqb (refusal (opening K s ++ refuse'.no_such_id s i ∷ [])) 0) (both At (ltb k s.head.leaves && leb n.len s.head.fan) (found k (index_from i 0 (used n))) (refusing 9)) (refusing (refusal (opening K s ++ refuse'.no_such_id s i ∷ [])))
     where
-      At : Standing → Standing → Type 0
+      At : Numbered Cursor → Numbered Cursor → Type 0
       At a b = Moves (with_cursor s a f) (with_cursor s' b f')
 
-      refusing : (n : ℕ) → At (standing.Refused n) (standing.Refused n)
+      refusing : (n : ℕ) → At (Err n) (Err n)
       refusing n = still m s (refused n) (refused n) refl
 
-      found : (k : ℕ) (p : Place) → At (calls.standing_in s.head.stamp k p) (calls.standing_in m k p)
-      found k (slot.Slot j) = h k j
-      found k slot.Missing = refusing 9
+      found : (k : ℕ) (p : Option ℕ) → At (calls.standing_in s.head.stamp k p) (calls.standing_in m k p)
+      found k (Some j) = h k j
+      found k None = refusing 9
 
   reset_moves : (l : List ℕ) → Moves (told (calls.reset K s l) outcome_answer) (told (calls.reset K s' l) outcome_answer)
   unfolding calls.reset calls.begun
-  reset_moves l = unless_moves m s outcome_answer outcome.Refused (calls.make_causes K s.head.fan s.head.limit l s.leaves s.inners s.homes) _ refl
-      (calls.reply (calls.begun K s.head.fan s.head.limit (next_stamp s.head.stamp) l s.leaves s.inners s.homes) outcome.Done)
-      (calls.reply (calls.begun K s.head.fan s.head.limit (next_stamp m) l s.leaves s.inners s.homes) outcome.Done)
+  reset_moves l = unless_moves m s outcome_answer Err (calls.make_causes K s.head.fan s.head.limit l s.leaves s.inners s.homes) _ refl
+      (calls.reply (calls.begun K s.head.fan s.head.limit (next_stamp s.head.stamp) l s.leaves s.inners s.homes) (Ok tt))
+      (calls.reply (calls.begun K s.head.fan s.head.limit (next_stamp m) l s.leaves s.inners s.homes) (Ok tt))
       (record { stamp = next_stamp m; after = refl; same = refl })
 
   -- calls that change
-  placed_twins : (t t' : Target) (l : List ℕ) → Twins (calls.aim K s t) (calls.aim K s' t') → Climbed (shape_of K s.head) (calls.placed K s t l) (calls.placed K s' t' l)
+  placed_twins : (t t' : Option Cursor) (l : List ℕ) → Twins (calls.aim K s t) (calls.aim K s' t') → Climbed (shape_of K s.head) (calls.placed K s t l) (calls.placed K s' t' l)
   placed_twins t t' l h = climb_twins (shape_of K s.head) K.effect l _ _ (aimed (calls.aim K s t) (calls.aim K s' t') h)
     where
       put : State → Change → Change
@@ -145,32 +129,32 @@ module _ (K : Kind) (m : ℕ) (s : State) where
       aimed : (r q : Change) → Twins r q → Twins (put s r) (put s' q)
       aimed r q t = subst (λ (z : Change). Twins (put s r) (put s' z)) (sym t.is) (both Twins (eqb r.number 0) (place_twins (shape_of K s.head) m s r.leaf r.slot l) (record { stamp = t.stamp; is = refl }))
 
-  insert_moves : (t t' : Target) (l : List ℕ) → Twins (calls.aim K s t) (calls.aim K s' t') → calls.target_causes K s' t' ≡ calls.target_causes K s t
+  insert_moves : (t t' : Option Cursor) (l : List ℕ) → Twins (calls.aim K s t) (calls.aim K s' t') → calls.target_causes K s' t' ≡ calls.target_causes K s t
       → Moves (told (calls.insert K s t l) inserted_answer) (told (calls.insert K s' t' l) inserted_answer)
   unfolding calls.insert_by
   insert_moves t t' l h e =
       let c = placed_twins t t' l h in
-      unless_moves m s inserted_answer inserted'.Refused (calls.insert_causes K (refuse'.full s ∷ []) s t l) (calls.insert_causes K (refuse'.full s' ∷ []) s' t' l)
+      unless_moves m s inserted_answer Err (calls.insert_causes K (refuse'.full s ∷ []) s t l) (calls.insert_causes K (refuse'.full s' ∷ []) s' t' l)
       (ap₂ (λ (a b : List Cause). refuse'.many_lines K l ∷ (a ++ b ++ refuse'.crossed_bounds K l ∷ refuse'.past K s [] l ∷ refuse'.full s ∷ [])) opening_same e) _ _
-      (settled_moves m s inserted_answer inserted'.Refused (calls.placed K s t l).0 (calls.placed K s' t' l).0 c.twins _ _ (ap (λ (n : ℕ). inserted_answer (inserted'.At (calls.entry_id s.head.entries) n)) c.same))
+      (settled_moves m s inserted_answer Err (calls.placed K s t l).0 (calls.placed K s' t' l).0 c.twins _ _ (ap (λ (n : ℕ). inserted_answer (Ok (calls.entry_id s.head.entries, n))) c.same))
 
-  end_twins : (k : Leaf) → Twins (calls.end_of K s k) (calls.end_of K s' k)
-  end_twins (leaf.At k) = record { stamp = m; is = refl }
-  end_twins leaf.Nothing = record { stamp = m; is = refl }
-  end_twins leaf.Broken = record { stamp = m; is = refl }
+  end_twins : (k : Result (Option LeafNo) Broken) → Twins (calls.end_of K s k) (calls.end_of K s' k)
+  end_twins (Ok (Some k)) = record { stamp = m; is = refl }
+  end_twins (Ok None) = record { stamp = m; is = refl }
+  end_twins (Err _) = record { stamp = m; is = refl }
 
   target_moves : (i : ℕ) (l : List ℕ) → Moves (with_target K s i (λ t. told (calls.insert K s t l) inserted_answer)) (with_target K s' i (λ t. told (calls.insert K s' t l) inserted_answer))
   target_moves i l = both Moves (eqb i no_entry)
-      (insert_moves target.End target.End l (end_twins (last_down (shape_of K s.head) s.head.levels s.head.root.0 s.inners)) refl)
-      (with_moves i (λ c. told (calls.insert K s (target.Before c) l) inserted_answer) (λ c. told (calls.insert K s' (target.Before c) l) inserted_answer)
-      (λ k j. insert_moves (target.Before (here k j)) (target.Before (there k j)) l (record { stamp = m; is = refl }) (at_same k j)))
+      (insert_moves None None l (end_twins (last_down (shape_of K s.head) s.head.levels s.head.root.0 s.inners)) refl)
+      (with_moves i (λ c. told (calls.insert K s (Some c) l) inserted_answer) (λ c. told (calls.insert K s' (Some c) l) inserted_answer)
+      (λ k j. insert_moves (Some (here k j)) (Some (there k j)) l (record { stamp = m; is = refl }) (at_same k j)))
 
   split_moves : (flag : Bool) (l : List ℕ) (k j : ℕ) → Moves (told (calls.split_entry K s (here k j) l flag) divided_id_answer) (told (calls.split_entry K s' (there k j) l flag) divided_id_answer)
   unfolding calls.split_by
   split_moves flag l k j =
-      unless_moves m s divided_id_answer divided.Refused (calls.split_causes K (refuse'.full s ∷ []) s (here k j) l) (calls.split_causes K (refuse'.full s' ∷ []) s' (there k j) l)
+      unless_moves m s divided_id_answer Err (calls.split_causes K (refuse'.full s ∷ []) s (here k j) l) (calls.split_causes K (refuse'.full s' ∷ []) s' (there k j) l)
       (ap₂ (λ (a b : List Cause). let ls = lengths (calls.slot_at K s (here k j)) in refuse'.many_lines K l ∷ (a ++ b ++ refuse'.too_much K l ls ∷ refuse'.hollow_part K l ls ∷ refuse'.crossed_parts K l ls ∷ refuse'.full s ∷ [])) opening_same (at_same k j)) _ _
-      (settled_moves m s divided_id_answer divided.Refused (place.divide (shape_of K s.head) flag s k j l) (place.divide (shape_of K s.head) flag s' k j l) (divide_twins (shape_of K s.head) m flag s k j l) _ _ refl)
+      (settled_moves m s divided_id_answer Err (place.divide (shape_of K s.head) flag s k j l) (place.divide (shape_of K s.head) flag s' k j l) (divide_twins (shape_of K s.head) m flag s k j l) _ _ refl)
 
   resized_twins : (l : List ℕ) (k j : ℕ) → Climbed (shape_of K s.head) (calls.resized K s (here k j) l) (calls.resized K s' (there k j) l)
   resized_twins l k j = climb_twins (shape_of K s.head) K.effect (minus l (lengths (calls.slot_at K s (here k j)))) _ _ (replace_twins (shape_of K s.head) m s k j l)
@@ -180,18 +164,18 @@ module _ (K : Kind) (m : ℕ) (s : State) where
 
   set_moves : (l : List ℕ) (k j : ℕ) → Moves (told (calls.set_lengths K s (here k j) l) outcome_answer) (told (calls.set_lengths K s' (there k j) l) outcome_answer)
   unfolding calls.set_lengths
-  set_moves l k j = unless_moves m s outcome_answer outcome.Refused (calls.resize_causes K s (here k j) l) (calls.resize_causes K s' (there k j) l) (resize_same l k j) _ _
-      (settled_moves m s outcome_answer outcome.Refused (calls.resized K s (here k j) l).0 (calls.resized K s' (there k j) l).0 (resized_twins l k j).twins outcome.Done outcome.Done refl)
+  set_moves l k j = unless_moves m s outcome_answer Err (calls.resize_causes K s (here k j) l) (calls.resize_causes K s' (there k j) l) (resize_same l k j) _ _
+      (settled_moves m s outcome_answer Err (calls.resized K s (here k j) l).0 (calls.resized K s' (there k j) l).0 (resized_twins l k j).twins (Ok tt) (Ok tt) refl)
 
   update_moves : (l : List ℕ) (k j : ℕ) → Moves (told (calls.update K s (here k j) l) number_answer) (told (calls.update K s' (there k j) l) number_answer)
   unfolding calls.update
-  update_moves l k j = unless_moves m s number_answer number.Refused (calls.resize_causes K s (here k j) l) (calls.resize_causes K s' (there k j) l) (resize_same l k j) _ _
-      (settled_moves m s number_answer number.Refused (calls.resized K s (here k j) l).0 (calls.resized K s' (there k j) l).0 (resized_twins l k j).twins _ _ (ap (λ (n : ℕ). number_answer (number.Is n)) (resized_twins l k j).same))
+  update_moves l k j = unless_moves m s number_answer Err (calls.resize_causes K s (here k j) l) (calls.resize_causes K s' (there k j) l) (resize_same l k j) _ _
+      (settled_moves m s number_answer Err (calls.resized K s (here k j) l).0 (calls.resized K s' (there k j) l).0 (resized_twins l k j).twins _ _ (ap (λ (n : ℕ). number_answer (Ok n)) (resized_twins l k j).same))
 
   -- calls that read
   rank_same : (v k j : ℕ) → calls.entry_to_char_index K s' v (there k j) ≡ calls.entry_to_char_index K s v (here k j)
   unfolding calls.entry_to_char_index
-  rank_same v k j = past_same k j number.Refused _
+  rank_same v k j = past_same k j Err _
 
   lengths_same : (k j : ℕ) → calls.entry_lengths K s' (there k j) ≡ calls.entry_lengths K s (here k j)
   unfolding calls.entry_lengths
@@ -201,68 +185,68 @@ module _ (K : Kind) (m : ℕ) (s : State) where
   unfolding calls.cmp calls.path
   compare_same k j k' j' = causes (cond (eqb k k') (calls.in_order (j ∷ []) (j' ∷ [])) (calls.by_path (calls.path K s (here k j)) (calls.path K s (here k' j'))))
     where
-      causes : (a : Compared) → calls.unless (opening K s' ++ (stale K s' (there k j) ++ stale K s' (there k' j'))) compared.Refused a ≡ calls.unless (opening K s ++ (stale K s (here k j) ++ stale K s (here k' j'))) compared.Refused a
+      causes : (a : Numbered Ordering) → calls.unless (opening K s' ++ (stale K s' (there k j) ++ stale K s' (there k' j'))) Err a ≡ calls.unless (opening K s ++ (stale K s (here k j) ++ stale K s (here k' j'))) Err a
       causes a =
-          ap₂ (λ (x y : List Cause). calls.unless (x ++ (y ++ stale K s' (there k' j'))) compared.Refused a) opening_same (stale_same k j)
-          ∙ ap (λ (y : List Cause). calls.unless (opening K s ++ (stale K s (here k j) ++ y)) compared.Refused a) (stale_same k' j')
+          ap₂ (λ (x y : List Cause). calls.unless (x ++ (y ++ stale K s' (there k' j'))) Err a) opening_same (stale_same k j)
+          ∙ ap (λ (y : List Cause). calls.unless (opening K s ++ (stale K s (here k j) ++ y)) Err a) (stale_same k' j')
 
   next_same : (k j : ℕ) → next_answer K s' (calls.next_after K s' (there k j)) ≡ next_answer K s (calls.next_after K s (here k j))
   unfolding calls.next_after
   next_same k j =
       let n = calls.leaf_at K s (here k j) in
       let cs = opening K s ++ at_cursor K s (here k j) in
-      subst (λ (ds : List Cause). next_answer K s' (calls.unless ds next.Refused (cond (ltb (j + 1) n.len) (next.At (there k (j + 1))) (calls.next_of m (next_up (shape_of K s.head) s.head.levels 0 n.parent n.at s.inners)))) ≡ next_answer K s (calls.next_after K s (here k j)))
+      subst (λ (ds : List Cause). next_answer K s' (calls.unless ds Err (cond (ltb (j + 1) n.len) (Ok (Some (there k (j + 1)))) (calls.next_of m (next_up (shape_of K s.head) s.head.levels 0 n.parent n.at s.inners)))) ≡ next_answer K s (calls.next_after K s (here k j)))
       (sym (ap₂ (λ (a b : List Cause). a ++ b) opening_same (at_same k j)))
       (both Same (eqb (refusal cs) 0)
       (both Same (ltb (j + 1) n.len) (read k (j + 1)) (after (next_up (shape_of K s.head) s.head.levels 0 n.parent n.at s.inners)))
       refl)
     where
-      Same : Next → Next → Type 0
+      Same : Numbered (Option Cursor) → Numbered (Option Cursor) → Type 0
       Same a b = next_answer K s' b ≡ next_answer K s a
 
-      read : (k j : ℕ) → Same (next.At (here k j)) (next.At (there k j))
-      read k j = ap (λ (n : Named). id_answer n []) (id_same k j)
+      read : (k j : ℕ) → Same (Ok (Some (here k j))) (Ok (Some (there k j)))
+      read k j = ap (λ (n : Numbered EntryId). id_answer n []) (id_same k j)
 
-      after : (x : Leaf) → Same (calls.next_of s.head.stamp x) (calls.next_of m x)
-      after (leaf.At k) = read k.0 0
-      after leaf.Nothing = refl
-      after leaf.Broken = refl
+      after : (x : Result (Option LeafNo) Broken) → Same (calls.next_of s.head.stamp x) (calls.next_of m x)
+      after (Ok (Some k)) = read k.0 0
+      after (Ok None) = refl
+      after (Err _) = refl
 
   first_same : standing_id_answer K s' (calls.first K s') ≡ standing_id_answer K s (calls.first K s)
   unfolding calls.first opening
   first_same = both Same (eqb (refusal (opening K s)) 0) (at (first_down (shape_of K s.head) s.head.levels s.head.root.0 s.inners)) refl
     where
-      Same : Standing → Standing → Type 0
+      Same : Numbered Cursor → Numbered Cursor → Type 0
       Same a b = standing_id_answer K s' b ≡ standing_id_answer K s a
 
-      at : (x : Leaf) → Same (calls.first_of s.head.stamp x) (calls.first_of m x)
-      at (leaf.At k) = ap (λ (n : Named). id_answer n []) (id_same k.0 0)
-      at leaf.Nothing = refl
-      at leaf.Broken = refl
+      at : (x : Result (Option LeafNo) Broken) → Same (calls.first_of s.head.stamp x) (calls.first_of m x)
+      at (Ok (Some k)) = ap (λ (n : Numbered EntryId). id_answer n []) (id_same k.0 0)
+      at (Ok None) = refl
+      at (Err _) = refl
 
 -- a lookup's cursor is read in the tree after the call
-abbrev looked : Kind → Reply Located → Moved State
+abbrev looked : Kind → Reply (Numbered (Cursor × ℕ × ℕ × ℕ)) → Moved State
 looked K r = moved r.after (located_answer K r.after r.answer)
 
 module _ (K : Kind) (m : ℕ) (s : State) where
-  Found : Reply Located → Reply Located → Type 0
+  Found : Reply (Numbered (Cursor × ℕ × ℕ × ℕ)) → Reply (Numbered (Cursor × ℕ × ℕ × ℕ)) → Type 0
   Found a b = Moves (looked K a) (looked K b)
 
   hit_moves : (f : Finger) (offset : ℕ) → Found (calls.hit s f offset) (calls.hit (restamped m s) f offset)
   unfolding Found
-  hit_moves f offset = record { stamp = m; after = refl; same = ap (λ (n : Named). id_answer n (offset ∷ effect_at f ∷ prepare_at f ∷ [])) (id_same K m (calls.hit s f offset).after f.leaf f.slot) }
+  hit_moves f offset = record { stamp = m; after = refl; same = ap (λ (n : Numbered EntryId). id_answer n (offset ∷ effect_at f ∷ prepare_at f ∷ [])) (id_same K m (calls.hit s f offset).after f.leaf f.slot) }
 
   search_moves : (b : Search) → Found (calls.by_search s b) (calls.by_search (restamped m s) b)
   unfolding Found
-  search_moves (search.At f offset) = hit_moves f offset
-  search_moves search.Nothing = still m s (refused 5) (refused 5) refl
-  search_moves search.Broken = still m s (refused 9) (refused 9) refl
+  search_moves (Ok (Some (f, offset))) = hit_moves f offset
+  search_moves (Ok None) = still m s (refused 5) (refused 5) refl
+  search_moves (Err _) = still m s (refused 9) (refused 9) refl
 
   finger_moves : (a b : Search) → Found (calls.by_finger s a b) (calls.by_finger (restamped m s) a b)
   unfolding Found
-  finger_moves (search.At f offset) b = hit_moves f offset
-  finger_moves search.Nothing b = search_moves b
-  finger_moves search.Broken b = still m s (refused 9) (refused 9) refl
+  finger_moves (Ok (Some (f, offset))) b = hit_moves f offset
+  finger_moves (Ok None) b = search_moves b
+  finger_moves (Err _) b = still m s (refused 9) (refused 9) refl
 
   locate_moves : (v x : ℕ) → Found (calls.locate K s v x) (calls.locate K (restamped m s) v x)
   unfolding calls.locate opening Found
@@ -344,10 +328,10 @@ audit_restamped K m s = go (eqb (refusal cs) 0) refl (is_sound K s) refl (is_sou
     go : (a : Bool) → eqb (refusal cs) 0 ≡ a → (b : Bool) → is_sound K s ≡ b → (c : Bool) → is_sound K (restamped m s) ≡ c → audit K (restamped m s) ≡ audit K s
     go false p b q c r = rw p
     go true p true q c r =
-        let e : audit K s ≡ verdict.Yes = rw (p, q) in
+        let e : audit K s ≡ Ok true = rw (p, q) in
         (audit_exactly K (restamped m s)).1 (sound_restamped K m s ((audit_exactly K s).0 e)) ∙ sym e
     go true p false q true r =
-        let e : audit K (restamped m s) ≡ verdict.Yes = rw (p, r) in
+        let e : audit K (restamped m s) ≡ Ok true = rw (p, r) in
         e ∙ sym ((audit_exactly K s).1 (sound_restamped K s.head.stamp (restamped m s) ((audit_exactly K (restamped m s)).0 e)))
     go true p false q false r = rw (p, q, r)
 

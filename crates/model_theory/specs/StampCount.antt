@@ -1,7 +1,8 @@
 -- The stamp counts entries made, modulo 2 ^ 64: each call on cursors, and each list of them, on any tree, sound or not.
+use Rattle.model.specs.declared.way.Broken.{Broken}
 use Rattle.std.proofs.Math.Path.{◌≡◌, refl}
 use Rattle.std.proofs.Common.{sym, ap, subst, arith, eq-eqb, ne_eqb}
-use Rattle.std.specs.Prelude.{Bool, cond, ◌&&◌, ℕ, ◌+◌, ◌%◌, ◌^◌, ◌<◌}
+use Rattle.std.specs.Prelude.{Bool, cond, ◌&&◌, ℕ, ◌+◌, ◌%◌, ◌^◌, ◌<◌, Ok, Err, Some, None, Option, Result}
 use Rattle.std.proofs.Math.Bool.{true, false}
 use mathlib.Core.List.{List, [], ◌∷◌}
 use Rattle.std.proofs.Math.Decide.{ℕ_discrete}
@@ -24,15 +25,7 @@ use Rattle.model.specs.Promise.{finally}
 use Rattle.model.specs.Stamp.{one, makes, makes_all}
 use Rattle.model.specs.declared.shape.Shape.{Shape}
 use Rattle.model.specs.declared.head.Cursor.{Cursor}
-use Rattle.model.specs.declared.way.Sum.{Sum}
-use Rattle.model.specs.declared.way.Sum.TheVariants as sum
-use Rattle.model.specs.declared.way.Search.{Search}
-use Rattle.model.specs.declared.way.Search.TheVariants as search
-use Rattle.model.specs.declared.answer.Target.{Target}
-use Rattle.model.specs.declared.answer.Outcome.TheVariants as outcome
-use Rattle.model.specs.declared.answer.Number.TheVariants as number
-use Rattle.model.specs.declared.answer.Inserted.TheVariants as inserted'
-use Rattle.model.specs.declared.answer.Divided.TheVariants as divided
+use Rattle.model.specs.Locate.{Search}
 
 -- the changes of a tree -----------------------------------------------------------------------------------------------------------------------
 
@@ -87,9 +80,9 @@ module _ (m : ℕ) where
         go (yes q) = rw (eq-eqb r.number 0 q) (enter_counts (f r.slot) w r.state r.leaf r.slot e)
         go (no ne) = rw (ne_eqb r.number 0 ne) (λ z. absurd (ne z))
 
-    summed_counts : (r : Change) (z : Sum × List ℕ) → r.state.head.stamp ≡ next_stamp m → Counted (place.summed g r z).0
-    summed_counts r (sum.Is n, xs) h q = h
-    summed_counts r (sum.Broken, xs) h q = absurd (let y : ◌≡◌ {A = ℕ} 9 0 = q in omega arith)
+    summed_counts : (r : Change) (z : Result ℕ Broken × List ℕ) → r.state.head.stamp ≡ next_stamp m → Counted (place.summed g r z).0
+    summed_counts r (Ok n, xs) h q = h
+    summed_counts r (Err _, xs) h q = absurd (let y : ◌≡◌ {A = ℕ} 9 0 = q in omega arith)
 
     climb_counts : (e : ℕ) (delta : List ℕ) (r : Change) → Counted r → Counted (place.climb g e delta r).0
     unfolding place.climb
@@ -103,9 +96,9 @@ module _ (m : ℕ) where
     unfolding place.climb
     climb_still e delta r h = go (eqb r.number 0) refl
       where
-        up : (z : Sum × List ℕ) → Still (place.summed g r z).0
-        up (sum.Is n, xs) = h
-        up (sum.Broken, xs) = h
+        up : (z : Result ℕ Broken × List ℕ) → Still (place.summed g r z).0
+        up (Ok n, xs) = h
+        up (Err _, xs) = h
 
         go : (b : Bool) → eqb r.number 0 ≡ b → Still (place.climb g e delta r).0
         go true q = rw q (up (climb_up g e delta r.state.head.levels (node_at g r.leaf r.state.leaves).parent (node_at g r.leaf r.state.leaves).at (start e r.slot (node_at g r.leaf r.state.leaves)) r.state.inners))
@@ -148,7 +141,7 @@ module _ (K : Kind) (s : State) (small : s.head.stamp < 2 ^ 64) where
   dividing flag k i l = entering_counts s.head.stamp (shape_of K s.head) (λ j. child_split flag j (s.head.entries ∷ l)) 1 (place.make_room (shape_of K s.head) s k i) (room_still s.head.stamp (shape_of K s.head) s k i refl)
 
   -- the entry in its leaf, and its lengths above it
-  placed_counts : (t : Target) (l : List ℕ) → Counted s.head.stamp (calls.placed K s t l).0
+  placed_counts : (t : Option Cursor) (l : List ℕ) → Counted s.head.stamp (calls.placed K s t l).0
   placed_counts t l =
       let g = shape_of K s.head in
       let r = calls.aim K s t in
@@ -163,24 +156,24 @@ module _ (K : Kind) (s : State) (small : s.head.stamp < 2 ^ 64) where
   unfolding calls.reset calls.begun
   reset_made l =
       let h = s.head in
-      unless_made outcome_answer outcome.Refused (calls.make_causes K h.fan h.limit l s.leaves s.inners s.homes)
-      (calls.reply (calls.begun K h.fan h.limit (next_stamp h.stamp) l s.leaves s.inners s.homes) outcome.Done) (λ n. refl) refl
+      unless_made outcome_answer Err (calls.make_causes K h.fan h.limit l s.leaves s.inners s.homes)
+      (calls.reply (calls.begun K h.fan h.limit (next_stamp h.stamp) l s.leaves s.inners s.homes) (Ok tt)) (λ n. refl) refl
 
-  pub insert_made : (room : List Cause) (t : Target) (l : List ℕ) → After (one (inserted_answer (calls.insert_by K room s t l).answer)) (calls.insert_by K room s t l).after
+  pub insert_made : (room : List Cause) (t : Option Cursor) (l : List ℕ) → After (one (inserted_answer (calls.insert_by K room s t l).answer)) (calls.insert_by K room s t l).after
   unfolding calls.insert_by
   insert_made room t l =
       let r = calls.placed K s t l in
-      let a = inserted'.At (calls.entry_id s.head.entries) r.1 in
-      unless_made inserted_answer inserted'.Refused (calls.insert_causes K room s t l) (calls.settled s r.0 inserted'.Refused a) (λ n. refl)
-      (settled_made inserted_answer r.0 inserted'.Refused a (λ n. refl) refl (placed_counts t l))
+      let a = Ok (calls.entry_id s.head.entries, r.1) in
+      unless_made inserted_answer Err (calls.insert_causes K room s t l) (calls.settled s r.0 Err a) (λ n. refl)
+      (settled_made inserted_answer r.0 Err a (λ n. refl) refl (placed_counts t l))
 
   pub split_made : (room : List Cause) (flag : Bool) (c : Cursor) (l : List ℕ) → After (one (divided_answer (calls.split_by K room s c l flag).answer)) (calls.split_by K room s c l flag).after
   unfolding calls.split_by
   split_made room flag c l =
       let r = place.divide (shape_of K s.head) flag s c.leaf.0 c.slot l in
       let a = calls.divided_at s.head.entries (next_stamp s.head.stamp) r.leaf r.slot in
-      unless_made divided_answer divided.Refused (calls.split_causes K room s c l) (calls.settled s r divided.Refused a) (λ n. refl)
-      (settled_made divided_answer r divided.Refused a (λ n. refl) refl (dividing flag c.leaf.0 c.slot l))
+      unless_made divided_answer Err (calls.split_causes K room s c l) (calls.settled s r Err a) (λ n. refl)
+      (settled_made divided_answer r Err a (λ n. refl) refl (dividing flag c.leaf.0 c.slot l))
 
   -- the others make none
   kept_settled : {A : Type 0} (r : Change) (refuse : ℕ → A) (a : A) (cs : List Cause) → Still s.head.stamp r → (calls.unless cs (λ n. calls.reply s (refuse n)) (calls.settled s r refuse a)).after.head.stamp ≡ s.head.stamp
@@ -197,21 +190,21 @@ module _ (K : Kind) (s : State) (small : s.head.stamp < 2 ^ 64) where
 
   set_still : (c : Cursor) (l : List ℕ) → (calls.set_lengths K s c l).after.head.stamp ≡ s.head.stamp
   unfolding calls.set_lengths
-  set_still c l = kept_settled (calls.resized K s c l).0 outcome.Refused outcome.Done (calls.resize_causes K s c l) (resized_still c l)
+  set_still c l = kept_settled (calls.resized K s c l).0 Err (Ok tt) (calls.resize_causes K s c l) (resized_still c l)
 
   update_still : (c : Cursor) (l : List ℕ) → (calls.update K s c l).after.head.stamp ≡ s.head.stamp
   unfolding calls.update
-  update_still c l = kept_settled (calls.resized K s c l).0 number.Refused (number.Is (calls.resized K s c l).1) (calls.resize_causes K s c l) (resized_still c l)
+  update_still c l = kept_settled (calls.resized K s c l).0 Err (Ok (calls.resized K s c l).1) (calls.resize_causes K s c l) (resized_still c l)
 
   search_still : (b : Search) → (calls.by_search s b).after.head.stamp ≡ s.head.stamp
-  search_still (search.At f offset) = refl
-  search_still search.Nothing = refl
-  search_still search.Broken = refl
+  search_still (Ok (Some (f, offset))) = refl
+  search_still (Ok None) = refl
+  search_still (Err _) = refl
 
   finger_still : (a b : Search) → (calls.by_finger s a b).after.head.stamp ≡ s.head.stamp
-  finger_still (search.At f offset) b = refl
-  finger_still search.Nothing b = search_still b
-  finger_still search.Broken b = refl
+  finger_still (Ok (Some (f, offset))) b = refl
+  finger_still (Ok None) b = search_still b
+  finger_still (Err _) b = refl
 
   locate_still : (v x : ℕ) → (calls.locate K s v x).after.head.stamp ≡ s.head.stamp
   unfolding calls.locate

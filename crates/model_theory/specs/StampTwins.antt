@@ -1,5 +1,6 @@
 -- The changes of a tree on two trees that differ in the stamp alone: what they leave differs in the stamp alone. Assumes nothing.
-use Rattle.std.specs.Prelude.{◌≡◌, Bool, true, false, cond, ◌&&◌, ℕ, ◌+◌, eqb}
+use Rattle.model.specs.declared.way.Broken.{Broken}
+use Rattle.std.specs.Prelude.{◌≡◌, Bool, true, false, cond, ◌&&◌, ℕ, ◌+◌, eqb, Ok, Err, Result}
 use Rattle.std.proofs.Math.Path.{refl, subst}
 use Rattle.std.proofs.Common.{sym}
 use mathlib.Core.List.{List, ◌∷◌}
@@ -11,8 +12,6 @@ use Rattle.model.specs.Place as place
 use Rattle.model.specs.Place.{Change, change}
 use Rattle.model.specs.Stamp.{restamped}
 use Rattle.model.specs.declared.shape.Shape.{Shape}
-use Rattle.model.specs.declared.way.Sum.{Sum}
-use Rattle.model.specs.declared.way.Sum.TheVariants as sum
 
 pub both : {A : Type 0} {B : Type 0} (P : A → B → Type 0) (b : Bool) {x y : A} {u v : B} → P x u → P y v → P (cond b x y) (cond b u v)
 both P true p q = p
@@ -75,6 +74,6 @@ module _ (g : Shape) where
       (up (climb_up g e delta r.state.head.levels (node_at g r.leaf r.state.leaves).parent (node_at g r.leaf r.state.leaves).at (start e r.slot (node_at g r.leaf r.state.leaves)) r.state.inners))
       (record { twins = record { stamp = t.stamp; is = refl }; same = refl }))
     where
-      up : (z : Sum × List ℕ) → Climbed (place.summed g r z) (place.summed g (change r.number (restamped t.stamp r.state) r.leaf r.slot) z)
-      up (sum.Is n, xs) = record { twins = record { stamp = t.stamp; is = refl }; same = refl }
-      up (sum.Broken, xs) = record { twins = record { stamp = t.stamp; is = refl }; same = refl }
+      up : (z : Result ℕ Broken × List ℕ) → Climbed (place.summed g r z) (place.summed g (change r.number (restamped t.stamp r.state) r.leaf r.slot) z)
+      up (Ok n, xs) = record { twins = record { stamp = t.stamp; is = refl }; same = refl }
+      up (Err _, xs) = record { twins = record { stamp = t.stamp; is = refl }; same = refl }

@@ -1,6 +1,6 @@
 -- The list theorem in its cursor form: from every make that isn't refused, every list of calls on cursors, whatever these are, gets the row's answers
 -- to what each call means in the tree before it, and the state is sound and stands for the row at each of them.
-use Rattle.std.specs.Prelude.{◌≡◌, ◌≢◌, ◌⊎◌, Bool, cond, ℕ, ◌<◌, eqb, leb, length}
+use Rattle.std.specs.Prelude.{◌≡◌, ◌≢◌, ◌⊎◌, Bool, cond, ℕ, ◌<◌, eqb, leb, length, Ok, Some, None}
 use Rattle.std.proofs.Math.Path.{refl, ap₂}
 use Rattle.std.proofs.Common.{sym, ap, ◌∙◌, inl, inr, arith, ne_eqb}
 use Rattle.std.proofs.Math.Bool.{true, false}
@@ -18,8 +18,6 @@ use Rattle.model.specs.ByCursor as by
 use Rattle.model.specs.ByCursor.{CursorCall, EntryCall, cursor_step, entry_step, entry_at, meant, meant_all}
 use Rattle.model.specs.Promise.{Words, Fixed, Represents, answers, CursorInWords, AlongCursors, Demand3ByCursor}
 use Rattle.model.specs.declared.head.Cursor.{Cursor}
-use Rattle.model.specs.declared.answer.Target.TheVariants as target
-use Rattle.model.specs.declared.answer.Outcome.TheVariants as outcome
 use Rattle.model_theory.specs.CallSimulates.{Simulates}
 use Rattle.model_theory.specs.CursorCurrent.{Fails, which, fails_by}
 use Rattle.model_theory.specs.RowNumbers.{row_nine}
@@ -70,8 +68,8 @@ module _ (K : Kind) (s : State) (w : Coherent K s) (y : ℕ) (three : 3 ≢ y) (
   pub meant_not : (c : CursorCall) → NotBy y (meant K s c)
   unfolding meant
   meant_not (by.reset l) = tt
-  meant_not (by.insert (target.Before c) l) = lines_not l c (λ i. by.plain (row.insert i l)) (λ i. tt)
-  meant_not (by.insert target.End l) = tt
+  meant_not (by.insert (Some c) l) = lines_not l c (λ i. by.plain (row.insert i l)) (λ i. tt)
+  meant_not (by.insert None l) = tt
   meant_not (by.split flag c l) = lines_not l c (λ i. by.parts flag i l) (λ i. tt)
   meant_not (by.set_lengths c l) = lines_not l c (λ i. by.plain (row.set_lengths i l)) (λ i. tt)
   meant_not (by.update c l) = lines_not l c (λ i. by.plain (row.update i l)) (λ i. tt)
@@ -127,7 +125,7 @@ module _ (K : Kind) (ok : K.effect < K.views) where
       (invariant_of K ok fan s r h f, a.same, never_nine K ok s h.sound.coherent r h c k.0, along_cursors fan (cursor_step K s c).after (entry_step K r (meant K s c)).after cs a.kept ((cursor_fixed K s c).fan ∙ f) k.1)
 
 -- the whole list, from a make that isn't refused
-pub demand3_by_cursor : (K : Kind) → K.effect < K.views → (fan limit : ℕ) (l ls xs hs : List ℕ) → Words K l → (make K fan limit l ls xs hs).answer ≡ outcome.Done → Demand3ByCursor K fan limit l ls xs hs
+pub demand3_by_cursor : (K : Kind) → K.effect < K.views → (fan limit : ℕ) (l ls xs hs : List ℕ) → Words K l → (make K fan limit l ls xs hs).answer ≡ Ok tt → Demand3ByCursor K fan limit l ls xs hs
 demand3_by_cursor K ok fan limit l ls xs hs small given =
     let s = (make K fan limit l ls xs hs).after in
     let r = row.made_row limit l in

@@ -1,8 +1,9 @@
 -- The list theorem (document 01, "The plain row"): from every make that isn't refused, every list of calls gets the row's answers,
 -- and the state is sound and stands for the row at each of them; two lists alike but for lookups give their other calls the same answers.
+use Rattle.model.specs.Numbered.{Numbered}
 use Rattle.std.proofs.Math.Path.{◌≡◌, refl, sym, ap, subst}
 use Rattle.std.proofs.Common.{ap₂, ◌∙◌, arith}
-use Rattle.std.specs.Prelude.{Bool, true, false, cond, List, [], ◌∷◌, length, eqb}
+use Rattle.std.specs.Prelude.{Bool, true, false, cond, List, [], ◌∷◌, length, eqb, Ok, Err, None}
 use Prim.Native.Nat.{ℕ, zero, suc, ◌*◌, ◌^◌, ◌≤◌, ◌<◌}
 use Rattle.model.specs.Kind.{stride, too_many_lines, crossed}
 use Rattle.model.specs.declared.shape.Kind.{Kind}
@@ -15,9 +16,6 @@ use Rattle.model.specs.ById.{tree_step}
 use Rattle.model.specs.Calls as calls
 use Rattle.model.specs.Calls.{make, begun, area_causes, make_causes}
 use Rattle.model.specs.Promise.{Words, InWords, answers, finally, is_lookup, others, other_answers, Represents, Invariant, Along, Demand3}
-use Rattle.model.specs.declared.head.Held.TheVariants as held
-use Rattle.model.specs.declared.answer.Outcome.{Outcome}
-use Rattle.model.specs.declared.answer.Outcome.TheVariants as outcome
 use Rattle.model_tree.specs.Follows.{levels_most, entry_floor}
 use Rattle.model_theory.specs.LiftTree.{tree_of}
 use Rattle.model_theory.specs.LiftSound.{body_of}
@@ -111,31 +109,31 @@ fan_kept K s [] = refl
 fan_kept K s (c ∷ cs) = fan_kept K (tree_step K s c).after cs ∙ (step_fixed K s c).fan
 
 -- make, not refused
-module _ (K : Kind) (ok : K.effect < K.views) (fan limit : ℕ) (l : List ℕ) (ls xs hs : List ℕ) (small : Words K l) (given : (make K fan limit l ls xs hs).answer ≡ outcome.Done) where
+module _ (K : Kind) (ok : K.effect < K.views) (fan limit : ℕ) (l : List ℕ) (ls xs hs : List ℕ) (small : Words K l) (given : (make K fan limit l ls xs hs).answer ≡ Ok tt) where
   not_refused : refusal (make_causes K fan limit l ls xs hs) ≡ 0
   unfolding make
   not_refused = go (refusal (make_causes K fan limit l ls xs hs)) refl
     where
       go : (n : ℕ) → refusal (make_causes K fan limit l ls xs hs) ≡ n → refusal (make_causes K fan limit l ls xs hs) ≡ 0
       go zero e = e
-      go (suc n) e = absurd (let q : outcome.Refused (suc n) ≡ outcome.Done = sym (ap (λ (r : calls.Reply Outcome). r.answer) (stopped (make_causes K fan limit l ls xs hs) (λ n. calls.reply (state (head_of 0 0 0 0 0 0 0 0 held.Absent) ls xs hs) (outcome.Refused n)) _ n e)) ∙ given in
+      go (suc n) e = absurd (let q : Err (suc n) ≡ Ok tt = sym (ap (λ (r : calls.Reply (Numbered (Unit {0}))). r.answer) (stopped (make_causes K fan limit l ls xs hs) (λ n. calls.reply (state (head_of 0 0 0 0 0 0 0 0 None) ls xs hs) (Err n)) _ n e)) ∙ given in
           let z : ◌≡◌ {A = ℕ} 0 1 = cc in omega arith)
 
   passes : (too_many_lines K l ≡ false) × (refusal (area_causes K fan limit ls xs hs) ≡ 0) × (crossed K l ≡ false)
   passes = let y = clear 10 (too_many_lines K l) _ (λ z. omega arith) not_refused in let z = level_made K fan limit l ls xs hs y.1 in (y.0, z.0, z.1)
 
-  pub made_is : make K fan limit l ls xs hs ≡ calls.reply (begun K fan limit 1 l ls xs hs) outcome.Done
+  pub made_is : make K fan limit l ls xs hs ≡ calls.reply (begun K fan limit 1 l ls xs hs) (Ok tt)
   unfolding make
-  made_is = passed (make_causes K fan limit l ls xs hs) (λ n. calls.reply (state (head_of 0 0 0 0 0 0 0 0 held.Absent) ls xs hs) (outcome.Refused n)) (calls.reply (begun K fan limit 1 l ls xs hs) outcome.Done) not_refused
+  made_is = passed (make_causes K fan limit l ls xs hs) (λ n. calls.reply (state (head_of 0 0 0 0 0 0 0 0 None) ls xs hs) (Err n)) (calls.reply (begun K fan limit 1 l ls xs hs) (Ok tt)) not_refused
 
   pub made : Represents K (make K fan limit l ls xs hs).after (made_row limit l)
   unfolding All
-  made = subst (λ (r : calls.Reply Outcome). Represents K r.after (made_row limit l)) (sym made_is)
+  made = subst (λ (r : calls.Reply (Numbered (Unit {0}))). Represents K r.after (made_row limit l)) (sym made_is)
       (represents_of K (begun K fan limit 1 l ls xs hs) (made_row limit l) (begun_mirrors K fan limit 1 l ls xs hs (sizes_of K fan limit ls xs hs passes.1) small) (passes.0, tt) (passes.2, tt))
 
   pub fan_made : (make K fan limit l ls xs hs).after.head.fan ≡ fan
   unfolding begun
-  fan_made = ap (λ (r : calls.Reply Outcome). r.after.head.fan) made_is
+  fan_made = ap (λ (r : calls.Reply (Numbered (Unit {0}))). r.after.head.fan) made_is
 
   -- every list of calls: the answers are the row's, and the state left is kept
   pub whole : (cs : List Call) → All (InWords K) cs
@@ -152,8 +150,8 @@ module _ (K : Kind) (ok : K.effect < K.views) (fan limit : ℕ) (l : List ℕ) (
 
 -- two lists alike but for lookups, from areas that held anything and at any two fans
 pub alike : (K : Kind) (ok : K.effect < K.views) (limit : ℕ) (l : List ℕ) → Words K l
-    → (fan : ℕ) (ls xs hs : List ℕ) → (make K fan limit l ls xs hs).answer ≡ outcome.Done
-    → (fan' : ℕ) (ls' xs' hs' : List ℕ) → (make K fan' limit l ls' xs' hs').answer ≡ outcome.Done
+    → (fan : ℕ) (ls xs hs : List ℕ) → (make K fan limit l ls xs hs).answer ≡ Ok tt
+    → (fan' : ℕ) (ls' xs' hs' : List ℕ) → (make K fan' limit l ls' xs' hs').answer ≡ Ok tt
     → (cs ds : List Call) → All (InWords K) cs → All (InWords K) ds → others cs ≡ others ds
     → other_answers (tree_step K) (make K fan limit l ls xs hs).after cs ≡ other_answers (tree_step K) (make K fan' limit l ls' xs' hs').after ds
 alike K ok limit l small fan ls xs hs given fan' ls' xs' hs' given' cs ds k m e =
@@ -161,7 +159,7 @@ alike K ok limit l small fan ls xs hs given fan' ls' xs' hs' given' cs ds k m e 
     ∙ sym (others_alike K ok (make K fan' limit l ls' xs' hs').after (made_row limit l) ds (made K ok fan' limit l ls' xs' hs' small given') m)
 
 -- demand 3 whole
-pub demand3 : (K : Kind) → K.effect < K.views → (fan limit : ℕ) (l ls xs hs : List ℕ) → Words K l → (make K fan limit l ls xs hs).answer ≡ outcome.Done → Demand3 K fan limit l ls xs hs
+pub demand3 : (K : Kind) → K.effect < K.views → (fan limit : ℕ) (l ls xs hs : List ℕ) → Words K l → (make K fan limit l ls xs hs).answer ≡ Ok tt → Demand3 K fan limit l ls xs hs
 demand3 K ok fan limit l ls xs hs small given =
     record {
       answered = λ cs k. (whole K ok fan limit l ls xs hs small given cs k).0;

@@ -1,5 +1,5 @@
 -- The planning tree's list theorem: each of its calls comes to a call of a full tree's list, on tree and row alike, for the root's totals are the row's.
-use Rattle.std.specs.Prelude.{◌≡◌, refl, Bool, true, false, cond, List, [], ◌∷◌, map, ℕ, ◌-◌, ◌<◌, ltb, length}
+use Rattle.std.specs.Prelude.{◌≡◌, refl, Bool, true, false, cond, List, [], ◌∷◌, map, ℕ, ◌-◌, ◌<◌, ltb, length, Ok}
 use Rattle.std.proofs.Common.{sym, ap₂, ◌∙◌, arith, length-append}
 use Rattle.std.proofs.Math.Path.{ap, subst}
 use Rattle.model.specs.Kind.{planning}
@@ -15,7 +15,6 @@ use Rattle.model.specs.ById.{tree_step}
 use Rattle.model.specs.Promise.{Words, InWords, Leaves, Represents, answers}
 use Rattle.model.specs.Plan as plan
 use Rattle.model.specs.Plan.{PlanCall, InPlan, asked, said, row_plan, tree_plan, ByChoice, AlongPlan, PlanDemand, PlanRefusals}
-use Rattle.model.specs.declared.answer.Outcome.TheVariants as outcome
 use Rattle.model_tree.specs.Tree as tree
 use Rattle.model_tree.specs.Levels.{len}
 use Rattle.model_tree.specs.Place.{front, total_is}
@@ -146,7 +145,7 @@ along_plan fan t r (c ∷ cs) h f w =
     )
 
 -- the list theorem
-pub plan_whole : (fan limit : ℕ) (l ls xs hs : List ℕ) → Words planning l → (make planning fan limit l ls xs hs).answer ≡ outcome.Done → PlanDemand fan limit l ls xs hs
+pub plan_whole : (fan limit : ℕ) (l ls xs hs : List ℕ) → Words planning l → (make planning fan limit l ls xs hs).answer ≡ Ok tt → PlanDemand fan limit l ls xs hs
 plan_whole fan limit l ls xs hs small given =
     let h : Represents planning (make planning fan limit l ls xs hs).after (made_row limit l) = made planning (omega arith) fan limit l ls xs hs small given in
     record {

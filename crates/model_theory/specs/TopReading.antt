@@ -1,7 +1,7 @@
 -- The reading copy gives the effect answers of the full tree (document 02, CR 12): for every list of its calls, begun by a make that neither refuses,
 -- provided that the full tree refuses no call on account of another length and the reading copy none by 17. Both trees answer as their rows, and the
 -- rows agree call by call.
-use Rattle.std.specs.Prelude.{◌≡◌, refl, ◌≢◌, false, ℕ, ◌<◌}
+use Rattle.std.specs.Prelude.{◌≡◌, refl, ◌≢◌, false, ℕ, ◌<◌, Ok, true}
 use Rattle.std.proofs.Common.{sym, ap, ap₂, ◌∙◌, subst, arith}
 use mathlib.Core.List.{List, [], ◌∷◌, map}
 use Rattle.model.specs.Kind.{reading}
@@ -14,8 +14,6 @@ use Rattle.model.specs.ById.{tree_step}
 use Rattle.model.specs.Calls.{make}
 use Rattle.model.specs.Sound.{Sound, entries_of}
 use Rattle.model.specs.Audit.{audit}
-use Rattle.model.specs.declared.answer.Outcome.TheVariants as outcome
-use Rattle.model.specs.declared.answer.Verdict.TheVariants as verdict
 use Rattle.model.specs.Promise.{Words, InWords, Represents, answers, finally, Demand3}
 use Rattle.model.specs.Reading.{Reads, effect_of, here, effect_part, Other, ProvidedOf, Provided, Agreement}
 use Rattle.model_theory.specs.RowViews.{each_small}
@@ -112,8 +110,8 @@ module _ (K : Kind) (ok : K.effect < K.views) (plain : K.ordered ≡ false) wher
           (sym (ap (λ (m : Moved Row). m.answer.number) (here_moves K q c)) ∙ sym (ap (λ (n : Answer). n.number) (step reading one t q b (here K c) (in_words c k d)).same) ∙ e)
 
 -- each on areas of its own, which held anything
-pub agreement : (K : Kind) → K.effect < K.views → K.ordered ≡ false → (fan limit : ℕ) (l ls xs hs us ys gs : List ℕ) → Words K l → (make K fan limit l ls xs hs).answer ≡ outcome.Done
-    → (make reading fan limit (effect_of K l) us ys gs).answer ≡ outcome.Done
+pub agreement : (K : Kind) → K.effect < K.views → K.ordered ≡ false → (fan limit : ℕ) (l ls xs hs us ys gs : List ℕ) → Words K l → (make K fan limit l ls xs hs).answer ≡ Ok tt
+    → (make reading fan limit (effect_of K l) us ys gs).answer ≡ Ok tt
     → Agreement K (make K fan limit l ls xs hs).after (make reading fan limit (effect_of K l) us ys gs).after
 unfolding Alike
 agreement K ok plain fan limit l ls xs hs us ys gs small there here' =
@@ -122,8 +120,8 @@ agreement K ok plain fan limit l ls xs hs us ys gs small there here' =
     (record { limit = refl; entries = (new_like K ok 0 0 l refl small.long, tt) })
 
 -- the list theorem at the reading copy's kind, and what audit says there
-pub reading_whole : (fan limit : ℕ) (l ls xs hs : List ℕ) → Words reading l → (make reading fan limit l ls xs hs).answer ≡ outcome.Done → Demand3 reading fan limit l ls xs hs
+pub reading_whole : (fan limit : ℕ) (l ls xs hs : List ℕ) → Words reading l → (make reading fan limit l ls xs hs).answer ≡ Ok tt → Demand3 reading fan limit l ls xs hs
 reading_whole = demand3 reading one
 
-pub reading_audited : (t : State) → (audit reading t ≡ verdict.Yes → Sound reading t) × (Sound reading t → audit reading t ≡ verdict.Yes)
+pub reading_audited : (t : State) → (audit reading t ≡ Ok true → Sound reading t) × (Sound reading t → audit reading t ≡ Ok true)
 reading_audited = audit_exactly reading

@@ -1,6 +1,7 @@
 -- The list theorem with seats, by ids and on cursors, from every make that isn't refused: the answers are those of the row that holds the charges, every
 -- state is sound and its free entries cover all unused shares, and a seat below its share is never refused for space, whoever called before.
-use Rattle.std.specs.Prelude.{◌≡◌, ◌≢◌, Bool, cond, ℕ, ◌^◌, ◌<◌}
+use Rattle.model.specs.Numbered.{Numbered}
+use Rattle.std.specs.Prelude.{◌≡◌, ◌≢◌, Bool, cond, ℕ, ◌^◌, ◌<◌, Ok, Some, None, Option}
 use Rattle.std.proofs.Math.Path.{refl, ap₂}
 use Rattle.std.proofs.Common.{sym, ap, ◌∙◌, subst, arith}
 use Rattle.std.proofs.Math.Bool.{true, false}
@@ -19,10 +20,6 @@ use Rattle.model.specs.Seats.{seats_of, no_charges, share, charge, Fair}
 use Rattle.model.specs.SeatedCalls.{SeatedReply}
 use Rattle.model.specs.SeatedList.{Seated, seated, Naming, naming, cursor_deed, misnamed, seated_row, seated_tree, seated_cursor, seated_entry_move, seated_entry, seated_meant, seated_meant_all}
 use Rattle.model.specs.SeatPromise.{NamingInWords, CursorNamingInWords, Asks, BelowShare, SeatedInvariant, AlongSeats, AlongSeatedCursors, SeatedDemand3, SeatedLists}
-use Rattle.model.specs.declared.seats.Seat.{Seat}
-use Rattle.model.specs.declared.seats.Seat.TheVariants as seat
-use Rattle.model.specs.declared.answer.Outcome.{Outcome}
-use Rattle.model.specs.declared.answer.Outcome.TheVariants as outcome
 use Rattle.model_theory.specs.CallSimulates.{Simulates}
 use Rattle.model_theory.specs.RowNumbers.{number_is, no_cause}
 use Rattle.model_theory.specs.TopById.{invariant_of, made, fan_made}
@@ -37,7 +34,7 @@ use Rattle.model_theory.specs.SeatStamps.{seated_counts, still_small, reset_one}
 
 -- numbers that no call on cursors answers -------------------------------------------------------------------------------------------------------
 
-module _ (K : Kind) (r : Seated Row) (x : Seat) (y : ℕ) (a : Apart y) (never : (c : Call) → (seated_row K r (naming x c)).answer.number ≢ y) where
+module _ (K : Kind) (r : Seated Row) (x : Option ℕ) (y : ℕ) (a : Apart y) (never : (c : Call) → (seated_row K r (naming x c)).answer.number ≢ y) where
   entry_not : (e : EntryCall) → NotBy y e → (seated_entry_move K r x e).answer.number ≢ y
   unfolding seated_entry_move entry_step row_step row_move All
   entry_not (by.plain c) k = never c
@@ -71,9 +68,9 @@ module _ (K : Kind) (ok : K.effect < K.views) (s : Seated State) (r : Seated Row
       let lt : charge r.seats o.0 < share r.seats o.0 = subst (λ (j : ℕ). charge r.seats j < share r.seats j) (sym i) b.unused in
       let ge = o.2.0 in omega arith)
     where
-      number_of : Seat → ℕ
-      number_of seat.Nobody = 0
-      number_of (seat.Number i) = i
+      number_of : Option ℕ → ℕ
+      number_of None = 0
+      number_of (Some i) = i
 
 -- lists -------------------------------------------------------------------------------------------------------------------------------------------
 
@@ -141,7 +138,7 @@ module _ (K : Kind) (ok : K.effect < K.views) where
     resets = λ cs k. reset_one K (finally (seated_cursor K) s cs) (left_by_cursors s r cs h k);
   }
 
-  first_stamp : (fan limit : ℕ) (l ls xs hs : List ℕ) → Words K l → (make K fan limit l ls xs hs).answer ≡ outcome.Done → (make K fan limit l ls xs hs).after.head.stamp < 2 ^ 64
+  first_stamp : (fan limit : ℕ) (l ls xs hs : List ℕ) → Words K l → (make K fan limit l ls xs hs).answer ≡ Ok tt → (make K fan limit l ls xs hs).after.head.stamp < 2 ^ 64
   first_stamp fan limit l ls xs hs small given = (let z = (stamped K ok fan limit l ls xs hs small given).first in omega arith)
 
   -- from make: with shares, or without seats
@@ -149,7 +146,7 @@ module _ (K : Kind) (ok : K.effect < K.views) where
   seated_lists = record {
     shared = λ fan limit shares l ls xs hs small given.
         (let m = (seated_made K fan limit shares l ls xs hs).done given in
-        subst (λ (r : SeatedReply Outcome). SeatedDemand3 K fan (seated r.after r.seats) (seated (made_row limit l) (seats_of true shares no_charges))) (sym m.1)
+        subst (λ (r : SeatedReply (Numbered (Unit {0}))). SeatedDemand3 K fan (seated r.after r.seats) (seated (made_row limit l) (seats_of true shares no_charges))) (sym m.1)
         (seated_demand3 fan _ _ (record { stands = made K ok fan limit l ls xs hs small m.0; seats = refl; eight = refl; fair = λ q. fair_begun limit true shares (shares_within K fan limit shares l ls xs hs given) }) (fan_made K ok fan limit l ls xs hs small m.0) (first_stamp fan limit l ls xs hs small m.0)));
     without = λ fan limit l ls xs hs small given.
         seated_demand3 fan _ _ (record { stands = made K ok fan limit l ls xs hs small given; seats = refl; eight = refl; fair = λ q. absurd (let z : ◌≡◌ {A = ℕ} 0 1 = cc in omega arith) }) (fan_made K ok fan limit l ls xs hs small given) (first_stamp fan limit l ls xs hs small given);

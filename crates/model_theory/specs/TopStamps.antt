@@ -1,5 +1,6 @@
 -- A cursor passes again only once 2 ^ 64 entries were made since its issue, so after a reset none from before does; and with 2 ^ 64 one does.
-use Rattle.std.specs.Prelude.{◌≡◌, false, replicate}
+use Rattle.model.specs.Numbered.{Numbered}
+use Rattle.std.specs.Prelude.{◌≡◌, false, replicate, Ok}
 use Rattle.std.proofs.Math.Path.{refl, ap, subst}
 use Rattle.std.proofs.Common.{sym, ne_eqb}
 use mathlib.Core.List.{List, [], ◌∷◌, ◌++◌}
@@ -20,8 +21,6 @@ use Rattle.model.specs.ByCursor.{CursorCall, cursor_step, entry_step, meant}
 use Rattle.model.specs.Promise.{Words, CursorInWords, finally, Represents}
 use Rattle.model.specs.Stamp.{one, makes, makes_all, Counts, GoesRound, AcrossReset, Stamped}
 use Rattle.model.specs.declared.head.Cursor.{Cursor}
-use Rattle.model.specs.declared.answer.Outcome.{Outcome}
-use Rattle.model.specs.declared.answer.Outcome.TheVariants as outcome
 use Rattle.model_theory.specs.CallMake.{reset_is}
 use Rattle.model_theory.specs.CallOpen.{fresh}
 use Rattle.model_theory.specs.TopById.{made, made_is}
@@ -49,11 +48,11 @@ module _ (K : Kind) (l : List ℕ) (few : too_many_lines K l ≡ false) (level :
   -- no other cause refuses a reset there
   pub reset_makes : (s : State) → Coherent K s → makes K s (by.reset l) ≡ 1
   unfolding makes
-  reset_makes s w = ap (λ (r : calls.Reply Outcome). one (outcome_answer r.answer)) (reset_is K s w l few level)
+  reset_makes s w = ap (λ (r : calls.Reply (Numbered (Unit {0}))). one (outcome_answer r.answer)) (reset_is K s w l few level)
 
   reset_lone : (s : State) → Coherent K s → (cursor_step K s (by.reset l)).after.head.leaves ≡ 1
   unfolding cursor_step begun
-  reset_lone s w = ap (λ (r : calls.Reply Outcome). r.after.head.leaves) (reset_is K s w l few level)
+  reset_lone s w = ap (λ (r : calls.Reply (Numbered (Unit {0}))). r.after.head.leaves) (reset_is K s w l few level)
 
 module _ (K : Kind) (ok : K.effect < K.views) where
   -- what a call leaves stands for a row again
@@ -120,10 +119,10 @@ module _ (K : Kind) (ok : K.effect < K.views) where
   across_after s r h small (c ∷ cs) k = across_after (cursor_step K s c).after (entry_step K r (meant K s c)).after (represents_after s r h c k.0) (still_small K s small (c ∷ [])) cs k.1
 
   -- from a make that isn't refused
-  module _ (fan limit : ℕ) (l ls xs hs : List ℕ) (words : Words K l) (given : (make K fan limit l ls xs hs).answer ≡ outcome.Done) where
+  module _ (fan limit : ℕ) (l ls xs hs : List ℕ) (words : Words K l) (given : (make K fan limit l ls xs hs).answer ≡ Ok tt) where
     one_at_make : (make K fan limit l ls xs hs).after.head.stamp ≡ 1
     unfolding begun
-    one_at_make = ap (λ (r : calls.Reply Outcome). r.after.head.stamp) (made_is K ok fan limit l ls xs hs words given)
+    one_at_make = ap (λ (r : calls.Reply (Numbered (Unit {0}))). r.after.head.stamp) (made_is K ok fan limit l ls xs hs words given)
 
     pub stamped : Stamped K fan limit l ls xs hs
     stamped =

@@ -1,5 +1,5 @@
 -- The finger's walk within its leaf, back and on: it comes to the slot that holds the index, or the leaf doesn't hold it.
-use Rattle.std.specs.Prelude.{◌≡◌, List, [], ◌∷◌, ◌++◌, length, get_or, take, drop}
+use Rattle.std.specs.Prelude.{◌≡◌, List, [], ◌∷◌, ◌++◌, length, get_or, take, drop, Ok, Some, None}
 use Rattle.std.proofs.Common.{sym, ap, ap₂, ◌∙◌, subst, length-append, length-drop, take-append-drop, take-suc, take-add, get_or-drop, lt-ltb, le-ltb}
 use Prim.Native.Nat.{ℕ, zero, suc, ◌+◌, ◌-◌, ◌%◌, ◌^◌, ◌≤◌, ◌<◌}
 use Rattle.std.proofs.Math.Decide.{dec_lt}
@@ -9,10 +9,8 @@ use Rattle.model.specs.Lists.{sum_by}
 use Rattle.model.specs.Node as node
 use Rattle.model.specs.Node.{length_in, find_from}
 use Rattle.model.specs.Locate.{finger, less, Stand, back, moved_to, walked}
-use Rattle.model.specs.declared.shape.Found.{Found}
-use Rattle.model.specs.declared.shape.Found.TheVariants.{At, Nothing}
+use Rattle.model.specs.Node.{Found}
 use Rattle.model.specs.declared.head.Finger.{Finger}
-use Rattle.model.specs.declared.way.Search.TheVariants as search
 use Rattle.model_tree.specs.Lists.{sum_by_append}
 use Rattle.model_theory.specs.WalkDown.{Hit, find_hit, find_miss}
 
@@ -39,7 +37,7 @@ pub record WalkReached (v e : ℕ) (xs : List (List ℕ)) (f : Finger) (index : 
   pub offset : ℕ
   pub within_effect : ℕ
   pub within_prepare : ℕ
-  pub is : walked v e f index xs ≡ search.At (finger f.view f.leaf f.start f.effect slot (index - offset) within_effect f.prepare within_prepare) offset
+  pub is : walked v e f index xs ≡ Ok (Some (finger f.view f.leaf f.start f.effect slot (index - offset) within_effect f.prepare within_prepare, offset))
   pub slot_in_law : slot < length xs
   pub sums : node.total v (take slot xs) + offset ≡ index
   pub effect : within_effect ≡ node.total e (take slot xs)
@@ -91,7 +89,7 @@ module _ (v e : ℕ) (xs : List (List ℕ)) (sv : node.total v xs < 4294967296) 
               offset = h.offset;
               within_effect = ew;
               within_prepare = pw;
-              is = walk_is (At (n + m) h.offset ew pw) h.got ∙ ap₂ (λ (k l : ℕ). search.At (finger f.view f.leaf f.start f.effect (n + m) (index - h.offset) k f.prepare l) h.offset) small few;
+              is = walk_is (Some (n + m, h.offset, ew, pw)) h.got ∙ ap₂ (λ (k l : ℕ). Ok (Some (finger f.view f.leaf f.start f.effect (n + m) (index - h.offset) k f.prepare l, h.offset))) small few;
               slot_in_law = omega (arith, pre.fits);
               sums = omega (arith, h.sums, tot v, pre.within, pre.past);
               effect = ex;
@@ -99,5 +97,5 @@ module _ (v e : ℕ) (xs : List (List ℕ)) (sv : node.total v xs < 4294967296) 
               inside = subst (λ (y : List ℕ). h.offset < length_in v y) (sym (sym (get_or-drop n xs m []) ∙ ap (λ (l : List (List ℕ)). get_or l m []) h.row ∙ get_or-append_seam h.front h.here h.behind [])) h.inside;
             }
 
-    pub walk_miss : node.total v xs ≤ index → walked v e f index xs ≡ search.Nothing
-    walk_miss le = walk_is Nothing (find_miss v e stop.slot (index - stop.within) stop.within_effect stop.within_prepare (drop stop.slot xs) (let z = total_split v stop.slot xs in omega (arith, pre.within, pre.past)))
+    pub walk_miss : node.total v xs ≤ index → walked v e f index xs ≡ Ok None
+    walk_miss le = walk_is None (find_miss v e stop.slot (index - stop.within) stop.within_effect stop.within_prepare (drop stop.slot xs) (let z = total_split v stop.slot xs in omega (arith, pre.within, pre.past)))

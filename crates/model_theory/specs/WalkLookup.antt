@@ -1,5 +1,5 @@
 -- A lookup on a sound state, by the finger or from the root: it finds the row's entry and leaves a sound state, or both refuse.
-use Rattle.std.specs.Prelude.{◌≡◌, ◌⊎◌, true, ◌&&◌, List, [], ◌∷◌, ◌++◌, ℕ, zero, suc, ◌+◌, ◌-◌, ◌%◌, ◌^◌, ◌≤◌, ◌<◌, ltb, leb, get_or, take}
+use Rattle.std.specs.Prelude.{◌≡◌, ◌⊎◌, true, ◌&&◌, List, [], ◌∷◌, ◌++◌, ℕ, zero, suc, ◌+◌, ◌-◌, ◌%◌, ◌^◌, ◌≤◌, ◌<◌, ltb, leb, get_or, take, Ok, Some, None, Option}
 use Rattle.std.proofs.Math.Path.{refl}
 use Rattle.std.proofs.Common.{sym, ap, ap₂, ◌∙◌, subst, inl, inr, zero-add, arith, length-append, eq-eqb, ne_eqb, lt-ltb, le-leb}
 use Rattle.std.proofs.Math.Decide.{ℕ_discrete, dec_lt}
@@ -14,11 +14,7 @@ use Rattle.model.specs.State.{State}
 use Rattle.model.specs.Locate.{finger, served, served_by, descend, leaf_of, from_root}
 use Rattle.model.specs.Sound.{leaf_in, inner_in, shape_in, CoherentAt}
 use Rattle.model.specs.declared.head.Finger.{Finger}
-use Rattle.model.specs.declared.head.Held.{Held}
-use Rattle.model.specs.declared.head.Held.TheVariants as held
-use Rattle.model.specs.declared.way.Descent.TheVariants as descent
-use Rattle.model.specs.declared.way.Search.{Search}
-use Rattle.model.specs.declared.way.Search.TheVariants as search
+use Rattle.model.specs.Locate.{Search}
 use Rattle.model_tree.specs.Lists.{cat, cat_append, sum_by_append, sum_by_cat}
 use Rattle.model_tree.specs.Levels.{Slot, Area, total, len, climb}
 use Rattle.model_tree.specs.Pigeon.{In, is_in}
@@ -39,7 +35,7 @@ use Rattle.model_theory.specs.WalkFinger.{WalkReached, walk_hit, walk_miss, tota
 pub record Got (s ε : ℕ) (t : State) (v x : ℕ) (r : Search) : Type 0 where
   pub finger : Finger
   pub offset : ℕ
-  pub is : r ≡ search.At finger offset
+  pub is : r ≡ Ok (Some (finger, offset))
   pub view : finger.view ≡ v
   pub looked : LooksAt ε (tree_of s t) v x finger offset
 
@@ -62,7 +58,7 @@ module _ (s ε : ℕ) (t : State) (w : CoherentAt s t ε) (v : ℕ) where
   used_size k = length-map (used (leaf_in s t k)) slot_of
 
   -- the finger serves, or the search goes on from the root
-  served_is : (f : Finger) → tree.FingerRight ε (tree_of s t) f → (x : ℕ) → Got s ε t v x (served v ε (shape_in s t) f t.head.leaves x t.leaves) ⊎ (served v ε (shape_in s t) f t.head.leaves x t.leaves ≡ search.Nothing)
+  served_is : (f : Finger) → tree.FingerRight ε (tree_of s t) f → (x : ℕ) → Got s ε t v x (served v ε (shape_in s t) f t.head.leaves x t.leaves) ⊎ (served v ε (shape_in s t) f t.head.leaves x t.leaves ≡ Ok None)
   unfolding served
   served_is f r x = go (ℕ_discrete f.view v) (dec_lt x f.start)
     where
@@ -93,7 +89,7 @@ module _ (s ε : ℕ) (t : State) (w : CoherentAt s t ε) (v : ℕ) where
           })
           e (omega (arith, q.sums)) (subst (λ (y : Slot). q.offset < len v y) (sym (get_d_slot (used (leaf_in s t f.leaf)) q.slot q.slot_in_law)) q.inside)
 
-      go : Dec (f.view ≡ v) → Dec (x < f.start) → Got s ε t v x (served v ε (shape_in s t) f t.head.leaves x t.leaves) ⊎ (served v ε (shape_in s t) f t.head.leaves x t.leaves ≡ search.Nothing)
+      go : Dec (f.view ≡ v) → Dec (x < f.start) → Got s ε t v x (served v ε (shape_in s t) f t.head.leaves x t.leaves) ⊎ (served v ε (shape_in s t) f t.head.leaves x t.leaves ≡ Ok None)
       go (no ne) d = inr (rw (ne_eqb f.view v ne))
       go (yes e) (yes lt) = inr (rw (eq-eqb f.view v e, lt-leb f.start x lt))
       go (yes e) (no ge) = walk (dec_lt (x - f.start) (node.total v (used (leaf_in s t f.leaf))))
@@ -101,7 +97,7 @@ module _ (s ε : ℕ) (t : State) (w : CoherentAt s t ε) (v : ℕ) where
           fits : f.slot ≤ length (used (leaf_in s t f.leaf))
           fits = omega (arith, r.slot_in_law, used_size f.leaf)
 
-          walk : Dec (x - f.start < node.total v (used (leaf_in s t f.leaf))) → Got s ε t v x (served v ε (shape_in s t) f t.head.leaves x t.leaves) ⊎ (served v ε (shape_in s t) f t.head.leaves x t.leaves ≡ search.Nothing)
+          walk : Dec (x - f.start < node.total v (used (leaf_in s t f.leaf))) → Got s ε t v x (served v ε (shape_in s t) f t.head.leaves x t.leaves) ⊎ (served v ε (shape_in s t) f t.head.leaves x t.leaves ≡ Ok None)
           walk (yes lt) =
               let q : WalkReached v ε (used (leaf_in s t f.leaf)) f (x - f.start) = walk_hit v ε (used (leaf_in s t f.leaf)) (leaf_small v f.leaf r.leaf_in_law) (leaf_small ε f.leaf r.leaf_in_law) (leaf_small 0 f.leaf r.leaf_in_law) f (x - f.start) fits (wi e) ew pw lt in
               inl (record {
@@ -114,9 +110,9 @@ module _ (s ε : ℕ) (t : State) (w : CoherentAt s t ε) (v : ℕ) where
           walk (no le) = inr (rw (eq-eqb f.view v e, le-leb f.start x (omega arith), lt-ltb f.leaf t.head.leaves r.leaf_in_law, le-leb (leaf_in s t f.leaf).len t.head.fan (w.leaf_filled f.leaf r.leaf_in_law).high, lt-ltb f.slot (leaf_in s t f.leaf).len (omega (arith, r.slot_in_law, sz)))
               (walk_miss v ε (used (leaf_in s t f.leaf)) (leaf_small v f.leaf r.leaf_in_law) (leaf_small ε f.leaf r.leaf_in_law) (leaf_small 0 f.leaf r.leaf_in_law) f (x - f.start) fits (wi e) ew pw (omega arith)))
 
-  pub served_by_is : (h : Held) → tree.Right ε (tree_of s t) h → (x : ℕ) → Got s ε t v x (served_by v ε (shape_in s t) h t.head.leaves x t.leaves) ⊎ (served_by v ε (shape_in s t) h t.head.leaves x t.leaves ≡ search.Nothing)
-  served_by_is held.Absent r x = inr refl
-  served_by_is (held.At f) r x = served_is f r x
+  pub served_by_is : (h : Option Finger) → tree.Right ε (tree_of s t) h → (x : ℕ) → Got s ε t v x (served_by v ε (shape_in s t) h t.head.leaves x t.leaves) ⊎ (served_by v ε (shape_in s t) h t.head.leaves x t.leaves ≡ Ok None)
+  served_by_is None r x = inr refl
+  served_by_is (Some f) r x = served_is f r x
 
   -- from the root
   unfoldable pub searched : ℕ → Search
@@ -164,9 +160,9 @@ module _ (s ε : ℕ) (t : State) (w : CoherentAt s t ε) (v : ℕ) where
               record {
                 finger = f;
                 offset = h.offset;
-                is = ap (leaf_of v ε (shape_in s t) t.head.leaves x t.leaves) q.got ∙ rw (leaf_ok q.c lc, h.got) (ap₂ (λ (a b : ℕ). search.At (finger v q.c (x - q.r) a (0 + j) (q.r - h.offset) b (q.p % 2 ^ 32) ((0 + node.total 0 h.front) % 2 ^ 32)) h.offset) ra re
-                    ∙ ap₂ (λ (a b : ℕ). search.At (finger v q.c (x - q.r) q.a (0 + j) (q.r - h.offset) (node.total ε h.front) a b) h.offset) rp rq
-                    ∙ ap (λ (i : ℕ). search.At (finger v q.c (x - q.r) q.a i (q.r - h.offset) (node.total ε h.front) q.p (node.total 0 h.front)) h.offset) (zero-add j));
+                is = ap (leaf_of v ε (shape_in s t) t.head.leaves x t.leaves) q.got ∙ rw (leaf_ok q.c lc, h.got) (ap₂ (λ (a b : ℕ). Ok (Some (finger v q.c (x - q.r) a (0 + j) (q.r - h.offset) b (q.p % 2 ^ 32) ((0 + node.total 0 h.front) % 2 ^ 32), h.offset))) ra re
+                    ∙ ap₂ (λ (a b : ℕ). Ok (Some (finger v q.c (x - q.r) q.a (0 + j) (q.r - h.offset) (node.total ε h.front) a b, h.offset))) rp rq
+                    ∙ ap (λ (i : ℕ). Ok (Some (finger v q.c (x - q.r) q.a i (q.r - h.offset) (node.total ε h.front) q.p (node.total 0 h.front), h.offset))) (zero-add j));
                 view = refl;
                 looked = at_finger ε (tree_of s t) (body_of s t ε w) v x f h.offset
                     (record {
@@ -182,14 +178,14 @@ module _ (s ε : ℕ) (t : State) (w : CoherentAt s t ε) (v : ℕ) where
                     refl (omega (arith, q.sums, h.sums)) (subst (λ (y : Slot). h.offset < len v y) (sym (get_d_slot xs j lj)) (subst (λ (y : List ℕ). h.offset < length_in v y) (sym gd) h.inside));
               }
 
-  pub root_miss : (x : ℕ) → sum_by (len v) (tree.row (tree_of s t)) ≤ x → searched x ≡ search.Nothing
+  pub root_miss : (x : ℕ) → sum_by (len v) (tree.row (tree_of s t)) ≤ x → searched x ≡ Ok None
   unfolding searched from_root descend
   root_miss x le = go t.head.levels refl
     where
       lr : t.head.root.0 < t.head.inners
       lr = (body_of s t ε w).fit.root_in
 
-      go : (n : ℕ) → t.head.levels ≡ n → leaf_of v ε (shape_in s t) t.head.leaves x t.leaves (descend v ε (shape_in s t) descent.Nothing t.head.levels t.head.root.0 x 0 0 t.inners) ≡ search.Nothing
+      go : (n : ℕ) → t.head.levels ≡ n → leaf_of v ε (shape_in s t) t.head.leaves x t.leaves (descend v ε (shape_in s t) (Ok None) t.head.levels t.head.root.0 x 0 0 t.inners) ≡ Ok None
       go zero q = absurd (omega (arith, w.levels_least))
       go (suc n) q =
           let m : ℕ = node.total v (used (inner_in s t t.head.root.0)) in

@@ -1,5 +1,7 @@
 -- Down an edge of the tree and on to the next leaf: the model's walks come to the leaves that the order of the levels gives.
-use Rattle.std.specs.Prelude.{◌≡◌, Bool, true, false, ℕ, zero, suc, ◌+◌, ◌-◌, ◌≤◌, ◌<◌, ltb, get_or}
+use Rattle.model.specs.declared.number.LeafNo.{LeafNo}
+use Rattle.model.specs.declared.way.Broken.{Broken}
+use Rattle.std.specs.Prelude.{◌≡◌, Bool, true, false, ℕ, zero, suc, ◌+◌, ◌-◌, ◌≤◌, ◌<◌, ltb, get_or, Ok, Some, None, Option, Result}
 use Rattle.std.proofs.Math.Path.{refl, ap, subst}
 use Rattle.std.proofs.Common.{sym, ap₂, ◌∙◌, not-suc-le-zero, add-one, arith, length-append}
 use mathlib.Core.List.{List, [], ◌∷◌, ◌++◌, map, append_assoc}
@@ -10,8 +12,6 @@ use Rattle.model.specs.Node.{Node, child, used}
 use Rattle.model.specs.State.{State}
 use Rattle.model.specs.Climb.{leaf_no, first_down, last_down, next_up}
 use Rattle.model.specs.Sound.{shape_in, leaf_in, inner_in}
-use Rattle.model.specs.declared.way.Leaf.{Leaf}
-use Rattle.model.specs.declared.way.Leaf.TheVariants as leaf
 use Rattle.model_tree.specs.Lists.{cat, cat_append, all_map, all_map₂, all_right}
 use Rattle.model_tree.specs.Levels.{no_slot, Slot, Area, Links, total, Parent, find_parent}
 use Rattle.model_tree.specs.Next.{NodeOrEnd, node, end, first_of, next_of, head_of, next_is}
@@ -74,9 +74,9 @@ last_top up q (suc d) = last_top up (last_child (up.slots q)) d ∙ shift d
     shift (suc d) = ap (λ (p : ℕ). last_child (up.slots p)) (shift d)
 
 -- the first of the leaves that come after
-abbrev pub leaf_head : List ℕ → Leaf
-leaf_head [] = leaf.Nothing
-leaf_head (q ∷ B) = leaf.At (leaf_no q)
+abbrev pub leaf_head : List ℕ → Result (Option LeafNo) Broken
+leaf_head [] = Ok None
+leaf_head (q ∷ B) = Ok (Some (leaf_no q))
 
 module _ (s : ℕ) (t : State) (nt : Neat s t) (b : Body (tree_of s t)) where
   -- a node of a level above the leaves
@@ -101,12 +101,12 @@ module _ (s : ℕ) (t : State) (nt : Neat s t) (b : Body (tree_of s t)) where
   unfolding first_down
   first_step d q lq h = rw (lt-ltb q (shape_in s t).nodes (omega (arith, nt.inner_count)), slot_child q 0 lq h)
 
-  first_leaf : (q : ℕ) → q < t.head.leaves → first_down (shape_in s t) 0 q t.inners ≡ leaf.At (leaf_no q)
+  first_leaf : (q : ℕ) → q < t.head.leaves → first_down (shape_in s t) 0 q t.inners ≡ Ok (Some (leaf_no q))
   unfolding first_down
   first_leaf q lt = rw (lt-ltb q (shape_in s t).nodes (omega (arith, nt.leaf_count)))
 
   pub first_down_law : (d e q : ℕ) → e + d ≡ t.head.levels → In q (lvl (tree_of s t).body.inner t.head.root.0 e)
-      → first_down (shape_in s t) d q t.inners ≡ leaf.At (leaf_no (first_from (tree_of s t).body.inner q d))
+      → first_down (shape_in s t) d q t.inners ≡ Ok (Some (leaf_no (first_from (tree_of s t).body.inner q d)))
   first_down_law zero e q h i = first_leaf q (leaf_here q (subst (λ (n : ℕ). In q (lvl (tree_of s t).body.inner t.head.root.0 n)) (let z : e ≡ t.head.levels = omega arith in z) i))
   first_down_law (suc d) e q h i =
       let r = inner_here e q (omega arith) i in
@@ -126,12 +126,12 @@ module _ (s : ℕ) (t : State) (nt : Neat s t) (b : Body (tree_of s t)) where
         ap (λ (m : ℕ). child (get_or (inner_in s t q).slots (m - 1) [])) (sym sz) ∙ slot_child q (length (slots_of (inner_in s t q)) - 1) lq (omega arith),
       )
 
-  last_leaf_law : (q : ℕ) → q < t.head.leaves → last_down (shape_in s t) 0 q t.inners ≡ leaf.At (leaf_no q)
+  last_leaf_law : (q : ℕ) → q < t.head.leaves → last_down (shape_in s t) 0 q t.inners ≡ Ok (Some (leaf_no q))
   unfolding last_down
   last_leaf_law q lt = rw (lt-ltb q (shape_in s t).nodes (omega (arith, nt.leaf_count)))
 
   pub last_down_law : (d e q : ℕ) → e + d ≡ t.head.levels → In q (lvl (tree_of s t).body.inner t.head.root.0 e)
-      → last_down (shape_in s t) d q t.inners ≡ leaf.At (leaf_no (last_from (tree_of s t).body.inner q d))
+      → last_down (shape_in s t) d q t.inners ≡ Ok (Some (leaf_no (last_from (tree_of s t).body.inner q d)))
   last_down_law zero e q h i = last_leaf_law q (leaf_here q (subst (λ (n : ℕ). In q (lvl (tree_of s t).body.inner t.head.root.0 n)) (let z : e ≡ t.head.levels = omega arith in z) i))
   last_down_law (suc d) e q h i =
       let r = inner_here e q (omega arith) i in
@@ -141,9 +141,9 @@ module _ (s : ℕ) (t : State) (nt : Neat s t) (b : Body (tree_of s t)) where
       (in_kids (tree_of s t).body.inner q (last_child (slots_of (inner_in s t q))) (lvl (tree_of s t).body.inner t.head.root.0 e) i (in_slot (slots_of (inner_in s t q)) l (let z = r.1 in omega arith)))
 
   -- on to the next leaf
-  step_down : ℕ → NodeOrEnd → Leaf
+  step_down : ℕ → NodeOrEnd → Result (Option LeafNo) Broken
   step_down d (node q) = first_down (shape_in s t) d q t.inners
-  step_down d end = leaf.Nothing
+  step_down d end = Ok None
 
   InUse : ℕ → Type 0
   InUse q = (q < t.head.inners) × (1 ≤ length (slots_of (inner_in s t q)))

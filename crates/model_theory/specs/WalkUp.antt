@@ -1,5 +1,5 @@
 -- The way from a leaf up to the root: every link on it leads to a node in use and every place to a slot in use, so the model's walks along it are not broken.
-use Rattle.std.specs.Prelude.{◌≡◌, true, List, [], ◌∷◌, ◌++◌, take}
+use Rattle.std.specs.Prelude.{◌≡◌, true, List, [], ◌∷◌, ◌++◌, take, Ok}
 use Rattle.std.proofs.Math.Path.{refl, sym, ap}
 use Rattle.std.proofs.Common.{◌∙◌, subst, append_assoc, length-append, lt-ltb}
 use Prim.Native.Nat.{ℕ, zero, suc, ◌+◌, ◌≤◌, ◌<◌}
@@ -12,7 +12,6 @@ use Rattle.model.specs.Node.{used, start}
 use Rattle.model.specs.State.{State}
 use Rattle.model.specs.Climb.{inside, rank_up, steps_up}
 use Rattle.model.specs.Sound.{shape_in, leaf_in, inner_in}
-use Rattle.model.specs.declared.way.Sum.TheVariants as sum
 use Rattle.model_tree.specs.Lists.{all_right}
 use Rattle.model_tree.specs.Levels.{Area, Links, total, len, climb, Parent, find_parent}
 use Rattle.model_tree.specs.Next.{path}
@@ -61,9 +60,9 @@ module _ (s : ℕ) (t : State) (nt : Neat s t) where
 
   -- sums on the way up are those of `climb`
   pub rank_up_law : (v d : ℕ) (low : Area) (c a : ℕ) → WayUp low (area_of (shape_in s t) t.inners) t.head.inners d c
-      → rank_up (shape_in s t) v d (low.parent c) (low.place c) a t.inners ≡ sum.Is (a + climb v low (area_of (shape_in s t) t.inners) d c)
+      → rank_up (shape_in s t) v d (low.parent c) (low.place c) a t.inners ≡ Ok (a + climb v low (area_of (shape_in s t) t.inners) d c)
   unfolding rank_up
-  rank_up_law v zero low c a w = ap sum.Is (let z : a ≡ a + 0 = omega arith in z)
+  rank_up_law v zero low c a w = ap Ok (let z : a ≡ a + 0 = omega arith in z)
   rank_up_law v (suc d) low c a w =
       let up : Area = area_of (shape_in s t) t.inners in
       let p : ℕ = low.parent c in
@@ -71,7 +70,7 @@ module _ (s : ℕ) (t : State) (nt : Neat s t) where
       let lp : p < t.head.inners = w.0 in
       let li : i < length (slots_of (inner_in s t p)) = w.1 in
       rw (is_inside p i lp li, start_inner v i p lp (omega arith))
-      (rank_up_law v d up p (a + sum_by (len v) (take i (slots_of (inner_in s t p)))) w.2 ∙ ap sum.Is (let z : a + sum_by (len v) (take i (slots_of (inner_in s t p))) + climb v up up d p ≡ a + (sum_by (len v) (take i (slots_of (inner_in s t p))) + climb v up up d p) = omega arith in z))
+      (rank_up_law v d up p (a + sum_by (len v) (take i (slots_of (inner_in s t p)))) w.2 ∙ ap Ok (let z : a + sum_by (len v) (take i (slots_of (inner_in s t p))) + climb v up up d p ≡ a + (sum_by (len v) (take i (slots_of (inner_in s t p))) + climb v up up d p) = omega arith in z))
 
   -- the places on the way up are the path
   pub steps_up_law : (d : ℕ) (low : Area) (c : ℕ) (steps : List ℕ) → WayUp low (area_of (shape_in s t) t.inners) t.head.inners d c

@@ -1,21 +1,20 @@
 -- What a state's words keep beside the soundness of its abstract tree: areas long enough, every node in use tidy.
-use Rattle.std.specs.Prelude.{◌≡◌, refl, Bool, true, false, cond, ℕ, suc, ◌*◌, ◌/◌, ◌≤◌, ◌<◌, ltb, length}
+use Rattle.model.specs.declared.head.Finger.{Finger}
+use Rattle.std.specs.Prelude.{◌≡◌, refl, Bool, true, false, cond, ℕ, suc, ◌*◌, ◌/◌, ◌≤◌, ◌<◌, ltb, length, Some, None, Option}
 use Rattle.std.proofs.Common.{sym, ◌∙◌, div-le_self, arith}
 use Rattle.std.proofs.lemmas.List.{length-map}
 use Rattle.model.specs.Node.{Node, used, half}
 use Rattle.model.specs.State.{State, nodes_for}
 use Rattle.model.specs.Sound.{shape_in, leaf_in, inner_in, CoherentAt, FingerRight}
-use Rattle.model.specs.declared.head.Held.{Held}
-use Rattle.model.specs.declared.head.Held.TheVariants as held
 use Rattle.model_laws.specs.Areas.{formed_at}
 use Rattle.model_theory.specs.WordFits.{fits}
 use Rattle.model_theory.specs.WordTidy.{Tidy, tidy_filled, len_used}
 use Rattle.model_theory.specs.LiftTree.{slot_of, slots_of}
 
 -- the finger's view is one of the stride's
-abbrev pub Viewed : ℕ → Held → Type 0
-Viewed s held.Absent = Unit {0}
-Viewed s (held.At f) = suc f.view < s
+abbrev pub Viewed : ℕ → Option Finger → Type 0
+Viewed s None = Unit {0}
+Viewed s (Some f) = suc f.view < s
 
 pub record Neat (s : ℕ) (t : State) : Type 0 where
   pub leaf_area : (shape_in s t).nodes * (shape_in s t).size ≤ length t.leaves
@@ -52,6 +51,6 @@ neat_of s t e w = record {
   view = seen t.head.finger w.finger;
 }
   where
-    seen : (f : Held) → FingerRight s t e f → Viewed s f
-    seen held.Absent r = tt
-    seen (held.At f) r = r.view
+    seen : (f : Option Finger) → FingerRight s t e f → Viewed s f
+    seen None r = tt
+    seen (Some f) r = r.view

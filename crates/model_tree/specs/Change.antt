@@ -1,9 +1,9 @@
 -- A change of one leaf's slots, with its sums carried up, keeps the tree sound.
-use Rattle.std.specs.Prelude.{◌≡◌, refl, ◌≢◌, List, ◌∷◌, ◌++◌, map, ℕ, zero, suc, ◌≤◌, ◌<◌, length, get_or, set}
+use Rattle.model.specs.declared.head.Finger.{Finger}
+use Rattle.std.specs.Prelude.{◌≡◌, refl, ◌≢◌, List, ◌∷◌, ◌++◌, map, ℕ, zero, suc, ◌≤◌, ◌<◌, length, get_or, set, Option}
 use Rattle.std.proofs.Common.{sym, ap, ap₂, ◌∙◌, subst, arith, length-set}
 use Rattle.std.proofs.Math.Decide.{ℕ_discrete}
 use Rattle.model.specs.Lists.{sum_by, All}
-use Rattle.model.specs.declared.head.Held.{Held}
 use Rattle.model_tree.specs.Lists.{cat, cat_append, all_map, all_map₂, pairs_before, pairs_after, NoDup, cat_cong}
 use Rattle.model_tree.specs.Levels.{no_slot, len, Slot, Area, Links, total}
 use Rattle.model_tree.specs.Apart.{links_nodup}
@@ -23,7 +23,7 @@ carry_size f (suc d) up p i k =
         (ap length (upd_same up.slots p (set (up.slots p) i (change f (get_or (up.slots p) i no_slot)))) ∙ simp length-set)
     one (no ne) = ap length (upd_other up.slots p (set (up.slots p) i (change f (get_or (up.slots p) i no_slot))) k ne)
 
-abbrev pub with_leaf : Tree → ℕ → List Slot → Area → (ℕ → ℕ) → ℕ → Held → Tree
+abbrev pub with_leaf : Tree → ℕ → List Slot → Area → (ℕ → ℕ) → ℕ → Option Finger → Tree
 with_leaf s k ss up homes entries f = record {
   body = record { leaf = set_slots s.body.leaf k ss; inner = up; root = s.body.root; next = s.body.next; levels = s.body.levels };
   homes = homes;
@@ -73,7 +73,7 @@ fit_same m fan half a b n r h f = record {
   root_in = rw (r, n) f.root_in;
 }
 
-pub change_body : (s : Tree) (A : List ℕ) (k : ℕ) (B : List ℕ) (st : List (List ℕ)) (ss : List Slot) (up : Area) (homes : ℕ → ℕ) (entries : ℕ) (f : Held)
+pub change_body : (s : Tree) (A : List ℕ) (k : ℕ) (B : List ℕ) (st : List (List ℕ)) (ss : List Slot) (up : Area) (homes : ℕ → ℕ) (entries : ℕ) (f : Option Finger)
     → BodyAt s (A ++ k ∷ B) st → LeafChange s A k B st ss up homes entries → BodyAt (with_leaf s k ss up homes entries f) (A ++ k ∷ B) st
 change_body s A k B st ss up homes entries f b c =
     let leaf : Area = s.body.leaf in

@@ -1,12 +1,10 @@
 -- The finger: what a change leaves of it is right again.
-use Rattle.std.specs.Prelude.{◌≡◌, refl, Bool, true, false, List, [], ◌∷◌, ◌++◌, ℕ, ◌+◌, ◌≤◌, ◌<◌, eqb, ltb, take}
+use Rattle.std.specs.Prelude.{◌≡◌, refl, Bool, true, false, List, [], ◌∷◌, ◌++◌, ℕ, ◌+◌, ◌≤◌, ◌<◌, eqb, ltb, take, Some, None, Option}
 use Rattle.std.proofs.Common.{sym, ap₂, ◌∙◌, arith, eqb→eq, nltb→le, ne_eqb}
 use Rattle.std.proofs.Math.Path.{ap, subst}
 use Rattle.std.proofs.Math.ListN.{length}
 use Rattle.model.specs.Lists.{sum_by, All}
 use Rattle.model.specs.declared.head.Finger.{Finger}
-use Rattle.model.specs.declared.head.Held.{Held}
-use Rattle.model.specs.declared.head.Held.TheVariants as held
 use Rattle.model.specs.Locate.{rewound, changing}
 use Rattle.model_tree.specs.Lists.{cat, sum_by_append}
 use Rattle.model_tree.specs.Levels.{len, total, climb}
@@ -33,9 +31,9 @@ climb_at s A k B st b v =
     sums (a ∷ A) = ap (λ (n : ℕ). total s.body.leaf a v + n) (sums A) ∙ sym (sum_by_append (len v) (leaf_slots s a) (cat s.body.leaf.slots A))
 
 -- a finger on a new leaf's number: there is none
-pub changing_new : (ε : ℕ) (s : Tree) (j : ℕ) (h : Held) → Right ε s h → changing s.leaves j h ≡ held.Absent
-changing_new ε s j held.Absent r = refl
-changing_new ε s j (held.At f) r = rw (ne_eqb f.leaf s.leaves (λ e. let z = r.leaf_in_law in omega arith))
+pub changing_new : (ε : ℕ) (s : Tree) (j : ℕ) (h : Option Finger) → Right ε s h → changing s.leaves j h ≡ None
+changing_new ε s j None r = refl
+changing_new ε s j (Some f) r = rw (ne_eqb f.leaf s.leaves (λ e. let z = r.leaf_in_law in omega arith))
 
 module _ (ε : ℕ) (s s' : Tree) (A : List ℕ) (k : ℕ) (B : List ℕ) (st : List (List ℕ)) (B' : List ℕ) (st' : List (List ℕ)) (j : ℕ)
     (b : BodyAt s (A ++ k ∷ B) st) (b' : BodyAt s' (A ++ k ∷ B') st')
@@ -75,11 +73,11 @@ module _ (ε : ℕ) (s s' : Tree) (A : List ℕ) (k : ℕ) (B : List ℕ) (st : 
         within_prepare = r.within_prepare ∙ ap (sum_by (len 0)) tk;
       }
 
-  pub right_change : (h : Held) → Right ε s h → Right ε s' (changing k j h)
-  right_change held.Absent r = tt
-  right_change (held.At f) r = go (eqb f.leaf k) refl (ltb j f.slot) refl
+  pub right_change : (h : Option Finger) → Right ε s h → Right ε s' (changing k j h)
+  right_change None r = tt
+  right_change (Some f) r = go (eqb f.leaf k) refl (ltb j f.slot) refl
     where
-      go : (p : Bool) → eqb f.leaf k ≡ p → (q : Bool) → ltb j f.slot ≡ q → Right ε s' (changing k j (held.At f))
+      go : (p : Bool) → eqb f.leaf k ≡ p → (q : Bool) → ltb j f.slot ≡ q → Right ε s' (changing k j (Some f))
       go false e q e' = rw (e) tt
       go true e true e' = rw (e, e') (at_zero f (eqb→eq f.leaf k (rw e tt)) r)
       go true e false e' = rw (e, e') (at_slot f (eqb→eq f.leaf k (rw e tt)) (nltb→le j f.slot (rw e' tt)) r)

@@ -1,10 +1,8 @@
 -- The abstract tree with its finger and its soundness; the levels are those computed from the root.
-use Rattle.std.specs.Prelude.{◌≡◌, ◌≢◌, List, map, ℕ, ◌/◌, ◌≤◌, ◌<◌, length, take}
+use Rattle.std.specs.Prelude.{◌≡◌, ◌≢◌, List, map, ℕ, ◌/◌, ◌≤◌, ◌<◌, length, take, Some, None, Option}
 use Rattle.std.proofs.Common.{sym, ap, ◌∙◌, subst}
 use Rattle.model.specs.Lists.{sum_by, All}
 use Rattle.model.specs.declared.head.Finger.{Finger}
-use Rattle.model.specs.declared.head.Held.{Held}
-use Rattle.model.specs.declared.head.Held.TheVariants as held
 use Rattle.model_tree.specs.Lists.{cat, NoDup}
 use Rattle.model_tree.specs.Levels.{len, Slot, Links, total, climb, none}
 use Rattle.model_tree.specs.Insert.{Trunk}
@@ -19,7 +17,7 @@ pub record Tree : Type 0 where
   pub entries : ℕ
   pub fan : ℕ
   pub limit : ℕ
-  pub finger : Held
+  pub finger : Option Finger
 
 abbrev pub half : ℕ → ℕ
 half fan = fan / 2
@@ -80,9 +78,9 @@ pub record FingerRight (ε : ℕ) (s : Tree) (f : Finger) : Type 0 where
   pub prepare_start : f.prepare ≡ climb 0 s.body.leaf s.body.inner s.body.levels f.leaf
   pub within_prepare : f.prepare_within ≡ sum_by (len 0) (take f.slot (leaf_slots s f.leaf))
 
-abbrev pub Right : ℕ → Tree → Held → Type 0
-Right ε s held.Absent = Unit {0}
-Right ε s (held.At f) = FingerRight ε s f
+abbrev pub Right : ℕ → Tree → Option Finger → Type 0
+Right ε s None = Unit {0}
+Right ε s (Some f) = FingerRight ε s f
 
 pub record Sound (ε : ℕ) (s : Tree) : Type 0 where
   pub body : Body s

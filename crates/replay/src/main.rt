@@ -16,33 +16,26 @@ struct Streams {
     output: Stdout,
 }
 
-// Whether the list goes on.
-#[derive(Clone, Copy)]
-enum Input {
-    More(Head),
-    Over,
-}
-
-// The next record of a list: read, played and printed. A line that can't be written is left out.
+// The next record of a list: read, played and printed; the head then, none at the end of the input. A line that can't be written is left out.
 fn turn(
     streams: Streams,
     head: Head,
     leaves: &mut [u32],
     inners: &mut [u32],
     homes: &mut [u32],
-) -> Input {
+) -> Option<Head> {
     let mut input = streams.input;
     let mut output = streams.output;
     let mut bytes = [0u8; 16];
     let mut out = [0u8; 44];
     if input.read_exact(&mut bytes).is_err() {
-        return Input::Over;
+        return None;
     }
     let played = show(head, leaves, inners, homes, &bytes, &mut out);
     let after = played.head;
     let end = played.end;
     let _ = output.write_all(&out[..end]);
-    Input::More(after)
+    Some(after)
 }
 
 // A list's records; whether the input goes on behind them.
@@ -55,17 +48,11 @@ fn play(
     records: u32,
 ) -> bool {
     let mut after = head;
-    let mut left = records;
-    while left > 0 {
-        match turn(streams, after, leaves, inners, homes) {
-            Input::More(next) => {
-                after = next;
-            }
-            Input::Over => {
-                return false;
-            }
-        }
-        left -= 1;
+    for _ in 0..records {
+        let Some(next) = turn(streams, after, leaves, inners, homes) else {
+            return false;
+        };
+        after = next;
     }
     true
 }
@@ -76,10 +63,7 @@ fn list(streams: Streams, leaves: &mut [u32], inners: &mut [u32], homes: &mut [u
     let mut first = [0u8; 16];
     let mut second = [0u8; 16];
     let mut input = streams.input;
-    if input.read_exact(&mut first).is_err() {
-        return false;
-    }
-    if input.read_exact(&mut second).is_err() {
+    if input.read_exact(&mut first).is_err() || input.read_exact(&mut second).is_err() {
         return false;
     }
     let made_by = read(&first);
@@ -97,12 +81,10 @@ fn list(streams: Streams, leaves: &mut [u32], inners: &mut [u32], homes: &mut [u
 // List after list until the input ends.
 fn run(streams: Streams, leaves: &mut [u32], inners: &mut [u32], homes: &mut [u32]) {
     // A proved loop has to end, and nothing says that the input does: no run uses these turns up.
-    let mut turns = u64::MAX;
-    while turns > 0 {
+    for _ in 0..u64::MAX {
         if !list(streams, leaves, inners, homes) {
             return;
         }
-        turns -= 1;
     }
 }
 

@@ -1,4 +1,5 @@
 -- What bytes behind the kept ones are answered: the text fits its room, and fewer than sixteen bytes are kept. Assumes nothing.
+use Rattle.std.specs.Prelude.{Option, Some}
 use mathlib.Core.Path.{◌≡◌, sym, ap, ◌∙◌, subst}
 use mathlib.Core.Bool.{Bool, true, false, cond}
 use mathlib.Core.List.{List}
@@ -13,8 +14,6 @@ use Rattle.list_stream.specs.Shown.{Fed, fed_of, feed, tail}
 use Rattle.list_stream.proofs.FeedLaws.{fed_short, kept_few}
 use Rattle.list_stream.proofs.RestLaws.{tail_short}
 use Rattle.rowrun.specs.Turn.{answered, Turned}
-use Rattle.rowrun.specs.declared.Input.{Input}
-use Rattle.rowrun.specs.declared.Input.TheVariants as input
 
 -- the end of the input
 pub none_read : (s : State) (block : List ℕ) (kept n : ℕ) (out : List ℕ) → n ≡ 0 → (end : ℕ) (o : List ℕ) → (end, o) ≡ put out 0 (tail kept) → fed_of s end o kept block ≡ answered s block kept n out
@@ -38,8 +37,8 @@ answered_short s t block b out o kept n rest end room e h k = go (eqb n 0) e
     go false q = omega (arith, fed_short s t block b out o rest (kept + n) end q)
 
 -- what is kept of a block that was answered
-pub kept_of : (r : Input) (s : State) (block : List ℕ) (kept : ℕ) (out ls xs hs b o : List ℕ) → Turned r s block kept out ls xs hs b o → (h : Head) (n : ℕ) → r ≡ input.More h n → n < 16
+pub kept_of : (r : Option (Head × ℕ)) (s : State) (block : List ℕ) (kept : ℕ) (out ls xs hs b o : List ℕ) → Turned r s block kept out ls xs hs b o → (h : Head) (n : ℕ) → r ≡ Some (h, n) → n < 16
 kept_of r s block kept out ls xs hs b o turned h n e =
-    let t = subst (λ (x : Input). Turned x s block kept out ls xs hs b o) e turned in
+    let t = subst (λ (x : Option (Head × ℕ)). Turned x s block kept out ls xs hs b o) e turned in
     let some : t.1 ≡ 0 → ⊥ = λ z. omega (arith, t.3, z) in
     kept_few s (state h ls xs hs) t.0 b out o n (kept + t.1) t.2 (t.6 ∙ some_read s t.0 kept t.1 out some)

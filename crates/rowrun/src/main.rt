@@ -24,13 +24,6 @@ struct Streams {
     errors: Stderr,
 }
 
-// Whether the input goes on: with the head, and how many bytes are kept at the block's start.
-#[derive(Clone, Copy)]
-enum Input {
-    More(Head, usize),
-    Over,
-}
-
 // What n bytes read behind the kept ones are answered: the lines of the whole records. No byte read is the end of the input,
 // and a short tail's line.
 fn answer(
@@ -58,7 +51,8 @@ fn answer(
     feed(head, leaves, inners, homes, block, kept + n, out)
 }
 
-// One block: read, answered and printed. What it can't do it says on standard error.
+// One block: read, answered and printed. The head then, and how many bytes are kept at the block's start; none where the input doesn't go on.
+// What it can't do it says on standard error.
 fn turn(
     streams: Streams,
     head: Head,
@@ -68,7 +62,7 @@ fn turn(
     block: &mut [u8],
     kept: usize,
     out: &mut [u8],
-) -> Input
+) -> Option<(Head, usize)>
     requires { (length block.old ≡ 4096) × (length out.old ≡ 11264) × (kept < 16) }
     ensures { Turned result (state head leaves.old inners.old homes.old) block.old kept out.old leaves.new inners.new homes.new block.new out.new }
 {
@@ -77,7 +71,7 @@ fn turn(
     let mut errors = streams.errors;
     let Ok(n) = input.read(&mut block[kept..]) else {
         let _ = errors.write_all(b"rowrun: standard input can't be read\n");
-        return Input::Over;
+        return None;
     };
     let fed = answer(head, leaves, inners, homes, block, kept, n, out);
     let after = fed.head;
@@ -85,12 +79,12 @@ fn turn(
     let end = fed.end;
     if output.write_all(&out[..end]).is_err() {
         let _ = errors.write_all(b"rowrun: standard output can't be written\n");
-        return Input::Over;
+        return None;
     }
     if n == 0 {
-        return Input::Over;
+        return None;
     }
-    Input::More(after, rest)
+    Some((after, rest))
 }
 
 // Block after block until the input ends.
@@ -108,18 +102,13 @@ fn run(
     let mut after = head;
     let mut kept = 0;
     // A proved loop has to end, and nothing says that the input does: no run uses these turns up.
-    let mut turns = u64::MAX;
-    while turns > 0 {
-        match turn(streams, after, leaves, inners, homes, block, kept, out) {
-            Input::More(next, rest) => {
-                after = next;
-                kept = rest;
-            }
-            Input::Over => {
-                return;
-            }
-        }
-        turns -= 1;
+    for _ in 0..u64::MAX {
+        let Some((next, rest)) = turn(streams, after, leaves, inners, homes, block, kept, out)
+        else {
+            return;
+        };
+        after = next;
+        kept = rest;
     }
 }
 

@@ -1,5 +1,5 @@
 -- What the program does with the bytes that a read gives it, and the row that its tree stands for. Assumes nothing.
-use Rattle.std.specs.Prelude.{◌≡◌, List, ℕ, ◌+◌, ◌-◌, ◌%◌, ◌<◌, ◌≤◌, length, take}
+use Rattle.std.specs.Prelude.{◌≡◌, List, ℕ, ◌+◌, ◌-◌, ◌%◌, ◌<◌, ◌≤◌, length, take, Option, Some, None, Result, Ok, Err}
 use Rattle.model.specs.Kind.{base}
 use Rattle.model.specs.Lists.{part}
 use Rattle.model.specs.Row.{Row, Call, row_step}
@@ -9,8 +9,7 @@ use Rattle.model.specs.Promise.{finally, Represents}
 use Rattle.list_stream.specs.Text.{put}
 use Rattle.list_row.specs.Run.{records_of, left}
 use Rattle.list_row.specs.Made.{door_row}
-use Rattle.sheetrun.specs.declared.Input.{Input}
-use Rattle.sheetrun.specs.declared.Input.TheVariants as input
+use Rattle.sheetrun.specs.declared.Left.{Left}
 
 -- the whole records among the first `have` bytes of a block
 abbrev pub whole_of : ℕ → List ℕ → List (List ℕ)
@@ -23,11 +22,11 @@ pub record BlockPlayed (s : State) (block : List ℕ) (have : ℕ) (t : State) (
   pub rest : (kept, b) ≡ put block 0 (part (have - have % 16) (have % 16) block)
 
 -- a turn after which the input goes on: n bytes were read behind the kept ones, and played; at its end nothing is changed
-abbrev pub Turned : Input → State → List ℕ → ℕ → List ℕ → List ℕ → List ℕ → List ℕ → Type 0
-Turned (input.More head rest) s block kept ls xs hs b =
-    (given : List ℕ) × (n : ℕ) × (0 < n) × (kept + n ≤ length given) × (take kept given ≡ take kept block) × BlockPlayed s given (kept + n) (state head ls xs hs) rest b
-Turned input.End s block kept ls xs hs b = state s.head ls xs hs ≡ s
-Turned input.Failed s block kept ls xs hs b = Unit {0}
+abbrev pub Turned : {E : Type 0} → Result (Option Left) E → State → List ℕ → ℕ → List ℕ → List ℕ → List ℕ → List ℕ → Type 0
+Turned (Ok (Some l)) s block kept ls xs hs b =
+    (given : List ℕ) × (n : ℕ) × (0 < n) × (kept + n ≤ length given) × (take kept given ≡ take kept block) × BlockPlayed s given (kept + n) (state l.head ls xs hs) l.kept b
+Turned (Ok None) s block kept ls xs hs b = state s.head ls xs hs ≡ s
+Turned (Err e) s block kept ls xs hs b = Unit {0}
 
 -- the row that some calls make of the door's, and a tree that stands for such a row
 abbrev pub left_row : List Call → Row

@@ -15,9 +15,8 @@ use calls_print::print::print;
 use list_row::made::door_tree;
 use list_row::run::run;
 use list_stream::rest::keep;
-use model::answer::Number;
 use model::head::Head;
-use std::io::{Read, Stderr, Stdin, Stdout, Write};
+use std::io::{self, Read, Stderr, Stdin, Stdout, Write};
 
 // The three streams of the program.
 #[derive(Clone, Copy)]
@@ -65,17 +64,9 @@ fn play(
     }
 }
 
-// Whether the input goes on: with the head, and how many bytes are kept at the block's start.
-#[derive(Clone, Copy)]
-enum Input {
-    More(Head, usize),
-    End,
-    Failed,
-}
-
-// One block: read and played.
+// One block: read and played; none at the end of the input.
 fn turn(
-    streams: Streams,
+    input: Stdin,
     head: Head,
     leaves: &mut [u32],
     inners: &mut [u32],
@@ -83,23 +74,17 @@ fn turn(
     block: &mut [u8],
     kept: usize,
     out: &mut [u8],
-) -> Input
+) -> io::Result<Option<Left>>
     requires { (length block.old ≡ 4096) × (length out.old ≡ 4096) × (kept < 16) }
     ensures { Turned result (state head leaves.old inners.old homes.old) block.old kept leaves.new inners.new homes.new block.new }
 {
-    let mut input = streams.input;
-    let Ok(n) = input.read(&mut block[kept..]) else {
-        let mut errors = streams.errors;
-        let _ = errors.write_all(b"sheetrun: standard input can't be read\n");
-        return Input::Failed;
-    };
+    let mut input = input;
+    let n = input.read(&mut block[kept..])?;
     if n == 0 {
-        return Input::End;
+        return Ok(None);
     }
     let left = play(head, leaves, inners, homes, block, kept + n, out);
-    let after = left.head;
-    let rest = left.kept;
-    Input::More(after, rest)
+    Ok(Some(left))
 }
 
 // The sheet of the tree, at the start of the page; how many bytes it has.
@@ -108,8 +93,8 @@ fn pages(head: Head, leaves: &[u32], inners: &[u32], homes: &[u32], page: &mut [
     ensures value { (cs : List Call) → Represents base (state head leaves.now inners.now homes.now) (left_row cs) → length page.old ≡ 30250 → (result ≡ 2750 * pages_for (length (left_row cs).entries)) × (take result page.new ≡ sheet base (left_row cs).entries) }
 {
     match print(head, leaves, inners, homes, page) {
-        Number::Is(n) => 2750 * (n as usize),
-        Number::Refused(n) => 0,
+        Ok(n) => 2750 * (n as usize),
+        Err(_) => 0,
     }
 }
 
@@ -152,22 +137,31 @@ fn run_blocks(
     let mut after = head;
     let mut kept = 0;
     // A proved loop has to end, and nothing says that the input does: no run uses these turns up.
-    let mut turns = u64::MAX;
-    while turns > 0 {
-        match turn(streams, after, leaves, inners, homes, block, kept, out) {
-            Input::More(next, rest) => {
-                after = next;
-                kept = rest;
+    for _ in 0..u64::MAX {
+        match turn(
+            streams.input,
+            after,
+            leaves,
+            inners,
+            homes,
+            block,
+            kept,
+            out,
+        ) {
+            Ok(Some(left)) => {
+                after = left.head;
+                kept = left.kept;
             }
-            Input::End => {
+            Ok(None) => {
                 show(streams, after, leaves, inners, homes, kept, page);
                 return;
             }
-            Input::Failed => {
+            Err(_) => {
+                let mut errors = streams.errors;
+                let _ = errors.write_all(b"sheetrun: standard input can't be read\n");
                 return;
             }
         }
-        turns -= 1;
     }
 }
 

@@ -1,4 +1,5 @@
 -- What a host has after a call: refused by 10 where something is bad, else the words of what the call answered. Assumes nothing.
+use Rattle.model.specs.Numbered.{Numbered}
 use mathlib.Core.Path.{◌≡◌, sym, ap, ap₂, ◌∙◌}
 use mathlib.Core.Bool.{Bool, true, false}
 use mathlib.Core.List.{List}
@@ -10,7 +11,6 @@ use Rattle.model.specs.SeatedCalls.{SeatedReply, seated_reply}
 use Rattle.model.specs.declared.seats.Seats.{Seats}
 use Rattle.model.specs.declared.head.Head.{Head}
 use Rattle.model.specs.Answer.{number_answer}
-use Rattle.model.specs.declared.answer.Number.{Number}
 use Rattle.smelvock_marshal.specs.Flat.{head_after, number_of}
 use Rattle.smelvock_marshal.specs.Lent.{Given, left}
 use Rattle.smelvock_marshal.specs.declared.flat.FlatNumber.{FlatNumber}
@@ -54,16 +54,16 @@ module _ {A : Type 0} {R : Type 0} (flat : Answer → R) (answer : A → Answer)
       ap₂ (λ (q : R) (v : List ℕ). left q v ls xs hs) e f ∙ ap (left_seated flat answer words false g) d ∙ ap (λ (t : Bool). left_seated flat answer words t g y) (sym b)
 
 -- what print leaves of the lent buffer
-module _ (bad : Bool) (f : FlatNumber) (page : List ℕ) (r : Number × List ℕ) where
+module _ (bad : Bool) (f : FlatNumber) (page : List ℕ) (r : Numbered ℕ × List ℕ) where
   pub print_refused : bad ≡ true → f ≡ number_of (refused 10) → (f, page) ≡ printed_by bad page r
   unfolding printed_by
   print_refused b e = ap (λ (q : FlatNumber). (q, page)) e ∙ ap (λ (t : Bool). printed_by t page r) (sym b)
 
-  pub print_good : (a : Number) (new : List ℕ) → bad ≡ false → f ≡ number_of (number_answer a) → (a, new) ≡ r → (f, new) ≡ printed_by bad page r
+  pub print_good : (a : Numbered ℕ) (new : List ℕ) → bad ≡ false → f ≡ number_of (number_answer a) → (a, new) ≡ r → (f, new) ≡ printed_by bad page r
   unfolding printed_by
   print_good a new b e d = ap (λ (q : FlatNumber). (q, new)) e ∙ ap (printed_by false page) d ∙ ap (λ (t : Bool). printed_by t page r) (sym b)
 
 -- what a difference leaves of the lent area
-pub difference_listed : (f : FlatNumber) (a : Number) (new : List ℕ) (r : Number × List ℕ) → f ≡ number_of (number_answer a) → (a, new) ≡ r → (f, new) ≡ listed_by r
+pub difference_listed : (f : FlatNumber) (a : Numbered ℕ) (new : List ℕ) (r : Numbered ℕ × List ℕ) → f ≡ number_of (number_answer a) → (a, new) ≡ r → (f, new) ≡ listed_by r
 unfolding listed_by
 difference_listed f a new r e d = ap (λ (q : FlatNumber). (q, new)) e ∙ ap listed_by d

@@ -1,4 +1,7 @@
 -- What a call leaves of the head: a lookup, other lengths and a repair all but the finger, and of that the most where it stays in its leaf. Assumes nothing.
+use Rattle.model.specs.declared.head.Finger.{Finger}
+use Rattle.model.specs.declared.way.Broken.{Broken}
+use Rattle.std.specs.Prelude.{Ok, Err, Some, None, Option, Result}
 use mathlib.Core.Path.{◌≡◌, refl, sym, ap, subst, ◌∙◌}
 use mathlib.Core.Bool.{Bool, true, false, cond, ◌&&◌}
 use mathlib.Core.List.{List}
@@ -26,14 +29,7 @@ use Rattle.model.specs.declared.seats.Seats.{Seats}
 use Rattle.model.specs.Examined as count
 use Rattle.model.specs.declared.head.Head.{Head}
 use Rattle.model.specs.declared.head.Cursor.{Cursor}
-use Rattle.model.specs.declared.head.Held.{Held}
-use Rattle.model.specs.declared.head.Held.TheVariants as held
-use Rattle.model.specs.declared.way.Sum.{Sum}
-use Rattle.model.specs.declared.way.Sum.TheVariants as sum
-use Rattle.model.specs.declared.way.Search.{Search}
-use Rattle.model.specs.declared.way.Search.TheVariants as search
-use Rattle.model.specs.declared.answer.Number.TheVariants as number
-use Rattle.model.specs.declared.answer.Located.TheVariants as located
+use Rattle.model.specs.Locate.{Search}
 use Rattle.tree_place.specs.Asked.{asked}
 use Rattle.calls_size.specs.Size as size
 use Rattle.calls_read.specs.Lookup.{Stayed}
@@ -44,21 +40,21 @@ abbrev Fingered : State → State → Type 0
 Fingered s t = t.head ≡ with_finger t.head.finger s.head
 
 -- t is gone, or is a finger in the leaf in which f was
-abbrev Left : Held → Held → Type 0
-Left f held.Absent = Unit {0}
-Left f (held.At m) = Stayed f (held.At m)
+abbrev Left : Option Finger → Option Finger → Type 0
+Left f None = Unit {0}
+Left f (Some m) = Stayed f (Some m)
 
-left_same : (f : Held) → Left f f
-left_same held.Absent = tt
-left_same (held.At m) = record { view = refl; leaf = refl; start = refl; effect = refl; prepare = refl }
+left_same : (f : Option Finger) → Left f f
+left_same None = tt
+left_same (Some m) = record { view = refl; leaf = refl; start = refl; effect = refl; prepare = refl }
 
-left_changing : (k i : ℕ) (f : Held) → Left f (changing k i f)
-left_changing k i held.Absent = tt
-left_changing k i (held.At m) = go (eqb m.leaf k) (ltb i m.slot)
+left_changing : (k i : ℕ) (f : Option Finger) → Left f (changing k i f)
+left_changing k i None = tt
+left_changing k i (Some m) = go (eqb m.leaf k) (ltb i m.slot)
   where
-    go : (a b : Bool) → Left (held.At m) (cond a (cond b (held.At (rewound m)) (held.At m)) held.Absent)
+    go : (a b : Bool) → Left (Some m) (cond a (cond b (Some (rewound m)) (Some m)) None)
     go true true = record { view = refl; leaf = refl; start = refl; effect = refl; prepare = refl }
-    go true false = left_same (held.At m)
+    go true false = left_same (Some m)
     go false b = tt
 
 -- what is so of the head before is so of the head of a refused call
@@ -78,9 +74,9 @@ module _ {A : Type 0} (s : State) (refuse : ℕ → A) (P : Head → Type 0) (p 
       go false = p
 
 module _ (g : Shape) (P : Head → Type 0) where
-  summed_kept : (r : Change) (q : Sum × List ℕ) → P r.state.head → P (place.summed g r q).0.state.head
-  summed_kept r (sum.Is n, xs) h = h
-  summed_kept r (sum.Broken, xs) h = h
+  summed_kept : (r : Change) (q : Result ℕ Broken × List ℕ) → P r.state.head → P (place.summed g r q).0.state.head
+  summed_kept r (Ok n, xs) h = h
+  summed_kept r ((Err _), xs) h = h
 
   climb_kept : (e : ℕ) (delta : List ℕ) (r : Change) → P r.state.head → P (place.climb g e delta r).0.state.head
   unfolding place.climb
@@ -88,7 +84,7 @@ module _ (g : Shape) (P : Head → Type 0) where
       let m = node_at g r.leaf r.state.leaves in
       go (eqb r.number 0) (climb_up g e delta r.state.head.levels m.parent m.at (start e r.slot m) r.state.inners)
     where
-      go : (b : Bool) (q : Sum × List ℕ) → P (cond b (place.summed g r q) (r, 0)).0.state.head
+      go : (b : Bool) (q : Result ℕ Broken × List ℕ) → P (cond b (place.summed g r q) (r, 0)).0.state.head
       go true q = summed_kept r q h
       go false q = h
 
@@ -105,21 +101,21 @@ module _ (K : Kind) (s : State) where
   resize_left b c l =
       let g = shape_of K s.head in
       let r = calls.resized K s c l in
-      let a = number.Is (asked b r.1) in
+      let a = Ok (asked b r.1) in
       let same : Refingered s.head s.head = (refl, left_same s.head.finger) in
-      unless_kept s number.Refused (Refingered s.head) same (calls.resize_causes K s c l) (calls.settled s r.0 number.Refused a)
-      (settled_kept s number.Refused (Refingered s.head) same r.0 a
+      unless_kept s Err (Refingered s.head) same (calls.resize_causes K s c l) (calls.settled s r.0 Err a)
+      (settled_kept s Err (Refingered s.head) same r.0 a
       (climb_kept g (Refingered s.head) K.effect (minus l (lengths (calls.slot_at K s c))) (place.replace g s c.leaf.0 c.slot l) (replace_left g c.leaf.0 c.slot l)))
 
   search_fingered : (b : Search) → Fingered s (calls.by_search s b).after
-  search_fingered (search.At f offset) = refl
-  search_fingered search.Nothing = refl
-  search_fingered search.Broken = refl
+  search_fingered (Ok (Some (f, offset))) = refl
+  search_fingered (Ok None) = refl
+  search_fingered (Err _) = refl
 
   found_fingered : (a b : Search) → Fingered s (calls.by_finger s a b).after
-  found_fingered (search.At f offset) b = refl
-  found_fingered search.Nothing b = search_fingered b
-  found_fingered search.Broken b = refl
+  found_fingered (Ok (Some (f, offset))) b = refl
+  found_fingered (Ok None) b = search_fingered b
+  found_fingered (Err _) b = refl
 
   pub locate_fingered : (v x : ℕ) → Fingered s (count.locate K s v x).after
   unfolding count.locate calls.locate
@@ -128,7 +124,7 @@ module _ (K : Kind) (s : State) where
       let g = shape_of K h in
       let a = served_by v K.effect g h.finger h.leaves x s.leaves in
       let b = from_root v K.effect g h.levels h.root.0 h.leaves x s.leaves s.inners in
-      unless_kept s located.Refused (λ h'. h' ≡ with_finger h'.finger h) refl (opening K s) (calls.by_finger s a b) (found_fingered a b)
+      unless_kept s Err (λ h'. h' ≡ with_finger h'.finger h) refl (opening K s) (calls.by_finger s a b) (found_fingered a b)
 
   mended_fingered : (fit : Bool) → Fingered s (mended.mend_if K fit s).after
   unfolding mend
@@ -140,7 +136,7 @@ module _ (K : Kind) (s : State) where
   repair_fingered b =
       let h = s.head in
       let fit = is_fit K s && is_fair h.limit h.entries b in
-      unless_kept s number.Refused (λ h'. h' ≡ with_finger h'.finger h) refl (area_causes K h.fan h.limit s.leaves s.inners s.homes) (mended.mend_if K fit s) (mended_fingered fit)
+      unless_kept s Err (λ h'. h' ≡ with_finger h'.finger h) refl (area_causes K h.fan h.limit s.leaves s.inners s.homes) (mended.mend_if K fit s) (mended_fingered fit)
 
 -- the same of a reply's head h, where the call was given the head k of the words w
 module _ {A : Type 0} (w : List ℕ) (k h : Head) (ls xs hs ls' xs' hs' : List ℕ) (a : A) (y : Reply A) (ek : k ≡ head_from w) (e : reply (state h ls' xs' hs') a ≡ y) where
@@ -152,16 +148,16 @@ module _ {A : Type 0} (k h : Head) (ls xs hs : List ℕ) (a : A) (y : Reply A) (
   pub held_left : Refingered k y.after.head → present_of h.finger ≡ 1 → Stayed k.finger h.finger
   held_left f p = go h.finger (subst (λ (z : Reply A). Refingered k z.after.head) (sym e) f).1 p
     where
-      go : (t : Held) → Left k.finger t → present_of t ≡ 1 → Stayed k.finger t
-      go held.Absent q z = absurd (omega (arith, z))
-      go (held.At m) q z = q
+      go : (t : Option Finger) → Left k.finger t → present_of t ≡ 1 → Stayed k.finger t
+      go None q z = absurd (omega (arith, z))
+      go (Some m) q z = q
 
 -- a finger that stayed in its leaf: the words w that aren't written are its own
 module _ (w : List ℕ) (l : get_or w 7 0 ≤ 1) where
-  held_leaf : (b : Bool) → eqb (get_or w 7 0) 0 ≡ b → (t : Held) → Stayed (cond b held.Absent (held.At (finger_from w))) t → InLeaf t w
+  held_leaf : (b : Bool) → eqb (get_or w 7 0) 0 ≡ b → (t : Option Finger) → Stayed (cond b None (Some (finger_from w))) t → InLeaf t w
   held_leaf true e t h = absurd h
-  held_leaf false e held.Absent h = absurd h
-  held_leaf false e (held.At m) h =
+  held_leaf false e None h = absurd h
+  held_leaf false e (Some m) h =
       record {
         present = omega (arith, l, eqb-false (get_or w 7 0) 0 e);
         view = h.view;
@@ -171,6 +167,6 @@ module _ (w : List ℕ) (l : get_or w 7 0 ≤ 1) where
         prepare = h.prepare;
       }
 
-  pub in_leaf : (k : Head) → k ≡ head_from w → (t : Held) → Stayed k.finger t → InLeaf t w
+  pub in_leaf : (k : Head) → k ≡ head_from w → (t : Option Finger) → Stayed k.finger t → InLeaf t w
   unfolding head_from held_from
   in_leaf k ek t h = held_leaf (eqb (get_or w 7 0) 0) refl t (subst (λ (x : Head). Stayed x.finger t) ek h)

@@ -1,4 +1,5 @@
 -- Other lengths, as the one call with its position asked for or not: `update` and `set_lengths`. Assumes nothing.
+use Rattle.std.specs.Prelude.{Ok, Err}
 use mathlib.Core.Path.{◌≡◌, refl}
 use mathlib.Core.Bool.{Bool, true, false, cond, ◌||◌}
 use Prim.Native.Nat.{ℕ}
@@ -13,8 +14,6 @@ use Rattle.model.specs.Calls as calls
 use Rattle.model.specs.Calls.{Reply, reply}
 use Rattle.model.specs.declared.head.Cursor.{Cursor}
 use Rattle.model.specs.declared.length.Lengths.{Lengths}
-use Rattle.model.specs.declared.answer.Number.TheVariants as number
-use Rattle.model.specs.declared.answer.Outcome.TheVariants as outcome
 use Rattle.smelvock_marshal.specs.Flat.{bad_head, head_after, number_of}
 use Rattle.smelvock_marshal.specs.Lent.{Given, state_of}
 use Rattle.calls_size.specs.Size as size
@@ -28,7 +27,7 @@ module _ (s : State) (n : ℕ) (r : Change) where
       cond opened (cond done (reply r.state a) (reply (state s.head r.state.leaves r.state.inners r.state.homes) (refuse r.number))) (reply s (refuse n))
 
   no_value : (bad opened done : Bool) (g : Given)
-      → left_by number_of number_answer head_after bad g (by number.Refused (number.Is 0) opened done) ≡ left_by number_of outcome_answer head_after bad g (by outcome.Refused outcome.Done opened done)
+      → left_by number_of number_answer head_after bad g (by Err (Ok 0) opened done) ≡ left_by number_of outcome_answer head_after bad g (by Err (Ok tt) opened done)
   unfolding left_by
   no_value true opened done g = refl
   no_value false true true g = refl

@@ -1,4 +1,7 @@
 -- The seats' words within the lent head, lent on and given back, and what a call leaves of them. Assumes nothing.
+use Rattle.model.specs.declared.number.EntryId.{EntryId}
+use Rattle.model.specs.Numbered.{Numbered}
+use Rattle.std.specs.Prelude.{Ok, Err, Option}
 use mathlib.Core.Path.{◌≡◌, refl, sym, ap, ◌∙◌}
 use mathlib.Core.Logic.{◌≢◌}
 use mathlib.Core.Bool.{Bool, true, false, cond}
@@ -21,17 +24,9 @@ use Rattle.model.specs.Seats.{bad_seat}
 use Rattle.model.specs.SeatedCalls.{SeatedReply, seated_reply, space, after_reset, after_insert, after_split, reset_seated, insert_seated, split_seated}
 use Rattle.model.specs.Promise.{Fixed}
 use Rattle.model.specs.declared.seats.Seats.{Seats}
-use Rattle.model.specs.declared.seats.Seat.{Seat}
 use Rattle.model.specs.declared.length.Lengths.{Lengths}
 use Rattle.model.specs.declared.head.Head.{Head}
 use Rattle.model.specs.declared.head.Cursor.{Cursor}
-use Rattle.model.specs.declared.answer.Target.{Target}
-use Rattle.model.specs.declared.answer.Outcome.{Outcome}
-use Rattle.model.specs.declared.answer.Outcome.TheVariants as outcome
-use Rattle.model.specs.declared.answer.Inserted.{Inserted}
-use Rattle.model.specs.declared.answer.Inserted.TheVariants as inserted
-use Rattle.model.specs.declared.answer.Divided.{Divided}
-use Rattle.model.specs.declared.answer.Divided.TheVariants as divided
 use Rattle.model_laws.specs.Words.{length_part, length_put, get_d_part, put_same, get_d_before, lent, lent_back}
 use Rattle.model_theory.specs.AnyFixed.{insert_fixed, split_entry_fixed}
 use Rattle.tree_seats.specs.Words.{seats_from, seats_words}
@@ -102,32 +97,32 @@ pub kept_by : {A : Type 0} (answer : A → Answer) (y : SeatedReply A) (b : Seat
 kept_by {A} answer y b law s c a e m em h = ap (λ (q : SeatedReply A). q.seats) e ∙ law (λ z. h (em ∙ ap (λ (q : SeatedReply A). (answer q.answer).number) e ∙ z))
 
 module _ (s : State) (b : Seats) where
-  reset_by : (a : Outcome) → (outcome_answer a).number ≢ 0 → after_reset b a ≡ b
-  reset_by outcome.Done h = absurd (h refl)
-  reset_by (outcome.Refused n) h = refl
+  reset_by : (a : Numbered (Unit {0})) → (outcome_answer a).number ≢ 0 → after_reset b a ≡ b
+  reset_by (Ok tt) h = absurd (h refl)
+  reset_by (Err n) h = refl
 
   pub reset_kept : (l : List ℕ) → (outcome_answer (reset_seated base s b l).answer).number ≢ 0 → (reset_seated base s b l).seats ≡ b
   unfolding reset_seated
   reset_kept l h = reset_by (reset base s l).answer h
 
-  module _ (t : Seat) where
-    insert_by_law : (a : Inserted) → (inserted_answer a).number ≢ 0 → after_insert t b a ≡ b
-    insert_by_law (inserted.At i p) h = absurd (h refl)
-    insert_by_law (inserted.Refused n) h = refl
+  module _ (t : Option ℕ) where
+    insert_by_law : (a : Numbered (EntryId × ℕ)) → (inserted_answer a).number ≢ 0 → after_insert t b a ≡ b
+    insert_by_law (Ok (i, p)) h = absurd (h refl)
+    insert_by_law (Err n) h = refl
 
-    insert_one : (bad : Bool) (r : Reply Inserted) → (let y = cond bad (seated_reply s b (inserted.Refused 10)) (seated_reply r.after (after_insert t b r.answer) r.answer) in (inserted_answer y.answer).number ≢ 0 → y.seats ≡ b)
+    insert_one : (bad : Bool) (r : Reply (Numbered (EntryId × ℕ))) → (let y = cond bad (seated_reply s b (Err 10)) (seated_reply r.after (after_insert t b r.answer) r.answer) in (inserted_answer y.answer).number ≢ 0 → y.seats ≡ b)
     insert_one true r h = refl
     insert_one false r h = insert_by_law r.answer h
 
-    pub insert_kept : (to : Target) (l : List ℕ) → (inserted_answer (insert_seated base s b t to l).answer).number ≢ 0 → (insert_seated base s b t to l).seats ≡ b
+    pub insert_kept : (to : Option Cursor) (l : List ℕ) → (inserted_answer (insert_seated base s b t to l).answer).number ≢ 0 → (insert_seated base s b t to l).seats ≡ b
     unfolding insert_seated
     insert_kept to l = insert_one (bad_seat b t) (insert_by base (space s b t) s to l)
 
-    split_by_law : (a : Divided) → (divided_answer a).number ≢ 0 → after_split t b a ≡ b
-    split_by_law (divided.At i p q) h = absurd (h refl)
-    split_by_law (divided.Refused n) h = refl
+    split_by_law : (a : Numbered (EntryId × Cursor × Cursor)) → (divided_answer a).number ≢ 0 → after_split t b a ≡ b
+    split_by_law (Ok (i, p, q)) h = absurd (h refl)
+    split_by_law (Err n) h = refl
 
-    split_one : (bad : Bool) (r : Reply Divided) → (let y = cond bad (seated_reply s b (divided.Refused 10)) (seated_reply r.after (after_split t b r.answer) r.answer) in (divided_answer y.answer).number ≢ 0 → y.seats ≡ b)
+    split_one : (bad : Bool) (r : Reply (Numbered (EntryId × Cursor × Cursor))) → (let y = cond bad (seated_reply s b (Err 10)) (seated_reply r.after (after_split t b r.answer) r.answer) in (divided_answer y.answer).number ≢ 0 → y.seats ≡ b)
     split_one true r h = refl
     split_one false r h = split_by_law r.answer h
 
@@ -136,14 +131,14 @@ module _ (s : State) (b : Seats) where
     split_kept c l flag = split_one (bad_seat b t) (split_by base (space s b t) s c l flag)
 
     -- one entry more leaves fan and limit
-    pub insert_sizes : (to : Target) (l : List ℕ) → Fixed s (insert_seated base s b t to l).after
+    pub insert_sizes : (to : Option Cursor) (l : List ℕ) → Fixed s (insert_seated base s b t to l).after
     unfolding insert_seated
     insert_sizes to l = go (bad_seat b t)
       where
-        r : Reply Inserted
+        r : Reply (Numbered (EntryId × ℕ))
         r = insert_by base (space s b t) s to l
 
-        go : (bad : Bool) → Fixed s (cond bad (seated_reply s b (inserted.Refused 10)) (seated_reply r.after (after_insert t b r.answer) r.answer)).after
+        go : (bad : Bool) → Fixed s (cond bad (seated_reply s b (Err 10)) (seated_reply r.after (after_insert t b r.answer) r.answer)).after
         go true = record { fan = refl; limit = refl }
         go false = insert_fixed base s (space s b t) to l
 
@@ -151,10 +146,10 @@ module _ (s : State) (b : Seats) where
     unfolding split_seated
     split_sizes c l flag = go (bad_seat b t)
       where
-        r : Reply Divided
+        r : Reply (Numbered (EntryId × Cursor × Cursor))
         r = split_by base (space s b t) s c l flag
 
-        go : (bad : Bool) → Fixed s (cond bad (seated_reply s b (divided.Refused 10)) (seated_reply r.after (after_split t b r.answer) r.answer)).after
+        go : (bad : Bool) → Fixed s (cond bad (seated_reply s b (Err 10)) (seated_reply r.after (after_split t b r.answer) r.answer)).after
         go true = record { fan = refl; limit = refl }
         go false = split_entry_fixed base s (space s b t) c l flag
 
@@ -172,8 +167,8 @@ module _ (ls xs hs : List ℕ) {h h1 : Head} {b b1 : Seats} {l l1 : Lengths} (p 
   pub reset_same : reset_seated base (state h ls xs hs) b (list_of l) ≡ reset_seated base (state h1 ls xs hs) b1 (list_of l1)
   reset_same = rw (p, q, r)
 
-  pub insert_same : {t t1 : Seat} {to to1 : Target} → t ≡ t1 → to ≡ to1 → insert_seated base (state h ls xs hs) b t to (list_of l) ≡ insert_seated base (state h1 ls xs hs) b1 t1 to1 (list_of l1)
+  pub insert_same : {t t1 : Option ℕ} {to to1 : Option Cursor} → t ≡ t1 → to ≡ to1 → insert_seated base (state h ls xs hs) b t to (list_of l) ≡ insert_seated base (state h1 ls xs hs) b1 t1 to1 (list_of l1)
   insert_same u v = rw (p, q, r, u, v)
 
-  pub split_same : {t t1 : Seat} {c c1 : Cursor} (flag : Bool) → t ≡ t1 → c ≡ c1 → split_seated base (state h ls xs hs) b t c (list_of l) flag ≡ split_seated base (state h1 ls xs hs) b1 t1 c1 (list_of l1) flag
+  pub split_same : {t t1 : Option ℕ} {c c1 : Cursor} (flag : Bool) → t ≡ t1 → c ≡ c1 → split_seated base (state h ls xs hs) b t c (list_of l) flag ≡ split_seated base (state h1 ls xs hs) b1 t1 c1 (list_of l1) flag
   split_same flag u v = rw (p, q, r, u, v)

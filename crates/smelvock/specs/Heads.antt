@@ -1,5 +1,6 @@
 -- What a refused call leaves of the lent head: zeros after a make, the words as they were after any other. Assumes nothing.
-use Rattle.std.specs.Prelude.{◌≡◌, ◌≢◌, Bool, cond, not, ◌||◌, ℕ, length, replicate, eqb}
+use Rattle.model.specs.Numbered.{Numbered}
+use Rattle.std.specs.Prelude.{◌≡◌, ◌≢◌, Bool, cond, not, ◌||◌, ℕ, length, replicate, eqb, Ok, Err, None}
 use Rattle.std.proofs.Math.Path.{refl}
 use Rattle.std.proofs.Math.Bool.{true, false}
 use mathlib.Core.List.{List, [], ◌∷◌, ◌++◌}
@@ -12,12 +13,9 @@ use Rattle.model.specs.State.{state, head_of}
 use Rattle.model.specs.Answer.{outcome_answer}
 use Rattle.model.specs.Calls as calls
 use Rattle.model.specs.Calls.{Reply, reply}
-use Rattle.model.specs.declared.head.Held.TheVariants as held
 use Rattle.model.specs.Seats as seats
 use Rattle.model.specs.Seats.{no_charges, no_seats, too_high}
 use Rattle.model.specs.SeatedCalls.{SeatedReply, seated_reply, make_seated}
-use Rattle.model.specs.declared.answer.Outcome.{Outcome}
-use Rattle.model.specs.declared.answer.Outcome.TheVariants as outcome
 use Rattle.model.specs.declared.length.Lengths.{Lengths}
 use Rattle.tree_seats.specs.Words.{seats_words}
 use Rattle.calls_make.specs.Made.{make_with}
@@ -27,17 +25,17 @@ use Rattle.smelvock.specs.Changes.{left_by, left_seated, seated_after, make}
 
 module _ (fan limit : ℕ) (shares : List ℕ) (l : Lengths) (g : Given) where
   -- what a make leaves, done or refused, without seats and with them
-  abbrev Zeros : SeatedReply Outcome → Type 0
+  abbrev Zeros : SeatedReply (Numbered (Unit {0})) → Type 0
   Zeros r = (outcome_answer r.answer).number ≢ 0 → head_words r.after.head ++ seats_words r.seats ≡ replicate 36 0
 
   by_limit : (good : Bool) (n : ℕ)
-      → (let r = cond good (reply (calls.begun base fan limit 1 (list_of l) g.leaves g.inners g.homes) outcome.Done) (reply (state (head_of 0 0 0 0 0 0 0 0 held.Absent) g.leaves g.inners g.homes) (outcome.Refused n)) in Zeros (seated_reply r.after no_seats r.answer))
+      → (let r = cond good (reply (calls.begun base fan limit 1 (list_of l) g.leaves g.inners g.homes) (Ok tt)) (reply (state (head_of 0 0 0 0 0 0 0 0 None) g.leaves g.inners g.homes) (Err n)) in Zeros (seated_reply r.after no_seats r.answer))
   unfolding head_words
   by_limit true n h = absurd (h refl)
   by_limit false n h = refl
 
   by_shares : (good : Bool) (n : ℕ)
-      → Zeros (cond good (seated_reply (calls.begun base fan limit 1 (list_of l) g.leaves g.inners g.homes) (seats.seats_of true shares no_charges) outcome.Done) (seated_reply (state (head_of 0 0 0 0 0 0 0 0 held.Absent) g.leaves g.inners g.homes) no_seats (outcome.Refused n)))
+      → Zeros (cond good (seated_reply (calls.begun base fan limit 1 (list_of l) g.leaves g.inners g.homes) (seats.seats_of true shares no_charges) (Ok tt)) (seated_reply (state (head_of 0 0 0 0 0 0 0 0 None) g.leaves g.inners g.homes) no_seats (Err n)))
   unfolding head_words
   by_shares true n h = absurd (h refl)
   by_shares false n h = refl

@@ -1,16 +1,16 @@
 -- The head's words: tested, and written one after the other. Assumes nothing.
+use Rattle.std.specs.Prelude.{Option}
 use mathlib.Core.Path.{◌≡◌, refl, sym, ap, ap₂, subst, ◌∙◌}
 use mathlib.Core.Bool.{Bool, true, false, cond, not, ◌&&◌, ◌||◌}
-use mathlib.Core.List.{List, [], ◌∷◌, ◌++◌, append-nil}
+use mathlib.Core.List.{List, [], ◌∷◌, ◌++◌}
 use Prim.Native.Nat.{ℕ, suc, ◌+◌, ◌*◌, ◌≤◌, ◌<◌, ◌/◌, ◌%◌}
 use native.Mathlib.Omega.{arith}
-use lib.ListN.{length, get_or, take, drop, replicate, length-drop}
-use lib.Seq.{sets, sets-eq, lt-length-sets, drop-cons, drop-drop}
+use lib.ListN.{length, get_or, take, drop, replicate}
+use lib.Seq.{sets, drop-cons, drop-drop}
 use lib.Dec.{ltb, eqb}
 use borrow.Author.Tests.{eq-eqb, ne_eqb, eqb-true, ltb-true, ltb-false}
 use Rattle.model.specs.Place.{with_finger}
 use Rattle.model.specs.declared.head.Head.{Head}
-use Rattle.model.specs.declared.head.Held.{Held}
 use Rattle.model.specs.declared.head.Finger.{Finger}
 use Rattle.smelvock_marshal.specs.Flat.{bad_at, bad_head, bad_seats, bad_stored, bad_shares, head_from, head_words, head_after, stamp_from, count_words, finger_words, stamp_words, present_of, finger_of, InLeaf}
 
@@ -83,18 +83,9 @@ good_made w shares e = (
   λ z. eqb-true (length shares) 8 (eight (eqb (length shares) 8) (sym (ap (λ (t : Bool). not t && not (eqb (length shares) 8)) (ne_eqb (length shares) 0 z)) ∙ or_last (not (eqb (length w) 36)) (bad_shares shares) e)),
 )
 
--- words written leave as many
-pub in_head : (w vs : List ℕ) (i j : ℕ) → ltb j 36 ≡ true → length w ≡ 36 → j < length (sets w i vs)
-in_head w vs i j t e = lt-length-sets w i vs (subst (λ (n : ℕ). j < n) (sym e) (ltb-true j 36 t))
-
 abbrev ten : ℕ → Finger → List ℕ
 ten present f =
     present ∷ f.view ∷ f.leaf ∷ f.start ∷ f.effect ∷ f.slot ∷ f.within ∷ f.effect_within ∷ f.prepare ∷ f.prepare_within ∷ []
-
-pub finger_written : (w : List ℕ) (t : Held) (present : ℕ) (f : Finger) → length w ≡ 36 → present ≡ present_of t → f ≡ finger_of t
-    → sets w 7 (ten present f) ≡ take 7 w ++ finger_words t ++ drop 17 w
-finger_written w t present f e p q =
-    sets-eq (ten present f) w 7 (omega (arith, e)) ∙ ap₂ (λ (n : ℕ) (g : Finger). take 7 w ++ ten n g ++ drop 17 w) p q
 
 -- the first seventeen words one by one
 cell : (w : List ℕ) (i : ℕ) (r : List ℕ) → length w ≡ 36 → ltb i 36 ≡ true → drop (suc i) w ≡ r → drop i w ≡ get_or w i 0 ∷ r
@@ -119,7 +110,7 @@ slotted f w = sets (sets w 12 (f.slot ∷ f.within ∷ f.effect_within ∷ [])) 
 abbrev leafed : ℕ → Finger → List ℕ → List ℕ
 leafed present f w = sets (sets w 7 (present ∷ f.view ∷ f.leaf ∷ f.start ∷ f.effect ∷ [])) 15 (f.prepare ∷ [])
 
-module _ (w : List ℕ) (t : Held) (present : ℕ) (f : Finger) (e : length w ≡ 36) (p : present ≡ present_of t) (q : f ≡ finger_of t) (u : List ℕ) (eu : u ≡ slotted f w) where
+module _ (w : List ℕ) (t : Option Finger) (present : ℕ) (f : Finger) (e : length w ≡ 36) (p : present ≡ present_of t) (q : f ≡ finger_of t) (u : List ℕ) (eu : u ≡ slotted f w) where
   pub leaf_written : leafed present f u ≡ take 7 w ++ finger_words t ++ drop 17 w
   leaf_written =
       ap (leafed present f) eu
@@ -131,22 +122,6 @@ module _ (w : List ℕ) (t : Held) (present : ℕ) (f : Finger) (e : length w �
       eu
       ∙ subst (λ (x : List ℕ). slotted f x ≡ take 7 x ++ (get_or w 7 0 ∷ get_or w 8 0 ∷ get_or w 9 0 ∷ get_or w 10 0 ∷ get_or w 11 0 ∷ f.slot ∷ f.within ∷ f.effect_within ∷ get_or w 15 0 ∷ f.prepare_within ∷ []) ++ drop 17 x) (sym (words_spelled w e)) refl
       ∙ rw (q, h.present, h.view, h.leaf, h.start, h.effect, h.prepare)
-
-pub counts_written : (w : List ℕ) (h : Head) → length w ≡ 36 → sets w 2 (count_words h) ≡ take 2 w ++ count_words h ++ drop 7 w
-counts_written w h e = sets-eq (count_words h) w 2 (omega (arith, e))
-
-pub stamp_written : (w : List ℕ) (stamp : ℕ) → length w ≡ 36 → sets w 17 (stamp_words stamp) ≡ take 17 w ++ stamp_words stamp ++ drop 19 w
-stamp_written w stamp e = sets-eq (stamp_words stamp) w 17 (omega (arith, e))
-
-nothing : (w : List ℕ) → length w ≡ 0 → w ≡ []
-nothing [] e = refl
-nothing (x ∷ w) e = absurd (omega (arith, e))
-
-pub seats_cleared : (w : List ℕ) → length w ≡ 36 → sets w 19 (replicate 17 0) ≡ take 19 w ++ replicate 17 0
-seats_cleared w e =
-    sets-eq (replicate 17 0) w 19 (omega (arith, e))
-    ∙ ap (λ (q : List ℕ). take 19 w ++ replicate 17 0 ++ q) (nothing (drop 36 w) (omega (arith, length-drop 36 w, e)))
-    ∙ append-nil (take 19 w ++ replicate 17 0)
 
 -- the low word of a stamp and its high one, which a word each are
 low_word : (l n : ℕ) → l < 4294967296 → (l + 4294967296 * n) % 4294967296 ≡ l

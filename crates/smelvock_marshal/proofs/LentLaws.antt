@@ -1,4 +1,5 @@
 -- What a host has after a call by id: refused by 10 where something is bad, else the words of what the call answered. Assumes nothing.
+use Rattle.model.specs.Numbered.{Numbered}
 use mathlib.Core.Path.{◌≡◌, refl, sym, ap, ap₂, ◌∙◌}
 use mathlib.Core.Logic.{◌≢◌}
 use mathlib.Core.Bool.{Bool, true, false, not}
@@ -14,7 +15,6 @@ use Rattle.model.specs.Calls.{Reply, reply}
 use Rattle.model.specs.ById.{told}
 use Rattle.model.specs.declared.shape.Kind.{Kind}
 use Rattle.model.specs.declared.head.Head.{Head}
-use Rattle.model.specs.declared.answer.Outcome.{Outcome}
 use Rattle.smelvock_marshal.specs.Flat.{head_after}
 use Rattle.smelvock_marshal.specs.Lent.{Given, left, number_alone, unless_bad, left_by, unseated_words, unseated_make}
 
@@ -54,7 +54,7 @@ module _ (K : Kind) (fan limit : ℕ) (l : List ℕ) (g : Given) where
   pub make_refused : length g.head ≢ 36 → left 10 g.head g.leaves g.inners g.homes ≡ unseated_make K fan limit l g
   make_refused h = left_refused number_alone unseated_words _ g 10 _ (ap not (ne_eqb (length g.head) 36 h)) refl
 
-  pub make_good : (h : Head) (a : Outcome) (n : ℕ) (w ls xs hs : List ℕ) → length g.head ≡ 36 → n ≡ (outcome_answer a).number → w ≡ unseated_words n h g.head
+  pub make_good : (h : Head) (a : Numbered (Unit {0})) (n : ℕ) (w ls xs hs : List ℕ) → length g.head ≡ 36 → n ≡ (outcome_answer a).number → w ≡ unseated_words n h g.head
       → reply (state h ls xs hs) a ≡ calls.make K fan limit l g.leaves g.inners g.homes → left n w ls xs hs ≡ unseated_make K fan limit l g
   make_good h a n w ls xs hs e f v d =
-      left_good number_alone unseated_words _ g n _ h (outcome_answer a) w ls xs hs (ap not (eq-eqb (length g.head) 36 e)) f v (ap (λ (r : Reply Outcome). told r outcome_answer) d)
+      left_good number_alone unseated_words _ g n _ h (outcome_answer a) w ls xs hs (ap not (eq-eqb (length g.head) 36 e)) f v (ap (λ (r : Reply (Numbered (Unit {0}))). told r outcome_answer) d)

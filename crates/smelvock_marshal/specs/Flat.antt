@@ -1,20 +1,14 @@
 -- Heads, cursors, lengths, views and answers as the words that cross the C boundary, and back. Assumes nothing.
-use Rattle.std.specs.Prelude.{◌≡◌, Bool, cond, not, ◌&&◌, ◌||◌, List, [], ◌∷◌, ◌++◌, ℕ, ◌+◌, ◌*◌, ◌/◌, ◌%◌, length, get_or, drop, eqb, ltb}
+use Rattle.std.specs.Prelude.{◌≡◌, Bool, cond, not, ◌&&◌, ◌||◌, List, [], ◌∷◌, ◌++◌, ℕ, ◌+◌, ◌*◌, ◌/◌, ◌%◌, length, get_or, drop, eqb, ltb, Some, None, Option}
 use Rattle.model.specs.Row.{Answer}
 use Rattle.model.specs.State.{head_of}
 use Rattle.model.specs.Node.{none}
 use Rattle.model.specs.declared.head.Cursor.{Cursor}
 use Rattle.model.specs.declared.head.Finger.{Finger}
 use Rattle.model.specs.declared.head.Head.{Head}
-use Rattle.model.specs.declared.head.Held.{Held}
-use Rattle.model.specs.declared.head.Held.TheVariants as held
 use Rattle.model.specs.declared.length.Lengths.{Lengths}
 use Rattle.model.specs.declared.length.View.{View}
 use Rattle.model.specs.declared.length.View.TheVariants as view
-use Rattle.model.specs.declared.answer.Target.{Target}
-use Rattle.model.specs.declared.answer.Target.TheVariants as target
-use Rattle.model.specs.declared.seats.Seat.{Seat}
-use Rattle.model.specs.declared.seats.Seat.TheVariants as seat
 use Rattle.smelvock_marshal.specs.declared.flat.FlatNumber.{FlatNumber}
 use Rattle.smelvock_marshal.specs.declared.flat.FlatMeasured.{FlatMeasured}
 use Rattle.smelvock_marshal.specs.declared.flat.FlatCursor.{FlatCursor}
@@ -45,8 +39,8 @@ abbrev pub finger_from : List ℕ → Finger
 finger_from w =
     record { view = get_or w 8 0; leaf = get_or w 9 0; start = get_or w 10 0; effect = get_or w 11 0; slot = get_or w 12 0; within = get_or w 13 0; effect_within = get_or w 14 0; prepare = get_or w 15 0; prepare_within = get_or w 16 0 }
 
-unfoldable pub held_from : List ℕ → Held
-held_from w = cond (eqb (get_or w 7 0) 0) held.Absent (held.At (finger_from w))
+unfoldable pub held_from : List ℕ → Option Finger
+held_from w = cond (eqb (get_or w 7 0) 0) None (Some (finger_from w))
 
 -- two words are the stamp, the low one first
 abbrev pub stamp_from : List ℕ → ℕ
@@ -66,12 +60,12 @@ unfoldable pub view_from : ℕ → View
 view_from n = cond (eqb n 0) view.Prepare (cond (eqb n 1) view.Effect view.Lines)
 
 -- before a cursor (0) or at the end (1); the calls refuse any other number
-unfoldable pub target_from : ℕ → Cursor → Target
-target_from n c = cond (eqb n 0) (target.Before c) target.End
+unfoldable pub target_from : ℕ → Cursor → Option Cursor
+target_from n c = cond (eqb n 0) (Some c) None
 
 -- 4,294,967,295 is nobody; a seat above 7 is refused by the calls
-unfoldable pub seat_from : ℕ → Seat
-seat_from n = cond (eqb n none) seat.Nobody (seat.Number n)
+unfoldable pub seat_from : ℕ → Option ℕ
+seat_from n = cond (eqb n none) None (Some n)
 
 -- the shares of a new tree: none, for one without seats, or eight
 unfoldable pub bad_shares : List ℕ → Bool
@@ -79,26 +73,26 @@ bad_shares shares = not (eqb (length shares) 0) && not (eqb (length shares) 8)
 
 -- what it gets back -----------------------------------------------------------------------------------------------------------------------
 
-abbrev pub present_of : Held → ℕ
-present_of held.Absent = 0
-present_of (held.At f) = 1
+abbrev pub present_of : Option Finger → ℕ
+present_of None = 0
+present_of (Some f) = 1
 
 -- zeros where there is no finger
-abbrev pub finger_of : Held → Finger
-finger_of held.Absent = record { view = 0; leaf = 0; start = 0; effect = 0; slot = 0; within = 0; effect_within = 0; prepare = 0; prepare_within = 0 }
-finger_of (held.At f) = f
+abbrev pub finger_of : Option Finger → Finger
+finger_of None = record { view = 0; leaf = 0; start = 0; effect = 0; slot = 0; within = 0; effect_within = 0; prepare = 0; prepare_within = 0 }
+finger_of (Some f) = f
 
 -- root, levels and the counts; whether there is a finger, and its words; the stamp
 abbrev pub count_words : Head → List ℕ
 count_words h = h.root.0 ∷ h.levels ∷ h.leaves ∷ h.inners ∷ h.entries ∷ []
 
-abbrev pub finger_words : Held → List ℕ
+abbrev pub finger_words : Option Finger → List ℕ
 finger_words t =
     let f = finger_of t in
     present_of t ∷ f.view ∷ f.leaf ∷ f.start ∷ f.effect ∷ f.slot ∷ f.within ∷ f.effect_within ∷ f.prepare ∷ f.prepare_within ∷ []
 
 -- the words of a finger that stayed in its leaf: all but its slot and what stands before that in the leaf are as they were
-pub record InLeaf (t : Held) (w : List ℕ) : Type 0 where
+pub record InLeaf (t : Option Finger) (w : List ℕ) : Type 0 where
   pub present : present_of t ≡ get_or w 7 0
   pub view : (finger_of t).view ≡ get_or w 8 0
   pub leaf : (finger_of t).leaf ≡ get_or w 9 0

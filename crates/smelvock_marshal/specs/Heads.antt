@@ -1,5 +1,6 @@
 -- What a refused call of a tree without seats leaves of the lent head: zeros after a make, the words as they were after any other. Assumes nothing.
-use Rattle.std.specs.Prelude.{◌≡◌, ◌≢◌, Bool, cond, not, List, ◌++◌, ℕ, length, replicate, eqb}
+use Rattle.model.specs.Numbered.{Numbered}
+use Rattle.std.specs.Prelude.{◌≡◌, ◌≢◌, Bool, cond, not, List, ◌++◌, ℕ, length, replicate, eqb, Ok, Err, None}
 use Rattle.std.proofs.Math.Path.{refl}
 use Rattle.std.proofs.Math.Bool.{true, false}
 use Rattle.std.proofs.Common.{ne_eqb}
@@ -10,20 +11,17 @@ use Rattle.model.specs.Answer.{outcome_answer}
 use Rattle.model.specs.Calls as calls
 use Rattle.model.specs.Calls.{Reply, reply}
 use Rattle.model.specs.declared.shape.Kind.{Kind}
-use Rattle.model.specs.declared.head.Held.TheVariants as held
-use Rattle.model.specs.declared.answer.Outcome.{Outcome}
-use Rattle.model.specs.declared.answer.Outcome.TheVariants as outcome
 use Rattle.smelvock_marshal.specs.Flat.{head_words, head_after}
 use Rattle.smelvock_marshal.specs.Lent.{Given, left_by, unseated_make}
 
 module _ (K : Kind) (fan limit : ℕ) (l : List ℕ) (g : Given) where
   -- what a make leaves, done or refused
-  abbrev Zeros : Reply Outcome → Type 0
+  abbrev Zeros : Reply (Numbered (Unit {0})) → Type 0
   Zeros r = (outcome_answer r.answer).number ≢ 0 → head_words r.after.head ++ replicate 17 0 ≡ replicate 36 0
 
   by_causes : (good : Bool) (n : ℕ)
-      → Zeros (cond good (reply (calls.begun K fan limit 1 l g.leaves g.inners g.homes) outcome.Done)
-      (reply (state (head_of 0 0 0 0 0 0 0 0 held.Absent) g.leaves g.inners g.homes) (outcome.Refused n)))
+      → Zeros (cond good (reply (calls.begun K fan limit 1 l g.leaves g.inners g.homes) (Ok tt))
+      (reply (state (head_of 0 0 0 0 0 0 0 0 None) g.leaves g.inners g.homes) (Err n)))
   unfolding head_words
   by_causes true n h = absurd (h refl)
   by_causes false n h = refl

@@ -1,4 +1,5 @@
-// What a host gets back: an answer's number and values.
+// What a host gets back: an answer's number and values. Numbers stand for refusals from here on, as C has no other form.
+ghost use Rattle.model.specs.Numbered.{numbered};
 ghost use Rattle.std.specs.Prelude.{◌≡◌, [], ◌∷◌};
 ghost use Rattle.model.specs.Answer.{outcome_answer, number_answer, verdict_answer, standing_answer, next_answer, named_answer, measured_answer, compared_answer, inserted_answer, divided_answer, cursor_values};
 ghost use Rattle.model.specs.Examined.{located_with};
@@ -10,19 +11,18 @@ ghost use Rattle.smelvock_marshal.specs.Flat.{cursor_in, number_of, measured_of,
 use crate::flat::{
     FlatCursor, FlatDivided, FlatInserted, FlatLocated, FlatMeasured, FlatNumber, FlatStanding,
 };
-use calls_by_id::answer::Following;
-use model::answer::{
-    Compared, Divided, Inserted, Located, Measured, Named, Next, Number, Outcome, Standing, Verdict,
-};
 use model::head::Cursor;
-use model::number::NONE;
+use model::length::Lengths;
+use model::number::{EntryId, NONE};
+use model::refusal::Refusal;
+use std::cmp::Ordering;
 
-pub fn outcome_of(a: Outcome) -> u32
-    ensures { result ≡ (outcome_answer a).number }
+pub fn outcome_of(a: Result<(), Refusal>) -> u32
+    ensures { result ≡ (outcome_answer (numbered a)).number }
 {
     match a {
-        Outcome::Done => 0,
-        Outcome::Refused(n) => n,
+        Ok(()) => 0,
+        Err(why) => why.number(),
     }
 }
 
@@ -35,63 +35,63 @@ pub fn refused_number(n: u32) -> FlatNumber
     }
 }
 
-pub fn number_of(a: Number) -> FlatNumber
-    ensures { result ≡ number_of (number_answer a) }
+pub fn number_of(a: Result<u32, Refusal>) -> FlatNumber
+    ensures { result ≡ number_of (number_answer (numbered a)) }
 {
     match a {
-        Number::Is(n) => FlatNumber {
+        Ok(n) => FlatNumber {
             number: 0,
             value: n,
         },
-        Number::Refused(n) => refused_number(n),
+        Err(why) => refused_number(why.number()),
     }
 }
 
-pub fn number_of_verdict(a: Verdict) -> FlatNumber
-    ensures { result ≡ number_of (verdict_answer a) }
+pub fn number_of_verdict(a: Result<bool, Refusal>) -> FlatNumber
+    ensures { result ≡ number_of (verdict_answer (numbered a)) }
 {
     match a {
-        Verdict::Yes => FlatNumber {
+        Ok(true) => FlatNumber {
             number: 0,
             value: 1,
         },
-        Verdict::No => FlatNumber {
+        Ok(false) => FlatNumber {
             number: 0,
             value: 0,
         },
-        Verdict::Refused(n) => refused_number(n),
+        Err(why) => refused_number(why.number()),
     }
 }
 
-pub fn number_of_named(a: Named) -> FlatNumber
-    ensures { result ≡ number_of (named_answer a) }
+pub fn number_of_named(a: Result<EntryId, Refusal>) -> FlatNumber
+    ensures { result ≡ number_of (named_answer (numbered a)) }
 {
     match a {
-        Named::Entry(id) => FlatNumber {
+        Ok(id) => FlatNumber {
             number: 0,
             value: id.0,
         },
-        Named::Refused(n) => refused_number(n),
+        Err(why) => refused_number(why.number()),
     }
 }
 
-pub fn number_of_compared(a: Compared) -> FlatNumber
-    ensures { result ≡ number_of (compared_answer a) }
+pub fn number_of_compared(a: Result<Ordering, Refusal>) -> FlatNumber
+    ensures { result ≡ number_of (compared_answer (numbered a)) }
 {
     match a {
-        Compared::Before => FlatNumber {
+        Ok(Ordering::Less) => FlatNumber {
             number: 0,
             value: 0,
         },
-        Compared::Same => FlatNumber {
+        Ok(Ordering::Equal) => FlatNumber {
             number: 0,
             value: 1,
         },
-        Compared::After => FlatNumber {
+        Ok(Ordering::Greater) => FlatNumber {
             number: 0,
             value: 2,
         },
-        Compared::Refused(n) => refused_number(n),
+        Err(why) => refused_number(why.number()),
     }
 }
 
@@ -106,17 +106,17 @@ pub fn refused_measured(n: u32) -> FlatMeasured
     }
 }
 
-pub fn measured_of(a: Measured) -> FlatMeasured
-    ensures { result ≡ measured_of (measured_answer a) }
+pub fn measured_of(a: Result<Lengths, Refusal>) -> FlatMeasured
+    ensures { result ≡ measured_of (measured_answer (numbered a)) }
 {
     match a {
-        Measured::Are(l) => FlatMeasured {
+        Ok(l) => FlatMeasured {
             number: 0,
             prepare: l.prepare,
             effect: l.effect,
             lines: l.lines,
         },
-        Measured::Refused(n) => refused_measured(n),
+        Err(why) => refused_measured(why.number()),
     }
 }
 
@@ -125,7 +125,7 @@ fn nowhere(leaf: u32) -> FlatCursor
     ensures { result ≡ cursor_in 0 (done (leaf ∷ [])) }
 {
     FlatCursor {
-        leaf: leaf,
+        leaf,
         slot: 0,
         stamp: 0,
     }
@@ -134,9 +134,8 @@ fn nowhere(leaf: u32) -> FlatCursor
 fn cursor_of(c: Cursor) -> FlatCursor
     ensures { result ≡ cursor_in 0 (done (cursor_values c)) }
 {
-    let leaf = c.leaf;
     FlatCursor {
-        leaf: leaf.0,
+        leaf: c.leaf.0,
         slot: c.slot,
         stamp: c.stamp,
     }
@@ -151,31 +150,31 @@ pub fn refused_standing(n: u32) -> FlatStanding
     }
 }
 
-pub fn standing_of(a: Standing) -> FlatStanding
-    ensures { result ≡ standing_of (standing_answer a) }
+pub fn standing_of(a: Result<Cursor, Refusal>) -> FlatStanding
+    ensures { result ≡ standing_of (standing_answer (numbered a)) }
 {
     match a {
-        Standing::At(c) => FlatStanding {
+        Ok(c) => FlatStanding {
             number: 0,
             at: cursor_of(c),
         },
-        Standing::Refused(n) => refused_standing(n),
+        Err(why) => refused_standing(why.number()),
     }
 }
 
-pub fn standing_of_next(a: Next) -> FlatStanding
-    ensures { result ≡ standing_of (next_answer a) }
+pub fn standing_of_next(a: Result<Option<Cursor>, Refusal>) -> FlatStanding
+    ensures { result ≡ standing_of (next_answer (numbered a)) }
 {
     match a {
-        Next::At(c) => FlatStanding {
+        Ok(Some(c)) => FlatStanding {
             number: 0,
             at: cursor_of(c),
         },
-        Next::Nothing => FlatStanding {
+        Ok(None) => FlatStanding {
             number: 0,
             at: nowhere(NONE),
         },
-        Next::Refused(n) => refused_standing(n),
+        Err(why) => refused_standing(why.number()),
     }
 }
 
@@ -192,19 +191,19 @@ pub fn refused_located(n: u32) -> FlatLocated
     }
 }
 
-pub fn located_of(a: Located, examined: u32) -> FlatLocated
-    ensures { result ≡ located_of (located_with examined a) }
+pub fn located_of(a: Result<(Cursor, u32, u32, u32), Refusal>, examined: u32) -> FlatLocated
+    ensures { result ≡ located_of (located_with examined (numbered a)) }
 {
     match a {
-        Located::At(c, offset, effect, prepare) => FlatLocated {
+        Ok((c, offset, effect, prepare)) => FlatLocated {
             number: 0,
             at: cursor_of(c),
-            offset: offset,
+            offset,
             position: effect,
-            prepare: prepare,
-            examined: examined,
+            prepare,
+            examined,
         },
-        Located::Refused(n) => refused_located(n),
+        Err(why) => refused_located(why.number()),
     }
 }
 
@@ -218,16 +217,16 @@ pub fn refused_inserted(n: u32) -> FlatInserted
     }
 }
 
-pub fn inserted_of(a: Inserted) -> FlatInserted
-    ensures { result ≡ inserted_of (inserted_answer a) }
+pub fn inserted_of(a: Result<(EntryId, u32), Refusal>) -> FlatInserted
+    ensures { result ≡ inserted_of (inserted_answer (numbered a)) }
 {
     match a {
-        Inserted::At(id, position) => FlatInserted {
+        Ok((id, position)) => FlatInserted {
             number: 0,
             id: id.0,
-            position: position,
+            position,
         },
-        Inserted::Refused(n) => refused_inserted(n),
+        Err(why) => refused_inserted(why.number()),
     }
 }
 
@@ -242,46 +241,46 @@ pub fn refused_divided(n: u32) -> FlatDivided
     }
 }
 
-pub fn divided_of(a: Divided) -> FlatDivided
-    ensures { result ≡ divided_of (divided_answer a) }
+pub fn divided_of(a: Result<(EntryId, Cursor, Cursor), Refusal>) -> FlatDivided
+    ensures { result ≡ divided_of (divided_answer (numbered a)) }
 {
     match a {
-        Divided::At(id, b, c) => FlatDivided {
+        Ok((id, b, c)) => FlatDivided {
             number: 0,
             id: id.0,
             first: cursor_of(b),
             second: cursor_of(c),
         },
-        Divided::Refused(n) => refused_divided(n),
+        Err(why) => refused_divided(why.number()),
     }
 }
 
 // The new id without the cursors.
-pub fn number_of_divided(a: Divided) -> FlatNumber
-    ensures { result ≡ number_of (by_id.divided_id_answer a) }
+pub fn number_of_divided(a: Result<(EntryId, Cursor, Cursor), Refusal>) -> FlatNumber
+    ensures { result ≡ number_of (by_id.divided_id_answer (numbered a)) }
 {
     match a {
-        Divided::At(id, b, c) => FlatNumber {
+        Ok((id, _, _)) => FlatNumber {
             number: 0,
             value: id.0,
         },
-        Divided::Refused(n) => refused_number(n),
+        Err(why) => refused_number(why.number()),
     }
 }
 
 // next by id: the id; after the last entry 4,294,967,295.
-pub fn number_of_following(a: Following) -> FlatNumber
-    ensures { result ≡ number_of (following_answer a) }
+pub fn number_of_following(a: Result<Option<EntryId>, Refusal>) -> FlatNumber
+    ensures { result ≡ number_of (following_answer (numbered a)) }
 {
     match a {
-        Following::Entry(id) => FlatNumber {
+        Ok(Some(id)) => FlatNumber {
             number: 0,
             value: id.0,
         },
-        Following::Nothing => FlatNumber {
+        Ok(None) => FlatNumber {
             number: 0,
             value: NONE,
         },
-        Following::Refused(n) => refused_number(n),
+        Err(why) => refused_number(why.number()),
     }
 }

@@ -2,19 +2,17 @@
 ghost use Rattle.std.specs.Prelude.{◌≡◌, not, ◌||◌, eqb, length};
 ghost use Rattle.smelvock_marshal.specs.Flat.{cursor_from, lengths_from, view_from, target_from, seat_from, bad_shares};
 
-use model::answer::Target;
 use model::head::Cursor;
 use model::length::{Lengths, View};
 use model::number::{LeafNo, NONE};
-use model::seats::Seat;
 
 pub fn cursor_from(leaf: u32, slot: u32, stamp: u64) -> Cursor
     ensures { result ≡ cursor_from leaf slot stamp }
 {
     Cursor {
         leaf: LeafNo(leaf),
-        slot: slot,
-        stamp: stamp,
+        slot,
+        stamp,
     }
 }
 
@@ -22,9 +20,9 @@ pub fn lengths_from(prepare: u32, effect: u32, lines: u32) -> Lengths
     ensures { result ≡ lengths_from prepare effect lines }
 {
     Lengths {
-        prepare: prepare,
-        effect: effect,
-        lines: lines,
+        prepare,
+        effect,
+        lines,
     }
 }
 
@@ -41,41 +39,35 @@ pub fn view_from(view: u32) -> View
 }
 
 // Before a cursor, or at the end where end is 1.
-pub fn target_from(end: u32, before: Cursor) -> Target
+pub fn target_from(end: u32, before: Cursor) -> Option<Cursor>
     ensures { result ≡ target_from end before }
 {
     if end == 0 {
-        return Target::Before(before);
+        return Some(before);
     }
-    Target::End
+    None
 }
 
 // A seat, or nobody where none is given.
-pub fn seat_from(seat: u32) -> Seat
+pub fn seat_from(seat: u32) -> Option<u32>
     ensures { result ≡ seat_from seat }
 {
     if seat == NONE {
-        return Seat::Nobody;
+        return None;
     }
-    Seat::Number(seat)
+    Some(seat)
 }
 
 // Whether a new tree's shares are neither none nor eight.
 fn bad_shares(shares: &[u32]) -> bool
     ensures { result ≡ bad_shares shares.now }
 {
-    if shares.len() == 0 {
-        return false;
-    }
-    shares.len() != 8
+    !shares.is_empty() && shares.len() != 8
 }
 
 // The same, or whether its head isn't thirty-six words, whatever they are.
 pub fn bad_made(head: &[u32], shares: &[u32]) -> bool
     ensures { result ≡ (not (eqb (length head.now) 36) || bad_shares shares.now) }
 {
-    if head.len() != 36 {
-        return true;
-    }
-    bad_shares(shares)
+    head.len() != 36 || bad_shares(shares)
 }

@@ -5,77 +5,59 @@ ghost use Rattle.std.proofs.lemmas.List.Edits.{sets};
 ghost use Rattle.model.specs.Place.{with_finger};
 ghost use Rattle.smelvock_marshal.specs.Flat.{bad_head, bad_seats, bad_stored, stamp_from, held_from, head_from, present_of, finger_of, count_words, finger_words, stamp_words, head_words, head_after, InLeaf};
 
-use model::head::{Finger, Head, Held};
+use model::head::{Finger, Head};
 use model::number::NodeNo;
 
 // Whether it isn't thirty-six words, or has neither 0 nor 1 for its finger.
 pub fn bad_head(head: &[u32]) -> bool
     ensures { result ≡ bad_head head.now }
 {
-    if head.len() != 36 {
-        return true;
-    }
-    1 < head[7]
+    head.len() != 36 || 1 < head[7]
 }
 
 // The same, or whether the seats' first word is neither 0 nor 1, for the calls that know seats.
 pub fn bad_seats(head: &[u32]) -> bool
     ensures { result ≡ bad_seats head.now }
 {
-    if bad_head(head) {
-        return true;
-    }
-    1 < head[19]
+    bad_head(head) || 1 < head[19]
 }
 
 // Whether a stored head isn't thirty-six words, or has neither 0 nor 1 for its seats: its finger may be any words.
 pub fn bad_stored(head: &[u32]) -> bool
     ensures { result ≡ bad_stored head.now }
 {
-    if head.len() != 36 {
-        return true;
-    }
-    1 < head[19]
+    head.len() != 36 || 1 < head[19]
 }
 
 // A head or seats that are bad, or a flag that is neither 0 nor 1.
 pub fn bad_seated_flag(head: &[u32], flag: u32) -> bool
     ensures { result ≡ (bad_seats head.now || ltb 1 flag) }
 {
-    if bad_seats(head) {
-        return true;
-    }
-    1 < flag
+    bad_seats(head) || 1 < flag
 }
 
 // A bad head, or a flag that is neither 0 nor 1.
 pub fn bad_flag(head: &[u32], flag: u32) -> bool
     ensures { result ≡ (bad_head head.now || ltb 1 flag) }
 {
-    if bad_head(head) {
-        return true;
-    }
-    1 < flag
+    bad_head(head) || 1 < flag
 }
 
 // A bad head, or a view that isn't 0, 1 or 2.
 pub fn bad_view(head: &[u32], view: u32) -> bool
     ensures { result ≡ (bad_head head.now || ltb 2 view) }
 {
-    if bad_head(head) {
-        return true;
-    }
-    2 < view
+    bad_head(head) || 2 < view
 }
 
-fn held_from(head: &[u32]) -> Held
+fn held_from(head: &[u32]) -> Option<Finger>
     requires { length head.now ≡ 36 }
     ensures { result ≡ held_from head.now }
 {
     if head[7] == 0 {
-        return Held::Absent;
+        return None;
     }
-    Held::At(Finger {
+    Some(Finger {
         view: head[8],
         leaf: head[9],
         start: head[10],
@@ -117,33 +99,33 @@ pub fn head_from(head: &[u32]) -> Head
         leaves: head[4],
         inners: head[5],
         entries: head[6],
-        stamp: stamp,
-        finger: finger,
+        stamp,
+        finger,
     }
 }
 
-fn present_of(finger: Held) -> u32
+fn present_of(finger: Option<Finger>) -> u32
     ensures { result ≡ present_of finger }
 {
     match finger {
-        Held::Absent => 0,
-        Held::At(f) => 1,
+        None => 0,
+        Some(_) => 1,
     }
 }
 
 // Whether there is a finger.
-pub fn is_held(finger: Held) -> bool
+pub fn is_held(finger: Option<Finger>) -> bool
     ensures { result ≡ eqb (present_of finger) 1 }
 {
     present_of(finger) == 1
 }
 
 // The finger's words: zeros where there is none.
-fn finger_of(finger: Held) -> Finger
+fn finger_of(finger: Option<Finger>) -> Finger
     ensures { result ≡ finger_of finger }
 {
     match finger {
-        Held::Absent => Finger {
+        None => Finger {
             view: 0,
             leaf: 0,
             start: 0,
@@ -154,12 +136,12 @@ fn finger_of(finger: Held) -> Finger
             prepare: 0,
             prepare_within: 0,
         },
-        Held::At(f) => f,
+        Some(f) => f,
     }
 }
 
 // The finger's ten words.
-fn put_finger(head: &mut [u32], finger: Held)
+fn put_finger(head: &mut [u32], finger: Option<Finger>)
     requires { length head.old ≡ 36 }
     ensures { head.new ≡ take 7 head.old ++ finger_words finger ++ drop 17 head.old }
 {
@@ -202,7 +184,7 @@ fn put_leaf(head: &mut [u32], present: u32, f: Finger)
 }
 
 // The ten words of a finger; of one that stayed in its leaf four are enough.
-fn put_found(head: &mut [u32], finger: Held, stayed: bool)
+fn put_found(head: &mut [u32], finger: Option<Finger>, stayed: bool)
     requires { (length head.old ≡ 36) × (stayed ≡ true → InLeaf finger head.old) }
     ensures { head.new ≡ take 7 head.old ++ finger_words finger ++ drop 17 head.old }
 {
@@ -219,8 +201,7 @@ fn put_counts(head: &mut [u32], h: Head)
     requires { length head.old ≡ 36 }
     ensures { head.new ≡ take 2 head.old ++ count_words h ++ drop 7 head.old }
 {
-    let root = h.root;
-    head[2] = root.0;
+    head[2] = h.root.0;
     head[3] = h.levels;
     head[4] = h.leaves;
     head[5] = h.inners;
@@ -253,23 +234,7 @@ fn clear_seats(head: &mut [u32])
     requires { length head.old ≡ 36 }
     ensures { head.new ≡ take 19 head.old ++ replicate 17 0 }
 {
-    head[19] = 0;
-    head[20] = 0;
-    head[21] = 0;
-    head[22] = 0;
-    head[23] = 0;
-    head[24] = 0;
-    head[25] = 0;
-    head[26] = 0;
-    head[27] = 0;
-    head[28] = 0;
-    head[29] = 0;
-    head[30] = 0;
-    head[31] = 0;
-    head[32] = 0;
-    head[33] = 0;
-    head[34] = 0;
-    head[35] = 0;
+    head[19..].fill(0);
 }
 
 // A new head without seats.

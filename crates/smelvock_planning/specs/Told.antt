@@ -1,23 +1,20 @@
 -- What a host reads in the answers that the full tree's exports don't have, by the names of their fields. Assumes nothing.
-use Rattle.std.specs.Prelude.{◌≡◌, refl, ℕ}
+use Rattle.std.specs.Prelude.{◌≡◌, refl, ℕ, Ok, Err, Some, None}
 use Rattle.model.specs.ById.{divided_id_answer}
 use Rattle.model.specs.declared.head.Cursor.{Cursor}
 use Rattle.model.specs.declared.number.EntryId.{EntryId}
-use Rattle.model.specs.declared.answer.Divided.TheVariants as divided
 use Rattle.smelvock_marshal.specs.Flat.{number_of}
 use Rattle.calls_by_id.specs.Answer.{following_answer}
-use Rattle.calls_by_id.specs.declared.answer.Following.TheVariants as following
 use Rattle.calls_planning.specs.Bounds.{ranged_answer}
 use Rattle.calls_planning.specs.declared.bounds.Bounds.{Bounds}
-use Rattle.calls_planning.specs.declared.bounds.Ranged.TheVariants as ranged
 use Rattle.smelvock_planning.specs.Calls.{ranged_of}
 
 -- number 0 and the values; after the last entry the value is 4,294,967,295, which is no id
 pub record ToldValues (b : Bounds) (i : EntryId) (c d : Cursor) : Type 0 where
-  pub lengths : ranged_of (ranged_answer (ranged.Are b)) ≡ record { number = 0; lowest = b.lowest; highest = b.highest }
-  pub next : number_of (following_answer (following.Entry i)) ≡ record { number = 0; value = i.0 }
-  pub last : number_of (following_answer following.Nothing) ≡ record { number = 0; value = 4294967295 }
-  pub split : number_of (divided_id_answer (divided.At i c d)) ≡ record { number = 0; value = i.0 }
+  pub lengths : ranged_of (ranged_answer (Ok b)) ≡ record { number = 0; lowest = b.lowest; highest = b.highest }
+  pub next : number_of (following_answer (Ok (Some i))) ≡ record { number = 0; value = i.0 }
+  pub last : number_of (following_answer (Ok None)) ≡ record { number = 0; value = 4294967295 }
+  pub split : number_of (divided_id_answer (Ok (i, c, d))) ≡ record { number = 0; value = i.0 }
 
 pub reads : (b : Bounds) (i : EntryId) (c d : Cursor) → ToldValues b i c d
 reads b i c d = record {
@@ -29,9 +26,9 @@ reads b i c d = record {
 
 -- a refusal's number, and zeros
 pub record ToldRefusal (n : ℕ) : Type 0 where
-  pub lengths : ranged_of (ranged_answer (ranged.Refused n)) ≡ record { number = n; lowest = 0; highest = 0 }
-  pub next : number_of (following_answer (following.Refused n)) ≡ record { number = n; value = 0 }
-  pub split : number_of (divided_id_answer (divided.Refused n)) ≡ record { number = n; value = 0 }
+  pub lengths : ranged_of (ranged_answer (Err n)) ≡ record { number = n; lowest = 0; highest = 0 }
+  pub next : number_of (following_answer (Err n)) ≡ record { number = n; value = 0 }
+  pub split : number_of (divided_id_answer (Err n)) ≡ record { number = n; value = 0 }
 
 pub refuses : (n : ℕ) → ToldRefusal n
 refuses n = record {

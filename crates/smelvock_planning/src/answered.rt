@@ -1,11 +1,13 @@
 // What lengths answers, in the words that cross the C boundary.
+ghost use Rattle.model.specs.Numbered.{numbered};
 ghost use Rattle.std.specs.Prelude.{◌≡◌};
 ghost use Rattle.model.specs.Row.{refused};
 ghost use Rattle.calls_planning.specs.Bounds.{ranged_answer};
 ghost use Rattle.smelvock_planning.specs.Calls.{ranged_of};
 
 use crate::flat::FlatBounds;
-use calls_planning::bounds::Ranged;
+use calls_planning::bounds::Bounds;
+use model::refusal::Refusal;
 
 pub fn refused_ranged(n: u32) -> FlatBounds
     ensures { result ≡ ranged_of (refused n) }
@@ -17,15 +19,15 @@ pub fn refused_ranged(n: u32) -> FlatBounds
     }
 }
 
-pub fn ranged_of(a: Ranged) -> FlatBounds
-    ensures { result ≡ ranged_of (ranged_answer a) }
+pub fn ranged_of(a: Result<Bounds, Refusal>) -> FlatBounds
+    ensures { result ≡ ranged_of (ranged_answer (numbered a)) }
 {
     match a {
-        Ranged::Are(b) => FlatBounds {
+        Ok(b) => FlatBounds {
             number: 0,
             lowest: b.lowest,
             highest: b.highest,
         },
-        Ranged::Refused(n) => refused_ranged(n),
+        Err(why) => refused_ranged(why.number()),
     }
 }

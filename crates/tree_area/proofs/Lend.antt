@@ -3,7 +3,7 @@ use mathlib.Core.Path.{◌≡◌}
 use mathlib.Core.List.{List}
 use Prim.Native.Nat.{ℕ, ◌+◌, ◌*◌, ◌-◌, ◌<◌, ◌≤◌}
 use lib.ListN.{length, take, drop}
-use borrow.Rule.Slice.PartMut.{put_mid, same_len_mid}
+use borrow.Rule.Slice.PartMut.{put_mid}
 use Rattle.model.specs.Lists.{part}
 use Rattle.model.specs.Node.{Node, node_of, words_of}
 use Rattle.model.specs.State.{node_at, put_node}
@@ -26,8 +26,3 @@ pub back : {g : Shape} (k : ℕ) (xs ys : List ℕ) (f : Node → Node) → Area
     → ys ≡ words_of (f (node_of g.stride g.fan (take (k * g.size + g.size - k * g.size) (drop (k * g.size) xs))))
     → put_mid (k * g.size) (k * g.size + g.size - k * g.size) xs ys ≡ put_node g k (f (node_at g k xs)) xs
 back {g} k xs ys f a h l e = change_back g k xs ys (ends k a h) l f e
-
--- whatever comes back in its place, as many words
-pub same : (g : Shape) (k : ℕ) (xs ys : List ℕ) → length ys ≡ length (take (k * g.size + g.size - k * g.size) (drop (k * g.size) xs))
-    → length (put_mid (k * g.size) (k * g.size + g.size - k * g.size) xs ys) ≡ length xs
-same g k xs ys e = same_len_mid (k * g.size) (k * g.size + g.size - k * g.size) xs ys e

@@ -1,20 +1,29 @@
 // The words of one node of an area, and the functions over one node at that node.
 ghost use Rattle.std.specs.Prelude.{◌≡◌, [], ◌+◌, ◌-◌, ◌*◌, ◌<◌, ◌≤◌, length, get_or, take, drop};
+ghost use Rattle.model.specs.Lists.{part};
 ghost use Rattle.model.specs.Node.{start, child, length_in, used, find_from, wrap};
 ghost use Rattle.model.specs.State.{node_at};
 ghost use Rattle.model.specs.Climb.{raised};
 ghost use Rattle.tree_area.specs.Area.{AreaHolds};
 ghost use Rattle.tree_area.specs.Found.{FoundIn};
 
-use model::shape::{Found, Shape};
+use model::shape::Shape;
+
+// The words of node k.
+fn node_words(area: &[u32], g: Shape, k: u32) -> &[u32]
+    requires { AreaHolds g (length area.now) × (k < g.nodes) }
+    ensures { (result.now ≡ part (k * g.size) g.size area.now) × (length result.now ≡ g.size) }
+{
+    let a = k as usize * g.size;
+    &area[a..a + g.size]
+}
 
 // Word i of node k.
 fn word_of(area: &[u32], g: Shape, k: u32, i: usize) -> u32
     requires { AreaHolds g (length area.now) × (k < g.nodes) × (i < g.size) }
     ensures { result ≡ get_or area.now (k * g.size + i) 0 }
 {
-    let size = g.size;
-    area[k as usize * size + i]
+    area[k as usize * g.size + i]
 }
 
 // How many slots node k uses.
@@ -46,8 +55,7 @@ fn column_of(area: &[u32], g: Shape, k: u32, i: usize, c: usize) -> u32
     requires { AreaHolds g (length area.now) × (k < g.nodes) × (i < g.fan) × (c < g.stride) }
     ensures { result ≡ get_or (get_or (node_at g k area.now).slots i []) c 0 }
 {
-    let stride = g.stride;
-    word_of(area, g, k, 3 + i * stride + c)
+    word_of(area, g, k, 3 + i * g.stride + c)
 }
 
 // The child in slot i of node k.
@@ -71,10 +79,8 @@ pub fn start_in(area: &[u32], g: Shape, view: usize, k: u32, i: u32) -> u64
     requires { AreaHolds g (length area.now) × (k < g.nodes) × (view + 1 < g.stride) × (i ≤ g.fan) }
     ensures { (result ≡ start view i (node_at g k area.now)) × (result ≤ 137438953440) }
 {
-    let size = g.size;
-    let a = k as usize * size;
-    let e = a + size;
-    tree_node::read::start(&area[a..e], g, view, i as usize)
+    let node = node_words(area, g, k);
+    tree_node::read::start(node, g, view, i as usize)
 }
 
 // The same modulo 2^32.
@@ -82,10 +88,8 @@ pub fn start_low_in(area: &[u32], g: Shape, view: usize, k: u32, i: u32) -> u32
     requires { AreaHolds g (length area.now) × (k < g.nodes) × (view + 1 < g.stride) × (i ≤ g.fan) }
     ensures { result ≡ wrap (start view i (node_at g k area.now)) }
 {
-    let size = g.size;
-    let a = k as usize * size;
-    let e = a + size;
-    tree_node::read::start_low(&area[a..e], g, view, i as usize)
+    let node = node_words(area, g, k);
+    tree_node::read::start_low(node, g, view, i as usize)
 }
 
 // The slot in use of node k, from slot `from` on, that holds position index of view, counted from there.
@@ -99,14 +103,12 @@ pub fn find_in(
     index: u32,
     effects: u64,
     prepares: u64,
-) -> Found
+) -> Option<(usize, u32, u64, u64)>
     requires { AreaHolds g (length area.now) × (k < g.nodes) × (view + 1 < g.stride) × (effect + 1 < g.stride) × ((node_at g k area.now).len ≤ g.fan) × (from ≤ (node_at g k area.now).len) × (effects ≤ 281474976710656) × (prepares ≤ 281474976710656) }
     ensures { FoundIn effects prepares result (find_from view effect from index effects prepares (drop from (used (node_at g k area.now)))) }
 {
-    let size = g.size;
-    let a = k as usize * size;
-    let e = a + size;
-    tree_node::read::find(&area[a..e], g, view, effect, from, index, effects, prepares)
+    let node = node_words(area, g, k);
+    tree_node::read::find(node, g, view, effect, from, index, effects, prepares)
 }
 
 // The same from the first slot on, for the way down, which passes most slots.
@@ -119,14 +121,12 @@ pub fn find_first_in(
     index: u32,
     effects: u64,
     prepares: u64,
-) -> Found
+) -> Option<(usize, u32, u64, u64)>
     requires { AreaHolds g (length area.now) × (k < g.nodes) × (view + 1 < g.stride) × (effect + 1 < g.stride) × ((node_at g k area.now).len ≤ g.fan) × (effects ≤ 281474976710656) × (prepares ≤ 281474976710656) }
     ensures { FoundIn effects prepares result (find_from view effect 0 index effects prepares (used (node_at g k area.now))) }
 {
-    let size = g.size;
-    let a = k as usize * size;
-    let e = a + size;
-    tree_node::read::find_first(&area[a..e], g, view, effect, index, effects, prepares)
+    let node = node_words(area, g, k);
+    tree_node::read::find_first(node, g, view, effect, index, effects, prepares)
 }
 
 // Lengths added to those in slot i of node k.
@@ -134,8 +134,6 @@ pub fn raise_in(area: &mut [u32], g: Shape, delta: &[u32; 3], k: u32, i: u32)
     requires { AreaHolds g (length area.old) × (k < g.nodes) × (i < g.fan) × (length delta.now ≡ 3) }
     ensures { area.new ≡ raised g (take (g.stride - 1) delta.now) k i area.old }
 {
-    let size = g.size;
-    let a = k as usize * size;
-    let e = a + size;
-    tree_node::write::add_lengths(&mut area[a..e], g, i as usize, delta);
+    let a = k as usize * g.size;
+    tree_node::write::add_lengths(&mut area[a..a + g.size], g, i as usize, delta);
 }

@@ -6,10 +6,10 @@ ghost use Rattle.model.specs.Locate.{stand, back, walked, served, served_by, rew
 ghost use Rattle.model.specs.Examined.{span, with_slots, finger_slots, served_slots, held_slots};
 ghost use Rattle.tree_area.specs.Area.{AreaHolds};
 
-use model::head::{Finger, Held};
+use model::head::Finger;
 use model::number::LeafNo;
-use model::shape::{Found, Shape};
-use model::way::{Search, Searched};
+use model::shape::Shape;
+use model::way::{Broken, Searched};
 use tree_area::word::{find_in, len_of, length_of};
 
 // A slot of a leaf and what stands before it in the leaf.
@@ -26,60 +26,35 @@ fn back(leaves: &[u32], g: Shape, view: usize, effect: usize, f: Finger, index: 
     requires { AreaHolds g (length leaves.now) × (view + 1 < g.stride) × (effect + 1 < g.stride) × (f.leaf < g.nodes) × ((node_at g f.leaf leaves.now).len ≤ g.fan) × (f.slot < (node_at g f.leaf leaves.now).len) }
     ensures { stand result.slot result.within result.effect_within result.prepare_within ≡ back view effect (used (node_at g f.leaf leaves.now)) index f.slot f.within f.effect_within f.prepare_within }
 {
-    let leaf = f.leaf;
-    let mut slot = f.slot as usize;
-    let mut within = f.within;
-    let mut effect_within = f.effect_within;
-    let mut prepare_within = f.prepare_within;
-    while 0 < slot {
-        if within <= index {
-            return Stand {
-                slot: slot,
-                within: within,
-                effect_within: effect_within,
-                prepare_within: prepare_within,
-            };
+    let mut stand = Stand {
+        slot: f.slot as usize,
+        within: f.within,
+        effect_within: f.effect_within,
+        prepare_within: f.prepare_within,
+    };
+    for slot in (0..f.slot as usize).rev() {
+        if stand.within <= index {
+            return stand;
         }
-        slot -= 1;
-        let length = length_of(leaves, g, view, leaf, slot);
-        let effect_length = length_of(leaves, g, effect, leaf, slot);
-        let prepare_length = length_of(leaves, g, 0, leaf, slot);
-        within = std::num::wrapping_sub_u32(within, length);
-        effect_within = std::num::wrapping_sub_u32(effect_within, effect_length);
-        prepare_within = std::num::wrapping_sub_u32(prepare_within, prepare_length);
+        let length = length_of(leaves, g, view, f.leaf, slot);
+        let effect_length = length_of(leaves, g, effect, f.leaf, slot);
+        let prepare_length = length_of(leaves, g, 0, f.leaf, slot);
+        stand = Stand {
+            slot,
+            within: stand.within.wrapping_sub(length),
+            effect_within: stand.effect_within.wrapping_sub(effect_length),
+            prepare_within: stand.prepare_within.wrapping_sub(prepare_length),
+        };
     }
-    Stand {
-        slot: slot,
-        within: within,
-        effect_within: effect_within,
-        prepare_within: prepare_within,
-    }
+    stand
 }
 
-fn lower(a: u32, b: u32) -> u32
-    ensures { (result ≤ a) × (result ≤ b) × (result ≡ a - (a - b)) }
-{
-    if a < b {
-        return a;
-    }
-    b
-}
-
-fn higher(a: u32, b: u32) -> u32
-    ensures { (result ≡ a + (b - a)) × (result ≡ b + (a - b)) }
-{
-    if a < b {
-        return b;
-    }
-    a
-}
-
-// How many slots stand from a to b, back or on, both included. Of two differences the compiler would keep both at hand all the way.
+// How many slots stand from a to b, back or on, both included.
 fn span(a: u32, b: u32) -> u32
     requires { (a < 65536) × (b < 65536) }
     ensures { result ≡ span a b }
 {
-    higher(a, b) - lower(a, b) + 1
+    a.abs_diff(b) + 1
 }
 
 // The finger moved from its own slot, back or on, to the slot that holds the index, which counts from the leaf's start. In vain it goes to the
@@ -96,42 +71,35 @@ fn walked(
     requires { AreaHolds g (length leaves.now) × (view + 1 < g.stride) × (effect + 1 < g.stride) × (f.leaf < g.nodes) × ((node_at g f.leaf leaves.now).len ≤ g.fan) × (f.slot < (node_at g f.leaf leaves.now).len) × (len ≡ (node_at g f.leaf leaves.now).len) }
     ensures { result ≡ with_slots (walked view effect f index (used (node_at g f.leaf leaves.now))) (finger_slots f len (walked view effect f index (used (node_at g f.leaf leaves.now)))) }
 {
-    let leaf = f.leaf;
     let b = back(leaves, g, view, effect, f, index);
-    let from = b.slot;
-    let within = b.within;
     let effects = b.effect_within as u64;
     let prepares = b.prepare_within as u64;
-    if index < within {
+    if index < b.within {
         return Searched {
-            found: Search::Broken,
+            found: Err(Broken),
             examined: 0,
         };
     }
-    let rest = index - within;
-    let found = find_in(leaves, g, view, effect, leaf, from, rest, effects, prepares);
-    let own = f.slot;
-    let Found::At(slot, offset, before, prior) = found else {
+    let rest = index - b.within;
+    let Some((slot, offset, before, prior)) = find_in(
+        leaves, g, view, effect, f.leaf, b.slot, rest, effects, prepares,
+    ) else {
         return Searched {
-            found: Search::Nothing,
-            examined: len - own,
+            found: Ok(None),
+            examined: len - f.slot,
         };
     };
     let at = slot as u32;
     let finger = Finger {
-        view: f.view,
-        leaf: leaf,
-        start: f.start,
-        effect: f.effect,
         slot: at,
         within: index - offset,
         effect_within: (before % 4294967296) as u32,
-        prepare: f.prepare,
         prepare_within: (prior % 4294967296) as u32,
+        ..f
     };
     Searched {
-        found: Search::At(finger, offset),
-        examined: span(own, at),
+        found: Ok(Some((finger, offset))),
+        examined: span(f.slot, at),
     }
 }
 
@@ -148,43 +116,26 @@ pub fn served(
     requires { AreaHolds g (length leaves.now) × (view + 1 < g.stride) × (effect + 1 < g.stride) × (used ≤ g.nodes) }
     ensures { result ≡ with_slots (served view effect g f used index leaves.now) (served_slots view effect g f used index leaves.now) }
 {
-    let own = f.view;
-    let start = f.start;
-    let leaf = f.leaf;
-    let slot = f.slot;
-    let fan = g.fan;
-    if own as usize != view {
+    if f.view as usize != view || index < f.start {
         return Searched {
-            found: Search::Nothing,
+            found: Ok(None),
             examined: 0,
         };
     }
-    if index < start {
+    if f.leaf >= used {
         return Searched {
-            found: Search::Nothing,
+            found: Err(Broken),
             examined: 0,
         };
     }
-    if leaf >= used {
+    let len = len_of(leaves, g, f.leaf);
+    if len as usize > g.fan || f.slot >= len {
         return Searched {
-            found: Search::Broken,
+            found: Err(Broken),
             examined: 0,
         };
     }
-    let len = len_of(leaves, g, leaf);
-    if len as usize > fan {
-        return Searched {
-            found: Search::Broken,
-            examined: 0,
-        };
-    }
-    if slot >= len {
-        return Searched {
-            found: Search::Broken,
-            examined: 0,
-        };
-    }
-    walked(leaves, g, view, effect, f, len, index - start)
+    walked(leaves, g, view, effect, f, len, index - f.start)
 }
 
 // The same from the finger that is held, if any.
@@ -193,7 +144,7 @@ pub fn served_by(
     g: Shape,
     view: usize,
     effect: usize,
-    held: Held,
+    held: Option<Finger>,
     used: u32,
     index: u32,
 ) -> Searched
@@ -201,15 +152,15 @@ pub fn served_by(
     ensures { result ≡ with_slots (served_by view effect g held used index leaves.now) (held_slots view effect g held used index leaves.now) }
 {
     match held {
-        Held::Absent => Searched {
-            found: Search::Nothing,
+        None => Searched {
+            found: Ok(None),
             examined: 0,
         },
-        Held::At(f) => served(leaves, g, view, effect, f, used, index),
+        Some(f) => served(leaves, g, view, effect, f, used, index),
     }
 }
 
-// Sends the finger to its leaf's first slot.
+// Sends the finger to its leaf's first slot. It is lent, not rebuilt: one of the project's named forms (docs/DECISIONS.md, 20).
 fn rewind(f: &mut Finger)
     ensures { f.new ≡ rewound f.old }
 {
@@ -229,21 +180,17 @@ pub fn rewound(f: Finger) -> Finger
 }
 
 // What a change at a slot of a leaf leaves of the finger.
-pub fn changing(held: Held, leaf: LeafNo, slot: u32) -> Held
+pub fn changing(held: Option<Finger>, leaf: LeafNo, slot: u32) -> Option<Finger>
     ensures { result ≡ changing leaf.0 slot held }
 {
     match held {
-        Held::Absent => Held::Absent,
-        Held::At(f) => {
-            if f.leaf == leaf.0 {
-                if slot < f.slot {
-                    Held::At(rewound(f))
-                } else {
-                    Held::At(f)
-                }
+        Some(f) if f.leaf == leaf.0 => {
+            if slot < f.slot {
+                Some(rewound(f))
             } else {
-                Held::Absent
+                held
             }
         }
+        _ => None,
     }
 }

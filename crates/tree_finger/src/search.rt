@@ -7,8 +7,8 @@ ghost use Rattle.tree_finger.specs.Went.{Went, leaf_slots};
 
 use model::head::Finger;
 use model::number::{LeafNo, NodeNo};
-use model::shape::{Found, Shape};
-use model::way::{Descent, Search, Searched, Way};
+use model::shape::Shape;
+use model::way::{Broken, Searched, Way};
 use tree_area::word::{child_of, find_first_in, find_in, len_of};
 use tree_walk::bounds::sized;
 
@@ -26,46 +26,38 @@ pub fn descend(
     requires { AreaHolds g (length inners.now) × (view + 1 < g.stride) × (effect + 1 < g.stride) × (levels ≤ 15) }
     ensures { Went view effect g levels root.0 index inners.now result.end result.passed }
 {
-    let mut n = levels;
     let mut node = root.0;
     let mut rest = index;
     let mut effects: u64 = 0;
     let mut prepares: u64 = 0;
     let mut passed: usize = 0;
-    while 0 < n {
+    for level in 0..levels {
         if !sized(inners, g, node) {
             return Way {
-                end: Descent::Broken,
+                end: Err(Broken),
                 passed: 0,
             };
         }
-        let found = find_first_in(inners, g, view, effect, node, rest, effects, prepares);
-        let Found::At(slot, offset, before, prior) = found else {
-            if n == levels {
-                return Way {
-                    end: Descent::Nothing,
-                    passed: 0,
-                };
-            }
-            return Way {
-                end: Descent::Broken,
-                passed: 0,
-            };
+        let Some((slot, offset, before, prior)) = find_first_in(
+            inners, g, view, effect, node, rest, effects, prepares,
+        ) else {
+            let end = if level == 0 { Ok(None) } else { Err(Broken) };
+            return Way { end, passed: 0 };
         };
         node = child_of(inners, g, node, slot);
         rest = offset;
         effects = before;
         prepares = prior;
         passed += slot;
-        n -= 1;
     }
     Way {
-        end: Descent::At(LeafNo(node), rest, effects, prepares),
-        passed: passed,
+        end: Ok(Some((LeafNo(node), rest, effects, prepares))),
+        passed,
     }
 }
 
-// The slot of leaf k that holds the position left, and the finger there; effects and prepares are the lengths before the leaf, taken the slots examined so far; `used` leaves are in use.
+// The slot of leaf k that holds the position left, and the finger there; effects and prepares are the lengths before the leaf, taken the
+// slots examined so far; `used` leaves are in use.
 fn search_leaf(
     leaves: &[u32],
     g: Shape,
@@ -82,31 +74,31 @@ fn search_leaf(
     requires { AreaHolds g (length leaves.now) × (view + 1 < g.stride) × (effect + 1 < g.stride) × (used ≤ g.nodes) × (rest ≤ index) × (taken ≤ 65535) }
     ensures { result ≡ leaf_slots view effect g used index leaves.now k rest effects prepares taken }
 {
-    let fan = g.fan;
     let leaf = k.0;
     if leaf >= used {
         return Searched {
-            found: Search::Broken,
+            found: Err(Broken),
             examined: 0,
         };
     }
     let len = len_of(leaves, g, leaf);
-    if len as usize > fan {
+    if len as usize > g.fan {
         return Searched {
-            found: Search::Broken,
+            found: Err(Broken),
             examined: 0,
         };
     }
-    let found = find_in(leaves, g, view, effect, leaf, 0, rest, 0, 0);
-    let Found::At(slot, offset, within, prepare_within) = found else {
+    let Some((slot, offset, within, prepare_within)) = find_in(
+        leaves, g, view, effect, leaf, 0, rest, 0, 0,
+    ) else {
         return Searched {
-            found: Search::Broken,
+            found: Err(Broken),
             examined: 0,
         };
     };
     let finger = Finger {
         view: view as u32,
-        leaf: leaf,
+        leaf,
         start: index - rest,
         effect: (effects % 4294967296) as u32,
         slot: slot as u32,
@@ -116,7 +108,7 @@ fn search_leaf(
         prepare_within: (prepare_within % 4294967296) as u32,
     };
     Searched {
-        found: Search::At(finger, offset),
+        found: Ok(Some((finger, offset))),
         examined: taken + slot as u32 + 1,
     }
 }
@@ -137,21 +129,19 @@ pub fn from_root(
     ensures { result ≡ with_slots (from_root view effect g levels root.0 used index leaves.now inners.now) (found_slots (from_root view effect g levels root.0 used index leaves.now inners.now) (downward view g leaves.now inners.now levels root.0 index)) }
 {
     let way = descend(inners, g, view, effect, levels, root, index);
-    let end = way.end;
-    let passed = way.passed;
-    match end {
-        Descent::At(leaf, rest, effects, prepares) => {
-            let taken = passed as u32 + levels;
+    match way.end {
+        Ok(Some((leaf, rest, effects, prepares))) => {
+            let taken = way.passed as u32 + levels;
             search_leaf(
                 leaves, g, view, effect, used, leaf, index, rest, effects, prepares, taken,
             )
         }
-        Descent::Nothing => Searched {
-            found: Search::Nothing,
+        Ok(None) => Searched {
+            found: Ok(None),
             examined: 0,
         },
-        Descent::Broken => Searched {
-            found: Search::Broken,
+        Err(Broken) => Searched {
+            found: Err(Broken),
             examined: 0,
         },
     }

@@ -1,5 +1,6 @@
 -- What `add_child` knows on its way and has at its returns, as laws over plain variables: w is the shape that the sizes make, t the three
 -- words of the top. Assumes nothing.
+use Rattle.std.specs.Prelude.{Some, None, Option}
 use mathlib.Core.Path.{◌≡◌, refl, sym, ap, ◌∙◌}
 use mathlib.Core.List.{List}
 use Prim.Native.Nat.{ℕ, ◌-◌, ◌*◌, ◌<◌, ◌≤◌}
@@ -9,8 +10,6 @@ use Rattle.model.specs.Lists.{part}
 use Rattle.model.specs.Node.{node_of, half}
 use Rattle.model.specs.Grow.{Areas, areas, linked, Grown, grown, link, link_half, split_node, add_to, above_of}
 use Rattle.model.specs.declared.shape.Shape.{Shape}
-use Rattle.model.specs.declared.shape.Place.{Place}
-use Rattle.model.specs.declared.shape.Place.TheVariants.{Slot, Missing}
 use Rattle.model_laws.specs.Grow.{half_bad, half_low, half_high}
 use Rattle.tree_links.specs.Fits.{AreasHold, NodeRoom}
 use Rattle.tree_links.specs.Tops.{top_in, grown_in}
@@ -19,7 +18,7 @@ use Rattle.tree_links.proofs.AddSteps.{GoodPlace, good_place, topped_by, add_mis
 
 -- g is the shape w, made anew
 module _ {w g : Shape} (e : g ≡ w) where
-  pub as_made : (used level p after new : ℕ) (a : Areas) (s q : Place) → s ≡ q → s ≡ standing g used level p after new a → q ≡ standing w used level p after new a
+  pub as_made : (used level p after new : ℕ) (a : Areas) (s q : Option ℕ) → s ≡ q → s ≡ standing g used level p after new a → q ≡ standing w used level p after new a
   as_made used level p after new a s q m r = sym m ∙ r ∙ ap (λ (h : Shape). standing h used level p after new a) e
 
   pub count_as : (p len : ℕ) (xs : List ℕ) → len ≡ get_or (part (p * g.size) g.size xs) 0 0 → len ≡ get_or (part (p * w.size) w.size xs) 0 0
@@ -30,7 +29,7 @@ module _ (w : Shape) (left : ℕ) (t : List ℕ) (level p after new : ℕ) (ls x
   abbrev pub added : Grown
   added = add_to w (above_of w left) (top_in t) level p after new (areas ls xs)
 
-  pub astray : Missing ≡ standing w (get_or t 0 0) level p after new (areas ls xs) → grown_in 9 t ls xs ≡ added
+  pub astray : None ≡ standing w (get_or t 0 0) level p after new (areas ls xs) → grown_in 9 t ls xs ≡ added
   astray s = add_missing w (above_of w left) (top_in t) level p after new (areas ls xs) s
 
   -- the place i is found, and inner node p has len slots in use
@@ -38,7 +37,7 @@ module _ (w : Shape) (left : ℕ) (t : List ℕ) (level p after new : ℕ) (ls x
     pub fits : AreasHold w (length ls) (length xs)
     pub used : get_or t 0 0 ≤ w.nodes
     pub three : length t ≡ 3
-    pub slot : Slot i ≡ standing w (get_or t 0 0) level p after new (areas ls xs)
+    pub slot : Some i ≡ standing w (get_or t 0 0) level p after new (areas ls xs)
     pub count : len ≡ get_or (part (p * w.size) w.size xs) 0 0
 
   -- node new gets its slot behind place at of inner node to; all is ls₁, xs₁ and u by then

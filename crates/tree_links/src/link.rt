@@ -1,4 +1,5 @@
 // A slot for a new node in an inner node that has room.
+ghost use Rattle.model.specs.Numbered.{broken_number};
 ghost use Rattle.std.specs.Prelude.{◌≡◌, ◌+◌, ◌*◌, ◌<◌, ◌≤◌, length, take};
 ghost use Rattle.model.specs.Node.{slot_for};
 ghost use Rattle.model.specs.State.{node_at};
@@ -9,6 +10,7 @@ ghost use Rattle.tree_links.specs.Fits.{AreasHold, NodeRoom};
 use crate::parts::{adopt_all, word};
 use model::number::NodeNo;
 use model::shape::Shape;
+use model::way::Broken;
 use tree_area::write::split_child;
 
 // The slot that stands for node k of an area in its parent.
@@ -43,9 +45,9 @@ pub fn link(
     p: NodeNo,
     i: usize,
     new: u32,
-) -> u32
+) -> Result<(), Broken>
     requires { AreasHold g (length leaves.old) (length inners.old) × (p.0 < g.nodes) × (new < g.nodes) × NodeRoom g p.0 i inners.old }
-    ensures { linked result (areas leaves.new inners.new) ≡ link g level p.0 i new (areas leaves.old inners.old) }
+    ensures { linked (broken_number result) (areas leaves.new inners.new) ≡ link g level p.0 i new (areas leaves.old inners.old) }
 {
     let k = p.0 as usize;
     let len = word(inners, g, k, 0) as usize;

@@ -1,4 +1,5 @@
 // One node of the area that a level names: its words, and where it stands.
+ghost use Rattle.model.specs.Numbered.{broken_number};
 ghost use Rattle.std.specs.Prelude.{◌≡◌, ◌+◌, ◌-◌, ◌*◌, ◌<◌, ◌≤◌, length, get_or, set};
 ghost use Rattle.model.specs.Lists.{part};
 ghost use Rattle.model.specs.Grow.{areas, area_of, adopt, linked, adopt_all};
@@ -6,15 +7,14 @@ ghost use Rattle.tree_links.specs.Fits.{AreasHold};
 
 use model::number::NodeNo;
 use model::shape::Shape;
+use model::way::Broken;
 
 // Word i of node k.
 pub fn word(area: &[u32], g: Shape, k: usize, i: usize) -> u32
     requires { (i < g.size) × (k * g.size + g.size ≤ length area.now) }
     ensures { result ≡ get_or (part (k * g.size) g.size area.now) i 0 }
 {
-    let size = g.size;
-    let at = k * size + i;
-    area[at]
+    area[k * g.size + i]
 }
 
 // Word i of node k of the area that the level names: leaves at level 1.
@@ -23,9 +23,10 @@ pub fn word_of(leaves: &[u32], inners: &[u32], g: Shape, level: u32, k: usize, i
     ensures { result ≡ get_or (part (k * g.size) g.size (area_of level (areas leaves.now inners.now))) i 0 }
 {
     if level == 1 {
-        return word(leaves, g, k, i);
+        word(leaves, g, k, i)
+    } else {
+        word(inners, g, k, i)
     }
-    word(inners, g, k, i)
 }
 
 // The part for one node of the area that the level names.
@@ -77,23 +78,16 @@ pub fn adopt_all(
     p: NodeNo,
     from: usize,
     to: usize,
-) -> u32
+) -> Result<(), Broken>
     requires { AreasHold g (length leaves.old) (length inners.old) × (p.0 < g.nodes) × (to ≤ g.fan) }
-    ensures { linked result (areas leaves.new inners.new) ≡ adopt_all g level p.0 (to - from) from (areas leaves.old inners.old) }
+    ensures { linked (broken_number result) (areas leaves.new inners.new) ≡ adopt_all g level p.0 (to - from) from (areas leaves.old inners.old) }
 {
-    let nodes = g.nodes;
-    let stride = g.stride;
-    let parent = p.0 as usize;
-    let mut i = from;
-    while i < to {
-        let next = i + 1;
-        let child = word(inners, g, parent, 3 + i * stride);
-        let k = child as usize;
-        if k >= nodes {
-            return 9;
+    for i in from..to {
+        let child = word(inners, g, p.0 as usize, 3 + i * g.stride) as usize;
+        if child >= g.nodes {
+            return Err(Broken);
         }
-        adopt(leaves, inners, g, level, k, p, i as u32);
-        i = next;
+        adopt(leaves, inners, g, level, child, p, i as u32);
     }
-    0
+    Ok(())
 }

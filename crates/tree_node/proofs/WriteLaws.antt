@@ -1,13 +1,13 @@
 -- A slot's words written one by one, as many as the slot has: two to four. Assumes nothing.
-use Rattle.std.proofs.Common.{◌≡◌, ℕ, zero, suc, ◌+◌, ◌-◌, ◌*◌, ◌%◌, ◌^◌, ◌<◌, ◌≤◌, Bool, true, false, cond, ltb, List, [], ◌∷◌, length, get_or, take, drop, set, sym, refl, ap, ◌∙◌, arith, length-drop, length-set, length-take, ltb-false, ltb-true}
+use Rattle.std.proofs.Common.{◌≡◌, ℕ, zero, suc, ◌+◌, ◌-◌, ◌*◌, ◌%◌, ◌^◌, ◌<◌, ◌≤◌, Bool, cond, List, [], ◌∷◌, length, get_or, take, drop, set, sym, refl, ap, ◌∙◌, arith, length-drop, length-set, length-take}
 use mathlib.Core.List.{zip_with}
 use Rattle.model.specs.Lists.{part, put_at}
 use Rattle.model_laws.specs.Words.{part_none, part_front, set_put, put_on, put_next, get_d_after}
-use Rattle.model_laws.specs.Changes.{lengths_words, change_words, length_lengths}
+use Rattle.model_laws.specs.Changes.{change_words, length_lengths}
 use Rattle.model_laws.specs.Lists.{row_end, length_zip}
 use Rattle.model_laws.specs.Nodes.{formed, node_words}
 use Rattle.model_laws.specs.Formed.{formed_lengths}
-use Rattle.model.specs.Node.{node_of, words_of, with_lengths, lengths_at, minus, wrap, inserted, child_split, Node}
+use Rattle.model.specs.Node.{node_of, words_of, with_lengths, lengths_at, plus, minus, wrap, inserted, child_split, Node}
 
 -- the words of a lent array
 pub three_words : (x : List ℕ) → length x ≡ 3 → get_or x 0 0 ∷ get_or x 1 0 ∷ get_or x 2 0 ∷ [] ≡ x
@@ -20,17 +20,6 @@ three_words (a ∷ b ∷ d ∷ u ∷ x) e = absurd (omega arith)
 pub four_words : (x : List ℕ) → length x ≡ 4 → get_or x 0 0 ∷ get_or x 1 0 ∷ get_or x 2 0 ∷ get_or x 3 0 ∷ [] ≡ x
 four_words [] e = absurd (omega arith)
 four_words (a ∷ x) e = ap (λ (l : List ℕ). a ∷ l) (three_words x (omega arith))
-
--- the words of slots i up to n are even in number where a slot has two
-pub even_two : (i n s : ℕ) → 2 ≤ s → (3 + n * s - (3 + i * s)) % 2 ≤ s - 2
-even_two i n s k = go (ltb 2 s) refl
-  where
-    go : (t : Bool) → ltb 2 s ≡ t → (3 + n * s - (3 + i * s)) % 2 ≤ s - 2
-    go true e = let z = ltb-true 2 s e in omega (arith, z)
-    go false e =
-        let z = ltb-false 2 s e in
-        let two : s ≡ 2 = omega (arith, z) in
-        rw two (omega arith)
 
 -- as many of them as a slot has
 pub front_length : (s : ℕ) (x : List ℕ) → s ≤ length x → length (take s x) ≡ s
@@ -52,34 +41,61 @@ module _ (q q2 q3 : ℕ) (ws two three : List ℕ) (e2 : q2 ≡ q + 1) (e3 : q3 
       ∙ put_on q q3 d (a ∷ b ∷ []) ws e3 (omega arith)
   written (suc (suc (suc (suc (suc s))))) a b d h g l t2 n2 t3 n3 = absurd (omega arith)
 
--- a slot of four words, of which s count
-front : (s : ℕ) (x : List ℕ) → length x ≡ 4 → 0 < s → get_or x 0 0 ∷ take (s - 1) (get_or x 1 0 ∷ get_or x 2 0 ∷ get_or x 3 0 ∷ []) ≡ take s x
+-- the lengths of the slot x
+pub lengths_put : (s p : ℕ) (x ws two three : List ℕ) → length x ≡ 4 → 2 ≤ s → s ≤ 4 → p + s ≤ length ws
+    → (2 < s → two ≡ set (set ws (p + 1) (get_or x 1 0)) (p + 2) (get_or x 2 0)) → (s ≤ 2 → two ≡ set ws (p + 1) (get_or x 1 0))
+    → (3 < s → three ≡ set two (p + 3) (get_or x 3 0)) → (s ≤ 3 → three ≡ two) → three ≡ put_at (p + 1) (take (s - 1) (drop 1 x)) ws
+lengths_put s p x ws two three ex h g l t2 n2 t3 n3 =
+    written (p + 1) (p + 2) (p + 3) ws two three (omega arith) (omega arith) s (get_or x 1 0) (get_or x 2 0) (get_or x 3 0) h g (omega arith) t2 n2 t3 n3
+    ∙ ap (λ (z : List ℕ). put_at (p + 1) (take (s - 1) (drop 1 z)) ws) (four_words x ex)
+
+-- the child before them
+front : (s : ℕ) (x : List ℕ) → 0 < length x → 0 < s → get_or x 0 0 ∷ take (s - 1) (drop 1 x) ≡ take s x
 front zero x e h = absurd (omega arith)
-front (suc n) x e h = let z : suc n - 1 ≡ n = omega arith in rw z (ap (take (suc n)) (four_words x e))
+front (suc n) [] e h = absurd (omega arith)
+front (suc n) (a ∷ x) e h = let z : suc n - 1 ≡ n = omega arith in rw z refl
 
--- the slot x written from word p on
-pub slot_put : (s p : ℕ) (x ws two three : List ℕ) → length x ≡ 4 → 2 ≤ s → s ≤ 4 → p + s ≤ length ws
-    → (2 < s → two ≡ set (set (set ws p (get_or x 0 0)) (p + 1) (get_or x 1 0)) (p + 2) (get_or x 2 0)) → (s ≤ 2 → two ≡ set (set ws p (get_or x 0 0)) (p + 1) (get_or x 1 0))
-    → (3 < s → three ≡ set two (p + 3) (get_or x 3 0)) → (s ≤ 3 → three ≡ two) → three ≡ put_at p (take s x) ws
-slot_put s p x ws two three ex h g l t2 n2 t3 n3 =
-    let ys : List ℕ = take (s - 1) (get_or x 1 0 ∷ get_or x 2 0 ∷ get_or x 3 0 ∷ []) in
-    let k : length (set ws p (get_or x 0 0)) ≡ length ws = length-set ws p (get_or x 0 0) in
-    let ly : length ys ≡ s - 1 = front_length (s - 1) (get_or x 1 0 ∷ get_or x 2 0 ∷ get_or x 3 0 ∷ []) (omega arith) in
-    written (p + 1) (p + 2) (p + 3) (set ws p (get_or x 0 0)) two three (omega arith) (omega arith) s (get_or x 1 0) (get_or x 2 0) (get_or x 3 0) h g (omega arith) t2 n2 t3 n3
-    ∙ ap (put_at (p + 1) ys) (set_put p (get_or x 0 0) ws (omega arith))
+pub slot_put : (s p : ℕ) (x ws : List ℕ) → length x ≡ 4 → 0 < s → s ≤ 4 → p + s ≤ length ws → put_at (p + 1) (take (s - 1) (drop 1 x)) (set ws p (get_or x 0 0)) ≡ put_at p (take s x) ws
+slot_put s p x ws ex h g l =
+    let ys : List ℕ = take (s - 1) (drop 1 x) in
+    let ly : length ys ≡ s - 1 = front_length (s - 1) (drop 1 x) (rw length-drop (omega arith)) in
+    ap (put_at (p + 1) ys) (set_put p (get_or x 0 0) ws (omega arith))
     ∙ put_next p (p + 1) (get_or x 0 0 ∷ []) ys ws refl (omega arith)
-    ∙ ap (λ (z : List ℕ). put_at p z ws) (front s x ex (omega arith))
+    ∙ ap (λ (z : List ℕ). put_at p z ws) (front s x (omega arith) h)
 
--- the lengths of the slot x written into slot i
-pub lengths_put : (s fan i : ℕ) (x ws two three : List ℕ) → length ws ≡ 3 + fan * s → i < fan → length x ≡ 4 → 2 ≤ s → s ≤ 4
-    → (2 < s → two ≡ set (set ws (3 + i * s + 1) (get_or x 1 0)) (3 + i * s + 2) (get_or x 2 0)) → (s ≤ 2 → two ≡ set ws (3 + i * s + 1) (get_or x 1 0))
-    → (3 < s → three ≡ set two (3 + i * s + 3) (get_or x 3 0)) → (s ≤ 3 → three ≡ two) → three ≡ words_of (with_lengths i (take (s - 1) (drop 1 x)) (node_of s fan ws))
-lengths_put s fan i x ws two three e hi ex h g t2 n2 t3 n3 =
-    let ys : List ℕ = get_or x 1 0 ∷ get_or x 2 0 ∷ get_or x 3 0 ∷ [] in
-    let ly : length (take (s - 1) ys) ≡ s - 1 = front_length (s - 1) ys (omega arith) in
-    written (3 + i * s + 1) (3 + i * s + 2) (3 + i * s + 3) ws two three (omega arith) (omega arith) s (get_or x 1 0) (get_or x 2 0) (get_or x 3 0) h g (omega (arith, row_end i fan s hi)) t2 n2 t3 n3
-    ∙ lengths_words s fan ws e i (take (s - 1) ys) hi (omega arith)
-    ∙ ap (λ (z : List ℕ). words_of (with_lengths i (take (s - 1) (drop 1 z)) (node_of s fan ws))) (four_words x ex)
+-- sums with opposites modulo 2 ^ 32 in the place of differences
+abbrev added : ℕ → ℕ → ℕ
+added a n = wrap (a + n)
+
+abbrev taken : ℕ → ℕ → ℕ
+taken a y = wrap (a + (2 ^ 32 - y))
+
+pub opposite : (n y : ℕ) → (n + y) % 2 ^ 32 ≡ 0 → n < 2 ^ 32 → y < 2 ^ 32 → (a : ℕ) → wrap (a + n) ≡ wrap (a + (2 ^ 32 - y))
+opposite n y e h g a = omega arith
+
+none : (k : ℕ) (ls : List ℕ) → zip_with added ls (take k []) ≡ zip_with taken ls (take k [])
+unfolding zip_with
+none zero [] = refl
+none zero (l ∷ ls) = refl
+none (suc k) [] = refl
+none (suc k) (l ∷ ls) = refl
+
+one : (n y : ℕ) (ns ys : List ℕ) → ((a : ℕ) → added a n ≡ taken a y) → ((ls : List ℕ) → zip_with added ls ns ≡ zip_with taken ls ys) → (ls : List ℕ) → zip_with added ls (n ∷ ns) ≡ zip_with taken ls (y ∷ ys)
+unfolding zip_with
+one n y ns ys h r [] = refl
+one n y ns ys h r (l ∷ ls) = rw (h l, r ls)
+
+-- those of the lengths of the slot x, as many as a slot has
+module _ (x : List ℕ) (n m u : ℕ) (ex : length x ≡ 4) (hn : (a : ℕ) → added a n ≡ taken a (get_or x 1 0)) (hm : (a : ℕ) → added a m ≡ taken a (get_or x 2 0)) (hu : (a : ℕ) → added a u ≡ taken a (get_or x 3 0)) where
+  some : (k : ℕ) (ls : List ℕ) → zip_with added ls (take k (n ∷ m ∷ u ∷ [])) ≡ zip_with taken ls (take k (get_or x 1 0 ∷ get_or x 2 0 ∷ get_or x 3 0 ∷ []))
+  some zero = none 0
+  some (suc zero) = one n _ _ _ hn (none 0)
+  some (suc (suc zero)) = one n _ _ _ hn (one m _ _ _ hm (none 0))
+  some (suc (suc (suc k))) = one n _ _ _ hn (one m _ _ _ hm (one u _ _ _ hu (none k)))
+
+  pub less_all : (k : ℕ) (ls : List ℕ) → plus ls (take k (n ∷ m ∷ u ∷ [])) ≡ minus ls (take k (drop 1 x))
+  unfolding plus minus
+  less_all k ls = some k ls ∙ ap (λ (z : List ℕ). zip_with taken ls (take k (drop 1 z))) (four_words x ex)
 
 -- a word behind the one that is written
 later : (q r a : ℕ) (ws : List ℕ) → q < r → q < length ws → get_or (set ws q a) r 0 ≡ get_or ws r 0
@@ -102,13 +118,13 @@ zipped f q q2 q3 a b d ws e2 e3 (suc (suc (suc (suc zero)))) h g l =
 zipped f q q2 q3 a b d ws e2 e3 (suc (suc (suc (suc (suc s))))) h g l = absurd (omega arith)
 
 -- each length of slot i changed by one of ys
-pub lengths_changed : (f : ℕ → ℕ → ℕ) (s fan i a b d u : ℕ) (ys ws two three : List ℕ) → length ws ≡ 3 + fan * s → i < fan → a ∷ b ∷ d ∷ [] ≡ ys → 2 ≤ s → s ≤ 4
-    → u ≡ f (get_or ws (3 + i * s + 1) 0) a
-    → (2 < s → two ≡ set (set ws (3 + i * s + 1) u) (3 + i * s + 2) (f (get_or (set ws (3 + i * s + 1) u) (3 + i * s + 2) 0) b)) → (s ≤ 2 → two ≡ set ws (3 + i * s + 1) u)
+pub lengths_changed : (f : ℕ → ℕ → ℕ) (s fan i a b d : ℕ) (ys ws two three : List ℕ) → length ws ≡ 3 + fan * s → i < fan → a ∷ b ∷ d ∷ [] ≡ ys → 2 ≤ s → s ≤ 4
+    → (2 < s → two ≡ set (set ws (3 + i * s + 1) (f (get_or ws (3 + i * s + 1) 0) a)) (3 + i * s + 2) (f (get_or (set ws (3 + i * s + 1) (f (get_or ws (3 + i * s + 1) 0) a)) (3 + i * s + 2) 0) b)) → (s ≤ 2 → two ≡ set ws (3 + i * s + 1) (f (get_or ws (3 + i * s + 1) 0) a))
     → (3 < s → three ≡ set two (3 + i * s + 3) (f (get_or two (3 + i * s + 3) 0) d)) → (s ≤ 3 → three ≡ two)
     → three ≡ words_of (with_lengths i (zip_with f (lengths_at i (node_of s fan ws).slots) (take (s - 1) ys)) (node_of s fan ws))
-lengths_changed f s fan i a b d u ys ws two three e hi ey h g eu t2 n2 t3 n3 =
+lengths_changed f s fan i a b d ys ws two three e hi ey h g t2 n2 t3 n3 =
     let q : ℕ = 3 + i * s + 1 in
+    let u : ℕ = f (get_or ws q 0) a in
     let q2 : ℕ = 3 + i * s + 2 in
     let q3 : ℕ = 3 + i * s + 3 in
     let l : q + (s - 1) ≤ length ws = omega (arith, row_end i fan s hi) in
@@ -118,7 +134,6 @@ lengths_changed f s fan i a b d u ys ws two three e hi ey h g eu t2 n2 t3 n3 =
     ∙ later q2 q3 (f (get_or ws q2 0) b) (set ws q u) (omega arith) (omega arith) ∙ later q q3 u ws (omega arith) (omega arith) in
     let ly : length (take (s - 1) (a ∷ b ∷ d ∷ [])) ≡ s - 1 = front_length (s - 1) (a ∷ b ∷ d ∷ []) (omega arith) in
     written q q2 q3 ws two three (omega arith) (omega arith) s u (f (get_or ws q2 0) b) (f (get_or ws q3 0) d) h g l second n2 (λ m. t3 m ∙ ap (λ (z : ℕ). set two q3 (f z d)) (third m)) n3
-    ∙ ap (λ (z : ℕ). put_at q (take (s - 1) (z ∷ f (get_or ws q2 0) b ∷ f (get_or ws q3 0) d ∷ [])) ws) eu
     ∙ ap (λ (z : List ℕ). put_at q z ws) (zipped f q q2 q3 a b d ws (omega arith) (omega arith) s h g l)
     ∙ ap (λ (n : ℕ). put_at q (zip_with f (part q n ws) (take (s - 1) (a ∷ b ∷ d ∷ []))) ws) (sym ly)
     ∙ change_words s fan ws e f i (take (s - 1) (a ∷ b ∷ d ∷ [])) hi (omega arith)

@@ -3,28 +3,20 @@ ghost use Rattle.std.specs.Prelude.{◌≡◌, ◌+◌, ◌^◌, ◌<◌, ◌≤
 ghost use Rattle.model.specs.Node.{node_of, used, total, start, find_from, index_from, scan, slot_for, wrap};
 ghost use Rattle.tree_node.specs.Shaped.{Shaped};
 
-use model::shape::{Found, Place, Scan, Shape};
+use model::shape::{Scan, Shape};
 
-// A word as a wider number, in which no sum over a node wraps.
-fn wide(x: u32) -> u64
-    ensures { result ≡ x }
-{
-    x as u64
-}
-
-// The lengths before slot i (Node::start): at most 32 words.
+// The lengths before slot i (Node::start): at most 32 words. Both sums are called for few slots, and keep their place by hand: of
+// 3 + k * stride LLVM makes a product behind its loop over four slots. A step_by passes the words between one by one, with a test each.
 pub fn start(node: &[u32], g: Shape, view: usize, i: usize) -> u64
     requires { Shaped g × (length node.now ≡ g.size) × (view + 1 < g.stride) × (i ≤ g.fan) }
     ensures { (result ≡ start view i (node_of g.stride g.fan node.now)) × (result ≤ 137438953440) }
 {
     let stride = g.stride;
-    let mut sum: u64 = 0;
+    let mut sum = 0;
     let mut p = 3 + view + 1;
-    let mut k: usize = 0;
-    while k < i {
-        sum += wide(node[p]);
+    for _ in 0..i {
+        sum += u64::from(node[p]);
         p += stride;
-        k += 1;
     }
     sum
 }
@@ -37,11 +29,9 @@ pub fn start_low(node: &[u32], g: Shape, view: usize, i: usize) -> u32
     let stride = g.stride;
     let mut sum: u32 = 0;
     let mut p = 3 + view + 1;
-    let mut k: usize = 0;
-    while k < i {
-        sum = std::num::wrapping_add_u32(sum, node[p]);
+    for _ in 0..i {
+        sum = sum.wrapping_add(node[p]);
         p += stride;
-        k += 1;
     }
     sum
 }
@@ -53,10 +43,7 @@ pub fn used_total(node: &[u32], g: Shape, view: usize) -> u64
 {
     let fan = g.fan;
     let len = node[0] as usize;
-    if len < fan {
-        return start(node, g, view, len);
-    }
-    start(node, g, view, fan)
+    start(node, g, view, len.min(fan))
 }
 
 // The first slot from slot `from` on that holds position `index` of view, counted from there; `effects` and the effect
@@ -70,7 +57,7 @@ pub fn find(
     index: u32,
     effects: u64,
     prepares: u64,
-) -> Found
+) -> Option<(usize, u32, u64, u64)>
     requires { Shaped g × (length node.now ≡ g.size) × (view + 1 < g.stride) × (effect + 1 < g.stride) × (slice_index node.now 0 ≤ g.fan) × (from ≤ slice_index node.now 0) × (effects ≤ 2 ^ 48) × (prepares ≤ 2 ^ 48) }
     ensures { result ≡ find_from view effect from index effects prepares (drop from (used (node_of g.stride g.fan node.now))) }
 {
@@ -79,20 +66,17 @@ pub fn find(
     let mut rest = index;
     let mut before = effects;
     let mut prior = prepares;
-    let mut p = 3 + from * stride + 1;
-    let mut k = from;
-    while k < len {
+    for k in from..len {
+        let p = 3 + k * stride + 1;
         let here = node[p + view];
         if rest < here {
-            return Found::At(k, rest, before, prior);
+            return Some((k, rest, before, prior));
         }
         rest -= here;
-        before += wide(node[p + effect]);
-        prior += wide(node[p]);
-        p += stride;
-        k += 1;
+        before += u64::from(node[p + effect]);
+        prior += u64::from(node[p]);
     }
-    Found::Nothing
+    None
 }
 
 // The same from the first slot on, in prepare: its lengths before the slot are what the index has lost.
@@ -103,7 +87,7 @@ fn find_prepare(
     index: u32,
     effects: u64,
     prepares: u64,
-) -> Found
+) -> Option<(usize, u32, u64, u64)>
     requires { Shaped g × (length node.now ≡ g.size) × (effect + 1 < g.stride) × (slice_index node.now 0 ≤ g.fan) × (effects ≤ 2 ^ 48) × (prepares ≤ 2 ^ 48) }
     ensures { result ≡ find_from 0 effect 0 index effects prepares (used (node_of g.stride g.fan node.now)) }
 {
@@ -111,22 +95,20 @@ fn find_prepare(
     let len = node[0] as usize;
     let mut rest = index;
     let mut sum = effects;
-    let mut p: usize = 4;
-    let mut k: usize = 0;
-    while k < len {
+    for k in 0..len {
+        let p = 3 + k * stride + 1;
         let here = node[p];
         if rest < here {
-            return Found::At(k, rest, sum, prepares + wide(index - rest));
+            return Some((k, rest, sum, prepares + u64::from(index - rest)));
         }
         rest -= here;
-        sum += wide(node[p + effect]);
-        p += stride;
-        k += 1;
+        sum += u64::from(node[p + effect]);
     }
-    Found::Nothing
+    None
 }
 
-// The same in effect.
+// The same in effect. The two stay apart: one loop for both would answer three numbers, put together in either way by find_first,
+// and need a definition of its own.
 fn find_effect(
     node: &[u32],
     g: Shape,
@@ -134,7 +116,7 @@ fn find_effect(
     index: u32,
     effects: u64,
     prepares: u64,
-) -> Found
+) -> Option<(usize, u32, u64, u64)>
     requires { Shaped g × (length node.now ≡ g.size) × (effect + 1 < g.stride) × (slice_index node.now 0 ≤ g.fan) × (effects ≤ 2 ^ 48) × (prepares ≤ 2 ^ 48) }
     ensures { result ≡ find_from effect effect 0 index effects prepares (used (node_of g.stride g.fan node.now)) }
 {
@@ -142,19 +124,16 @@ fn find_effect(
     let len = node[0] as usize;
     let mut rest = index;
     let mut sum = prepares;
-    let mut p: usize = 4;
-    let mut k: usize = 0;
-    while k < len {
+    for k in 0..len {
+        let p = 3 + k * stride + 1;
         let here = node[p + effect];
         if rest < here {
-            return Found::At(k, rest, effects + wide(index - rest), sum);
+            return Some((k, rest, effects + u64::from(index - rest), sum));
         }
         rest -= here;
-        sum += wide(node[p]);
-        p += stride;
-        k += 1;
+        sum += u64::from(node[p]);
     }
-    Found::Nothing
+    None
 }
 
 // The same in any view: two sums a slot are faster than three.
@@ -166,17 +145,17 @@ pub fn find_first(
     index: u32,
     effects: u64,
     prepares: u64,
-) -> Found
+) -> Option<(usize, u32, u64, u64)>
     requires { Shaped g × (length node.now ≡ g.size) × (view + 1 < g.stride) × (effect + 1 < g.stride) × (slice_index node.now 0 ≤ g.fan) × (effects ≤ 2 ^ 48) × (prepares ≤ 2 ^ 48) }
     ensures { result ≡ find_from view effect 0 index effects prepares (used (node_of g.stride g.fan node.now)) }
 {
     if view == 0 {
-        return find_prepare(node, g, effect, index, effects, prepares);
+        find_prepare(node, g, effect, index, effects, prepares)
+    } else if view == effect {
+        find_effect(node, g, effect, index, effects, prepares)
+    } else {
+        find(node, g, view, effect, 0, index, effects, prepares)
     }
-    if view == effect {
-        return find_effect(node, g, effect, index, effects, prepares);
-    }
-    find(node, g, view, effect, 0, index, effects, prepares)
 }
 
 // The slot that holds the child, and how many slots were read to know it (Node::index_of): the loop ends where the child is met.
@@ -186,22 +165,18 @@ pub fn index_of(node: &[u32], g: Shape, child: u32) -> Scan
 {
     let stride = g.stride;
     let len = node[0] as usize;
-    let mut p: usize = 3;
-    let mut read: usize = 0;
-    while read < len {
-        let here = node[p];
-        read += 1;
+    for k in 0..len {
+        let here = node[3 + k * stride];
         if here == child {
             return Scan {
-                place: Place::Slot(read - 1),
-                read: read,
+                place: Some(k),
+                read: k + 1,
             };
         }
-        p += stride;
     }
     Scan {
-        place: Place::Missing,
-        read: read,
+        place: None,
+        read: len,
     }
 }
 
@@ -216,21 +191,15 @@ pub fn slot_for(node: &[u32], g: Shape, k: u32, x: &mut [u32; 4])
     let mut first: u32 = 0;
     let mut second: u32 = 0;
     let mut third: u32 = 0;
-    let mut p: usize = 4;
-    let mut i: usize = 0;
-    while i < fan {
-        first = std::num::wrapping_add_u32(first, node[p]);
+    for i in 0..fan {
+        let p = 3 + i * stride + 1;
+        first = first.wrapping_add(node[p]);
         if 2 < stride {
-            second = std::num::wrapping_add_u32(second, node[p + 1]);
+            second = second.wrapping_add(node[p + 1]);
         }
         if 3 < stride {
-            third = std::num::wrapping_add_u32(third, node[p + 2]);
+            third = third.wrapping_add(node[p + 2]);
         }
-        p += stride;
-        i += 1;
     }
-    x[0] = k;
-    x[1] = first;
-    x[2] = second;
-    x[3] = third;
+    *x = [k, first, second, third];
 }

@@ -27,10 +27,8 @@ fn keep_in(area: &mut [u32], g: Shape, k: usize, m: usize, parent: u32, at: u32)
     requires { Shaped g × (k * g.size + g.size ≤ length area.old) × (m ≤ g.fan) }
     ensures { area.new ≡ put_node g k (kept g.stride g.fan m parent at (node_at g k area.old)) area.old }
 {
-    let size = g.size;
-    let a = k * size;
-    let e = a + size;
-    keep(&mut area[a..e], g, m, parent, at);
+    let a = k * g.size;
+    keep(&mut area[a..a + g.size], g, m, parent, at);
 }
 
 // A node with the one slot x (Node::new, then Node::insert).
@@ -54,6 +52,7 @@ pub fn new_two(node: &mut [u32], g: Shape, parent: u32, x: &[u32; 4], y: &[u32; 
 }
 
 // The upper half of the full node k goes to the new node j (Node::split_off); of node k only the slots and their number change.
+#[inline(always)]
 pub fn split_off(area: &mut [u32], views: usize, fan: usize, nodes: usize, k: usize, j: usize)
     requires { Shaped (shape_for views fan nodes) × (k < j) × (j * (shape_for views fan nodes).size + (shape_for views fan nodes).size ≤ length area.old) }
     ensures { area.new ≡ put_node (shape_for views fan nodes) k (lower_half (suc views) fan (node_at (shape_for views fan nodes) k area.old)) (put_node (shape_for views fan nodes) j (upper_half (suc views) fan (node_at (shape_for views fan nodes) k area.old)) area.old) }

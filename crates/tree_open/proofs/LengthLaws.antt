@@ -9,7 +9,7 @@ use lib.Seq.{take_all}
 use lib.Dec.{ltb}
 use borrow.Author.Tests.{ltb-true, ltb-false, lt-ltb, le-ltb}
 use Rattle.model.specs.Lists.{some, part, range}
-use Rattle.model.specs.Kind.{kind, kind_of, too_many_lines, crossed}
+use Rattle.model.specs.Kind.{kind_of, crossed}
 use Rattle.model.specs.Length.{lengths_in}
 use Rattle.model.specs.Node.{slots_from, node_of, lengths, length_in, used}
 use Rattle.model.specs.State.{node_at}
@@ -81,29 +81,6 @@ module _ (g : Shape) (xs : List ℕ) (k i : ℕ) (a : AreaHolds g (length xs)) (
       → lengths_in (g.stride - 1) z ≡ lengths (get_or (node_at g k xs).slots i [])
   lengths_read x y z p four e = put_lengths (get_or (node_at g k xs).slots i []) p e g.stride x y z four width a.shaped.columns a.shaped.narrow
 
--- the line ends of lengths that are lent as four words, of which so many views count
-module _ (views effect : ℕ) (x : List ℕ) where
-  pub lines_many : 2 < views → (b : Bool) → b ≡ ltb 65535 (get_or x 3 0) → b ≡ too_many_lines (kind views effect) (lengths_in views x)
-  unfolding part
-  lines_many h b e = e ∙ sym (rw (lt-ltb 2 views h, get_d_part 1 views 2 x h))
-
-  pub lines_none : views ≤ 2 → false ≡ too_many_lines (kind views effect) (lengths_in views x)
-  lines_none h = sym (rw (le-ltb 2 views h))
-
--- a lowest above a highest length; the lengths are lent as four words
-module _ (x : List ℕ) where
-  pub crossed_two : (n : ℕ) (b : Bool) → 1 < n → b ≡ true → ltb (get_or x 2 0) (get_or x 1 0) ≡ crossed (kind_of n 0 b) (lengths_in n x)
-  unfolding part
-  crossed_two n b h e = sym (rw (e, get_d_part 1 n 1 x h, get_d_part 1 n 0 x (omega arith)))
-
-  pub crossed_one : length x ≡ 4 → (n : ℕ) (b : Bool) → 1 ≤ n → n ≤ 1 → b ≡ true → ltb 0 (get_or x 1 0) ≡ crossed (kind_of n 0 b) (lengths_in n x)
-  crossed_one four zero b h g e = absurd (omega arith)
-  crossed_one four (suc zero) b h g e = sym (rw (e, behind_three x four))
-  crossed_one four (suc (suc n)) b h g e = absurd (omega arith)
-
-  pub crossed_none : (n : ℕ) (b : Bool) → b ≡ false → false ≡ crossed (kind_of n 0 b) (lengths_in n x)
-  crossed_none n b e = sym (rw e)
-
 -- what is left of an entry, length by length
 less_words : (n o₁ o₂ o₃ g₁ g₂ g₃ : ℕ) → n ≤ 3 → take n ((o₁ - g₁) ∷ (o₂ - g₂) ∷ (o₃ - g₃) ∷ []) ≡ zip_with ◌-◌ (take n (o₁ ∷ o₂ ∷ o₃ ∷ [])) (take n (g₁ ∷ g₂ ∷ g₃ ∷ []))
 unfolding zip_with
@@ -114,9 +91,6 @@ less_words (suc (suc (suc zero))) o₁ o₂ o₃ g₁ g₂ g₃ h = refl
 less_words (suc (suc (suc (suc n)))) o₁ o₂ o₃ g₁ g₂ g₃ h = absurd (omega arith)
 
 module _ (n : ℕ) (ordered : Bool) (few : n ≤ 3) (given own : List ℕ) (four : length given ≡ 4) (four' : length own ≡ 4) (m : Bool) (em : m ≡ crossed (kind_of n 0 ordered) (lengths_in n given)) where
-  pub crossed_given : m ≡ true → true ≡ (crossed_parts (kind_of n 0 ordered) (lengths_in n given) (lengths_in n own)).applies
-  crossed_given e = sym (rw (sym em ∙ e))
-
   pub crossed_left : m ≡ false → (a b c : ℕ) → a ≡ get_or own 1 0 - get_or given 1 0 → b ≡ get_or own 2 0 - get_or given 2 0 → c ≡ get_or own 3 0 - get_or given 3 0
       → (r : Bool) → r ≡ crossed (kind_of n 0 ordered) (lengths_in n (0 ∷ a ∷ b ∷ c ∷ [])) → r ≡ (crossed_parts (kind_of n 0 ordered) (lengths_in n given) (lengths_in n own)).applies
   crossed_left e a b c ea eb ec r er =

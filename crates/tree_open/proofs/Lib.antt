@@ -1,6 +1,7 @@
 pub mod Bools
 pub mod Quotient
 pub mod Causes
+pub mod Refusals
 pub mod OpenLaws
 pub mod ReadyLaws
 pub mod CursorLaws

@@ -1,10 +1,11 @@
 -- What the first tests of a call answer. Assumes nothing.
+use Rattle.model.specs.Numbered.{Numbered}
+use Rattle.std.specs.Prelude.{Ok, Err}
 use mathlib.Core.Path.{◌≡◌, refl, sym, ap, ◌∙◌}
 use mathlib.Core.Bool.{Bool, true, false}
 use mathlib.Core.List.{List, [], ◌∷◌}
-use Prim.Native.Nat.{ℕ, suc, ◌*◌, ◌≤◌}
+use Prim.Native.Nat.{ℕ, suc, ◌≤◌}
 use native.Mathlib.Omega.{arith}
-use native.Mathlib.Nat.{mul-le-mul}
 use borrow.Author.Tests.{ltb-false}
 use Rattle.model.specs.Kind.{stride}
 use Rattle.model.specs.Lists.{Cause, All}
@@ -15,10 +16,8 @@ use Rattle.model.specs.declared.shape.Kind.{Kind}
 use Rattle.model.specs.declared.shape.Shape.{Shape}
 use Rattle.tree_node.specs.Shaped.{Shaped}
 use Rattle.tree_open.proofs.Bools.{or_false}
-use Rattle.tree_open.proofs.Causes.{opened_first, opened_next, opened_none, opened_stop, opened_more, good_shape, Numbered}
+use Rattle.tree_open.proofs.Causes.{opened_first, opened_next, opened_none, opened_stop, opened_more, good_shape, Positive}
 use Rattle.tree_open.specs.Open.{opened_by}
-use Rattle.tree_open.specs.declared.open.Opened.{Opened}
-use Rattle.tree_open.specs.declared.open.Opened.TheVariants.{Good, Refused}
 
 pub record Sized (fan limit : ℕ) : Type 0 where
   pub fan_least : 4 ≤ fan
@@ -33,14 +32,6 @@ sized fan limit e =
     let q = or_false _ _ p.0 in
     record { fan_least = ltb-false fan 4 q.0; fan_most = ltb-false 32 fan q.1; limit_least = ltb-false limit 1 p.1; limit_most = ltb-false 65536 limit o.1 }
 
--- the words of all nodes are few
-pub few_words : (g : Shape) → Shaped g → g.nodes * g.size ≤ 65536 * 131
-few_words g h =
-    let a = h.words in
-    let b : g.fan * g.stride ≤ 32 * 4 = mul-le-mul h.few h.narrow in
-    let c : g.size ≤ 131 = omega arith in
-    mul-le-mul h.areas c
-
 -- the sizes of everything, from the nodes of a good fan and limit
 pub made : (views fan limit nodes : ℕ) (r : Shape) → r ≡ shape_for views fan nodes → (nodes ≡ nodes_for fan limit) × (nodes ≤ 65536)
     → (1 ≤ views) × (views ≤ 3) × (4 ≤ fan) × (fan ≤ 32) × (limit ≤ 65536) → (r ≡ shape (suc views) fan limit) × Shaped r
@@ -52,34 +43,34 @@ made views fan limit nodes r e n p = (
 -- what `open_areas` answers
 module _ (K : Kind) (fan limit : ℕ) (ls xs hs : List ℕ) (g : Shape) (b t : Bool) (eb : b ≡ (bad_size fan limit).applies) (nb : b ≡ false)
     (eg : g ≡ shape (stride K) fan limit) (et : t ≡ (too_short g limit ls xs hs).applies) where
-  pub short_areas : t ≡ true → Refused 2 ≡ opened_by (area_causes K fan limit ls xs hs) (shape (stride K) fan limit)
+  pub short_areas : t ≡ true → Err 2 ≡ opened_by (area_causes K fan limit ls xs hs) (shape (stride K) fan limit)
   short_areas e =
       sym (opened_next 1 _ _ _ (sym eb ∙ nb) ∙ opened_first 1 _ [] _ (ap (λ (x : Shape). (too_short x limit ls xs hs).applies) (sym eg) ∙ sym et ∙ e))
 
-  pub long_areas : t ≡ false → Good g ≡ opened_by (area_causes K fan limit ls xs hs) (shape (stride K) fan limit)
+  pub long_areas : t ≡ false → Ok g ≡ opened_by (area_causes K fan limit ls xs hs) (shape (stride K) fan limit)
   long_areas e =
-      ap Good eg
+      ap Ok eg
       ∙ sym (opened_next 1 _ _ _ (sym eb ∙ nb) ∙ opened_next 2 _ [] _ (ap (λ (x : Shape). (too_short x limit ls xs hs).applies) (sym eg) ∙ sym et ∙ e) ∙ opened_none _)
 
 -- the causes that the areas give, in every call that reads them
 abbrev pub areas_of : Kind → State → List Cause
 areas_of K s = area_causes K s.head.fan s.head.limit s.leaves s.inners s.homes
 
-pub areas_numbered : (K : Kind) (s : State) → Numbered (areas_of K s)
+pub areas_numbered : (K : Kind) (s : State) → Positive (areas_of K s)
 unfolding All
 areas_numbered K s = (omega arith, (omega arith, tt))
 
-pub opening_numbered : (K : Kind) (s : State) → Numbered (opening K s)
+pub opening_numbered : (K : Kind) (s : State) → Positive (opening K s)
 unfolding opening All
 opening_numbered K s = (omega arith, (omega arith, (omega arith, tt)))
 
 -- what `open` answers, from what `open_areas` answered
-module _ (K : Kind) (s : State) (o : Opened) (e : o ≡ opened_by (areas_of K s) (shape_of K s.head)) where
-  pub open_refused : (n : ℕ) → o ≡ Refused n → Refused n ≡ opened_by (opening K s) (shape_of K s.head)
+module _ (K : Kind) (s : State) (o : Numbered Shape) (e : o ≡ opened_by (areas_of K s) (shape_of K s.head)) where
+  pub open_refused : (n : ℕ) → o ≡ Err n → Err n ≡ opened_by (opening K s) (shape_of K s.head)
   unfolding opening
   open_refused n d = sym (opened_stop (areas_of K s) (astray (shape_of K s.head) s.head ∷ []) _ n (sym e ∙ d))
 
-  module _ (g : Shape) (d : o ≡ Good g) (t : Bool) (et : t ≡ (astray g s.head).applies) where
+  module _ (g : Shape) (d : o ≡ Ok g) (t : Bool) (et : t ≡ (astray g s.head).applies) where
     last : opened_by (opening K s) (shape_of K s.head) ≡ opened_by (astray (shape_of K s.head) s.head ∷ []) (shape_of K s.head)
     unfolding opening
     last = opened_more (areas_of K s) (astray (shape_of K s.head) s.head ∷ []) _ g (areas_numbered K s) (sym e ∙ d)
@@ -90,8 +81,8 @@ module _ (K : Kind) (s : State) (o : Opened) (e : o ≡ opened_by (areas_of K s)
     here : t ≡ (astray (shape_of K s.head) s.head).applies
     here = et ∙ ap (λ (x : Shape). (astray x s.head).applies) (sym same)
 
-    pub open_astray : t ≡ true → Refused 9 ≡ opened_by (opening K s) (shape_of K s.head)
+    pub open_astray : t ≡ true → Err 9 ≡ opened_by (opening K s) (shape_of K s.head)
     open_astray h = sym (last ∙ opened_first 8 _ [] _ (sym here ∙ h))
 
-    pub open_good : t ≡ false → Good g ≡ opened_by (opening K s) (shape_of K s.head)
-    open_good h = sym (last ∙ opened_next 9 _ [] _ (sym here ∙ h) ∙ opened_none _ ∙ ap Good same)
+    pub open_good : t ≡ false → Ok g ≡ opened_by (opening K s) (shape_of K s.head)
+    open_good h = sym (last ∙ opened_next 9 _ [] _ (sym here ∙ h) ∙ opened_none _ ∙ ap Ok same)

@@ -1,10 +1,12 @@
 -- A product with 2^21 / h and a little more, divided by 2^21, is the quotient by h. Assumes nothing.
 use native.Mathlib.Omega.{arith}
 use native.Mathlib.Nat.{div-le_self, div-mul-le_self, lt-div-mul-add, div-eq_of_lt-le, div-add-mod', mod-lt, mul-le-mul_left, mul-le-mul_right, mul_assoc, mul_comm, add-mul, mul-add}
-use mathlib.Core.Path.{◌≡◌, sym, ◌∙◌, ap}
-use borrow.Author.Tests.{lt-ltb, le-ltb}
+use mathlib.Core.Path.{◌≡◌, refl, sym, ◌∙◌, ap}
+use mathlib.Core.Bool.{Bool, true, false}
+use lib.Dec.{ltb}
+use borrow.Author.Tests.{ltb-true, ltb-false}
 use Rattle.model.specs.State.{nodes_for}
-use Prim.Native.Nat.{ℕ, ◌+◌, ◌*◌, ◌/◌, ◌%◌, ◌≤◌, ◌<◌}
+use Prim.Native.Nat.{ℕ, ◌+◌, ◌*◌, ◌/◌, ◌%◌, ◌≤◌, ◌<◌, max}
 
 -- the two parts of the product
 parts : (q r h m n : ℕ) → q * h + r ≡ n → n * m ≡ q * (m * h) + r * m
@@ -42,8 +44,9 @@ module _ (fan limit r : ℕ) (least : 4 ≤ fan) (most : fan ≤ 32) (few : limi
   within : limit / (fan / 2) ≤ 65536
   within = omega (arith, div-le_self limit (fan / 2), few)
 
-  pub nodes_none : limit * r / 2097152 < 1 → (1 ≡ nodes_for fan limit) × (1 ≤ 65536)
-  nodes_none h = (rw (lt-ltb (limit / (fan / 2)) 1 (omega (arith, by_product, h))), omega arith)
-
-  pub nodes_some : 1 ≤ limit * r / 2097152 → (limit * r / 2097152 ≡ nodes_for fan limit) × (limit * r / 2097152 ≤ 65536)
-  nodes_some h = (by_product ∙ rw (le-ltb (limit / (fan / 2)) 1 (omega (arith, by_product, h))), omega (arith, by_product, within))
+  pub nodes_most : (n : ℕ) → n ≡ max (limit * r / 2097152) 1 → (n ≡ nodes_for fan limit) × (n ≤ 65536)
+  nodes_most n e = go (ltb (limit / (fan / 2)) 1) refl
+    where
+      go : (b : Bool) → ltb (limit / (fan / 2)) 1 ≡ b → (n ≡ nodes_for fan limit) × (n ≤ 65536)
+      go true t = (rw t (omega (arith, e, by_product, ltb-true _ _ t)), omega (arith, e, by_product, within))
+      go false t = (rw t (omega (arith, e, by_product, ltb-false _ _ t)), omega (arith, e, by_product, within))

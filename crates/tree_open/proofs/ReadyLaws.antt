@@ -1,4 +1,6 @@
 -- What is known where none of the first tests gives a number. Assumes nothing.
+use Rattle.model.specs.Numbered.{Numbered}
+use Rattle.std.specs.Prelude.{Ok}
 use mathlib.Core.Path.{◌≡◌, refl, sym, ap, ◌∙◌}
 use mathlib.Core.Bool.{Bool, true, false, cond}
 use Prim.Native.Nat.{ℕ, suc, ◌+◌, ◌-◌, ◌/◌, ◌≤◌, ◌<◌}
@@ -23,8 +25,6 @@ use Rattle.tree_open.proofs.Causes.{good_number, good_shape, none_applies}
 use Rattle.tree_open.proofs.OpenLaws.{Sized, sized, opening_numbered}
 use Rattle.tree_open.specs.Open.{opened_by}
 use Rattle.tree_open.specs.Ready.{Ready}
-use Rattle.tree_open.specs.declared.open.Opened.{Opened}
-use Rattle.tree_open.specs.declared.open.Opened.TheVariants.{Good}
 
 few_nodes : (b : Bool) (n : ℕ) → n ≤ 65536 → cond b 1 n ≤ 65536
 few_nodes true n h = omega arith
@@ -71,7 +71,7 @@ module _ (K : Kind) (w : (1 ≤ K.views) × (K.views ≤ 3)) (s : State) where
         entries = ltb-false _ _ a.1;
       }
 
-  pub ready : (g : Shape) (o : Opened) → o ≡ opened_by (opening K s) (shape_of K s.head) → o ≡ Good g → Ready K s g
+  pub ready : (g : Shape) (o : Numbered Shape) → o ≡ opened_by (opening K s) (shape_of K s.head) → o ≡ Ok g → Ready K s g
   unfolding opening All
   ready g o e d =
       let n = none_applies (opening K s) (opening_numbered K s) (good_number (opening K s) (shape_of K s.head) g (sym e ∙ d)) in

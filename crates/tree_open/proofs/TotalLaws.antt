@@ -4,7 +4,7 @@ use mathlib.Core.Bool.{Bool, true, false, cond}
 use mathlib.Core.List.{List}
 use Prim.Native.Nat.{ℕ, zero, suc, ◌+◌, ◌-◌, ◌*◌, ◌<◌, ◌≤◌}
 use native.Mathlib.Omega.{arith}
-use native.Mathlib.Nat.{suc-mul, add-zero, mul-le-mul}
+use native.Mathlib.Nat.{suc-mul, add-zero}
 use lib.Bits.{bit_or, or_add_and, and_le_l, and_le_r}
 use lib.ListN.{length, get_or, take, drop, length-take, length-drop}
 use lib.Dec.{ltb}
@@ -34,9 +34,6 @@ or_right a b = omega (arith, or_add_and a b, and_le_l a b)
 abbrev pub Under : List ℕ → ℕ → ℕ → ℕ → ℕ → ℕ → Type 0
 Under ws p a b c d = (m : ℕ) → a < m → b < m → c < m → d < m → (j : ℕ) → 3 ≤ j → j < p → get_or ws j 0 < m
 
-pub under_none : (ws : List ℕ) (a b c d : ℕ) → Under ws 3 a b c d
-under_none ws a b c d m _ _ _ _ j h l = absurd (omega arith)
-
 -- a column that a slot of s words may not have
 under_column : (s n x y w m : ℕ) → (n < s → y ≡ bit_or x w) → (s ≤ n → y ≡ x) → y < m → (x < m) × (n < s → w < m)
 under_column s n x y w m f g h = go (ltb n s) refl
@@ -61,14 +58,14 @@ module _ (ws : List ℕ) (s p a b : ℕ) (few : s ≤ 4) where
   one_of m j la lb lc ld (suc (suc (suc zero))) e l = rw e (ld l)
   one_of m j la lb lc ld (suc (suc (suc (suc i)))) e l = absurd (omega (arith, l, few))
 
-  pub under_more : (c d c1 d1 : ℕ) → (2 < s → c1 ≡ bit_or c (get_or ws (p + 2) 0)) → (s ≤ 2 → c1 ≡ c) → (3 < s → d1 ≡ bit_or d (get_or ws (p + 3) 0)) → (s ≤ 3 → d1 ≡ d)
-      → Under ws p a b c d → Under ws (p + s) (bit_or a (get_or ws p 0)) (bit_or b (get_or ws (p + 1) 0)) c1 d1
-  under_more c d c1 d1 f g h i u m la lb lc ld j from to =
+  pub under_more : (q c d c1 d1 : ℕ) → q ≡ p + s → (2 < s → c1 ≡ bit_or c (get_or ws (p + 2) 0)) → (s ≤ 2 → c1 ≡ c) → (3 < s → d1 ≡ bit_or d (get_or ws (p + 3) 0)) → (s ≤ 3 → d1 ≡ d)
+      → Under ws p a b c d → Under ws q (bit_or a (get_or ws p 0)) (bit_or b (get_or ws (p + 1) 0)) c1 d1
+  under_more q c d c1 d1 eq f g h i u m la lb lc ld j from to =
       go (ltb j p) refl (under_column s 2 c c1 (get_or ws (p + 2) 0) m f g lc) (under_column s 3 d d1 (get_or ws (p + 3) 0) m h i ld)
     where
       go : (t : Bool) → ltb j p ≡ t → (c < m) × (2 < s → get_or ws (p + 2) 0 < m) → (d < m) × (3 < s → get_or ws (p + 3) 0 < m) → get_or ws j 0 < m
       go true e x y = u m (omega (arith, la, or_left a (get_or ws p 0))) (omega (arith, lb, or_left b (get_or ws (p + 1) 0))) x.0 y.0 j from (ltb-true j p e)
-      go false e x y = one_of m j la lb x.1 y.1 (j - p) (omega (arith, ltb-false j p e)) (omega (arith, to, ltb-false j p e))
+      go false e x y = one_of m j la lb x.1 y.1 (j - p) (omega (arith, ltb-false j p e)) (omega (arith, to, eq, ltb-false j p e))
 
 pub under_below : (ws : List ℕ) (n a b c d : ℕ) → Under ws (3 + n) a b c d → ltb (bit_or (bit_or (bit_or a b) c) d) 67108864 ≡ true → below 67108864 (take n (drop 3 ws))
 unfolding part
@@ -83,13 +80,6 @@ under_below ws n a b c d u e j h =
       u 67108864 (omega (arith, t, third, second, or_left a b)) (omega (arith, t, third, second, or_right a b)) (omega (arith, t, third, or_right (bit_or a b) c))
           (omega (arith, t, or_right (bit_or (bit_or a b) c) d)) (3 + j) (omega arith) (omega arith),
     )
-
--- the words of a node's slots are few
-pub few_slots : (g : Shape) (n : ℕ) → Shaped g → n ≤ g.fan → n * g.stride ≤ 128
-few_slots g n h e =
-    let b : n ≤ 32 = omega (arith, h.few) in
-    let a : n * g.stride ≤ 32 * 4 = mul-le-mul b h.narrow in
-    omega arith
 
 -- a total of n words that are at most m
 total_most : (s n p v m : ℕ) (ws : List ℕ) → v + 1 < s → ((j : ℕ) → j < n * s → get_or ws (p + j) 0 ≤ m) → total v (slots_from s n p ws) ≤ n * m

@@ -35,10 +35,7 @@ pub fn too_many_lines(views: usize, x: &[u32; 4]) -> bool
     requires { (1 ≤ views) × (views ≤ 3) × (length x.now ≡ 4) }
     ensures { (effect : ℕ) → result ≡ too_many_lines (kind views effect) (lengths_in views x.now) }
 {
-    if 2 < views {
-        return 65535 < x[3];
-    }
-    false
+    2 < views && 65535 < x[3]
 }
 
 // Whether lengths are more than an entry has, in some view.
@@ -47,18 +44,7 @@ pub fn too_much(g: Shape, given: &[u32; 4], own: &[u32; 4]) -> bool
     ensures { result ≡ more_in (g.stride - 1) (lengths_in (g.stride - 1) given.now) (lengths_in (g.stride - 1) own.now) }
 {
     let stride = g.stride;
-    if own[1] < given[1] {
-        return true;
-    }
-    if 2 < stride {
-        if own[2] < given[2] {
-            return true;
-        }
-    }
-    if 3 < stride {
-        return own[3] < given[3];
-    }
-    false
+    own[1] < given[1] || 2 < stride && own[2] < given[2] || 3 < stride && own[3] < given[3]
 }
 
 // Whether the moved part, or the part left behind, has zero in every length: what is moved isn't more than nothing, or the entry hasn't
@@ -68,10 +54,7 @@ pub fn hollow_part(g: Shape, given: &[u32; 4], own: &[u32; 4]) -> bool
     ensures { result ≡ hollow_in (g.stride - 1) (lengths_in (g.stride - 1) given.now) (lengths_in (g.stride - 1) own.now) }
 {
     let nothing: [u32; 4] = [0; 4];
-    if too_much(g, given, &nothing) {
-        return !too_much(g, own, given);
-    }
-    true
+    !too_much(g, given, &nothing) || !too_much(g, own, given)
 }
 
 // Whether the first length is above the second, where they are a lowest and a highest one; a second that a slot doesn't have is 0.
@@ -79,23 +62,15 @@ pub fn crossed(views: usize, ordered: bool, x: &[u32; 4]) -> bool
     requires { (1 ≤ views) × (views ≤ 3) × (length x.now ≡ 4) }
     ensures { result ≡ crossed (kind_of views 0 ordered) (lengths_in views x.now) }
 {
-    if ordered {
-        if 1 < views {
-            return x[2] < x[1];
-        }
-        return 0 < x[1];
-    }
-    false
+    let second = if 1 < views { x[2] } else { 0 };
+    ordered && second < x[1]
 }
 
 // What is left of an entry's own length.
 fn left(own: u32, given: u32) -> u32
     ensures { result ≡ own - given }
 {
-    if own < given {
-        return 0;
-    }
-    own - given
+    own.saturating_sub(given)
 }
 
 // The same of what is moved or of what is left behind.
@@ -103,26 +78,20 @@ pub fn crossed_part(views: usize, ordered: bool, given: &[u32; 4], own: &[u32; 4
     requires { (1 ≤ views) × (views ≤ 3) × (length given.now ≡ 4) × (length own.now ≡ 4) }
     ensures { result ≡ (crossed_parts (kind_of views 0 ordered) (lengths_in views given.now) (lengths_in views own.now)).applies }
 {
-    if crossed(views, ordered, given) {
-        return true;
-    }
     let rest: [u32; 4] = [
         0,
         left(own[1], given[1]),
         left(own[2], given[2]),
         left(own[3], given[3]),
     ];
-    crossed(views, ordered, &rest)
+    crossed(views, ordered, given) || crossed(views, ordered, &rest)
 }
 
 // How many of a node's slots are in use: all where its len is past the fan.
 fn in_use(len: usize, fan: usize) -> usize
     ensures { (result ≤ fan) × (result ≡ cond (ltb len fan) len fan) }
 {
-    if len < fan {
-        return len;
-    }
-    fan
+    len.min(fan)
 }
 
 // Whether the words of a node's first len slots are all below 2^26. The bits of each column are kept apart, so that the compiler takes
@@ -136,19 +105,16 @@ fn low(node: &[u32], g: Shape, len: usize) -> bool
     let mut first: u32 = 0;
     let mut second: u32 = 0;
     let mut third: u32 = 0;
-    let mut p: usize = 3;
-    let mut k: usize = 0;
-    while k < len {
-        child = child | node[p];
-        first = first | node[p + 1];
+    for k in 0..len {
+        let p = 3 + k * stride;
+        child |= node[p];
+        first |= node[p + 1];
         if 2 < stride {
-            second = second | node[p + 2];
+            second |= node[p + 2];
         }
         if 3 < stride {
-            third = third | node[p + 3];
+            third |= node[p + 3];
         }
-        p += stride;
-        k += 1;
     }
     (child | first | second | third) < 67108864
 }
@@ -173,10 +139,10 @@ fn small(g: Shape, new: &[u32; 4]) -> bool
     let stride = g.stride;
     let mut all = new[1];
     if 2 < stride {
-        all = all | new[2];
+        all |= new[2];
     }
     if 3 < stride {
-        all = all | new[3];
+        all |= new[3];
     }
     all < 2147483648
 }
@@ -199,23 +165,20 @@ fn used_totals(node: &[u32], g: Shape) -> Totals
     let mut first: u64 = 0;
     let mut second: u64 = 0;
     let mut third: u64 = 0;
-    let mut p: usize = 4;
-    let mut k: usize = 0;
-    while k < len {
-        first += node[p] as u64;
+    for k in 0..len {
+        let p = 3 + k * stride;
+        first += node[p + 1] as u64;
         if 2 < stride {
-            second += node[p + 1] as u64;
+            second += node[p + 2] as u64;
         }
         if 3 < stride {
-            third += node[p + 2] as u64;
+            third += node[p + 3] as u64;
         }
-        p += stride;
-        k += 1;
     }
     Totals {
-        first: first,
-        second: second,
-        third: third,
+        first,
+        second,
+        third,
     }
 }
 
@@ -245,18 +208,9 @@ fn past_some(root: NodeNo, inners: &[u32], g: Shape, old: &[u32; 4], new: &[u32;
 {
     let stride = g.stride;
     let t = totals_in(inners, g, root);
-    if past_in(t.first, old[1], new[1]) {
-        return true;
-    }
-    if 2 < stride {
-        if past_in(t.second, old[2], new[2]) {
-            return true;
-        }
-    }
-    if 3 < stride {
-        return past_in(t.third, old[3], new[3]);
-    }
-    false
+    past_in(t.first, old[1], new[1])
+        || 2 < stride && past_in(t.second, old[2], new[2])
+        || 3 < stride && past_in(t.third, old[3], new[3])
 }
 
 // Whether one of the root's totals would pass u32 with new for old. Most often one look at the words says no, and nothing is summed up.
@@ -273,10 +227,8 @@ pub fn past(
     ensures { result ≡ past_in (shape_for views fan nodes) root.0 inners.now (lengths_in views old.now) (lengths_in views new.now) }
 {
     let g = shape_for(views, fan, nodes);
-    if small(g, new) {
-        if low_in(inners, g, root) {
-            return false;
-        }
+    if small(g, new) && low_in(inners, g, root) {
+        return false;
     }
     past_some(root, inners, g, old, new)
 }

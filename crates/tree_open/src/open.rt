@@ -1,4 +1,5 @@
 // What a call tests before it does anything: fan and limit, the areas, the head's counts, its cursor.
+ghost use Rattle.model.specs.Numbered.{numbered, number_of};
 ghost use Rattle.std.specs.Prelude.{◌≡◌, [], ◌++◌, ℕ, suc, ◌+◌, ◌*◌, ◌<◌, ◌≤◌, length, get_or};
 ghost use Rattle.model.specs.Kind.{kind};
 ghost use Rattle.model.specs.Lists.{refusal};
@@ -11,29 +12,14 @@ ghost use Rattle.tree_area.specs.Area.{AreaHolds};
 ghost use Rattle.tree_open.specs.Open.{opened_by};
 
 use model::head::{Cursor, Head};
+use model::refusal::Refusal;
 use model::shape::{Shape, shape_for};
 use tree_area::word::len_of;
-
-// The sizes of a tree, or the number of a refusal.
-#[derive(Clone, Copy)]
-pub enum Opened {
-    Good(Shape),
-    Refused(u32),
-}
 
 pub fn bad_size(fan: u32, limit: u32) -> bool
     ensures { result ≡ (bad_size fan limit).applies }
 {
-    if fan < 4 {
-        return true;
-    }
-    if 32 < fan {
-        return true;
-    }
-    if limit < 1 {
-        return true;
-    }
-    65536 < limit
+    fan < 4 || 32 < fan || limit < 1 || 65536 < limit
 }
 
 // 2^21 over half, and a little more: what is multiplied by in place of a division by half, which costs more than all other
@@ -69,10 +55,7 @@ fn nodes_for(fan: u32, limit: u32) -> usize
     ensures { (result ≡ nodes_for fan limit) × (result ≤ 65536) }
 {
     let n = limit as u64 * reciprocal(fan / 2) / 2097152;
-    if n < 1 {
-        return 1;
-    }
-    n as usize
+    n.max(1) as usize
 }
 
 // The sizes of everything, from a good fan and limit.
@@ -89,35 +72,19 @@ pub fn too_short(g: Shape, limit: u32, leaves: &[u32], inners: &[u32], homes: &[
     ensures { result ≡ (too_short g limit leaves.now inners.now homes.now).applies }
 {
     let words = g.nodes * g.size;
-    if leaves.len() < words {
-        return true;
-    }
-    if inners.len() < words {
-        return true;
-    }
-    homes.len() < limit as usize
+    leaves.len() < words || inners.len() < words || homes.len() < limit as usize
 }
 
 pub fn astray(g: Shape, head: Head) -> bool
     ensures { result ≡ (astray g head).applies }
 {
     let nodes = g.nodes;
-    if nodes <= head.root.0 as usize {
-        return true;
-    }
-    if head.levels < 1 {
-        return true;
-    }
-    if 15 < head.levels {
-        return true;
-    }
-    if nodes < head.leaves as usize {
-        return true;
-    }
-    if nodes < head.inners as usize {
-        return true;
-    }
-    head.limit < head.entries
+    nodes <= head.root.0 as usize
+        || head.levels < 1
+        || 15 < head.levels
+        || nodes < head.leaves as usize
+        || nodes < head.inners as usize
+        || head.limit < head.entries
 }
 
 // What make and reset test of the areas, and audit too.
@@ -128,59 +95,61 @@ pub fn open_areas(
     leaves: &[u32],
     inners: &[u32],
     homes: &[u32],
-) -> Opened
+) -> Result<Shape, Refusal>
     requires { (1 ≤ views) × (views ≤ 3) }
-    ensures { (effect : ℕ) → result ≡ opened_by (area_causes (kind views effect) fan limit leaves.now inners.now homes.now) (shape (suc views) fan limit) }
+    ensures { (effect : ℕ) → numbered result ≡ opened_by (area_causes (kind views effect) fan limit leaves.now inners.now homes.now) (shape (suc views) fan limit) }
 {
     if bad_size(fan, limit) {
-        return Opened::Refused(1);
+        return Err(Refusal::Size);
     }
     let g = shape_of(views, fan, limit);
     if too_short(g, limit, leaves, inners, homes) {
-        return Opened::Refused(2);
+        return Err(Refusal::Area);
     }
-    Opened::Good(g)
+    Ok(g)
 }
 
 // What every call tests that reads links.
-pub fn open(views: usize, head: Head, leaves: &[u32], inners: &[u32], homes: &[u32]) -> Opened
+pub fn open(
+    views: usize,
+    head: Head,
+    leaves: &[u32],
+    inners: &[u32],
+    homes: &[u32],
+) -> Result<Shape, Refusal>
     requires { (1 ≤ views) × (views ≤ 3) }
-    ensures { (effect : ℕ) → result ≡ opened_by (opening (kind views effect) (state head leaves.now inners.now homes.now)) (shape_of (kind views effect) head) }
+    ensures { (effect : ℕ) → numbered result ≡ opened_by (opening (kind views effect) (state head leaves.now inners.now homes.now)) (shape_of (kind views effect) head) }
 {
     let fan = head.fan;
     let limit = head.limit;
-    match open_areas(views, fan, limit, leaves, inners, homes) {
-        Opened::Refused(n) => Opened::Refused(n),
-        Opened::Good(g) => {
-            if astray(g, head) {
-                return Opened::Refused(9);
-            }
-            Opened::Good(g)
-        }
+    let g = open_areas(views, fan, limit, leaves, inners, homes)?;
+    if astray(g, head) {
+        return Err(Refusal::Link);
     }
+    Ok(g)
 }
 
-// The number by which a cursor fails: its stamp isn't the tree's (3), its leaf isn't in use (13), its slot is at or past
-// the leaf's len (14). 0: it is current.
-pub fn fault(head: Head, leaves: &[u32], g: Shape, c: Cursor) -> u32
+// Whether a cursor is current: it bears the tree's stamp, its leaf is in use, and its slot is below the leaf's len.
+pub fn current(head: Head, leaves: &[u32], g: Shape, c: Cursor) -> Result<(), Refusal>
     requires { AreaHolds g (length leaves.now) × (head.leaves ≤ g.nodes) }
-    ensures { (K : Kind) → g ≡ shape_of K head → result ≡ refusal (stale K (state head leaves.now [] []) c) }
+    ensures { (K : Kind) → g ≡ shape_of K head → number_of result ≡ refusal (stale K (state head leaves.now [] []) c) }
 {
     let k = c.leaf.0;
     if c.stamp != head.stamp {
-        return 3;
+        return Err(Refusal::Stamp);
     }
     if k >= head.leaves {
-        return 13;
+        return Err(Refusal::Leaf);
     }
     let len = len_of(leaves, g, k);
     if c.slot >= len {
-        return 14;
+        return Err(Refusal::Slot);
     }
-    0
+    Ok(())
 }
 
 // What every call tests that takes a cursor.
+#[inline(always)]
 pub fn open_at(
     views: usize,
     head: Head,
@@ -188,21 +157,14 @@ pub fn open_at(
     inners: &[u32],
     homes: &[u32],
     c: Cursor,
-) -> Opened
+) -> Result<Shape, Refusal>
     requires { (1 ≤ views) × (views ≤ 3) }
-    ensures { (effect : ℕ) → result ≡ opened_by (opening (kind views effect) (state head leaves.now inners.now homes.now) ++ at_cursor (kind views effect) (state head leaves.now inners.now homes.now) c) (shape_of (kind views effect) head) }
+    ensures { (effect : ℕ) → numbered result ≡ opened_by (opening (kind views effect) (state head leaves.now inners.now homes.now) ++ at_cursor (kind views effect) (state head leaves.now inners.now homes.now) c) (shape_of (kind views effect) head) }
 {
-    match open(views, head, leaves, inners, homes) {
-        Opened::Refused(n) => Opened::Refused(n),
-        Opened::Good(g) => {
-            let n = fault(head, leaves, g, c);
-            if n != 0 {
-                return Opened::Refused(n);
-            }
-            if g.fan < len_of(leaves, g, c.leaf.0) as usize {
-                return Opened::Refused(9);
-            }
-            Opened::Good(g)
-        }
+    let g = open(views, head, leaves, inners, homes)?;
+    current(head, leaves, g, c)?;
+    if g.fan < len_of(leaves, g, c.leaf.0) as usize {
+        return Err(Refusal::Link);
     }
+    Ok(g)
 }

@@ -1,26 +1,27 @@
 -- What a call learns from a way up modulo 2 ^ 32, and from a change as it is settled. Assumes nothing.
+use Rattle.model.specs.declared.way.Broken.{Broken}
+use Rattle.model.specs.Numbered.{broken}
+use Rattle.std.specs.Prelude.{Ok, Err, Result}
 use Rattle.std.proofs.Common.{◌≡◌, ℕ, Bool, true, false, cond, eqb, List, sym, refl, ap, ◌∙◌, true≢false, eq-eqb, ne_eqb}
 use Rattle.model.specs.Node.{wrap}
 use Rattle.model.specs.State.{State, state}
 use Rattle.model.specs.Place.{Change, change}
 use Rattle.model.specs.Calls.{Reply, reply, settled}
 use Rattle.model.specs.declared.head.Head.{Head}
-use Rattle.model.specs.declared.way.Sum.{Sum}
-use Rattle.model.specs.declared.way.Sum.TheVariants as sum
 use Rattle.tree_walk.specs.Low.{low_way}
 use Rattle.tree_walk.specs.Raise.{whole}
 use Rattle.tree_place.specs.Room.{settled_in}
 
 module _ (xs : List ℕ) where
-  pub low_whole : (n : ℕ) (w : Sum × List ℕ) → (sum.Is n, xs) ≡ low_way w → (m : ℕ) × ((sum.Is m, xs) ≡ w) × (n ≡ wrap m)
-  low_whole n (sum.Is m, ys) e =
-      let z : sum.Is n ≡ sum.Is (wrap m) = ap (λ (p : Sum × List ℕ). p.0) e in
-      (m, ap (λ (p : Sum × List ℕ). (sum.Is m, p.1)) e, cc)
-  low_whole n (sum.Broken, ys) e = absurd (true≢false (ap (λ (p : Sum × List ℕ). whole p.0) e))
+  pub low_whole : (n : ℕ) (w : Result ℕ Broken × List ℕ) → (Ok n, xs) ≡ low_way w → (m : ℕ) × ((Ok m, xs) ≡ w) × (n ≡ wrap m)
+  low_whole n (Ok m, ys) e =
+      let z : Ok n ≡ Ok (wrap m) = ap (λ (p : Result ℕ Broken × List ℕ). p.0) e in
+      (m, ap (λ (p : Result ℕ Broken × List ℕ). (Ok m, p.1)) e, cc)
+  low_whole n (Err _, ys) e = absurd (true≢false (ap (λ (p : Result ℕ Broken × List ℕ). whole p.0) e))
 
-  pub low_lost : (w : Sum × List ℕ) → (sum.Broken, xs) ≡ low_way w → (sum.Broken, xs) ≡ w
-  low_lost (sum.Is m, ys) e = absurd (true≢false (sym (ap (λ (p : Sum × List ℕ). whole p.0) e)))
-  low_lost (sum.Broken, ys) e = e
+  pub low_lost : (w : Result ℕ Broken × List ℕ) → (Err broken, xs) ≡ low_way w → (Err broken, xs) ≡ w
+  low_lost (Ok m, ys) e = absurd (true≢false (sym (ap (λ (p : Result ℕ Broken × List ℕ). whole p.0) e)))
+  low_lost (Err _, ys) e = e
 
 -- c is the change r as it is settled
 module _ (h : Head) (r : Change) where

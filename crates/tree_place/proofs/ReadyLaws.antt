@@ -1,5 +1,8 @@
 -- Room for an entry as the code has it: there already, or made by a leaf's split; and what the entry then leaves. Assumes nothing.
 use Rattle.std.proofs.Common.{◌≡◌, ℕ, ◌+◌, ◌-◌, ◌/◌, ◌<◌, ◌≤◌, Bool, true, false, cond, ltb, List, [], ◌∷◌, length, set, sym, refl, ap, ◌∙◌, arith}
+use Rattle.std.specs.Prelude.{Err, Result}
+use Rattle.model.specs.declared.way.Broken.{Broken}
+use Rattle.model.specs.Numbered.{broken}
 use Rattle.model.specs.Node.{Node}
 use Rattle.model.specs.State.{state, shape_for, node_at, put_node}
 use Rattle.model.specs.Place.{Change, change, split_leaf, make_room, entering}
@@ -8,7 +11,7 @@ use Rattle.model.specs.declared.head.Head.{Head}
 use Rattle.tree_links.specs.Tops.{top_in}
 use Rattle.tree_place.specs.declared.change.Room.{Room}
 use Rattle.tree_place.specs.declared.change.HeadChange as code
-use Rattle.tree_place.specs.Room.{counted, settled_in, room_at, halved, split_to, lost, entered, roomy_in, Entering}
+use Rattle.tree_place.specs.Room.{counted, settled_in, room_at, halved, split_to, changed_to, entered, roomy_in, Entering}
 use Rattle.tree_place.proofs.RoomLaws.{room_there, room_made}
 use Rattle.tree_place.proofs.NumberLaws.{leaf_ends}
 use Rattle.tree_place.proofs.EntryLaws.{is_roomy, room_lost, room_is, entered_none, entered_done}
@@ -79,13 +82,13 @@ module _ (views : ℕ) (g : Shape) (w : ℕ) (h : Head) (ls xs hs : List ℕ) (k
       ready_split b el ex eh et = record { made = made; roomy = b; leaves = el; inners = ex; homes = eh; words = et }
 
 -- no entry comes
-pub gone : {h : Head} {ls xs hs : List ℕ} {m : Change} (s : code.HeadChange) → s ≡ lost h → change 9 (state h ls xs hs) 0 0 ≡ m → change s.number (state s.head ls xs hs) s.leaf.0 s.slot ≡ m
-gone {h} {ls} {xs} {hs} {m} s es e = ap (λ (y : code.HeadChange). change y.number (state y.head ls xs hs) y.leaf.0 y.slot) es ∙ e
+pub gone : {h : Head} {ls xs hs : List ℕ} {m : Change} (r : Result code.HeadChange Broken) → r ≡ Err broken → change 9 (state h ls xs hs) 0 0 ≡ m → changed_to r h ls xs hs ≡ m
+gone {h} {ls} {xs} {hs} r er e = ap (λ (q : Result code.HeadChange Broken). changed_to q h ls xs hs) er ∙ e
 
 -- the entry comes
 pub ready_done : {g : Shape} {w : ℕ} {h : Head} {ls₀ xs₀ hs₀ : List ℕ} {k i : ℕ} {ls xs hs t : List ℕ} {r : Room} (f : ℕ → Node → Node) (ls' : List ℕ) (s : code.HeadChange)
     → RoomReady g w h ls₀ xs₀ hs₀ k i ls xs hs t r → ls' ≡ put_node g r.leaf.0 (f r.slot (node_at g r.leaf.0 ls)) ls → s ≡ entered h t r
-    → change s.number (state s.head ls' xs (set hs h.entries r.leaf.0)) s.leaf.0 s.slot ≡ settled_in h (entering g f w (make_room g (state h ls₀ xs₀ hs₀) k i))
+    → change 0 (state s.head ls' xs (set hs h.entries r.leaf.0)) s.leaf.0 s.slot ≡ settled_in h (entering g f w (make_room g (state h ls₀ xs₀ hs₀) k i))
 ready_done {g} {w} {h} {ls₀} {xs₀} {hs₀} {k} {i} {ls} {xs} {hs} {t} {r} f ls' s z el es =
-    ap (λ (y : code.HeadChange). change y.number (state y.head ls' xs (set hs h.entries r.leaf.0)) y.leaf.0 y.slot) es
+    ap (λ (y : code.HeadChange). change 0 (state y.head ls' xs (set hs h.entries r.leaf.0)) y.leaf.0 y.slot) es
     ∙ entered_done g f w h (counted r.leaves (top_in t) h.entries h) ls xs hs r.leaf.0 r.slot (make_room g (state h ls₀ xs₀ hs₀) k i) z.made z.roomy ls' el

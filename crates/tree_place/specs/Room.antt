@@ -1,5 +1,6 @@
 -- Room for an entry: what making it leaves beside the areas, as the model has it. Assumes nothing.
-use Rattle.std.specs.Prelude.{◌≡◌, ℕ, ◌+◌, ◌-◌, ◌/◌, ◌<◌, ◌≤◌, Bool, cond, ◌&&◌, List, length, ◌==◌, nat_le, nat_lt, slice_index, slice_index_or}
+use Rattle.model.specs.declared.way.Broken.{Broken}
+use Rattle.std.specs.Prelude.{◌≡◌, ℕ, ◌+◌, ◌-◌, ◌/◌, ◌<◌, ◌≤◌, Bool, cond, ◌&&◌, List, length, ◌==◌, nat_le, nat_lt, slice_index, slice_index_or, Ok, Err, Result}
 use Rattle.model.specs.State.{state, head_of, next_stamp, shape_for, node_at}
 use Rattle.model.specs.Locate.{changing}
 use Rattle.model.specs.Grow.{Top}
@@ -32,13 +33,15 @@ abbrev pub split_to : ℕ → ℕ → ℕ → Top → ℕ → Head → ℕ → �
 split_to n fan used t entries h k i ls xs hs =
     change n (state (counted (used + 1) t entries h) ls xs hs) (halved fan used k i).leaf.0 (halved fan used k i).slot
 
-abbrev pub lost : Head → HeadChange
-lost h = record { number = 9; head = h; leaf = record { 0 = 0 }; slot = 0 }
+-- the change that an answer is; where the way was broken the head is as it was and the place of no account
+abbrev pub changed_to : Result HeadChange Broken → Head → List ℕ → List ℕ → List ℕ → model.Change
+changed_to (Ok c) h ls xs hs = change 0 (state c.head ls xs hs) c.leaf.0 c.slot
+changed_to (Err _) h ls xs hs = change 9 (state h ls xs hs) 0 0
 
 -- one entry more at a room, with the inner nodes, root and levels of three words
 abbrev pub entered : Head → List ℕ → Room → HeadChange
 entered h t r =
-    record { number = 0; head = head_of h.fan h.limit (slice_index t 1) (slice_index t 2) r.leaves (slice_index t 0) (h.entries + 1) (next_stamp h.stamp) (changing r.leaf.0 r.slot h.finger); leaf = r.leaf; slot = r.slot }
+    record { head = head_of h.fan h.limit (slice_index t 1) (slice_index t 2) r.leaves (slice_index t 0) (h.entries + 1) (next_stamp h.stamp) (changing r.leaf.0 r.slot h.finger); leaf = r.leaf; slot = r.slot }
 
 -- leaf k is in the area, at least w slots from slot i on are in use, and one isn't
 abbrev pub roomy_in : Shape → ℕ → ℕ → ℕ → List ℕ → Bool

@@ -1,16 +1,15 @@
 // A change on its way, and the heads that it leaves.
 ghost use Rattle.std.specs.Prelude.{◌≡◌, ◌<◌, ◌≤◌, length};
 ghost use Rattle.model.specs.Place.{with_finger};
-ghost use Rattle.tree_place.specs.Room.{halved, lost, entered};
+ghost use Rattle.tree_place.specs.Room.{halved, entered};
 
-use model::head::{Head, Held};
+use model::head::{Finger, Head};
 use model::number::{LeafNo, NodeNo};
 use tree_finger::finger::changing;
 
-// 0 or 9, the head then, and the slot at which the change happens.
+// The head after a change, and the slot at which it happened.
 #[derive(Clone, Copy)]
 pub struct HeadChange {
-    pub number: u32,
     pub head: Head,
     pub leaf: LeafNo,
     pub slot: u32,
@@ -25,21 +24,10 @@ pub struct Room {
 }
 
 // The head with another finger.
-pub fn with_finger(f: Held, h: Head) -> Head
+pub fn with_finger(f: Option<Finger>, h: Head) -> Head
     ensures { result ≡ with_finger f h }
 {
-    let root = h.root;
-    Head {
-        fan: h.fan,
-        limit: h.limit,
-        root: root,
-        levels: h.levels,
-        leaves: h.leaves,
-        inners: h.inners,
-        entries: h.entries,
-        stamp: h.stamp,
-        finger: f,
-    }
+    Head { finger: f, ..h }
 }
 
 // Where slot i of leaf k is when the leaf's upper half has become leaf `used`.
@@ -48,29 +36,19 @@ pub fn halved(fan: usize, used: u32, k: LeafNo, i: u32) -> Room
     ensures { result ≡ halved fan used k.0 i }
 {
     let half = (fan / 2) as u32;
+    let leaves = used + 1;
     if i < half {
-        return Room {
-            leaves: used + 1,
+        Room {
+            leaves,
             leaf: k,
             slot: i,
-        };
-    }
-    Room {
-        leaves: used + 1,
-        leaf: LeafNo(used),
-        slot: i - half,
-    }
-}
-
-// A change that met 9: the head stays as it was.
-pub fn lost(h: Head) -> HeadChange
-    ensures { result ≡ lost h }
-{
-    HeadChange {
-        number: 9,
-        head: h,
-        leaf: LeafNo(0),
-        slot: 0,
+        }
+    } else {
+        Room {
+            leaves,
+            leaf: LeafNo(used),
+            slot: i - half,
+        }
     }
 }
 
@@ -79,23 +57,19 @@ pub fn entered(h: Head, top: &[u32; 3], r: Room) -> HeadChange
     requires { (h.entries < 4294967295) × (length top.now ≡ 3) }
     ensures { result ≡ entered h top.now r }
 {
-    let leaf = r.leaf;
-    let finger = h.finger;
-    let after = Head {
-        fan: h.fan,
-        limit: h.limit,
+    let head = Head {
         root: NodeNo(top[1]),
         levels: top[2],
         leaves: r.leaves,
         inners: top[0],
         entries: h.entries + 1,
-        stamp: std::num::wrapping_add_u64(h.stamp, 1),
-        finger: changing(finger, leaf, r.slot),
+        stamp: h.stamp.wrapping_add(1),
+        finger: changing(h.finger, r.leaf, r.slot),
+        ..h
     };
     HeadChange {
-        number: 0,
-        head: after,
-        leaf: leaf,
+        head,
+        leaf: r.leaf,
         slot: r.slot,
     }
 }

@@ -3,14 +3,15 @@
 ghost use Rattle.std.specs.Prelude.{◌≡◌, ◌<◌, ◌≤◌, length};
 ghost use Rattle.model.specs.Length.{lengths_in};
 ghost use Rattle.model.specs.State.{state, node_at};
-ghost use Rattle.model.specs.Place.{change, place, divide};
-ghost use Rattle.tree_place.specs.Room.{settled_in, Entering};
+ghost use Rattle.model.specs.Place.{place, divide};
+ghost use Rattle.tree_place.specs.Room.{changed_to, settled_in, Entering};
 
-use crate::change::{HeadChange, Room, entered, halved, lost};
+use crate::change::{HeadChange, Room, entered, halved};
 use crate::room::{roomy, split_leaf};
 use model::head::Head;
 use model::number::LeafNo;
 use model::shape::Shape;
+use model::way::Broken;
 use tree_area::word::len_of;
 use tree_area::write::{insert, split_child};
 
@@ -25,36 +26,31 @@ pub fn place(
     k: LeafNo,
     i: u32,
     x: &[u32; 4],
-) -> HeadChange
+) -> Result<HeadChange, Broken>
     requires { Entering views g head leaves.old inners.old homes.old k.0 x.now × (i ≤ (node_at g k.0 leaves.old).len) × (length x.now ≡ 4) }
-    ensures { change result.number (state result.head leaves.new inners.new homes.new) result.leaf.0 result.slot ≡ settled_in head (place g (state head leaves.old inners.old homes.old) k.0 i (lengths_in views x.now)) }
+    ensures { changed_to result head leaves.new inners.new homes.new ≡ settled_in head (place g (state head leaves.old inners.old homes.old) k.0 i (lengths_in views x.now)) }
 {
     let fan = g.fan;
     let used = head.leaves;
     let entries = head.entries;
-    let mut top: [u32; 3] = [head.inners, head.root.0, head.levels];
+    let mut top = [head.inners, head.root.0, head.levels];
     let mut room = Room {
         leaves: used,
         leaf: k,
         slot: i,
     };
     if len_of(leaves, g, k.0) as usize == fan {
-        let nodes = g.nodes;
-        let n = split_leaf(
-            leaves, inners, homes, views, fan, nodes, used, &mut top, entries, k,
-        );
-        if n != 0 {
-            return lost(head);
-        }
+        split_leaf(
+            leaves, inners, homes, views, fan, g.nodes, used, &mut top, entries, k,
+        )?;
         room = halved(fan, used, k, i);
         if !roomy(leaves, g, room.leaf, room.slot, 0) {
-            return lost(head);
+            return Err(Broken);
         }
     }
-    let leaf = room.leaf;
-    insert(leaves, g, leaf.0, room.slot as usize, x);
-    homes[entries as usize] = leaf.0;
-    entered(head, &top, room)
+    insert(leaves, g, room.leaf.0, room.slot as usize, x);
+    homes[entries as usize] = room.leaf.0;
+    Ok(entered(head, &top, room))
 }
 
 // The lengths of x leave the entry in slot i of leaf k for the entry x, just before it or just after (split_entry).
@@ -69,34 +65,29 @@ pub fn divide(
     k: LeafNo,
     i: u32,
     x: &[u32; 4],
-) -> HeadChange
+) -> Result<HeadChange, Broken>
     requires { Entering views g head leaves.old inners.old homes.old k.0 x.now × (i < (node_at g k.0 leaves.old).len) × (length x.now ≡ 4) }
-    ensures { change result.number (state result.head leaves.new inners.new homes.new) result.leaf.0 result.slot ≡ settled_in head (divide g before (state head leaves.old inners.old homes.old) k.0 i (lengths_in views x.now)) }
+    ensures { changed_to result head leaves.new inners.new homes.new ≡ settled_in head (divide g before (state head leaves.old inners.old homes.old) k.0 i (lengths_in views x.now)) }
 {
     let fan = g.fan;
     let used = head.leaves;
     let entries = head.entries;
-    let mut top: [u32; 3] = [head.inners, head.root.0, head.levels];
+    let mut top = [head.inners, head.root.0, head.levels];
     let mut room = Room {
         leaves: used,
         leaf: k,
         slot: i,
     };
     if len_of(leaves, g, k.0) as usize == fan {
-        let nodes = g.nodes;
-        let n = split_leaf(
-            leaves, inners, homes, views, fan, nodes, used, &mut top, entries, k,
-        );
-        if n != 0 {
-            return lost(head);
-        }
+        split_leaf(
+            leaves, inners, homes, views, fan, g.nodes, used, &mut top, entries, k,
+        )?;
         room = halved(fan, used, k, i);
         if !roomy(leaves, g, room.leaf, room.slot, 1) {
-            return lost(head);
+            return Err(Broken);
         }
     }
-    let leaf = room.leaf;
-    split_child(leaves, g, leaf.0, before, room.slot as usize, x);
-    homes[entries as usize] = leaf.0;
-    entered(head, &top, room)
+    split_child(leaves, g, room.leaf.0, before, room.slot as usize, x);
+    homes[entries as usize] = room.leaf.0;
+    Ok(entered(head, &top, room))
 }

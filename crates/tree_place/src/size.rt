@@ -12,7 +12,7 @@ use crate::change::with_finger;
 use model::head::Head;
 use model::number::{LeafNo, NodeNo};
 use model::shape::{Shape, shape_for};
-use model::way::Sum;
+use model::way::Broken;
 use tree_area::word::{at_of, parent_of, start_low_in};
 use tree_area::write::set_lengths;
 use tree_finger::finger::changing;
@@ -24,9 +24,7 @@ pub fn replace(head: Head, leaves: &mut [u32], g: Shape, k: LeafNo, i: u32, x: &
     ensures { (xs hs : List ℕ) → change 0 (state result leaves.new xs hs) k.0 i ≡ replace g (state head leaves.old xs hs) k.0 i (lengths_in (g.stride - 1) x.now) }
 {
     set_lengths(leaves, g, k.0, i as usize, x);
-    let finger = head.finger;
-    let moved = changing(finger, k, i);
-    with_finger(moved, head)
+    with_finger(changing(head.finger, k, i), head)
 }
 
 // The difference goes into every slot above leaf k, and the effect lengths before slot i of it are summed up on the way, modulo
@@ -44,7 +42,7 @@ pub fn way_sum(
     levels: u32,
     k: LeafNo,
     i: u32,
-) -> Sum
+) -> Result<u64, Broken>
     requires { AreaHolds (shape_for views fan nodes) (length leaves.now) × AreaHolds (shape_for views fan nodes) (length inners.old) × (effect < views) × (levels ≤ 16) × (k.0 < nodes) × (i < fan) }
     ensures { (result, inners.new) ≡ low_way (way_up (shape_for views fan nodes) effect (take views (d0 ∷ d1 ∷ d2 ∷ [])) levels k.0 i leaves.now inners.old) }
 {
@@ -56,7 +54,7 @@ pub fn way_sum(
     climb_up(inners, g, effect, &delta, levels, parent, at, sum)
 }
 
-// The same without the sum; whether the way came to the root (add_to_ancestors).
+// The same without the sum; whether the way came to the root, as `add_up` answers it.
 pub fn way_raise(
     leaves: &[u32],
     inners: &mut [u32],
@@ -92,7 +90,7 @@ pub fn asked_way(
     k: LeafNo,
     i: u32,
     summed: bool,
-) -> Sum
+) -> Result<u64, Broken>
     requires { AreaHolds (shape_for views fan nodes) (length leaves.now) × AreaHolds (shape_for views fan nodes) (length inners.old) × (effect < views) × (levels ≤ 16) × (k.0 < nodes) × (i < fan) × (length delta.now ≡ 3) }
     ensures { (result, inners.new) ≡ asked_way summed (low_way (way_up (shape_for views fan nodes) effect (take views delta.now) levels k.0 i leaves.now inners.old)) }
 {
@@ -105,7 +103,7 @@ pub fn asked_way(
         );
     }
     if !way_raise(leaves, inners, views, fan, nodes, d0, d1, d2, levels, k) {
-        return Sum::Broken;
+        return Err(Broken);
     }
-    Sum::Is(0)
+    Ok(0)
 }

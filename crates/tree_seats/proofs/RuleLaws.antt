@@ -1,4 +1,5 @@
 -- The rules of seats from the words that are read. Assumes nothing.
+use Rattle.std.specs.Prelude.{Some, None, Option}
 use Rattle.std.proofs.Common.{◌≡◌, ℕ, ◌+◌, ◌-◌, ◌<◌, ◌≤◌, Bool, true, false, cond, not, ◌&&◌, ◌||◌, eqb, ltb, leb, List, [], ◌∷◌, get_or, sym, refl, ap, ◌∙◌, ap₂, arith, ltb-false, le-ltb, lt-ltb, eq-eqb, ne_eqb, le-leb}
 use borrow.Author.Tests.{lt-leb}
 use Rattle.model.specs.Lists.{cause, refusal}
@@ -6,22 +7,20 @@ use Rattle.model.specs.State.{State}
 use Rattle.model.specs.declared.seats.Seats.{Seats}
 use Rattle.model.specs.Seats.{sum_from, sum, share, charge, unused, all_unused, bad_seat, over, too_high, is_fair}
 use Rattle.model.specs.SeatedCalls.{space}
-use Rattle.model.specs.declared.seats.Seat.{Seat}
-use Rattle.model.specs.declared.seats.Seat.TheVariants as seat
 use Rattle.tree_seats.specs.Words.{seats_from}
 use Rattle.tree_seats.proofs.SumLaws.{part_sum, same_sum, share_word, charge_word, others_all}
 
 -- which seat may be named
-module _ (w : List ℕ) (t : Seat) where
-  pub bad_nobody : t ≡ seat.Nobody → not (eqb (get_or w 0 0) 0) ≡ bad_seat (seats_from w) t
+module _ (w : List ℕ) (t : Option ℕ) where
+  pub bad_nobody : t ≡ None → not (eqb (get_or w 0 0) 0) ≡ bad_seat (seats_from w) t
   unfolding seats_from
   bad_nobody e = sym (ap (bad_seat (seats_from w)) e)
 
-  pub bad_unseated : (i : ℕ) → t ≡ seat.Number i → get_or w 0 0 ≡ 0 → true ≡ bad_seat (seats_from w) t
+  pub bad_unseated : (i : ℕ) → t ≡ Some i → get_or w 0 0 ≡ 0 → true ≡ bad_seat (seats_from w) t
   unfolding seats_from
   bad_unseated i e n = sym (ap (bad_seat (seats_from w)) e ∙ ap (λ (b : Bool). not (not b) || ltb 7 i) (eq-eqb (get_or w 0 0) 0 n))
 
-  pub bad_number : (i : ℕ) → t ≡ seat.Number i → (get_or w 0 0 ≡ 0 → ⊥) → ltb 7 i ≡ bad_seat (seats_from w) t
+  pub bad_number : (i : ℕ) → t ≡ Some i → (get_or w 0 0 ≡ 0 → ⊥) → ltb 7 i ≡ bad_seat (seats_from w) t
   unfolding seats_from
   bad_number i e n = sym (ap (bad_seat (seats_from w)) e ∙ ap (λ (b : Bool). not (not b) || ltb 7 i) (ne_eqb (get_or w 0 0) 0 n))
 
@@ -31,7 +30,7 @@ module _ (w : List ℕ) (t : Seat) where
   or_second false b e = e
 
   -- a seat that may be named is one of eight
-  pub good_number : (i : ℕ) → bad_seat (seats_from w) t ≡ false → t ≡ seat.Number i → i < 8
+  pub good_number : (i : ℕ) → bad_seat (seats_from w) t ≡ false → t ≡ Some i → i < 8
   good_number i g e =
       let z = or_second (not (seats_from w).seated) (ltb 7 i) (sym (ap (bad_seat (seats_from w)) e) ∙ g) in
       omega (arith, ltb-false 7 i z)
@@ -77,14 +76,14 @@ module _ (limit n : ℕ) (o : Bool) (t : Bool) (e : o ≡ t) where
   room_some h g = (sym (ap₂ (λ (a b : Bool). cond a 18 (cond b 9 0)) (sym e ∙ h) (lt-leb limit n g)), λ z. g)
 
 -- the number for the seat that was named
-module _ (limit n : ℕ) (b : Seats) (t : Seat) (r : ℕ) where
+module _ (limit n : ℕ) (b : Seats) (t : Option ℕ) (r : ℕ) where
   abbrev RoomNumber : Type 0
   RoomNumber = ((s : State) → s.head.limit ≡ limit → s.head.entries ≡ n → r ≡ refusal (space s b t)) × (r ≡ 0 → n < limit)
 
-  pub room_nobody : t ≡ seat.Nobody → (r ≡ refusal (cause 8 (leb limit n) ∷ [])) × (r ≡ 0 → n < limit) → RoomNumber
+  pub room_nobody : t ≡ None → (r ≡ refusal (cause 8 (leb limit n) ∷ [])) × (r ≡ 0 → n < limit) → RoomNumber
   room_nobody e h = (λ s el en. rw (e, el, en) h.0, h.1)
 
-  pub room_number : (i : ℕ) → t ≡ seat.Number i → (r ≡ refusal (over limit n b i ∷ cause 9 (leb limit n) ∷ [])) × (r ≡ 0 → n < limit) → RoomNumber
+  pub room_number : (i : ℕ) → t ≡ Some i → (r ≡ refusal (over limit n b i ∷ cause 9 (leb limit n) ∷ [])) × (r ≡ 0 → n < limit) → RoomNumber
   room_number i e h = (λ s el en. rw (e, el, en) h.0, h.1)
 
 -- 19

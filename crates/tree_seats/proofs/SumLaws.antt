@@ -1,32 +1,25 @@
 -- Sums over the seats, and the words that they stand in. Assumes nothing.
-use Rattle.std.proofs.Common.{◌≡◌, ℕ, zero, suc, ◌+◌, ◌-◌, ◌*◌, ◌<◌, ◌≤◌, Bool, true, false, cond, eqb, List, get_or, sym, refl, ap, ap₂, arith, eqb-true}
+use Rattle.std.proofs.Common.{◌≡◌, ℕ, zero, suc, ◌+◌, ◌-◌, ◌*◌, ◌<◌, ◌≤◌, Bool, true, false, cond, eqb, min, List, [], ◌∷◌, length, get_or, sym, refl, ap, ◌∙◌, ap₂, arith, eqb-true}
+use Rattle.std.specs.List.{sum_by, zip}
+use Rattle.std.proofs.lemmas.List.Sums.{sum_by-cons, sum_by-le}
+use Rattle.std.proofs.lemmas.List.Elements.{All-from_get_or}
+use Rattle.std.proofs.lemmas.Slice.Zip.{length-zip, get_or-zip}
 use Rattle.model.specs.Lists.{part}
 use Rattle.model.specs.Seats.{sum_from, share, charge, unused, others_unused, all_unused}
 use Rattle.model.specs.declared.seats.Seats.{Seats}
-use Rattle.model_laws.specs.Words.{get_d_part}
+use Rattle.model_laws.specs.Words.{get_d_part, length_part}
 use Rattle.tree_seats.specs.Words.{seats_from}
 
--- a running sum: what is left to add, and that it stays small
-abbrev pub Running : (ℕ → ℕ) → ℕ → ℕ → Type 0
-Running f total j = (total + sum_from f j (8 - j) ≡ sum_from f 0 8) × (j ≤ 8) × (total ≤ j * 4294967295)
-
-pub begin : (f : ℕ → ℕ) → Running f 0 0
-begin f = (omega arith, omega arith, omega arith)
-
-next : (f : ℕ → ℕ) (j n : ℕ) → n ≡ suc (8 - (j + 1)) → sum_from f j n ≡ f j + sum_from f (j + 1) (8 - (j + 1))
+-- a sum over a list, as a sum over the places of the list
+shift : (f : ℕ → ℕ) (j n : ℕ) → sum_from f (suc j) n ≡ sum_from (λ i. f (suc i)) j n
 unfolding sum_from
-next f j zero e = absurd (omega arith)
-next f j (suc n) e = ap₂ (λ (a b : ℕ). f j + sum_from f a b) (let z : suc j ≡ j + 1 = omega arith in z) (let z : n ≡ 8 - (j + 1) = omega arith in z)
+shift f j zero = refl
+shift f j (suc n) = ap (λ (x : ℕ). f (suc j) + x) (shift f (suc j) n)
 
-pub again : (f : ℕ → ℕ) (total j x : ℕ) → Running f total j → j < 8 → x ≡ f j → x ≤ 4294967295 → Running f (total + x) (j + 1)
-again f total j x h lt e le = (let z = next f j (8 - j) (omega arith) in let y = h.0 in omega arith, omega arith, (let y = h.2 in omega arith))
-
-pub end : (f : ℕ → ℕ) (total j : ℕ) → Running f total j → 8 ≤ j → (total ≡ sum_from f 0 8) × (total ≤ 34359738360)
+places : {A : Type 0} (f : A → ℕ) (d : A) (xs : List A) → sum_by f xs ≡ sum_from (λ j. f (get_or xs j d)) 0 (length xs)
 unfolding sum_from
-end f total j h ge = (
-  let z : sum_from f j (8 - j) ≡ 0 = ap (sum_from f j) (let y : 8 - j ≡ 0 = omega (arith, ge) in y) in let y = h.0 in omega arith,
-  let y = h.2 in omega (arith, y, h.1),
-)
+places f d [] = refl
+places f d (x ∷ xs) = sum_by-cons f x xs ∙ ap (λ (a : ℕ). f x + a) (places f d xs ∙ sym (shift (λ j. f (get_or (x ∷ xs) j d)) 0 (length xs)))
 
 -- two sums whose terms are the same
 pub same_sum : (f g : ℕ → ℕ) (j n : ℕ) → ((k : ℕ) → k < j + n → f k ≡ g k) → sum_from f j n ≡ sum_from g j n
@@ -46,8 +39,31 @@ pub charge_word : (w : List ℕ) (j : ℕ) → j < 8 → charge (seats_from w) j
 unfolding seats_from
 charge_word w j l = get_d_part 9 8 j w l
 
-pub unused_word : (w : List ℕ) (j : ℕ) → j < 8 → get_or w (1 + j) 0 - get_or w (9 + j) 0 ≡ unused (seats_from w) j
-unused_word w j l = sym (ap₂ (λ (a b : ℕ). a - b) (share_word w j l) (charge_word w j l))
+-- eight words, listed
+module _ (w : List ℕ) (p : ℕ) (h : p + 8 ≤ length w) where
+  pub words_sum : sum_by (λ (x : ℕ). x) (part p 8 w) ≡ sum_from (λ j. get_or w (p + j) 0) 0 8
+  words_sum = places (λ x. x) 0 (part p 8 w) ∙ ap (sum_from (λ j. get_or (part p 8 w) j 0) 0) (length_part p 8 w h) ∙ sym (part_sum p w)
+
+  pub words_below : (m : ℕ) → ((k : ℕ) → get_or w k 0 ≤ m) → sum_by (λ (x : ℕ). x) (part p 8 w) ≤ 8 * m
+  words_below m le =
+      let n = length_part p 8 w h in
+      let z = sum_by-le (λ (x : ℕ). x) m (part p 8 w) (All-from_get_or (λ x. x ≤ m) (part p 8 w) 0 (λ i l. rw (get_d_part p 8 i w (omega (arith, n, l))) (le (p + i)))) in
+      rw n at z
+
+-- the shares beside the charges
+module _ (w : List ℕ) (e : length w ≡ 17) where
+  pub eight_pairs : length (zip (part 1 8 w) (part 9 8 w)) ≡ 8
+  eight_pairs = length-zip (part 1 8 w) (part 9 8 w) ∙ ap₂ min (length_part 1 8 w (omega (arith, e))) (length_part 9 8 w (omega (arith, e)))
+
+  pub unused_sum : sum_by (λ (x : ℕ × ℕ). x.0 - x.1) (zip (part 1 8 w) (part 9 8 w)) ≡ all_unused (seats_from w)
+  unfolding seats_from
+  unused_sum =
+      let a = length_part 1 8 w (omega (arith, e)) in
+      let b = length_part 9 8 w (omega (arith, e)) in
+      let pairs = zip (part 1 8 w) (part 9 8 w) in
+      let term : ℕ → ℕ = λ j. (get_or pairs j (0, 0)).0 - (get_or pairs j (0, 0)).1 in
+      places (λ (x : ℕ × ℕ). x.0 - x.1) (0, 0) pairs ∙ ap (sum_from term 0) eight_pairs
+      ∙ same_sum term (unused (seats_from w)) 0 8 (λ k l. ap (λ (x : ℕ × ℕ). x.0 - x.1) (get_or-zip (part 1 8 w) (part 9 8 w) k (0, 0) (omega (arith, a, l)) (omega (arith, b, l))))
 
 -- a seat at or over its share has nothing unused, so that all are the others
 own_none : (b : Seats) (i k : ℕ) → share b i ≤ charge b i → (t : Bool) → eqb k i ≡ t → cond t 0 (unused b k) ≡ unused b k

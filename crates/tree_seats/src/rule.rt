@@ -1,4 +1,5 @@
 // The rules of seats: which seat may be named, whether one entry more has space, and what make and audit ask.
+ghost use Rattle.model.specs.Numbered.{number_of};
 ghost use Rattle.std.specs.Prelude.{◌≡◌, ◌<◌, ◌≤◌, false, [], ◌∷◌, length, nat_le};
 ghost use Rattle.model.specs.Lists.{refusal, cause};
 ghost use Rattle.model.specs.State.{State};
@@ -7,32 +8,27 @@ ghost use Rattle.model.specs.SeatedCalls.{space};
 ghost use Rattle.tree_seats.specs.Words.{seats_from};
 
 use crate::sum::{left, sum, unused, wide};
-use model::seats::Seat;
+use model::refusal::Refusal;
 
 // A seat above 7, a seat in a tree without seats, or none in a seated one.
-pub fn bad_seat(seats: &[u32], seat: Seat) -> bool
+pub fn bad_seat(seats: &[u32], seat: Option<u32>) -> bool
     requires { length seats.now ≡ 17 }
     ensures { result ≡ bad_seat (seats_from seats.now) seat }
 {
     match seat {
-        Seat::Nobody => seats[0] != 0,
-        Seat::Number(i) => {
-            if seats[0] == 0 {
-                return true;
-            }
-            7 < i
-        }
+        None => seats[0] != 0,
+        Some(i) => seats[0] == 0 || 7 < i,
     }
 }
 
-// 8 where a tree without seats holds its limit, else 0.
-pub fn without(limit: u32, entries: u32) -> u32
-    ensures { (result ≡ refusal (cause 8 (nat_le limit entries) ∷ [])) × (result ≡ 0 → entries < limit) }
+// Whether a tree without seats holds less than its limit.
+pub fn without(limit: u32, entries: u32) -> Result<(), Refusal>
+    ensures { (number_of result ≡ refusal (cause 8 (nat_le limit entries) ∷ [])) × (number_of result ≡ 0 → entries < limit) }
 {
     if limit <= entries {
-        return 8;
+        return Err(Refusal::Full);
     }
-    0
+    Ok(())
 }
 
 // Whether the seat is at or over its share, and the free entries don't outnumber the unused shares of the others; it has none itself then.
@@ -40,46 +36,43 @@ fn is_over(limit: u32, entries: u32, seats: &[u32], i: usize) -> bool
     requires { (length seats.now ≡ 17) × (i < 8) }
     ensures { result ≡ (over limit entries (seats_from seats.now) i).applies }
 {
-    if seats[9 + i] < seats[1 + i] {
-        return false;
-    }
-    left(limit, entries) <= unused(seats)
+    seats[1 + i] <= seats[9 + i] && left(limit, entries) <= unused(seats)
 }
 
-// 18 by the rules, and 9 in a tree that is full though the seat is below its share.
-fn with(limit: u32, entries: u32, seats: &[u32], i: usize) -> u32
+// Whether the rules give the seat one entry more. A tree that is full though the seat is below its share has a broken count.
+fn with(limit: u32, entries: u32, seats: &[u32], i: usize) -> Result<(), Refusal>
     requires { (length seats.now ≡ 17) × (i < 8) }
-    ensures { (result ≡ refusal (over limit entries (seats_from seats.now) i ∷ cause 9 (nat_le limit entries) ∷ [])) × (result ≡ 0 → entries < limit) }
+    ensures { (number_of result ≡ refusal (over limit entries (seats_from seats.now) i ∷ cause 9 (nat_le limit entries) ∷ [])) × (number_of result ≡ 0 → entries < limit) }
 {
     if is_over(limit, entries, seats, i) {
-        return 18;
+        return Err(Refusal::Over);
     }
     if limit <= entries {
-        return 9;
+        return Err(Refusal::Link);
     }
-    0
+    Ok(())
 }
 
-// The number for want of space, 0 where there is some.
-pub fn room(limit: u32, entries: u32, seats: &[u32], seat: Seat) -> u32
+// Whether there is space for one entry more.
+pub fn room(limit: u32, entries: u32, seats: &[u32], seat: Option<u32>) -> Result<(), Refusal>
     requires { (length seats.now ≡ 17) × (bad_seat (seats_from seats.now) seat ≡ false) }
-    ensures { ((s : State) → s.head.limit ≡ limit → s.head.entries ≡ entries → result ≡ refusal (space s (seats_from seats.now) seat)) × (result ≡ 0 → entries < limit) }
+    ensures { ((s : State) → s.head.limit ≡ limit → s.head.entries ≡ entries → number_of result ≡ refusal (space s (seats_from seats.now) seat)) × (number_of result ≡ 0 → entries < limit) }
 {
     match seat {
-        Seat::Nobody => without(limit, entries),
-        Seat::Number(i) => with(limit, entries, seats, i as usize),
+        None => without(limit, entries),
+        Some(i) => with(limit, entries, seats, i as usize),
     }
 }
 
-// 19 where the shares sum too high, else 0.
-pub fn too_high(limit: u32, shares: &[u32]) -> u32
+// Whether the shares sum to less than the limit.
+pub fn within(limit: u32, shares: &[u32]) -> Result<(), Refusal>
     requires { length shares.now ≡ 8 }
-    ensures { result ≡ refusal (too_high limit shares.now ∷ []) }
+    ensures { number_of result ≡ refusal (too_high limit shares.now ∷ []) }
 {
     if wide(limit) <= sum(shares, 0) {
-        return 19;
+        return Err(Refusal::Shares);
     }
-    0
+    Ok(())
 }
 
 // What audit also asks of a seated tree.
@@ -87,14 +80,8 @@ pub fn is_fair(limit: u32, entries: u32, seats: &[u32]) -> bool
     requires { length seats.now ≡ 17 }
     ensures { result ≡ is_fair limit entries (seats_from seats.now) }
 {
-    if seats[0] == 0 {
-        return true;
-    }
-    if wide(limit) <= sum(seats, 1) {
-        return false;
-    }
-    if sum(seats, 9) + 1 != wide(entries) {
-        return false;
-    }
-    unused(seats) <= left(limit, entries)
+    seats[0] == 0
+        || sum(seats, 1) < wide(limit)
+            && sum(seats, 9) + 1 == wide(entries)
+            && unused(seats) <= left(limit, entries)
 }

@@ -13,10 +13,7 @@ pub fn wide(x: u32) -> u64
 pub fn left(x: u32, y: u32) -> u64
     ensures { (result ≡ x - y) × (result ≤ 4294967295) }
 {
-    if y < x {
-        return wide(x - y);
-    }
-    0
+    wide(x.saturating_sub(y))
 }
 
 // Eight words from one on.
@@ -24,13 +21,7 @@ pub fn sum(words: &[u32], from: usize) -> u64
     requires { from + 8 ≤ length words.now }
     ensures { (result ≡ over_seats (λ j. slice_index words.now (from + j))) × (result ≤ 34359738360) }
 {
-    let mut total: u64 = 0;
-    let mut j: usize = 0;
-    while j < 8 {
-        total = total + wide(words[from + j]);
-        j = j + 1;
-    }
-    total
+    words[from..from + 8].iter().map(|x| wide(*x)).sum()
 }
 
 // The unused shares of all seats.
@@ -38,11 +29,9 @@ pub fn unused(seats: &[u32]) -> u64
     requires { length seats.now ≡ 17 }
     ensures { result ≡ all_unused (seats_from seats.now) }
 {
-    let mut total: u64 = 0;
-    let mut j: usize = 0;
-    while j < 8 {
-        total = total + left(seats[1 + j], seats[9 + j]);
-        j = j + 1;
-    }
-    total
+    seats[1..9]
+        .iter()
+        .zip(&seats[9..17])
+        .map(|(share, charge)| left(*share, *charge))
+        .sum()
 }

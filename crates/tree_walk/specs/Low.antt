@@ -1,21 +1,21 @@
 -- A sum and a way up modulo 2 ^ 32, as positions are stored, and one step of such a climb. Assumes nothing.
-use Rattle.std.specs.Prelude.{◌≡◌, ℕ, zero, suc, ◌+◌, ◌-◌, ◌%◌, ◌^◌, ◌<◌, ◌≤◌, Bool, true, false, cond, List}
+use Rattle.model.specs.declared.way.Broken.{Broken}
+use Rattle.model.specs.Numbered.{broken}
+use Rattle.std.specs.Prelude.{◌≡◌, ℕ, zero, suc, ◌+◌, ◌-◌, ◌%◌, ◌^◌, ◌<◌, ◌≤◌, Bool, true, false, cond, List, Ok, Err, Result}
 use Rattle.std.proofs.Math.Path.{refl}
 use Rattle.std.proofs.Common.{sym, ap, ◌∙◌, arith}
 use Rattle.model.specs.Node.{wrap, start}
 use Rattle.model.specs.State.{node_at}
 use Rattle.model.specs.Climb.{inside, raised, climb_up}
 use Rattle.model.specs.declared.shape.Shape.{Shape}
-use Rattle.model.specs.declared.way.Sum.{Sum}
-use Rattle.model.specs.declared.way.Sum.TheVariants as sum
 use Rattle.model_laws.specs.Climb.{climb_end, climb_broken, climb_on}
 
-abbrev pub low_sum : Sum → Sum
-low_sum (sum.Is n) = sum.Is (wrap n)
-low_sum sum.Broken = sum.Broken
+abbrev pub low_sum : Result ℕ Broken → Result ℕ Broken
+low_sum (Ok n) = Ok (wrap n)
+low_sum (Err _) = Err broken
 
 -- with the words that the way leaves
-abbrev pub low_way : Sum × List ℕ → Sum × List ℕ
+abbrev pub low_way : Result ℕ Broken × List ℕ → (Result ℕ Broken) × List ℕ
 low_way (w, xs) = (low_sum w, xs)
 
 same_more : (s t a : ℕ) → wrap s ≡ wrap t → wrap (s + a) ≡ wrap (t + a)
@@ -35,18 +35,18 @@ module _ (g : Shape) (v : ℕ) (delta : List ℕ) where
       (low_same n (node_at g k xs).parent (node_at g k xs).at (s + start v i (node_at g k xs)) (t + start v i (node_at g k xs)) (raised g delta k i xs)
       (same_more s t (start v i (node_at g k xs)) e))
     where
-      go : (b : Bool) (x y : Sum × List ℕ) → low_way x ≡ low_way y → low_way (cond b x (sum.Broken, xs)) ≡ low_way (cond b y (sum.Broken, xs))
+      go : (b : Bool) (x y : Result ℕ Broken × List ℕ) → low_way x ≡ low_way y → low_way (cond b x ((Err broken), xs)) ≡ low_way (cond b y ((Err broken), xs))
       go true x y e = e
       go false x y e = refl
 
   -- one step
   module _ (k i s : ℕ) (xs : List ℕ) where
-    pub low_end : (n : ℕ) → n ≤ 0 → s ≤ 4294967295 → (sum.Is s, xs) ≡ low_way (climb_up g v delta n k i s xs)
+    pub low_end : (n : ℕ) → n ≤ 0 → s ≤ 4294967295 → (Ok s, xs) ≡ low_way (climb_up g v delta n k i s xs)
     low_end n h f =
         let e : wrap s ≡ s = omega arith in
         rw (climb_end g v delta k i s xs n h, e)
 
-    pub low_broken : (n : ℕ) → 0 < n → inside g k i ≡ false → (sum.Broken, xs) ≡ low_way (climb_up g v delta n k i s xs)
+    pub low_broken : (n : ℕ) → 0 < n → inside g k i ≡ false → ((Err broken), xs) ≡ low_way (climb_up g v delta n k i s xs)
     low_broken n h e = rw (climb_broken g v delta k i s xs n h e)
 
     pub low_on : (n : ℕ) → 0 < n → inside g k i ≡ true → (t p a : ℕ) (ys : List ℕ) → wrap t ≡ wrap (s + start v i (node_at g k xs)) → p ≡ (node_at g k xs).parent

@@ -1,13 +1,13 @@
 -- The climb without its sum: what it leaves of the inner area, and whether the way was whole. Assumes nothing.
-use Rattle.std.specs.Prelude.{◌≡◌, ℕ, zero, suc, ◌+◌, ◌-◌, ◌<◌, ◌≤◌, Bool, true, false, cond, List}
+use Rattle.model.specs.declared.way.Broken.{Broken}
+use Rattle.model.specs.Numbered.{broken}
+use Rattle.std.specs.Prelude.{◌≡◌, ℕ, zero, suc, ◌+◌, ◌-◌, ◌<◌, ◌≤◌, Bool, true, false, cond, List, Ok, Err, Result}
 use Rattle.std.proofs.Math.Path.{refl}
 use native.Mathlib.Omega.{arith}
 use Rattle.model.specs.Node.{start}
 use Rattle.model.specs.State.{node_at}
 use Rattle.model.specs.Climb.{inside, raised, climb_up}
 use Rattle.model.specs.declared.shape.Shape.{Shape}
-use Rattle.model.specs.declared.way.Sum.{Sum}
-use Rattle.model.specs.declared.way.Sum.TheVariants as sum
 
 -- delta added to the lengths at place i of inner node k, and so on up n levels
 module _ (g : Shape) (delta : List ℕ) where
@@ -18,9 +18,9 @@ module _ (g : Shape) (delta : List ℕ) where
       cond (inside g k i) (raise_up n m.parent m.at (raised g delta k i xs)) (false, xs)
 
 -- whether there is a sum
-abbrev pub whole : Sum → Bool
-whole (sum.Is s) = true
-whole sum.Broken = false
+abbrev pub whole : Result ℕ Broken → Bool
+whole (Ok s) = true
+whole (Err _) = false
 
 -- the climb leaves what raise_up leaves, and is broken where raise_up says so
 pub raise_climb : (g : Shape) (v : ℕ) (delta : List ℕ) (n k i s : ℕ) (xs : List ℕ)
@@ -30,8 +30,8 @@ raise_climb g v delta zero k i s xs = refl
 raise_climb g v delta (suc n) k i s xs =
     go (inside g k i) _ _ (raise_climb g v delta n (node_at g k xs).parent (node_at g k xs).at (s + start v i (node_at g k xs)) (raised g delta k i xs))
   where
-    go : (b : Bool) (r : Bool × List ℕ) (c : Sum × List ℕ) → r ≡ (whole c.0, c.1)
-        → cond b r (false, xs) ≡ (whole (cond b c (sum.Broken, xs)).0, (cond b c (sum.Broken, xs)).1)
+    go : (b : Bool) (r : Bool × List ℕ) (c : Result ℕ Broken × List ℕ) → r ≡ (whole c.0, c.1)
+        → cond b r (false, xs) ≡ (whole (cond b c ((Err broken), xs)).0, (cond b c ((Err broken), xs)).1)
     go true r c e = e
     go false r c e = refl
 

@@ -11,23 +11,14 @@ use tree_area::word::len_of;
 pub fn held(g: Shape, k: u32) -> bool
     ensures { result ≡ nat_lt k g.nodes }
 {
-    let nodes = g.nodes;
-    (k as usize) < nodes
+    (k as usize) < g.nodes
 }
 
 // Whether node k is in the area and i is a place in it.
 pub fn inside(g: Shape, k: u32, i: u32) -> bool
     ensures { result ≡ inside g k i }
 {
-    let nodes = g.nodes;
-    let fan = g.fan;
-    if k as usize >= nodes {
-        return false;
-    }
-    if i as usize >= fan {
-        return false;
-    }
-    true
+    (k as usize) < g.nodes && (i as usize) < g.fan
 }
 
 // Whether node k is in the area and says no more slots than it has.
@@ -35,14 +26,5 @@ pub fn sized(area: &[u32], g: Shape, k: u32) -> bool
     requires { AreaHolds g (length area.now) }
     ensures { result ≡ sized g k area.now }
 {
-    let nodes = g.nodes;
-    let fan = g.fan;
-    if k as usize >= nodes {
-        return false;
-    }
-    let len = len_of(area, g, k);
-    if len as usize > fan {
-        return false;
-    }
-    true
+    (k as usize) < g.nodes && len_of(area, g, k) as usize <= g.fan
 }

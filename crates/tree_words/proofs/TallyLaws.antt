@@ -4,6 +4,9 @@ use mathlib.Core.List.{List}
 use Prim.Native.Nat.{ℕ, ◌+◌, ◌<◌, ◌≤◌}
 use native.Mathlib.Omega.{arith}
 use native.Mathlib.Numerals.{add-one}
+use mathlib.Core.Bool.{Bool, true, false, not, cond}
+use mir.Val.{bool_byte}
+use lib.Dec.{eqb}
 use lib.ListN.{length, get_or, take, set, length-set}
 use lib.Seq.{length-take-le, take-suc, take_all}
 use Rattle.model.specs.Lists.{put_at}
@@ -11,6 +14,21 @@ use Rattle.model_laws.specs.Words.{put_none, put_on, get_d_after}
 use Rattle.model.specs.Repair.{apart, differ}
 use Rattle.model_laws.specs.Differ.{differ_none, differ_set}
 use Rattle.tree_words.specs.Tally.{tallied}
+
+-- 1 exactly where two words differ
+pub as_apart : (a b : ℕ) → bool_byte (not (eqb a b)) ≡ apart a b
+as_apart a b = go (eqb a b)
+  where
+    go : (t : Bool) → bool_byte (not t) ≡ cond t 0 1
+    go true = refl
+    go false = refl
+
+pub apart_small : (a b : ℕ) → apart a b ≤ 1
+apart_small a b = go (eqb a b)
+  where
+    go : (t : Bool) → cond t 0 1 ≤ 1
+    go true = omega arith
+    go false = omega arith
 
 -- i words written: the area and the count
 pub record TallyDone (p i count : ℕ) (src ws now : List ℕ) : Type 0 where

@@ -1,57 +1,40 @@
 -- One turn of each loop that writes words. Assumes nothing.
 use mathlib.Core.Path.{◌≡◌, refl, sym, ap, ◌∙◌}
-use mathlib.Core.List.{List, ◌∷◌, ◌++◌}
+use mathlib.Core.List.{List, [], ◌∷◌, ◌++◌, append_assoc}
 use Prim.Native.Nat.{ℕ, zero, suc, ◌+◌, ◌-◌, ◌*◌, ◌%◌, ◌^◌, ◌<◌, ◌≤◌}
 use native.Mathlib.Omega.{arith}
 use native.Mathlib.Numerals.{unary_clauses}
-use lib.ListN.{length, get_or, take, drop, set, replicate, length-replicate, replicate-append-replicate}
+use lib.ListN.{length, get_or, take, drop, set, replicate, length-take, length-drop, length-replicate, replicate-append-replicate}
+use Rattle.std.specs.List.{copy_within}
 use Rattle.model.specs.Lists.{part, put_at}
 use Rattle.model.specs.Node.{none, wrap, empty_slot, empty_slots}
 use Rattle.model_laws.specs.Lists.{row_end}
 use Rattle.model_laws.specs.Slots.{flat, flat_append, flat_one, length_flat}
 use Rattle.model_laws.specs.Formed.{length_empty, empty_wide}
-use Rattle.model_laws.specs.Words.{length_part, length_put, part_none, part_front, part_part, part_add, part_same, part_before, part_after, put_none, put_next, put_prev, put_on, put_back, put_same, put_put, put_over, get_d_before}
+use Rattle.model_laws.specs.Words.{set_put, put_on, length_part, length_put, part_none, part_front, part_part, part_add, part_same, part_before, part_after, put_next, put_prev, put_back, put_same, put_put, put_over}
 
 -- the difference modulo 2 ^ 32 is the number that, added again, gives the first
 pub wrapped_less : (a b r : ℕ) → (r + b) % 2 ^ 32 ≡ a → r < 2 ^ 32 → b < 2 ^ 32 → r ≡ wrap (a + (2 ^ 32 - b))
 wrapped_less a b r e h g = omega arith
 
--- one word more moved up, the last first
-pub shift_turn : (s w q : ℕ) (ws : List ℕ) → 0 < w → w ≤ q → q + s ≤ length ws
-    → set (put_at (w + s) (part w (q - w) ws) ws) (w - 1 + s) (get_or (put_at (w + s) (part w (q - w) ws) ws) (w - 1) 0) ≡ put_at (w - 1 + s) (part (w - 1) (q - (w - 1)) ws) ws
-shift_turn s w q ws h hw hq =
-    let l : length (part w (q - w) ws) ≡ q - w = length_part w (q - w) ws (omega arith) in
-    let e : q - (w - 1) ≡ q - w + 1 = omega arith in
-    let f : w - 1 + 1 ≡ w = omega arith in
-    rw (
-      get_d_before (w + s) (w - 1) (part w (q - w) ws) ws (omega arith) (omega arith),
-      put_back (w + s) (w - 1 + s) (get_or ws (w - 1) 0) (part w (q - w) ws) ws (omega arith)
-          (omega arith),
-      e,
-      part_front (w - 1) (q - w) ws (omega arith),
-      f,
-    )
+-- the words from p up to q copied s words further up
+pub shifted : (p q s : ℕ) (ws : List ℕ) → p ≤ q → q + s ≤ length ws → copy_within ws p q (p + s) ≡ put_at (p + s) (part p (q - p) ws) ws
+unfolding part put_at
+shifted p q s ws h g =
+    let l : length (take (q - p) (drop p ws)) ≡ q - p = simp (length-take, length-drop) (omega arith) in
+    rw l (append_assoc (take (p + s) ws) (take (q - p) (drop p ws)) _)
 
--- the same with the words moved so far in `now`, and four words at once
-up_turn : (s w v n : ℕ) (ws now : List ℕ) → v ≡ w + 1 → v + s + n ≤ length ws → now ≡ put_at (v + s) (part v n ws) ws → set now (w + s) (get_or now w 0) ≡ put_at (w + s) (part w (n + 1) ws) ws
-up_turn s w v n ws now ev h en =
-    let l : length (part v n ws) ≡ n = length_part v n ws (omega arith) in
-    rw (
-      en,
-      get_d_before (v + s) w (part v n ws) ws (omega arith) (omega arith),
-      put_back (v + s) (w + s) (get_or ws w 0) (part v n ws) ws (omega arith) (omega arith),
-      part_front w n ws (omega arith),
-      ev,
-    )
+-- four words read one by one
+pub part_four : (w : ℕ) (ws : List ℕ) → w + 4 ≤ length ws → get_or ws w 0 ∷ get_or ws (w + 1) 0 ∷ get_or ws (w + 2) 0 ∷ get_or ws (w + 3) 0 ∷ [] ≡ part w 4 ws
+part_four w ws h =
+    let two : w + 1 + 1 ≡ w + 2 = omega arith in
+    let three : w + 2 + 1 ≡ w + 3 = omega arith in
+    rw (part_front w 3 ws (omega arith), part_front (w + 1) 2 ws (omega arith), two, part_front (w + 2) 1 ws (omega arith), three, part_front (w + 3) 0 ws (omega arith), part_none)
 
-pub four_up : (s w : ℕ) (ws a b c : List ℕ) → w + 4 + s ≤ length ws → a ≡ set ws (w + 3 + s) (get_or ws (w + 3) 0) → b ≡ set a (w + 2 + s) (get_or a (w + 2) 0) → c ≡ set b (w + 1 + s) (get_or b (w + 1) 0)
-    → set c (w + s) (get_or c w 0) ≡ put_at (w + s) (part w 4 ws) ws
-four_up s w ws a b c h ea eb ec =
-    let e0 : ws ≡ put_at (w + 4 + s) (part (w + 4) 0 ws) ws = rw (part_none, put_none) in
-    let e1 : a ≡ put_at (w + 3 + s) (part (w + 3) 1 ws) ws = ea ∙ up_turn s (w + 3) (w + 4) 0 ws ws (omega arith) (omega arith) e0 in
-    let e2 : b ≡ put_at (w + 2 + s) (part (w + 2) 2 ws) ws = eb ∙ up_turn s (w + 2) (w + 3) 1 ws a (omega arith) (omega arith) e1 in
-    let e3 : c ≡ put_at (w + 1 + s) (part (w + 1) 3 ws) ws = ec ∙ up_turn s (w + 1) (w + 2) 2 ws b (omega arith) (omega arith) e2 in
-    up_turn s w (w + 1) 3 ws c refl (omega arith) e3
+pub put_four : (q a b c d : ℕ) (ws : List ℕ) → q + 4 ≤ length ws → set (set (set (set ws q a) (q + 1) b) (q + 2) c) (q + 3) d ≡ put_at q (a ∷ b ∷ c ∷ d ∷ []) ws
+put_four q a b c d ws h =
+    rw (set_put q a ws (omega arith), put_on q (q + 1) b (a ∷ []) ws refl (omega arith), put_on q (q + 2) c (a ∷ b ∷ []) ws refl (omega arith))
+    (put_on q (q + 3) d (a ∷ b ∷ c ∷ []) ws refl (omega arith))
 
 -- four words more moved up; at last words below p may be among them, over which x comes
 pub gap_turn : (s w v q : ℕ) (ws now last : List ℕ) → v ≡ w + 4 → v ≤ q → q + s ≤ length ws → now ≡ put_at (v + s) (part v (q - v) ws) ws → last ≡ put_at (w + s) (part w 4 now) now → last ≡ put_at (w + s) (part w (q - w) ws) ws
@@ -90,7 +73,7 @@ fill_turn p w a now ws h g en =
     let e : w + 1 - p ≡ w - p + 1 = omega arith in
     rw (en, e, ← replicate-append-replicate (w - p) 1 a) (put_on p w a (replicate (w - p) a) ws (omega arith) g)
 
-pub empty_end : (p s w : ℕ) (now ws : List ℕ) → p + s ≡ w → 0 < s → w ≤ length ws → now ≡ put_at (p + 1) (replicate (w - (p + 1)) 0) ws → set now p none ≡ put_at p (empty_slot s) ws
+empty_end : (p s w : ℕ) (now ws : List ℕ) → p + s ≡ w → 0 < s → w ≤ length ws → now ≡ put_at (p + 1) (replicate (w - (p + 1)) 0) ws → set now p none ≡ put_at p (empty_slot s) ws
 unfolding empty_slot
 empty_end p s w now ws e h g en =
     let f : w - (p + 1) ≡ s - 1 = omega arith in
@@ -119,7 +102,7 @@ zeros_in p m c k z ws ez g h =
     sym (part_part p m c k z h) ∙ ap (part c k) whole ∙ rw (drop_zeros c m) (take_zeros k (m - c) (omega arith))
 
 -- one empty slot more
-pub clear_turn : (s p i w : ℕ) (now last ws : List ℕ) → 0 < s → w ≡ p + i * s → w + s ≤ length ws → now ≡ put_at p (flat (empty_slots s i)) ws → last ≡ put_at w (empty_slot s) now
+clear_turn : (s p i w : ℕ) (now last ws : List ℕ) → 0 < s → w ≡ p + i * s → w + s ≤ length ws → now ≡ put_at p (flat (empty_slots s i)) ws → last ≡ put_at w (empty_slot s) now
     → last ≡ put_at p (flat (empty_slots s (i + 1))) ws
 clear_turn s p i w now last ws h hw g en el =
     let l : length (flat (empty_slots s i)) ≡ i * s = length_flat s (empty_slots s i) (empty_wide s i h) ∙ ap (λ (k : ℕ). k * s) (length-replicate i (empty_slot s)) in
@@ -127,26 +110,32 @@ clear_turn s p i w now last ws h hw g en el =
     let d = length_empty s h in
     rw (el, en, e) (put_next p w (flat (empty_slots s i)) (empty_slot s) ws (omega arith) (omega arith))
 
--- the same where zeros stood: the child is written, and the lengths are 0 already; and all of them
-module _ (s p n : ℕ) (z ws : List ℕ) (h : 0 < s) (ez : z ≡ put_at p (replicate (p + n * s - p) 0) ws) (g : p + n * s ≤ length ws) (lz : length z ≡ length ws) where
+-- the words z, where zeros stand from p on: then the children are written, and the lengths are 0 already
+module _ (s p n : ℕ) (z ws : List ℕ) (h : 0 < s) (ez : z ≡ put_at p (replicate (p + n * s - p) 0) ws) (g : p + n * s ≤ length ws) where
   zeroed : z ≡ put_at p (replicate (n * s) 0) ws
   zeroed =
       let e : p + n * s - p ≡ n * s = omega arith in
       rw e at ez
 
-  pub child_turn : (i w : ℕ) (now : List ℕ) → i < n → w ≡ p + i * s → length now ≡ length z → now ≡ put_at p (flat (empty_slots s i)) z → set now w none ≡ put_at p (flat (empty_slots s (i + 1))) z
-  child_turn i w now hi hw ln en =
+  wide : (i : ℕ) → length (flat (empty_slots s i)) ≡ i * s
+  wide i = length_flat s (empty_slots s i) (empty_wide s i h) ∙ ap (λ (k : ℕ). k * s) (length-replicate i (empty_slot s))
+
+  pub child_turn : (i : ℕ) (now : List ℕ) → i < n → length now ≡ length z → now ≡ put_at p (flat (empty_slots s i)) z → set now (p + i * s) none ≡ put_at p (flat (empty_slots s (i + 1))) z
+  child_turn i now hi ln en =
+      let w : ℕ = p + i * s in
+      let m : length (replicate {A = ℕ} (n * s) 0) ≡ n * s = length-replicate {A = ℕ} (n * s) 0 in
+      let lz : length z ≡ length ws = ap length zeroed ∙ length_put p (replicate (n * s) 0) ws (omega arith) in
       let r : i * s + s ≤ n * s = row_end i n s hi in
-      let l : length (flat (empty_slots s i)) ≡ i * s = length_flat s (empty_slots s i) (empty_wide s i h) ∙ ap (λ (k : ℕ). k * s) (length-replicate i (empty_slot s)) in
+      let l : length (flat (empty_slots s i)) ≡ i * s = wide i in
       let q : w + 1 ≡ p + (i * s + 1) = omega arith in
       let zs : part (w + 1) (s - 1) now ≡ replicate (s - 1) 0 =
       rw (en, part_after (w + 1) (s - 1) p (flat (empty_slots s i)) z (omega arith) (omega arith), q) (zeros_in p (n * s) (i * s + 1) (s - 1) z ws zeroed g (omega arith)) in
       let f : w + s - (w + 1) ≡ s - 1 = omega arith in
       let same : now ≡ put_at (w + 1) (replicate (w + s - (w + 1)) 0) now = rw (f, ← zs) (sym (put_same (w + 1) (s - 1) now (omega arith))) in
-      clear_turn s p i w now _ z h hw (omega arith) en (empty_end w s (w + s) now now refl h (omega arith) same)
+      clear_turn s p i w now _ z h refl (omega arith) en (empty_end w s (w + s) now now refl h (omega arith) same)
 
   pub clear_all : put_at p (flat (empty_slots s n)) z ≡ put_at p (flat (empty_slots s n)) ws
   clear_all =
-      let l : length (flat (empty_slots s n)) ≡ n * s = length_flat s (empty_slots s n) (empty_wide s n h) ∙ ap (λ (k : ℕ). k * s) (length-replicate n (empty_slot s)) in
+      let l : length (flat (empty_slots s n)) ≡ n * s = wide n in
       let m : length (replicate {A = ℕ} (n * s) 0) ≡ n * s = length-replicate {A = ℕ} (n * s) 0 in
       rw zeroed (put_put p (replicate (n * s) 0) (flat (empty_slots s n)) ws (omega arith) (omega arith))

@@ -8,7 +8,7 @@ use lib.Seq.{length-take-le}
 use borrow.Rule.Slice.PartMut.{put_mid, take_put}
 use Rattle.model.specs.Lists.{part}
 use Rattle.editrun.specs.Held.{InputHeld}
-use Rattle.editrun.proofs.HeldLaws.{held_more}
+use Rattle.editrun.proofs.HeldLaws.{held_more, turned_none}
 use Rattle.editrun.proofs.turn.Goals as goal
 
 -- what a read puts behind what is held fits the block
@@ -23,7 +23,7 @@ returns-then-n-eq0 c =
     let args = c.args in
     let inside : args.kept ≤ length args.block.now = omega (arith, c.requires) in (
       take_put args.kept (length args.block.now - args.kept) args.block.now c.read.new.buf inside,
-      omega (arith, room args.kept c.in-Ok.n args.block.now c.read.new.buf inside c.read.auto.buf c.in-Ok.ensures.bound.0),
+      omega (arith, room args.kept c.in_ok-n.n args.block.now c.read.new.buf inside c.read.auto.buf c.in_ok-n.ensures.bound.0),
     )
 
 pub returns : goal.returns
@@ -32,9 +32,12 @@ returns c =
     let inside : args.kept ≤ length args.block.now = omega (arith, c.requires) in
     let given = put_mid args.kept (length args.block.now - args.kept) args.block.now c.read.new.buf in
     let same = take_put args.kept (length args.block.now - args.kept) args.block.now c.read.new.buf inside in (
-      c.in-Ok.n,
+      c.in_ok-n.n,
       omega (arith, c.if-n-eq0.false),
-      λ input held. subst (λ (k : ℕ). InputHeld (input ++ part args.kept c.in-Ok.n given) given k) (sym c.fold.ensures)
-          (held_more input args.block.now args.kept held c.in-Ok.n given same
-          (room args.kept c.in-Ok.n args.block.now c.read.new.buf inside c.read.auto.buf c.in-Ok.ensures.bound.0)),
+      λ input held. subst (λ (k : ℕ). InputHeld (input ++ part args.kept c.in_ok-n.n given) given k) (sym c.fold.ensures)
+          (held_more input args.block.now args.kept held c.in_ok-n.n given same
+          (room args.kept c.in_ok-n.n args.block.now c.read.new.buf inside c.read.auto.buf c.in_ok-n.ensures.bound.0)),
     )
+
+pub returns-in_err-n : goal.returns-in_err-n
+returns-in_err-n c = turned_none _ _ _ _ _ c.from_residual.ensures.1

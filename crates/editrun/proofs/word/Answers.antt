@@ -1,9 +1,10 @@
 -- `editrun::word`: a u32 holds what is below 2 ^ 32.
+use Rattle.std.proofs.Common.{arith}
 use Rattle.editrun.proofs.AskedLaws.{is_word, no_word}
 use Rattle.editrun.proofs.word.Goals as goal
 
-pub returns-then-n-lt4294967296 : goal.returns-then-n-lt4294967296
-returns-then-n-lt4294967296 c = is_word _ c.if-n-lt4294967296.true
+pub returns-in-Ok : goal.returns-in-Ok
+returns-in-Ok c = rw c.in-Ok.ensures.1 (is_word _ c.in-Ok.ensures.0)
 
-pub returns : goal.returns
-returns c = no_word _ c.if-n-lt4294967296.false
+pub returns-in-Err : goal.returns-in-Err
+returns-in-Err c = let big = c.in-Err.ensures in no_word _ (omega arith)

@@ -6,6 +6,7 @@ use native.Mathlib.Omega.{arith}
 use lib.ListN.{length, take, drop, length-append, length-drop}
 use lib.Seq.{length-take-le}
 use borrow.Rule.Slice.PartMut.{put_mid, take_put}
+use Rattle.sheetrun.proofs.TurnLaws.{turned_none}
 use Rattle.sheetrun.proofs.turn.Goals as goal
 
 -- what a read puts behind the kept bytes fits the block
@@ -20,9 +21,12 @@ returns c =
     let args = c.args in
     let inside : args.kept ≤ length args.block.now = omega (arith, c.requires) in (
       put_mid args.kept (length args.block.now - args.kept) args.block.now c.read.new.buf,
-      c.in-Ok.n,
+      c.in_ok-n.n,
       omega (arith, c.if-n-eq0.false),
-      room args.kept c.in-Ok.n args.block.now c.read.new.buf inside c.read.auto.buf c.in-Ok.ensures.bound.0,
+      room args.kept c.in_ok-n.n args.block.now c.read.new.buf inside c.read.auto.buf c.in_ok-n.ensures.bound.0,
       take_put args.kept (length args.block.now - args.kept) args.block.now c.read.new.buf inside,
       c.play-left.ensures,
     )
+
+pub returns-in_err-n : goal.returns-in_err-n
+returns-in_err-n c = turned_none _ _ _ _ _ _ _ _ _ c.from_residual.ensures.1

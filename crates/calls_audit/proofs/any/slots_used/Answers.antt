@@ -1,38 +1,26 @@
--- `calls_audit::any::slots_used`: what is summed and the sum of the leaves from here on are the sum of all.
+-- `calls_audit::any::slots_used`: fewer than 2^32 words are summed; the sum is the definition's.
+use mathlib.Core.Path.{◌∙◌}
+use Prim.Native.Nat.{ℕ, ◌^◌}
 use native.Mathlib.Omega.{arith}
-use native.Mathlib.Nat.{lt_of_lt_of_le}
+use Rattle.std.specs.List.{range_with_len}
+use Rattle.std.proofs.Common.{rules, tests}
+use Rattle.std.proofs.lemmas.Iterator.{YieldsList-from_range, YieldsList-from_map}
+use Rattle.std.proofs.lemmas.Iterator.Adapters.{fits_from_length, at_most_from_yields_List}
+use Rattle.std.proofs.lemmas.Iterator.Consumers.{sum_by_from_yields_List}
+use Rattle.std.proofs.lemmas.List.FromFn.{length-range_with_len}
 use Rattle.model.specs.State.{node_at}
-use Rattle.calls_audit.proofs.TreeLaws.{sum_end, sum_on, sum_all}
+use Rattle.calls_audit.proofs.TreeLaws.{sum_range}
 use Rattle.calls_audit.proofs.any.slots_used.Goals as goal
 
-pub loop-k-init : goal.loop-k-init
-loop-k-init c = (omega arith, omega (arith, sum_all (λ j. (node_at c.args.g j c.args.leaves.now).len) c.args.count))
-
-pub len_of-requires : goal.len_of-requires
-len_of-requires c =
-    let pre = c.requires in
-    (pre.0, lt_of_lt_of_le c.loop-k-test.true pre.1)
-
-pub overflow_add-sum : goal.overflow_add-sum
-overflow_add-sum c =
-    let pre = c.requires in
-    omega (arith, c.loop-k.invariant.0, pre.0.shaped.areas, pre.1)
-
-pub overflow_add-k : goal.overflow_add-k
-overflow_add-k c = omega arith
-
-pub loop-k-smaller : goal.loop-k-smaller
-loop-k-smaller c = omega arith
-
-pub loop-k-preserved : goal.loop-k-preserved
-loop-k-preserved c =
-    let args = c.args in (
-      omega (arith, c.loop-k.invariant.0),
-      rw c.len_of.ensures
-          (omega (arith, c.loop-k.invariant.1, sum_on (λ j. (node_at args.g j args.leaves.now).len) c.loop-k.k args.count c.loop-k-test.true)),
-    )
+pub sum-requires-clause-fits : goal.sum-requires-clause-fits
+sum-requires-clause-fits c =
+    let count = c.args.count in
+    fits_from_length _ _ 4294967295 (2 ^ 64) (at_most_from_yields_List (YieldsList-from_range 0 count count c.map.ensures.source (omega arith)) (omega (arith, length-range_with_len 0 count)))
+    c.map.ensures.closure (omega arith) (λ x r q k. search (rules, tests))
 
 pub returns : goal.returns
 returns c =
     let args = c.args in
-    omega (arith, c.loop-k.invariant.1, sum_end (λ j. (node_at args.g j args.leaves.now).len) c.loop-k.k args.count c.loop-k-test.false)
+    let len : ℕ → ℕ = λ k. (node_at args.g k args.leaves.now).len in
+    sum_by_from_yields_List len (range_with_len 0 args.count) c.map.result c.sum.result c.sum.ensures.ran
+    (YieldsList-from_map _ len (YieldsList-from_range 0 args.count args.count c.map.ensures.source (omega arith)) c.map.ensures.closure (λ x r q k. search (rules, tests))) ∙ sum_range len 0 args.count

@@ -1,24 +1,31 @@
 -- `calls_audit::seated::audit`: what audit says of the tree, and of a sound one whether its seats are fair.
-use mathlib.Core.Bool.{true, false}
-use Rattle.model.specs.State.{State, state}
-use Rattle.tree_seats.specs.Words.{seats_from}
-use Rattle.calls_audit.proofs.FairLaws.{audit_fair, audit_no, audit_none}
-use Rattle.calls_audit.proofs.seated.audit.Goals.{Start}
+use Rattle.model.specs.Numbered.{Numbered}
+use Rattle.std.specs.Prelude.{Ok}
+use Rattle.std.proofs.Common.{◌≡◌, Bool, true, false, refl, ap, ◌∙◌}
+use Rattle.model.specs.SeatedCalls.{also_fair, audit_seated}
+use Rattle.model_laws.specs.Handed.{handed}
 use Rattle.calls_audit.proofs.seated.audit.Goals as goal
 
--- the tree as it was lent
-abbrev entry : Start → State
-entry a = state a.args.head a.args.leaves.now a.args.inners.now a.args.homes.now
+-- of a sound tree the seats decide
+decided : (fair : Bool) → Ok fair ≡ also_fair fair (Ok true)
+decided true = refl
+decided false = refl
 
-pub returns-then-is_fair : goal.returns-then-is_fair
-returns-then-is_fair c = audit_fair (entry (goal.at.returns-then-is_fair c).Start) (seats_from c.args.seats.now) _ c.audit.ensures c.in-Yes.is _ c.is_fair.ensures true c.if-is_fair.true
+sound : (s fair f : Bool) (v : Numbered Bool) → Ok s ≡ v → s ≡ true → f ≡ fair → Ok f ≡ also_fair fair v
+sound s fair f v e t q = rw (q, ← e, t) (decided fair)
 
-pub returns-else-is_fair : goal.returns-else-is_fair
-returns-else-is_fair c =
-    audit_fair (entry (goal.at.returns-else-is_fair c).Start) (seats_from c.args.seats.now) _ c.audit.ensures c.in-Yes.is _ c.is_fair.ensures false c.if-is_fair.false
+-- of any other they aren't asked
+unsound : (s fair : Bool) (v : Numbered Bool) → Ok s ≡ v → s ≡ false → Ok s ≡ also_fair fair v
+unsound s fair v e t = rw (← e, t) refl
 
-pub returns-in-No : goal.returns-in-No
-returns-in-No c = audit_no (entry (goal.at.returns-in-No c).Start) (seats_from c.args.seats.now) _ c.audit.ensures c.in-No.is
+pub returns-in_err-sound : goal.returns-in_err-sound
+unfolding audit_seated
+returns-in_err-sound c = handed _ _ c.from_residual.ensures.1 ∙ ap (also_fair _) c.in_err-sound.ensures
 
-pub returns-in-Refused : goal.returns-in-Refused
-returns-in-Refused c = audit_none (entry (goal.at.returns-in-Refused c).Start) (seats_from c.args.seats.now) _ c.audit.ensures _ c.in-Refused.is
+pub returns-then-sound : goal.returns-then-sound
+unfolding audit_seated
+returns-then-sound c = sound _ _ _ _ c.in_ok-sound.ensures c.if-sound.true c.is_fair.ensures
+
+pub returns-else-sound : goal.returns-else-sound
+unfolding audit_seated
+returns-else-sound c = unsound _ _ _ c.in_ok-sound.ensures c.if-sound.false

@@ -13,40 +13,12 @@ use Rattle.calls_by_id.proofs.change.insert.Goals as goal
 abbrev entry : Start → State
 entry a = state a.args.head a.args.leaves.now a.args.inners.now a.args.homes.now
 
-pub place-requires : goal.place-requires
-place-requires c =
-    let pre = c.requires in
-    (pre.0, pre.1)
-
-pub insert-requires : goal.insert-requires
-insert-requires c =
-    let pre = c.requires in
-    (pre.0, pre.1, pre.2, pre.3, pre.4, c.without-room.ensures.1)
-
-pub shape_of-leaves-in-Refused : goal.shape_of-leaves-in-Refused
-shape_of-leaves-in-Refused c = refl
-
-pub shape_of-inners-in-Refused : goal.shape_of-inners-in-Refused
-shape_of-inners-in-Refused c = refl
-
-pub shape_of-homes-in-Refused : goal.shape_of-homes-in-Refused
-shape_of-homes-in-Refused c = refl
-
-pub returns-in-Refused : goal.returns-in-Refused
-returns-in-Refused c =
+pub returns-in-Err : goal.returns-in-Err
+returns-in-Err c =
     let l = lengths_in c.args.views c.args.x.now in
-    insert_stops (kind_of c.args.views c.args.effect c.args.ordered) (entry (goal.at.returns-in-Refused c).Start) _ _ l (place_ordered c.args.views c.args.effect c.args.ordered (entry (goal.at.returns-in-Refused c).Start) c.args.id.0 _ (c.place.ensures c.args.effect)) _ c.in-Refused.is
+    insert_stops (kind_of c.args.views c.args.effect c.args.ordered) (entry (goal.at.returns-in-Err c).Start) _ _ l (place_ordered c.args.views c.args.effect c.args.ordered (entry (goal.at.returns-in-Err c).Start) c.args.id.0 _ (c.in-Err.ensures c.args.effect)) _ refl
 
-pub shape_of-leaves-in-At : goal.shape_of-leaves-in-At
-shape_of-leaves-in-At c = c.insert.auto.leaves
-
-pub shape_of-inners-in-At : goal.shape_of-inners-in-At
-shape_of-inners-in-At c = c.insert.auto.inners
-
-pub shape_of-homes-in-At : goal.shape_of-homes-in-At
-shape_of-homes-in-At c = c.insert.auto.homes
-
-pub returns-in-At : goal.returns-in-At
-returns-in-At c =
+pub returns-in-Ok : goal.returns-in-Ok
+returns-in-Ok c =
     let l = lengths_in c.args.views c.args.x.now in
-    insert_goes (kind_of c.args.views c.args.effect c.args.ordered) (entry (goal.at.returns-in-At c).Start) _ _ l (place_ordered c.args.views c.args.effect c.args.ordered (entry (goal.at.returns-in-At c).Start) c.args.id.0 _ (c.place.ensures c.args.effect)) _ c.in-At.is _ c.target-to.ensures _ _ (c.insert.ensures (full (entry (goal.at.returns-in-At c).Start) ∷ []) (sym c.without-room.ensures.0))
+    insert_goes (kind_of c.args.views c.args.effect c.args.ordered) (entry (goal.at.returns-in-Ok c).Start) _ _ l (place_ordered c.args.views c.args.effect c.args.ordered (entry (goal.at.returns-in-Ok c).Start) c.args.id.0 _ (c.in-Ok.ensures c.args.effect)) _ refl _ c.target-to.ensures _ _ (c.insert.ensures (full (entry (goal.at.returns-in-Ok c).Start) ∷ []) (sym c.without-room.ensures.0))

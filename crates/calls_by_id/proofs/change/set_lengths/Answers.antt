@@ -11,26 +11,12 @@ use Rattle.calls_by_id.proofs.change.set_lengths.Goals as goal
 abbrev entry : Start → State
 entry a = state a.args.head a.args.leaves.now a.args.inners.now a.args.homes.now
 
-pub cursor-requires : goal.cursor-requires
-cursor-requires c =
-    let pre = c.requires in
-    (pre.0, pre.1)
-
-pub resize-r-requires : goal.resize-r-requires
-resize-r-requires c = c.requires
-
-pub shape_of-leaves-in-Refused : goal.shape_of-leaves-in-Refused
-shape_of-leaves-in-Refused c = refl
-
-pub shape_of-inners-in-Refused : goal.shape_of-inners-in-Refused
-shape_of-inners-in-Refused c = refl
-
-pub returns-in-Refused : goal.returns-in-Refused
-returns-in-Refused c =
+pub returns-in-Err : goal.returns-in-Err
+returns-in-Err c =
     let l = lengths_in c.args.views c.args.new.now in
-    set_stops (kind_of c.args.views c.args.effect c.args.ordered) (entry (goal.at.returns-in-Refused c).Start) _ _ (cursor_ordered _ c.args.effect c.args.ordered _ _ _ (c.cursor.ensures c.args.effect)) l _ c.in-Refused.is
+    set_stops (kind_of c.args.views c.args.effect c.args.ordered) (entry (goal.at.returns-in-Err c).Start) _ _ (cursor_ordered _ c.args.effect c.args.ordered _ _ _ (c.in-Err.ensures c.args.effect)) l _ refl
 
-pub returns-in-At : goal.returns-in-At
-returns-in-At c =
+pub returns-in-Ok : goal.returns-in-Ok
+returns-in-Ok c =
     let l = lengths_in c.args.views c.args.new.now in
-    set_goes (kind_of c.args.views c.args.effect c.args.ordered) (entry (goal.at.returns-in-At c).Start) _ _ (cursor_ordered _ c.args.effect c.args.ordered _ _ _ (c.cursor.ensures c.args.effect)) l _ c.in-At.is _ _ c.resize-r.ensures _ c.unnumbered.ensures
+    set_goes (kind_of c.args.views c.args.effect c.args.ordered) (entry (goal.at.returns-in-Ok c).Start) _ _ (cursor_ordered _ c.args.effect c.args.ordered _ _ _ (c.in-Ok.ensures c.args.effect)) l _ refl _ _ c.resize-r.ensures _ c.unnumbered.ensures

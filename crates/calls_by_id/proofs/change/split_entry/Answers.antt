@@ -13,40 +13,12 @@ use Rattle.calls_by_id.proofs.change.split_entry.Goals as goal
 abbrev entry : Start → State
 entry a = state a.args.head a.args.leaves.now a.args.inners.now a.args.homes.now
 
-pub cursor-requires : goal.cursor-requires
-cursor-requires c =
-    let pre = c.requires in
-    (pre.0, pre.1)
-
-pub split_entry-requires : goal.split_entry-requires
-split_entry-requires c =
-    let pre = c.requires in
-    (pre.0, pre.1, pre.2, pre.3, c.without-room.ensures.1)
-
-pub shape_of-leaves-in-Refused : goal.shape_of-leaves-in-Refused
-shape_of-leaves-in-Refused c = refl
-
-pub shape_of-inners-in-Refused : goal.shape_of-inners-in-Refused
-shape_of-inners-in-Refused c = refl
-
-pub shape_of-homes-in-Refused : goal.shape_of-homes-in-Refused
-shape_of-homes-in-Refused c = refl
-
-pub returns-in-Refused : goal.returns-in-Refused
-returns-in-Refused c effect =
+pub returns-in-Err : goal.returns-in-Err
+returns-in-Err c effect =
     let l = lengths_in c.args.views c.args.x.now in
-    split_stops (kind_of c.args.views effect c.args.ordered) (entry (goal.at.returns-in-Refused c).Start) _ _ (cursor_ordered _ effect c.args.ordered _ _ _ (c.cursor.ensures effect)) c.args.before l _ c.in-Refused.is
+    split_stops (kind_of c.args.views effect c.args.ordered) (entry (goal.at.returns-in-Err c).Start) _ _ (cursor_ordered _ effect c.args.ordered _ _ _ (c.in-Err.ensures effect)) c.args.before l _ refl
 
-pub shape_of-leaves-in-At : goal.shape_of-leaves-in-At
-shape_of-leaves-in-At c = c.split_entry.auto.leaves
-
-pub shape_of-inners-in-At : goal.shape_of-inners-in-At
-shape_of-inners-in-At c = c.split_entry.auto.inners
-
-pub shape_of-homes-in-At : goal.shape_of-homes-in-At
-shape_of-homes-in-At c = c.split_entry.auto.homes
-
-pub returns-in-At : goal.returns-in-At
-returns-in-At c effect =
+pub returns-in-Ok : goal.returns-in-Ok
+returns-in-Ok c effect =
     let l = lengths_in c.args.views c.args.x.now in
-    split_goes (kind_of c.args.views effect c.args.ordered) (entry (goal.at.returns-in-At c).Start) _ _ (cursor_ordered _ effect c.args.ordered _ _ _ (c.cursor.ensures effect)) c.args.before l _ c.in-At.is _ _ (c.split_entry.ensures effect (full (entry (goal.at.returns-in-At c).Start) ∷ []) (sym c.without-room.ensures.0))
+    split_goes (kind_of c.args.views effect c.args.ordered) (entry (goal.at.returns-in-Ok c).Start) _ _ (cursor_ordered _ effect c.args.ordered _ _ _ (c.in-Ok.ensures effect)) c.args.before l _ refl _ _ (c.split_entry.ensures effect (full (entry (goal.at.returns-in-Ok c).Start) ∷ []) (sym c.without-room.ensures.0))

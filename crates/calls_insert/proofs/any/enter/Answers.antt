@@ -1,131 +1,117 @@
--- `calls_insert::any::enter`: the slot aimed at, the entry placed there, then the climb; the head is as it was where one of them met 9.
-use mathlib.Core.Path.{◌≡◌, refl, ◌∙◌}
-use mathlib.Core.List.{List}
-use Prim.Native.Nat.{ℕ}
-use Rattle.model.specs.Kind.{kind}
+-- `calls_insert::any::enter`: the tests, then the slot aimed at, the entry placed there, and the climb; where one of them is refused the head is as it was.
+use mathlib.Core.Path.{◌≡◌, sym, ◌∙◌}
+use mathlib.Core.Bool.{true}
+use mathlib.Core.List.{List, [], ◌∷◌}
+use Prim.Native.Nat.{ℕ, ◌<◌}
+use Rattle.std.specs.Prelude.{Ok}
+use Rattle.std.proofs.lemmas.Result.{err_from_is_err_and}
+use Rattle.model.specs.Numbered.{number_of}
+use Rattle.model.specs.Lists.{Cause, cause, refusal}
+use Rattle.model.specs.Kind.{kind_of}
 use Rattle.model.specs.Length.{lengths_in}
 use Rattle.model.specs.State.{State, state}
 use Rattle.model.specs.Refuse.{shape_of}
+use Rattle.model.specs.Calls.{insert_causes}
 use Rattle.model.specs.declared.shape.Kind.{Kind}
+use Rattle.model.specs.declared.shape.Shape.{Shape}
+use Rattle.tree_open.proofs.Causes.{one_cause}
 use Rattle.tree_open.proofs.ReadyLaws.{leaf_area, inner_area}
+use Rattle.tree_open.specs.Open.{opened_by}
+use Rattle.tree_open.specs.Ready.{Ready}
 use Rattle.calls_insert.specs.Put.{aimed}
 use Rattle.calls_insert.specs.declared.any.Aim.{Aim}
-use Rattle.calls_insert.proofs.PutLaws.{AimWithin, in_leaf, aim_lost, place_in, refused_is, put_lost, way_in, put_whole, put_broken}
+use Rattle.calls_insert.proofs.TargetLaws.{Aimed, insert_ready, insert_room}
+use Rattle.calls_insert.proofs.PutLaws.{AimWithin, in_leaf, aim_lost, place_in, put_lost, way_in, put_whole, put_broken, insert_refused, insert_done}
 use Rattle.calls_insert.proofs.any.enter.Goals.{Start}
 use Rattle.calls_insert.proofs.any.enter.Goals as goal
 
--- the tree as it was lent
+-- the tree as it was lent, its kind, and the entry's lengths
 abbrev entry : Start → State
 entry a = state a.args.head a.args.leaves.now a.args.inners.now a.args.homes.now
 
-abbrev kind_of : Start → Kind
-kind_of a = kind a.args.views a.args.effect
+abbrev kind : Start → Kind
+kind a = kind_of a.args.views a.args.effect a.args.ordered
 
--- what is known of a slot that was aimed at
-aiming : (s : Start) (a : Aim) → ((K : Kind) (hs : List ℕ) → s.args.g ≡ shape_of K s.args.head → a ≡ aimed K (state s.args.head s.args.leaves.now s.args.inners.now hs) s.args.before) → a.number ≡ 0 → AimWithin (kind_of s) (entry s) s.args.before s.args.g a
-aiming s a e z = in_leaf (kind_of s) (entry s) s.args.before s.args.g a s.requires.0.same s.requires.1 (e (kind_of s) s.args.homes.now s.requires.0.same) z
+abbrev given : Start → List ℕ
+given a = lengths_in a.args.views a.args.x.now
 
-pub aim_at-to-requires : goal.aim_at-to-requires
-aim_at-to-requires c =
-    (leaf_area (entry (goal.at.aim_at-to-requires c).Start) _ c.requires.0, inner_area (entry (goal.at.aim_at-to-requires c).Start) _ c.requires.0)
+-- what the tests say of the tree, and of the slot aimed at
+abbrev Opened : Start → Shape → Type 0
+Opened s g =
+    (effect : ℕ) (causes : List Cause) → refusal causes ≡ number_of s.args.room
+    → Ok g ≡ opened_by (insert_causes (kind_of s.args.views effect s.args.ordered) causes (entry s) s.args.before (given s)) (shape_of (kind_of s.args.views effect s.args.ordered) s.args.head)
 
-pub shape_of-leaves-then-to-ne0 : goal.shape_of-leaves-then-to-ne0
-shape_of-leaves-then-to-ne0 c = refl
+tested : (s : Start) (g : Shape) → Opened s g → Ready (kind s) (entry s) g × Aimed (kind s) (entry s) s.args.before × (s.args.head.entries < s.args.head.limit)
+tested s g opened =
+    let room = number_of s.args.room in
+    let want : List Cause = cause room true ∷ [] in
+    let e = opened s.args.effect want (one_cause room) in
+    let r = insert_ready (kind s) (s.requires.0, s.requires.1) (entry s) want s.args.before (given s) g e in
+    (r.0, r.1, s.requires.5 (sym (one_cause room) ∙ insert_room (kind s) (s.requires.0, s.requires.1) (entry s) want s.args.before (given s) g e))
 
-pub shape_of-inners-then-to-ne0 : goal.shape_of-inners-then-to-ne0
-shape_of-inners-then-to-ne0 c = refl
+aiming : (s : Start) (g : Shape) (a : Aim) → Opened s g
+    → ((K : Kind) (hs : List ℕ) → g ≡ shape_of K s.args.head → Ok a ≡ aimed K (state s.args.head s.args.leaves.now s.args.inners.now hs) s.args.before) → AimWithin (kind s) (entry s) s.args.before g a
+aiming s g a opened e =
+    let t = tested s g opened in
+    in_leaf (kind s) (entry s) s.args.before g a t.0.same t.1 (e (kind s) s.args.homes.now t.0.same)
 
-pub returns-then-to-ne0 : goal.returns-then-to-ne0
-returns-then-to-ne0 c =
-    let e = c.requires.0.same in
-    let to = c.aim_at-to in
-    refused_is _ _ _ c.refused.ensures
-    ∙ aim_lost (kind_of (goal.at.returns-then-to-ne0 c).Start) (entry (goal.at.returns-then-to-ne0 c).Start) (lengths_in c.args.views c.args.x.now) c.args.before c.args.g _ e (to.ensures (kind_of (goal.at.returns-then-to-ne0 c).Start) c.args.homes.now e) c.if-to-ne0.true
+pub returns-in_err-g : goal.returns-in_err-g
+returns-in_err-g c =
+    let s = (goal.at.returns-in_err-g c).Start in
+    let p = err_from_is_err_and c.from_residual.result c.from_residual.ensures.1 in
+    λ causes room. rw (p.1, p.2) (insert_refused (kind s) causes (entry s) s.args.before (given s) _ (c.in_err-g.ensures s.args.effect causes room))
 
-pub place-r-requires : goal.place-r-requires
-place-r-requires c =
-    let to = c.aim_at-to in
-    let w = aiming (goal.at.place-r-requires c).Start _ to.ensures c.if-to-ne0.false in
-    (place_in (kind_of (goal.at.place-r-requires c).Start) (entry (goal.at.place-r-requires c).Start) c.args.before c.args.g _ c.args.x.now c.requires.0 w c.requires.3 c.requires.4, w.slot, c.requires.5)
+pub aim_at-requires : goal.aim_at-requires
+aim_at-requires c =
+    let s = (goal.at.aim_at-requires c).Start in
+    let h = (tested s _ c.in_ok-g.ensures).0 in
+    (leaf_area (entry s) _ h, inner_area (entry s) _ h)
 
-pub shape_of-leaves-then-r-ne0 : goal.shape_of-leaves-then-r-ne0
-shape_of-leaves-then-r-ne0 c =
-    let place = c.place-r in
-    place.auto.leaves
+pub returns-in_err-to : goal.returns-in_err-to
+returns-in_err-to c =
+    let s = (goal.at.returns-in_err-to c).Start in
+    let h = (tested s _ c.in_ok-g.ensures).0 in
+    let p = err_from_is_err_and c.from_residual-in_err-to.result c.from_residual-in_err-to.ensures.1 in
+    λ causes room. rw (p.1, p.2)
+    (insert_done (kind s) causes (entry s) s.args.before (given s) _ (c.in_ok-g.ensures s.args.effect causes room) _ (aim_lost (kind s) (entry s) (given s) s.args.before _ h.same (c.in_err-to.ensures (kind s) s.args.homes.now h.same)))
 
-pub shape_of-inners-then-r-ne0 : goal.shape_of-inners-then-r-ne0
-shape_of-inners-then-r-ne0 c =
-    let place = c.place-r in
-    place.auto.inners
+pub place-requires : goal.place-requires
+place-requires c =
+    let s = (goal.at.place-requires c).Start in
+    let h = tested s _ c.in_ok-g.ensures in
+    let w = aiming s _ _ c.in_ok-g.ensures c.in_ok-to.ensures in
+    (place_in (kind s) (entry s) s.args.before _ _ s.args.x.now h.0 w h.2 c.requires.3, w.slot, c.requires.4)
 
-pub shape_of-homes-then-r-ne0 : goal.shape_of-homes-then-r-ne0
-shape_of-homes-then-r-ne0 c =
-    let place = c.place-r in
-    place.auto.homes
-
-pub returns-then-r-ne0 : goal.returns-then-r-ne0
-returns-then-r-ne0 c =
-    let to = c.aim_at-to in
-    let w = aiming (goal.at.returns-then-r-ne0 c).Start _ to.ensures c.if-to-ne0.false in
-    let p = c.place-r in
-    refused_is _ _ _ c.refused-then-r-ne0.ensures
-    ∙ put_lost (kind_of (goal.at.returns-then-r-ne0 c).Start) (entry (goal.at.returns-then-r-ne0 c).Start) c.args.before c.args.g _ c.args.x.now w _ _ _ _ _ _ _ p.ensures c.if-r-ne0.true
+pub returns-in_err-r : goal.returns-in_err-r
+returns-in_err-r c =
+    let s = (goal.at.returns-in_err-r c).Start in
+    let w = aiming s _ _ c.in_ok-g.ensures c.in_ok-to.ensures in
+    let p = err_from_is_err_and c.from_residual-in_err-r.result c.from_residual-in_err-r.ensures.1 in
+    λ causes room. rw (p.1, p.2)
+    (insert_done (kind s) causes (entry s) s.args.before (given s) _ (c.in_ok-g.ensures s.args.effect causes room) _ (put_lost (kind s) (entry s) s.args.before _ _ s.args.x.now w _ _ _ c.in_err-r.ensures))
 
 pub way_sum-requires : goal.way_sum-requires
 way_sum-requires c =
-    let to = c.aim_at-to in
-    let w = aiming (goal.at.way_sum-requires c).Start _ to.ensures c.if-to-ne0.false in
-    let p = c.place-r in
-    let v = way_in (kind_of (goal.at.way_sum-requires c).Start) (entry (goal.at.way_sum-requires c).Start) c.args.before c.args.g _ c.args.x.now w _ _ _ _ _ _ _ p.ensures c.if-r-ne0.false c.requires.0 _ _ p.auto.leaves p.auto.inners in
+    let s = (goal.at.way_sum-requires c).Start in
+    let h = tested s _ c.in_ok-g.ensures in
+    let w = aiming s _ _ c.in_ok-g.ensures c.in_ok-to.ensures in
+    let v = way_in (kind s) (entry s) s.args.before _ _ s.args.x.now w _ _ _ _ _ _ c.in_ok-r.ensures h.0 _ _ c.place.auto.leaves c.place.auto.inners in
     (v.0, v.1, c.requires.2, v.2, v.3, v.4)
 
-pub shape_of-leaves-in-Is : goal.shape_of-leaves-in-Is
-shape_of-leaves-in-Is c =
-    let place = c.place-r in
-    place.auto.leaves
+pub returns-in_err-sum : goal.returns-in_err-sum
+returns-in_err-sum c =
+    let s = (goal.at.returns-in_err-sum c).Start in
+    let h = tested s _ c.in_ok-g.ensures in
+    let w = aiming s _ _ c.in_ok-g.ensures c.in_ok-to.ensures in
+    let p = err_from_is_err_and c.from_residual-in_err-sum.result c.from_residual-in_err-sum.ensures.1 in
+    λ causes room. rw (p.1, p.2)
+    (insert_done (kind s) causes (entry s) s.args.before (given s) _ (c.in_ok-g.ensures s.args.effect causes room) _
+    (put_broken (kind s) (entry s) s.args.before _ _ s.args.x.now w _ _ _ _ _ _ c.in_ok-r.ensures h.0.same c.requires.4 _ c.in_err-sum.ensures))
 
-pub shape_of-inners-in-Is : goal.shape_of-inners-in-Is
-shape_of-inners-in-Is c =
-    let way-sum = c.way_sum in
-    let place = c.place-r in
-    way-sum.auto.inners ∙ place.auto.inners
-
-pub shape_of-homes-in-Is : goal.shape_of-homes-in-Is
-shape_of-homes-in-Is c =
-    let place = c.place-r in
-    place.auto.homes
-
-pub returns-in-Is : goal.returns-in-Is
-returns-in-Is c =
-    let to = c.aim_at-to in
-    let w = aiming (goal.at.returns-in-Is c).Start _ to.ensures c.if-to-ne0.false in
-    let p = c.place-r in
-    let two = c.if-r-ne0 in
-    let up = c.way_sum in
-    put_whole (kind_of (goal.at.returns-in-Is c).Start) (entry (goal.at.returns-in-Is c).Start) c.args.before c.args.g _ c.args.x.now w _ _ _ _ _ _ _ p.ensures two.false c.requires.0.same c.requires.5 _ _ up.ensures _ c.in-Is.is
-
-pub shape_of-leaves-in-Broken : goal.shape_of-leaves-in-Broken
-shape_of-leaves-in-Broken c =
-    let place = c.place-r in
-    place.auto.leaves
-
-pub shape_of-inners-in-Broken : goal.shape_of-inners-in-Broken
-shape_of-inners-in-Broken c =
-    let way-sum = c.way_sum in
-    let place = c.place-r in
-    way-sum.auto.inners ∙ place.auto.inners
-
-pub shape_of-homes-in-Broken : goal.shape_of-homes-in-Broken
-shape_of-homes-in-Broken c =
-    let place = c.place-r in
-    place.auto.homes
-
-pub returns-in-Broken : goal.returns-in-Broken
-returns-in-Broken c =
-    let to = c.aim_at-to in
-    let w = aiming (goal.at.returns-in-Broken c).Start _ to.ensures c.if-to-ne0.false in
-    let p = c.place-r in
-    let two = c.if-r-ne0 in
-    let up = c.way_sum in
-    refused_is _ _ _ c.refused-in-Broken.ensures
-    ∙ put_broken (kind_of (goal.at.returns-in-Broken c).Start) (entry (goal.at.returns-in-Broken c).Start) c.args.before c.args.g _ c.args.x.now w _ _ _ _ _ _ _ p.ensures two.false c.requires.0.same c.requires.5 _ _ up.ensures c.in-Broken.is
+pub returns : goal.returns
+returns c =
+    let s = (goal.at.returns c).Start in
+    let h = tested s _ c.in_ok-g.ensures in
+    let w = aiming s _ _ c.in_ok-g.ensures c.in_ok-to.ensures in
+    λ causes room. insert_done (kind s) causes (entry s) s.args.before (given s) _ (c.in_ok-g.ensures s.args.effect causes room) _
+    (put_whole (kind s) (entry s) s.args.before _ _ s.args.x.now w _ _ _ _ _ _ c.in_ok-r.ensures h.0.same c.requires.4 _ _ c.in_ok-sum.ensures)

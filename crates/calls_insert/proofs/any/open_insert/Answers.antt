@@ -1,5 +1,7 @@
 -- `calls_insert::any::open_insert`: each test is the next cause, in the order of the definition.
-use mathlib.Core.Path.{refl}
+use mathlib.Core.Path.{refl, ap, ◌∙◌}
+use Rattle.std.proofs.lemmas.Result.{err_from_is_err_and}
+use Rattle.model.specs.Numbered.{number_of}
 use Rattle.model.specs.Kind.{kind, kind_of}
 use Rattle.model.specs.Length.{lengths_in}
 use Rattle.model.specs.State.{State, state}
@@ -12,34 +14,30 @@ use Rattle.calls_insert.proofs.any.open_insert.Goals as goal
 abbrev entry : Start → State
 entry a = state a.args.head a.args.leaves.now a.args.inners.now a.args.homes.now
 
-pub too_many_lines-requires : goal.too_many_lines-requires
-too_many_lines-requires c = c.requires
-
 pub returns-then-too_many_lines : goal.returns-then-too_many_lines
 returns-then-too_many_lines c =
     let l = lengths_in c.args.views c.args.x.now in
     λ effect causes room. insert_many (kind_of c.args.views effect c.args.ordered) (c.requires.0, c.requires.1) (entry (goal.at.returns-then-too_many_lines c).Start) causes c.args.before l _ (c.too_many_lines.ensures effect) c.if-too_many_lines.true
 
-pub open_for-requires : goal.open_for-requires
-open_for-requires c =
-    let pre = c.requires in
-    (pre.0, pre.1)
-
-pub crossed-requires : goal.crossed-requires
-crossed-requires c = c.requires
+pub returns-in_err-g : goal.returns-in_err-g
+returns-in_err-g c =
+    let m = c.too_many_lines in
+    let few = c.if-too_many_lines.false in
+    let l = lengths_in c.args.views c.args.x.now in
+    let p = err_from_is_err_and c.from_residual.result c.from_residual.ensures.1 in
+    λ effect causes room. rw (p.1, p.2)
+    (insert_stop (kind_of c.args.views effect c.args.ordered) (c.requires.0, c.requires.1) (entry (goal.at.returns-in_err-g c).Start) causes c.args.before l _ (m.ensures effect) few _ (front_ordered c.args.views effect c.args.ordered (entry (goal.at.returns-in_err-g c).Start) c.args.before _ (c.in_err-g.ensures effect)))
 
 pub returns-then-crossed : goal.returns-then-crossed
 returns-then-crossed c =
     let m = c.too_many_lines in
     let few = c.if-too_many_lines.false in
-    let o = c.open_for in
     let l = lengths_in c.args.views c.args.x.now in
-    λ effect causes room. insert_crossed (kind_of c.args.views effect c.args.ordered) (c.requires.0, c.requires.1) (entry (goal.at.returns-then-crossed c).Start) causes c.args.before l _ (m.ensures effect) few _ (front_ordered c.args.views effect c.args.ordered (entry (goal.at.returns-then-crossed c).Start) c.args.before _ (o.ensures effect)) _ c.in-Good.is _ c.crossed.ensures c.if-crossed.true
+    λ effect causes room. insert_crossed (kind_of c.args.views effect c.args.ordered) (c.requires.0, c.requires.1) (entry (goal.at.returns-then-crossed c).Start) causes c.args.before l _ (m.ensures effect) few _ (front_ordered c.args.views effect c.args.ordered (entry (goal.at.returns-then-crossed c).Start) c.args.before _ (c.in_ok-g.ensures effect)) _ c.crossed.ensures c.if-crossed.true
 
 pub past-requires : goal.past-requires
 past-requires c =
-    let o = c.open_for in
-    let h = front_ready (kind c.args.views 0) (c.requires.0, c.requires.1) (entry (goal.at.past-requires c).Start) c.args.before _ _ (o.ensures 0) c.in-Good.is in
+    let h = front_ready (kind c.args.views 0) (c.requires.0, c.requires.1) (entry (goal.at.past-requires c).Start) c.args.before _ (c.in_ok-g.ensures 0) in
     let i = root_in (entry (goal.at.past-requires c).Start) _ h in
     (i.0, i.1, refl, c.requires.2)
 
@@ -47,30 +45,21 @@ pub returns-then-past : goal.returns-then-past
 returns-then-past c =
     let m = c.too_many_lines in
     let few = c.if-too_many_lines.false in
-    let o = c.open_for in
     let l = lengths_in c.args.views c.args.x.now in
-    λ effect causes room. insert_past (kind_of c.args.views effect c.args.ordered) (c.requires.0, c.requires.1) (entry (goal.at.returns-then-past c).Start) causes c.args.before l _ (m.ensures effect) few _ (front_ordered c.args.views effect c.args.ordered (entry (goal.at.returns-then-past c).Start) c.args.before _ (o.ensures effect)) _ c.in-Good.is _ c.crossed.ensures c.if-crossed.false _ c.past.ensures c.if-past.true
+    λ effect causes room. insert_past (kind_of c.args.views effect c.args.ordered) (c.requires.0, c.requires.1) (entry (goal.at.returns-then-past c).Start) causes c.args.before l _ (m.ensures effect) few _ (front_ordered c.args.views effect c.args.ordered (entry (goal.at.returns-then-past c).Start) c.args.before _ (c.in_ok-g.ensures effect)) _ c.crossed.ensures c.if-crossed.false _ c.past.ensures c.if-past.true
 
-pub returns-then-room-ne0 : goal.returns-then-room-ne0
-returns-then-room-ne0 c =
+pub returns-in_err-room : goal.returns-in_err-room
+returns-in_err-room c =
     let m = c.too_many_lines in
     let few = c.if-too_many_lines.false in
-    let o = c.open_for in
     let l = lengths_in c.args.views c.args.x.now in
-    λ effect causes room. insert_full (kind_of c.args.views effect c.args.ordered) (c.requires.0, c.requires.1) (entry (goal.at.returns-then-room-ne0 c).Start) causes c.args.before l _ (m.ensures effect) few _ (front_ordered c.args.views effect c.args.ordered (entry (goal.at.returns-then-room-ne0 c).Start) c.args.before _ (o.ensures effect)) _ c.in-Good.is _ c.crossed.ensures c.if-crossed.false _ c.past.ensures c.if-past.false _ room c.if-room-ne0.true
+    let p = err_from_is_err_and c.from_residual-in_err-room.result c.from_residual-in_err-room.ensures.1 in
+    λ effect causes room. rw (p.1, p.2)
+    (insert_full (kind_of c.args.views effect c.args.ordered) (c.requires.0, c.requires.1) (entry (goal.at.returns-in_err-room c).Start) causes c.args.before l _ (m.ensures effect) few _ (front_ordered c.args.views effect c.args.ordered (entry (goal.at.returns-in_err-room c).Start) c.args.before _ (c.in_ok-g.ensures effect)) _ c.crossed.ensures c.if-crossed.false _ c.past.ensures c.if-past.false _ (room ∙ ap number_of c.in_err-room.was))
 
-pub returns-in-Refused : goal.returns-in-Refused
-returns-in-Refused c =
+pub returns : goal.returns
+returns c =
     let m = c.too_many_lines in
     let few = c.if-too_many_lines.false in
-    let o = c.open_for in
     let l = lengths_in c.args.views c.args.x.now in
-    λ effect causes room. insert_stop (kind_of c.args.views effect c.args.ordered) (c.requires.0, c.requires.1) (entry (goal.at.returns-in-Refused c).Start) causes c.args.before l _ (m.ensures effect) few _ (front_ordered c.args.views effect c.args.ordered (entry (goal.at.returns-in-Refused c).Start) c.args.before _ (o.ensures effect)) _ c.in-Refused.is
-
-pub returns-else-room-ne0 : goal.returns-else-room-ne0
-returns-else-room-ne0 c =
-    let m = c.too_many_lines in
-    let few = c.if-too_many_lines.false in
-    let o = c.open_for in
-    let l = lengths_in c.args.views c.args.x.now in
-    λ effect causes room. insert_good (kind_of c.args.views effect c.args.ordered) (c.requires.0, c.requires.1) (entry (goal.at.returns-else-room-ne0 c).Start) causes c.args.before l _ (m.ensures effect) few _ (front_ordered c.args.views effect c.args.ordered (entry (goal.at.returns-else-room-ne0 c).Start) c.args.before _ (o.ensures effect)) _ c.in-Good.is _ c.crossed.ensures c.if-crossed.false _ c.past.ensures c.if-past.false _ room c.if-room-ne0.false
+    λ effect causes room. insert_good (kind_of c.args.views effect c.args.ordered) (c.requires.0, c.requires.1) (entry (goal.at.returns c).Start) causes c.args.before l _ (m.ensures effect) few _ (front_ordered c.args.views effect c.args.ordered (entry (goal.at.returns c).Start) c.args.before _ (c.in_ok-g.ensures effect)) _ c.crossed.ensures c.if-crossed.false _ c.past.ensures c.if-past.false (room ∙ ap number_of c.in_ok-room.was)

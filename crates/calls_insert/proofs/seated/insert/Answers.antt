@@ -1,7 +1,6 @@
 -- `calls_insert::seated::insert`: a bad seat and too many line ends are refused before all else; else the seat decides whether there is space, and is charged for an entry that was made.
 use mathlib.Core.Path.{refl, sym, ap, ◌∙◌}
 use mathlib.Core.List.{[], ◌∷◌}
-use native.Mathlib.Omega.{arith}
 use Rattle.model.specs.Kind.{base}
 use Rattle.model.specs.Length.{list_of}
 use Rattle.model.specs.State.{State, state}
@@ -9,7 +8,7 @@ use Rattle.model.specs.Calls.{insert_by}
 use Rattle.model.specs.SeatedCalls.{space}
 use Rattle.model.specs.declared.length.Slot.{Slot}
 use Rattle.tree_seats.specs.Words.{seats_from}
-use Rattle.calls_insert.proofs.SeatedLaws.{seated_refused, seat_good, seated_done}
+use Rattle.calls_insert.proofs.SeatedLaws.{seated_refused, seated_done}
 use Rattle.calls_insert.proofs.seated.insert.Goals.{Start}
 use Rattle.calls_insert.proofs.seated.insert.Goals as goal
 
@@ -20,20 +19,6 @@ entry a = state a.args.head a.args.leaves.now a.args.inners.now a.args.homes.now
 pub returns-then-bad_arguments : goal.returns-then-bad_arguments
 returns-then-bad_arguments c =
     (seated_refused (entry (goal.at.returns-then-bad_arguments c).Start) (seats_from c.args.seats.now) c.args.seat c.args.before (list_of c.args.lengths) _ c.bad_arguments.ensures c.if-bad_arguments.true, refl)
-
-pub room-room-requires : goal.room-room-requires
-room-room-requires c =
-    (c.requires, seat_good (entry (goal.at.room-room-requires c).Start) (seats_from c.args.seats.now) c.args.seat c.args.before (list_of c.args.lengths) _ c.bad_arguments.ensures c.if-bad_arguments.false)
-
-pub insert-r-requires : goal.insert-r-requires
-insert-r-requires c =
-    let new = c.new-slot in
-    let room = c.room-room in
-    (omega arith, omega arith, omega arith, ap (λ (z : Slot). z.child) new.ensures, refl, room.ensures.1)
-
-pub charge_for-requires : goal.charge_for-requires
-charge_for-requires c =
-    (c.requires, seat_good (entry (goal.at.charge_for-requires c).Start) (seats_from c.args.seats.now) c.args.seat c.args.before (list_of c.args.lengths) _ c.bad_arguments.ensures c.if-bad_arguments.false)
 
 pub returns : goal.returns
 returns c =

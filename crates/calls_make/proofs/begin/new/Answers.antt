@@ -11,21 +11,6 @@ new-requires c =
     let the-new = c.new-slot in
     (omega arith, omega arith, ap (λ (y : Slot). y.child) the-new.ensures, refl)
 
-pub shape_of-leaves : goal.shape_of-leaves
-shape_of-leaves c =
-    let new2 = c.new in
-    new2.auto.leaves
-
-pub shape_of-inners : goal.shape_of-inners
-shape_of-inners c =
-    let new2 = c.new in
-    new2.auto.inners
-
-pub shape_of-homes : goal.shape_of-homes
-shape_of-homes c =
-    let new2 = c.new in
-    new2.auto.homes
-
 pub returns : goal.returns
 returns c =
     let args = c.args in

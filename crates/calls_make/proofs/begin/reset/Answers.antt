@@ -11,21 +11,6 @@ reset-requires c =
     let new = c.new-slot in
     (omega arith, omega arith, ap (λ (y : Slot). y.child) new.ensures, refl)
 
-pub shape_of-leaves : goal.shape_of-leaves
-shape_of-leaves c =
-    let the-reset = c.reset in
-    the-reset.auto.leaves
-
-pub shape_of-inners : goal.shape_of-inners
-shape_of-inners c =
-    let the-reset = c.reset in
-    the-reset.auto.inners
-
-pub shape_of-homes : goal.shape_of-homes
-shape_of-homes c =
-    let the-reset = c.reset in
-    the-reset.auto.homes
-
 pub returns : goal.returns
 returns c =
     let args = c.args in

@@ -16,6 +16,6 @@ pub returns : goal.returns
 returns c =
     let a = c.args in
     let more = shares_causes a.limit a.shares.now in
-    let made = c.new-r.ensures 1 more c.high_for-high.ensures in
+    let made = c.new-r.ensures 1 more c.fit-shared.ensures in
     let slot = ap (λ (z : Slot). make_by base more a.fan a.limit (z.prepare_len ∷ z.effect_len ∷ z.line_ends ∷ []) a.leaves.now a.inners.now a.homes.now) c.new-slot.ensures in
     (made_reply _ _ _ _ _ (made ∙ slot) c.put_made.ensures.0 ∙ made_given a.fan a.limit a.shares.now (list_of a.lengths) a.leaves.now a.inners.now a.homes.now, c.put_made.ensures.1)

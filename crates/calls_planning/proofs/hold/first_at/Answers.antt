@@ -4,8 +4,5 @@ use native.Mathlib.Omega.{arith}
 use Rattle.calls_planning.proofs.Laws.{first_plan}
 use Rattle.calls_planning.proofs.hold.first_at.Goals as goal
 
-pub held-requires : goal.held-requires
-held-requires c = omega arith
-
 pub returns : goal.returns
 returns c = c.held.ensures ∙ first_plan _ _

@@ -4,8 +4,5 @@ use native.Mathlib.Omega.{arith}
 use Rattle.calls_planning.proofs.Laws.{count_plan}
 use Rattle.calls_planning.proofs.read.count.Goals as goal
 
-pub len-requires : goal.len-requires
-len-requires c = (omega arith, omega arith)
-
 pub returns : goal.returns
 returns c = c.len.ensures 1 ∙ count_plan _

@@ -4,8 +4,5 @@ use native.Mathlib.Omega.{arith}
 use Rattle.calls_planning.proofs.Laws.{latest_plan}
 use Rattle.calls_planning.proofs.read.latest.Goals as goal
 
-pub rank-requires : goal.rank-requires
-rank-requires c = (omega arith, omega arith, omega arith)
-
 pub returns : goal.returns
 returns c = c.rank.ensures 1 ∙ latest_plan _ _

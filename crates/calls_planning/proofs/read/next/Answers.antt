@@ -4,8 +4,5 @@ use native.Mathlib.Omega.{arith}
 use Rattle.calls_planning.proofs.Laws.{next_plan}
 use Rattle.calls_planning.proofs.read.next.Goals as goal
 
-pub next-requires : goal.next-requires
-next-requires c = (omega arith, omega arith)
-
 pub returns : goal.returns
 returns c = c.next.ensures 1 ∙ next_plan _ _

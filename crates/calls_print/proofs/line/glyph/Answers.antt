@@ -1,12 +1,13 @@
--- `calls_print::line::glyph`: the three cases are those of the definition.
-use Rattle.calls_print.proofs.ColumnLaws.{is_blank, is_zero, is_digit}
+-- `calls_print::line::glyph`: the cases are those of the definition.
+use Rattle.std.proofs.Common.{arith}
+use Rattle.std.proofs.lemmas.Grind.{common_steps}
+use Rattle.calls_print.specs.Columns.{glyph}
 use Rattle.calls_print.proofs.line.glyph.Goals as goal
 
 pub returns-then-w-ne9 : goal.returns-then-w-ne9
-returns-then-w-ne9 c = is_blank _ _ c.if-m-eq0.true c.if-w-ne9.true
+unfolding glyph
+returns-then-w-ne9 c = grind (arith, common_steps)
 
-pub returns-then-m-eq0 : goal.returns-then-m-eq0
-returns-then-m-eq0 c = is_zero _ _ c.if-m-eq0.true c.if-w-ne9.false
-
-pub returns : goal.returns
-returns c = is_digit _ _ c.if-m-eq0.false
+pub returns-else-m-eq0 : goal.returns-else-m-eq0
+unfolding glyph
+returns-else-m-eq0 c = grind (arith, common_steps)

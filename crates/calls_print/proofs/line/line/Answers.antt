@@ -3,6 +3,4 @@ use Rattle.calls_print.proofs.LineLaws.{line_is}
 use Rattle.calls_print.proofs.line.line.Goals as goal
 
 pub returns : goal.returns
-returns c =
-    let pre = c.requires in
-    line_is _ _ _ _ _ _ _ _ pre c.fields.ensures
+returns c = line_is _ _ _ _ _ _ _ _ c.requires c.fields.ensures

@@ -1,14 +1,14 @@
 -- `calls_read::read::len`: the one test gives 1, and else the answer is the definition's.
+use Rattle.std.specs.Prelude.{Err}
 use Rattle.std.proofs.Common.{sym, ◌∙◌}
 use Rattle.model.specs.Calls.{len}
-use Rattle.model.specs.declared.answer.Number.TheVariants.{Refused}
 use Rattle.tree_open.proofs.Causes.{one_refused, one_good}
 use Rattle.calls_read.proofs.read.len.Goals as goal
 
 pub returns-then-bad_size : goal.returns-then-bad_size
 unfolding len
-returns-then-bad_size c = one_refused Refused _ 0 _ (sym c.bad_size.ensures ∙ c.if-bad_size.true)
+returns-then-bad_size c = one_refused Err _ 0 _ (sym c.bad_size.ensures ∙ c.if-bad_size.true)
 
 pub returns : goal.returns
 unfolding len
-returns c = one_good Refused _ 0 _ (sym c.bad_size.ensures ∙ c.if-bad_size.false)
+returns c = one_good Err _ 0 _ (sym c.bad_size.ensures ∙ c.if-bad_size.false)

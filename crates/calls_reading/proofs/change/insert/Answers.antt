@@ -4,23 +4,5 @@ use native.Mathlib.Omega.{arith}
 use Rattle.calls_reading.proofs.Laws.{as_step}
 use Rattle.calls_reading.proofs.change.insert.Goals as goal
 
-pub insert-requires : goal.insert-requires
-insert-requires c = (omega arith, omega arith, omega arith, refl, refl)
-
-pub shape_of-leaves : goal.shape_of-leaves
-shape_of-leaves c =
-    let the-insert = c.insert in
-    the-insert.auto.leaves
-
-pub shape_of-inners : goal.shape_of-inners
-shape_of-inners c =
-    let the-insert = c.insert in
-    the-insert.auto.inners
-
-pub shape_of-homes : goal.shape_of-homes
-shape_of-homes c =
-    let the-insert = c.insert in
-    the-insert.auto.homes
-
 pub returns : goal.returns
 returns c = c.insert.ensures ∙ as_step _ _ refl

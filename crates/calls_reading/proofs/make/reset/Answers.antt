@@ -4,23 +4,5 @@ use native.Mathlib.Omega.{arith}
 use Rattle.calls_reading.proofs.Laws.{reset_step}
 use Rattle.calls_reading.proofs.make.reset.Goals as goal
 
-pub reset-requires : goal.reset-requires
-reset-requires c = (omega arith, omega arith, refl, refl)
-
-pub shape_of-leaves : goal.shape_of-leaves
-shape_of-leaves c =
-    let the-reset = c.reset in
-    the-reset.auto.leaves
-
-pub shape_of-inners : goal.shape_of-inners
-shape_of-inners c =
-    let the-reset = c.reset in
-    the-reset.auto.inners
-
-pub shape_of-homes : goal.shape_of-homes
-shape_of-homes c =
-    let the-reset = c.reset in
-    the-reset.auto.homes
-
 pub returns : goal.returns
 returns c = reset_step _ _ _ _ (c.reset.ensures 0)

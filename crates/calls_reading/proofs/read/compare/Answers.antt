@@ -4,8 +4,5 @@ use native.Mathlib.Omega.{arith}
 use Rattle.calls_reading.proofs.Laws.{as_step}
 use Rattle.calls_reading.proofs.read.compare.Goals as goal
 
-pub cmp-requires : goal.cmp-requires
-cmp-requires c = (omega arith, omega arith)
-
 pub returns : goal.returns
 returns c = c.cmp.ensures 0 ∙ as_step _ _ refl

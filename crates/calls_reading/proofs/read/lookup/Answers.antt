@@ -4,8 +4,5 @@ use native.Mathlib.Omega.{arith}
 use Rattle.calls_reading.proofs.Laws.{as_step}
 use Rattle.calls_reading.proofs.read.lookup.Goals as goal
 
-pub locate-requires : goal.locate-requires
-locate-requires c = (omega arith, omega arith, omega arith, omega arith)
-
 pub returns : goal.returns
 returns c = c.locate.ensures ∙ as_step _ _ refl

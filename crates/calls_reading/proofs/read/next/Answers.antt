@@ -4,8 +4,5 @@ use native.Mathlib.Omega.{arith}
 use Rattle.calls_reading.proofs.Laws.{as_step}
 use Rattle.calls_reading.proofs.read.next.Goals as goal
 
-pub next-requires : goal.next-requires
-next-requires c = (omega arith, omega arith)
-
 pub returns : goal.returns
 returns c = c.next.ensures 0 ∙ as_step _ _ refl

@@ -4,8 +4,5 @@ use native.Mathlib.Omega.{arith}
 use Rattle.calls_reading.proofs.Laws.{as_step}
 use Rattle.calls_reading.proofs.read.rank.Goals as goal
 
-pub rank-requires : goal.rank-requires
-rank-requires c = (omega arith, omega arith, omega arith)
-
 pub returns : goal.returns
 returns c = c.rank.ensures 0 ∙ as_step _ _ refl

@@ -6,8 +6,3 @@ pub by_queue-requires : goal.by_queue-requires
 by_queue-requires c =
     let pre = c.requires in
     (pre, fresh_of pre)
-
-pub returns : goal.returns
-returns c =
-    let by-queue = c.by_queue in
-    by-queue.ensures

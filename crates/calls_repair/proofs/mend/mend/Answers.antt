@@ -5,18 +5,8 @@ use lib.ListN.{length-replicate}
 use Rattle.calls_repair.proofs.JobLaws.{blank_of}
 use Rattle.calls_repair.proofs.mend.mend.Goals as goal
 
-pub clear-requires : goal.clear-requires
-clear-requires c =
-    let pre = c.requires in
-    (omega (arith, pre.shaped.columns), omega (arith, pre.shaped.narrow, length-replicate {A = ℕ} 128 0))
-
 pub write-requires : goal.write-requires
 write-requires c =
     let pre = c.requires in
     let clear = c.clear in
     (pre, blank_of _ _ _ (omega (arith, pre.shaped.columns)) pre.shaped.narrow (length-replicate {A = ℕ} 128 0) clear.ensures)
-
-pub returns : goal.returns
-returns c =
-    let write = c.write in
-    write.ensures

@@ -30,20 +30,6 @@ link-c-requires c =
     let aim = nodes_aimed pre.0 each_leaf.ensures.1 in
     (area_now _ _ _ (nodes.ensures.1 aim.goal aim.is).near.beside.long (inner_area pre.0), root_in pre.0)
 
-pub overflow_add-result : goal.overflow_add-result
-overflow_add-result c =
-    let each_leaf = c.each_leaf-a in
-    let nodes = c.nodes-b in
-    let pre = c.requires in
-    omega (arith, each_leaf.ensures.0, nodes.ensures.0, c.link-c.ensures.1, leaf_count pre.0, inner_count pre.0, pre.0.shaped.areas)
-
-pub overflow_add-result-2 : goal.overflow_add-result-2
-overflow_add-result-2 c =
-    let each_leaf = c.each_leaf-a in
-    let nodes = c.nodes-b in
-    let pre = c.requires in
-    omega (arith, each_leaf.ensures.0, nodes.ensures.0, c.link-c.ensures.1, leaf_count pre.0, inner_count pre.0, pre.0.shaped.areas)
-
 pub returns : goal.returns
 returns c =
     let each_leaf = c.each_leaf-a in

@@ -6,7 +6,7 @@ use borrow.Author.Tests.{not-true, not-false}
 use Rattle.model.specs.Kind.{kind_of}
 use Rattle.calls_repair_test.specs.Queue.{kids_of}
 use Rattle.calls_repair_test.proofs.LevelLaws.{never}
-use Rattle.calls_repair_test.proofs.FitLaws.{counted, fan_is, marks_of, inner_lens, leaf_lens, fit_1, fit_2, fit_3, fit_4, fit_5, totals_are, listed}
+use Rattle.calls_repair_test.proofs.FitLaws.{counted, marks_of, inner_lens, leaf_lens, fit_1, fit_2, fit_3, fit_4, fit_5, totals_are, listed}
 use Rattle.calls_repair_test.proofs.fit.is_fit.Goals as goal
 
 pub returns-then-not-counts : goal.returns-then-not-counts
@@ -17,12 +17,6 @@ returns-then-not-counts c =
       λ q. never false refl q,
     )
 
-pub every_inner-requires : goal.every_inner-requires
-every_inner-requires c =
-    let pre = c.requires in
-    let args = c.args in
-    (pre.1, (counted args.head args.g _ c.counts.ensures (c.if-not-counts.false)).inners)
-
 pub returns-then-not-every_inner : goal.returns-then-not-every_inner
 returns-then-not-every_inner c =
     let args = c.args in
@@ -31,13 +25,6 @@ returns-then-not-every_inner c =
           (c.if-not-counts.false) _ (c.every_inner.ensures (kind_of views effect args.ordered) e) (c.if-not-every_inner.true),
       λ q. never false refl q,
     )
-
-pub every_leaf-requires : goal.every_leaf-requires
-every_leaf-requires c =
-    let pre = c.requires in
-    let args = c.args in
-    let counts = c.counts in
-    (pre.0, (counted args.head args.g _ counts.ensures (c.if-not-counts.false)).leaves, fan_is pre.2.views args.head args.g pre.2.same)
 
 pub returns-then-not-every_leaf : goal.returns-then-not-every_leaf
 returns-then-not-every_leaf c =

@@ -1,43 +1,22 @@
--- The test of the leaves from here on is the test of all.
-use mathlib.Core.Path.{sym, ◌∙◌}
+-- Every leaf is asked for its own test.
+use mathlib.Core.Path.{◌≡◌, refl, ◌∙◌}
 use mathlib.Core.List.{[]}
+use Prim.Native.Nat.{ℕ}
 use native.Mathlib.Omega.{arith}
-use native.Mathlib.Nat.{lt_of_lt_of_le}
+use Rattle.std.proofs.Common.{rules}
+use Rattle.std.proofs.lemmas.Iterator.{YieldsList-from_range}
+use Rattle.std.proofs.lemmas.Iterator.Search.{all_from_yields_List}
 use Rattle.model.specs.Kind.{kind_of}
+use Rattle.model.specs.Refuse.{shape_of}
 use Rattle.model.specs.State.{state}
 use Rattle.model.specs.Mend.{is_fit_leaf}
-use Rattle.calls_audit.proofs.Every.{every_all, every_stop, every_on, every_end}
+use Rattle.calls_repair_test.proofs.EveryLaws.{every_all}
 use Rattle.calls_repair_test.proofs.lens.every_leaf.Goals as goal
-
-pub loop-k-init : goal.loop-k-init
-loop-k-init c views effect e = every_all (is_fit_leaf (kind_of views effect c.args.ordered) (state c.args.head c.args.leaves.now [] [])) _
-
-pub is_fit_leaf-requires : goal.is_fit_leaf-requires
-is_fit_leaf-requires c =
-    let pre = c.requires in
-    (pre.0, lt_of_lt_of_le c.loop-k-test.true pre.1, pre.2)
-
-pub returns-then-not-is_fit_leaf : goal.returns-then-not-is_fit_leaf
-returns-then-not-is_fit_leaf c views effect e =
-    let args = c.args in
-    let the-loop = c.loop-k in
-    sym (every_stop (is_fit_leaf (kind_of views effect args.ordered) (state args.head args.leaves.now [] [])) _ _ c.loop-k-test.true
-    (sym (c.is_fit_leaf.ensures views effect e) ∙ c.if-not-is_fit_leaf.true)) ∙ the-loop.invariant views effect e
-
-pub overflow_add-k : goal.overflow_add-k
-overflow_add-k c = omega arith
-
-pub loop-k-smaller : goal.loop-k-smaller
-loop-k-smaller c = omega arith
-
-pub loop-k-preserved : goal.loop-k-preserved
-loop-k-preserved c views effect e =
-    let args = c.args in
-    let the-loop = c.loop-k in
-    sym (every_on (is_fit_leaf (kind_of views effect args.ordered) (state args.head args.leaves.now [] [])) _ _ c.loop-k-test.true
-    (sym (c.is_fit_leaf.ensures views effect e) ∙ c.if-not-is_fit_leaf.false)) ∙ the-loop.invariant views effect e
 
 pub returns : goal.returns
 returns c views effect e =
     let args = c.args in
-    sym (every_end (is_fit_leaf (kind_of views effect args.ordered) (state args.head args.leaves.now [] [])) _ _ c.loop-k-test.false) ∙ c.loop-k.invariant views effect e
+    let test = is_fit_leaf (kind_of views effect args.ordered) (state args.head args.leaves.now [] []) in
+    all_from_yields_List test _ _ c.all.result c.all.ensures.ran (YieldsList-from_range 0 args.count args.count refl (omega arith)) (λ x b q k.
+    let called : (q ≡ _) × ((views effect : ℕ) → args.g ≡ shape_of (kind_of views effect args.ordered) args.head → b ≡ is_fit_leaf (kind_of views effect args.ordered) (state args.head args.leaves.now [] []) x) = search rules in
+    (called.0, called.1 views effect e)) ∙ every_all test 0 args.count

@@ -5,8 +5,5 @@ use Rattle.calls_repair_test.specs.Queue.{kids_of}
 use Rattle.calls_repair_test.proofs.LevelLaws.{Deep}
 use Rattle.calls_repair_test.proofs.queue.below.Given as goal
 
-abbrev pub invariant-loop-d : goal.invariant-loop-d
-invariant-loop-d l = Deep (kids_of l.g l.inners) (get_or l.initial.order 0 0) l.n l.levels l.initial.order l.initial.marks l.d l.start l.end l.order l.marks
-
-abbrev pub decreases-loop-d : goal.decreases-loop-d
-decreases-loop-d l = l.levels - l.d
+abbrev pub invariant-loop : goal.invariant-loop
+invariant-loop l = Deep (kids_of l.g l.inners) (get_or l.initial.order 0 0) l.n l.levels l.initial.order l.initial.marks l.counter l.start l.end l.order l.marks

@@ -9,6 +9,3 @@ use Rattle.calls_repair_test.proofs.queue.children.Given as goal
 abbrev pub invariant-loop-i : goal.invariant-loop-i
 invariant-loop-i l = (l.i ≤ l.len) × (length l.order ≡ length l.initial.order) × (length l.marks ≡ length l.initial.marks) ×
     (noted_all l.n l.most (drop l.i (kids_of l.g l.inners l.k)) (queue true l.noted l.order l.marks) ≡ noted_all l.n l.most (kids_of l.g l.inners l.k) (queue true l.count l.initial.order l.initial.marks))
-
-abbrev pub decreases-loop-i : goal.decreases-loop-i
-decreases-loop-i l = l.len - l.i

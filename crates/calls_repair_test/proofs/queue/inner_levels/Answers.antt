@@ -1,8 +1,9 @@
 -- The root is noted first, and the levels below it behind it.
-use mathlib.Core.Path.{sym, subst}
+use mathlib.Core.Path.{refl, sym, ap, subst, ◌∙◌}
+use mathlib.Core.Bool.{Bool, false}
 use Prim.Native.Nat.{ℕ, ◌<◌}
 use borrow.Author.Tests.{not-true, not-false}
-use Rattle.calls_repair_test.specs.Queue.{kids_of}
+use Rattle.calls_repair_test.specs.Queue.{queue, kids_of}
 use Rattle.calls_repair_test.proofs.QueueLaws.{noted_sizes, still}
 use Rattle.calls_repair_test.proofs.LevelLaws.{never, first_noted, first_stop, first_on, first_last}
 use Rattle.calls_repair_test.proofs.queue.inner_levels.Goals as goal
@@ -11,8 +12,11 @@ pub returns-then-not-first : goal.returns-then-not-first
 returns-then-not-first c =
     let args = c.args in
     let pre = c.requires in
-    let see = c.see-first in
-    (first_stop (kids_of args.g args.inners.now) _ _ _ _ _ _ _ _ _ pre.2 see.ensures (not-true _ c.if-not-first.true), λ q. never _ (not-true _ c.if-not-first.true) q)
+    let see = c.see-first in (
+      ap (λ (ok : Bool). queue ok see.result.count see.new.order see.new.marks) (sym (not-true _ c.if-not-first.true))
+          ∙ first_stop (kids_of args.g args.inners.now) _ _ _ _ _ _ _ _ _ pre.2 see.ensures (not-true _ c.if-not-first.true),
+      λ q. never false refl q,
+    )
 
 pub below-requires : goal.below-requires
 below-requires c =

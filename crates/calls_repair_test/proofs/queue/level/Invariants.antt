@@ -6,6 +6,3 @@ use Rattle.calls_repair_test.proofs.queue.level.Given as goal
 
 abbrev pub invariant-loop-j : goal.invariant-loop-j
 invariant-loop-j l = QueueLeft (kids_of l.g l.inners) l.n l.most l.start l.end l.j l.count l.noted l.initial.order l.initial.marks l.order l.marks
-
-abbrev pub decreases-loop-j : goal.decreases-loop-j
-decreases-loop-j l = l.end - l.j

@@ -4,28 +4,8 @@ use mathlib.Core.Bool.{false}
 use native.Mathlib.Omega.{arith}
 use Rattle.calls_repair_test.specs.Queue.{kids_of}
 use Rattle.calls_repair_test.proofs.LevelLaws.{never}
-use Rattle.calls_repair_test.proofs.ReachLaws.{stop_1, room_1, room_2, sorted_2, long_2, parents_2, stop_2, room_3, long_3, parents_3, end_3, reached_3}
+use Rattle.calls_repair_test.proofs.ReachLaws.{stop_1, room_2, sorted_2, long_2, parents_2, stop_2, room_3, long_3, parents_3, end_3, reached_3}
 use Rattle.calls_repair_test.proofs.reach.reach.Goals as goal
-
-pub overflow_add-b : goal.overflow_add-b
-overflow_add-b c =
-    let pre = c.requires in
-    omega (arith, pre.3)
-
-pub overflow_add-e : goal.overflow_add-e
-overflow_add-e c =
-    let pre = c.requires in
-    omega (arith, pre.3)
-
-pub inner_levels-first-requires : goal.inner_levels-first-requires
-inner_levels-first-requires c =
-    let pre = c.requires in
-    let args = c.args in (
-      pre.0,
-      room_1 (kids_of args.g args.inners.now) (kids_of args.g args.leaves.now) args.root args.levels args.n args.m args.entries pre.2
-          args.order.now args.upper.now args.lower.now args.named.now pre.4 pre.5 pre.6 pre.3,
-      pre.2,
-    )
 
 pub returns-then-not-is_full : goal.returns-then-not-is_full
 returns-then-not-is_full c =

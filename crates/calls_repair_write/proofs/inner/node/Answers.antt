@@ -3,23 +3,6 @@ use native.Mathlib.Omega.{arith}
 use Rattle.calls_repair_write.proofs.SlotLaws.{area_now, node_by}
 use Rattle.calls_repair_write.proofs.inner.node.Goals as goal
 
-pub slots-n-requires : goal.slots-n-requires
-slots-n-requires c =
-    let pre = c.requires in
-    (pre.0, pre.1, pre.3, pre.4, pre.5)
-
-pub empty-requires : goal.empty-requires
-empty-requires c =
-    let slots = c.slots-n in
-    let pre = c.requires in
-    (area_now _ _ _ (slots.ensures.1 pre.5.goal pre.5.is).near.beside.long pre.1, pre.3, pre.4, pre.2)
-
-pub overflow_add-result : goal.overflow_add-result
-overflow_add-result c =
-    let slots = c.slots-n in
-    let pre = c.requires in
-    omega (arith, slots.ensures.0, c.empty.ensures.1, pre.4, pre.0.shaped.few)
-
 pub returns : goal.returns
 returns c =
     let slots = c.slots-n in

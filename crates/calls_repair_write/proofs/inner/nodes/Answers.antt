@@ -6,33 +6,6 @@ use Rattle.calls_repair_write.proofs.SlotLaws.{area_now}
 use Rattle.calls_repair_write.proofs.NodesLaws.{len_word, nodes_none, len_now, len_most, slots_aimed, nodes_on, nodes_all}
 use Rattle.calls_repair_write.proofs.inner.nodes.Goals as goal
 
-pub loop-j-init : goal.loop-j-init
-loop-j-init c =
-    let args = c.args in
-    (omega arith, omega arith, refl, refl, λ m w. nodes_none args.g args.order.now args.last args.n m _ _)
-
-pub overflow_sub-j : goal.overflow_sub-j
-overflow_sub-j c = omega (arith, c.loop-j-test.true)
-
-pub offset_bounds-order-j : goal.offset_bounds-order-j
-offset_bounds-order-j c =
-    let pre = c.requires in
-    omega (arith, c.loop-j.invariant.0, pre.3)
-
-pub bounds-order-j : goal.bounds-order-j
-bounds-order-j c =
-    let pre = c.requires in
-    omega (arith, c.loop-j.invariant.0, c.loop-j-test.true, pre.3)
-
-pub overflow_cast-p : goal.overflow_cast-p
-overflow_cast-p c = record { fits = omega arith }
-
-pub len_of-len-requires : goal.len_of-len-requires
-len_of-len-requires c =
-    let the-loop = c.loop-j in
-    let pre = c.requires in
-    (area_now _ _ _ the-loop.invariant.3 pre.1, pre.5.is.used (the-loop.j - 1) (omega (arith, the-loop.invariant.0, c.loop-j-test.true)))
-
 pub node-count-requires : goal.node-count-requires
 node-count-requires c =
     let the-loop = c.loop-j in
@@ -52,18 +25,6 @@ node-count-requires c =
           (c.len_of-len.ensures ∙ len_word args.g _ _ pre.1.shaped ∙ len_now args.g args.order.now args.last args.n pre.5.goal _ _ pre.5.is
           the-loop.j (the-loop.j - 1) _ _ _ (the-loop.invariant.4 pre.5.goal pre.5.is) (omega (arith, loop-test.true)) (omega (arith, the-loop.invariant.0, loop-test.true))),
     )
-
-pub overflow_add-count : goal.overflow_add-count
-overflow_add-count c =
-    let node = c.node-count in
-    let the-loop = c.loop-j in
-    let pre = c.requires in
-    record { fits = omega (arith, node.ensures.0, the-loop.invariant.1, pre.4) }
-
-pub loop-j-smaller : goal.loop-j-smaller
-loop-j-smaller c =
-    let loop-test = c.loop-j-test in
-    omega (arith, loop-test.true)
 
 pub loop-j-preserved : goal.loop-j-preserved
 loop-j-preserved c =
@@ -91,12 +52,6 @@ loop-j-preserved c =
           (len_of_lem.ensures ∙ len_word args.g _ _ pre.1.shaped ∙ len_now args.g args.order.now args.last args.n m _ _ w the-loop.j (the-loop.j - 1) _ _ _
           (the-loop.invariant.4 m w) (omega (arith, loop-test.true)) (omega (arith, the-loop.invariant.0, loop-test.true))) (λ y z. node.ensures.1 m y z),
     )
-
-pub shape_of-leaves : goal.shape_of-leaves
-shape_of-leaves c = c.loop-j.invariant.2
-
-pub shape_of-inners : goal.shape_of-inners
-shape_of-inners c = c.loop-j.invariant.3
 
 pub returns : goal.returns
 returns c =

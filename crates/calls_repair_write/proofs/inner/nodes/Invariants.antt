@@ -9,6 +9,3 @@ use Rattle.calls_repair_write.proofs.inner.nodes.Given as goal
 abbrev pub invariant-loop-j : goal.invariant-loop-j
 invariant-loop-j l = (l.j ≤ l.n) × (l.count ≤ 320 * (l.n - l.j)) × (length l.leaves ≡ length l.initial.leaves) ×
     (length l.inners ≡ length l.initial.inners) × ((m : Goal) → NodesGoal l.g l.order l.last l.n m l.initial.leaves l.initial.inners → NodesDone l.g l.order l.last l.n m l.j l.initial.leaves l.initial.inners l.count l.leaves l.inners)
-
-abbrev pub decreases-loop-j : goal.decreases-loop-j
-decreases-loop-j l = l.j

@@ -7,16 +7,6 @@ use Rattle.calls_repair_write.proofs.NodesLaws.{len_word}
 use Rattle.calls_repair_write.proofs.LeafLaws.{leaves_none, leaf_len_now, leaf_most, id_below, leaves_on, leaves_all}
 use Rattle.calls_repair_write.proofs.leaf.each_leaf.Goals as goal
 
-pub loop-k-init : goal.loop-k-init
-loop-k-init c =
-    let args = c.args in
-    (omega arith, omega arith, refl, refl, λ m w. leaves_none args.g args.n m _ _)
-
-pub len_of-len-requires : goal.len_of-len-requires
-len_of-len-requires c =
-    let pre = c.requires in
-    (area_now _ _ _ c.loop-k.invariant.2 pre.0, lt_of_lt_of_le c.loop-k-test.true pre.2)
-
 pub leaf-count-requires : goal.leaf-count-requires
 leaf-count-requires c =
     let the-loop = c.loop-k in
@@ -35,24 +25,6 @@ leaf-count-requires c =
           (c.len_of-len.ensures ∙ len_word args.g _ _ pre.0.shaped ∙ leaf_len_now args.g args.n pre.3.goal _ _ pre.3.is _ _ _ _
           (the-loop.invariant.4 pre.3.goal pre.3.is) loop-test.true) l,
     )
-
-pub overflow_add-count : goal.overflow_add-count
-overflow_add-count c =
-    let the-leaf = c.leaf-count in
-    let the-loop = c.loop-k in
-    let loop-test = c.loop-k-test in
-    let pre = c.requires in
-    record { fits = omega (arith, the-leaf.ensures.0, the-loop.invariant.1, loop-test.true, pre.2, pre.0.shaped.areas) }
-
-pub overflow_add-k : goal.overflow_add-k
-overflow_add-k c =
-    let loop-test = c.loop-k-test in
-    omega (arith, loop-test.true)
-
-pub loop-k-smaller : goal.loop-k-smaller
-loop-k-smaller c =
-    let loop-test = c.loop-k-test in
-    omega (arith, loop-test.true)
 
 pub loop-k-preserved : goal.loop-k-preserved
 loop-k-preserved c =
@@ -77,14 +49,3 @@ loop-k-preserved c =
           (len_of_lem.ensures ∙ len_word args.g _ _ pre.0.shaped ∙ leaf_len_now args.g args.n m _ _ w _ _ _ _ (the-loop.invariant.4 m w) loop-test.true)
           (λ z. the-leaf.ensures.1 m z),
     )
-
-pub shape_of-leaves : goal.shape_of-leaves
-shape_of-leaves c = c.loop-k.invariant.2
-
-pub shape_of-homes : goal.shape_of-homes
-shape_of-homes c = c.loop-k.invariant.3
-
-pub returns : goal.returns
-returns c =
-    let args = c.args in
-    (omega (arith, c.loop-k.invariant.0, c.loop-k.invariant.1), λ m w. leaves_all args.g args.n m _ _ _ _ _ _ c.loop-k.invariant.0 c.loop-k-test.false (c.loop-k.invariant.4 m w))

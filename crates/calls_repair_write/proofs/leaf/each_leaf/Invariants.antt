@@ -9,6 +9,3 @@ use Rattle.calls_repair_write.proofs.leaf.each_leaf.Given as goal
 abbrev pub invariant-loop-k : goal.invariant-loop-k
 invariant-loop-k l = (l.k ≤ l.n) × (l.count ≤ 160 * l.k) × (length l.leaves ≡ length l.initial.leaves) × (length l.homes ≡ length l.initial.homes) ×
     ((m : Goal) → LeavesGoal l.g l.n m l.initial.leaves l.initial.homes → LeavesDone l.g l.k m l.initial.leaves l.initial.homes l.count l.leaves l.homes)
-
-abbrev pub decreases-loop-k : goal.decreases-loop-k
-decreases-loop-k l = l.n - l.k

@@ -3,22 +3,6 @@ use native.Mathlib.Omega.{arith}
 use Rattle.calls_repair_write.proofs.LeafLaws.{leaf_by_law}
 use Rattle.calls_repair_write.proofs.leaf.leaf.Goals as goal
 
-pub homes_of-n-requires : goal.homes_of-n-requires
-homes_of-n-requires c =
-    let pre = c.requires in
-    (pre.0, pre.2, pre.3, pre.4)
-
-pub empty-requires : goal.empty-requires
-empty-requires c =
-    let pre = c.requires in
-    (pre.0, pre.2, pre.3, pre.1)
-
-pub overflow_add-result : goal.overflow_add-result
-overflow_add-result c =
-    let homes-of = c.homes_of-n in
-    let pre = c.requires in
-    omega (arith, homes-of.ensures.0, c.empty.ensures.1, pre.3, pre.0.shaped.few)
-
 pub returns : goal.returns
 returns c =
     let homes-of = c.homes_of-n in

@@ -14,16 +14,6 @@ entry a = state a.args.head a.args.leaves.now a.args.inners.now a.args.homes.now
 pub resize-requires : goal.resize-requires
 resize-requires c = (omega arith, omega arith, omega arith, refl)
 
-pub shape_of-leaves : goal.shape_of-leaves
-shape_of-leaves c =
-    let the-resize = c.resize in
-    the-resize.auto.leaves
-
-pub shape_of-inners : goal.shape_of-inners
-shape_of-inners c =
-    let the-resize = c.resize in
-    the-resize.auto.inners
-
 pub returns : goal.returns
 returns c =
     let p = c.of in

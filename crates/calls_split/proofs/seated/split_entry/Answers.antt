@@ -1,5 +1,5 @@
 -- `calls_split::seated::split_entry`: a bad seat is refused before all else; else the seat decides whether there is space, and is charged for an entry that was made.
-use Rattle.std.proofs.Common.{[], ◌∷◌, sym, refl, ap, ◌∙◌, arith}
+use Rattle.std.proofs.Common.{[], ◌∷◌, sym, refl, ap, ◌∙◌}
 use Rattle.model.specs.Kind.{base}
 use Rattle.model.specs.Length.{list_of}
 use Rattle.model.specs.State.{State, state}
@@ -18,15 +18,6 @@ entry a = state a.args.head a.args.leaves.now a.args.inners.now a.args.homes.now
 pub returns-then-bad_seat : goal.returns-then-bad_seat
 returns-then-bad_seat c =
     (seated_refused (entry (goal.at.returns-then-bad_seat c).Start) (seats_from c.args.seats.now) c.args.seat c.args.at (list_of c.args.lengths) c.args.before _ c.bad_seat.ensures c.if-bad_seat.true, refl)
-
-pub room-room-requires : goal.room-room-requires
-room-room-requires c = (c.requires, sym c.bad_seat.ensures ∙ c.if-bad_seat.false)
-
-pub split_entry-r-requires : goal.split_entry-r-requires
-split_entry-r-requires c = (omega arith, omega arith, ap (λ (z : Slot). z.child) c.new-slot.ensures, refl, c.room-room.ensures.1)
-
-pub charge_for-requires : goal.charge_for-requires
-charge_for-requires c = (c.requires, sym c.bad_seat.ensures ∙ c.if-bad_seat.false)
 
 pub returns : goal.returns
 returns c =

@@ -1,20 +1,19 @@
 -- `smelvock_marshal::given::bad_shares`: none are good, and else eight.
-use mathlib.Core.Path.{sym, ap}
+use mathlib.Core.Path.{sym, ap, ◌∙◌}
 use mathlib.Core.Bool.{Bool, not, ◌&&◌}
 use lib.Dec.{eqb}
 use lib.ListN.{length}
-use borrow.Author.Tests.{eq-eqb, ne_eqb}
 use Rattle.smelvock_marshal.specs.Flat.{bad_shares}
 use Rattle.smelvock_marshal.proofs.given.bad_shares.Goals as goal
 
-pub returns-then-shares-eq0 : goal.returns-then-shares-eq0
+pub returns-then-not-is_empty : goal.returns-then-not-is_empty
 unfolding bad_shares
-returns-then-shares-eq0 c =
+returns-then-not-is_empty c =
     let w = c.args.shares.now in
-    sym (ap (λ (t : Bool). not t && not (eqb (length w) 8)) (eq-eqb (length w) 0 c.if-shares-eq0.true))
+    sym (ap (λ (t : Bool). not t && not (eqb (length w) 8)) (sym c.is_empty.ensures ∙ c.if-not-is_empty.true))
 
-pub returns : goal.returns
+pub returns-else-not-is_empty : goal.returns-else-not-is_empty
 unfolding bad_shares
-returns c =
+returns-else-not-is_empty c =
     let w = c.args.shares.now in
-    sym (ap (λ (t : Bool). not t && not (eqb (length w) 8)) (ne_eqb (length w) 0 c.if-shares-eq0.false))
+    ap not c.if-not-is_empty.false ∙ sym (ap (λ (t : Bool). not t && not (eqb (length w) 8)) (sym c.is_empty.ensures ∙ c.if-not-is_empty.false))

@@ -1,11 +1,7 @@
 -- `tree_area::word::at_of`: the third word is the place in the parent.
 use mathlib.Core.Path.{sym, ◌∙◌}
-use native.Mathlib.Omega.{arith}
 use Rattle.model_laws.specs.Areas.{place_at}
 use Rattle.tree_area.proofs.word.at_of.Goals as goal
-
-pub word_of-requires : goal.word_of-requires
-word_of-requires c = (c.requires.0, c.requires.1, omega (arith, c.requires.0.shaped.words))
 
 pub returns : goal.returns
 returns c = c.word_of.ensures ∙ sym (place_at c.args.g _ _ c.requires.0.shaped.words)

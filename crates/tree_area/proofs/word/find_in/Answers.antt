@@ -1,49 +1,22 @@
 -- `tree_area::word::find_in`: the part that is lent holds the node's words, and no more than a word is added for a slot.
-use Prim.Native.Nat.{◌+◌, ◌*◌, ◌≤◌}
-use mathlib.Core.Path.{sym, ◌∙◌}
-use native.Mathlib.Omega.{arith}
-use lib.ListN.{length}
+use Rattle.std.proofs.Common.{◌≤◌, get_or, arith}
 use Rattle.model.specs.Node.{node_of}
-use Rattle.model_laws.specs.Words.{length_part, lent}
 use Rattle.model_laws.specs.Find.{used_before}
-use Rattle.tree_area.specs.Area.{node_in_law}
-use Rattle.tree_area.proofs.word.find_in.Goals.{After-shared_slice_known-1}
 use Rattle.tree_area.proofs.word.find_in.Goals as goal
-
--- the node ends within the area
-inside : (c : After-shared_slice_known-1) → c.args.k * c.args.g.size + c.args.g.size ≤ length c.args.area.now
-inside c = node_in_law c.args.g (length c.args.area.now) c.args.k c.requires.0 c.requires.1
-
-pub overflow_mul-a : goal.overflow_mul-a
-overflow_mul-a c = omega (arith, inside (goal.at.overflow_mul-a c).After-shared_slice_known-1)
-
-pub overflow_add-e : goal.overflow_add-e
-overflow_add-e c = omega (arith, inside (goal.at.overflow_add-e c).After-shared_slice_known-1)
-
-pub offset_bounds-area-a : goal.offset_bounds-area-a
-offset_bounds-area-a c = omega (arith, inside (goal.at.offset_bounds-area-a c).After-shared_slice_known-1)
-
-pub slice_bounds-find-count : goal.slice_bounds-find-count
-slice_bounds-find-count c = omega arith
-
-pub slice_bounds-find-start : goal.slice_bounds-find-start
-slice_bounds-find-start c = omega (arith, inside (goal.at.slice_bounds-find-start c).After-shared_slice_known-1)
-
-pub slice_bounds-find-end : goal.slice_bounds-find-end
-slice_bounds-find-end c = omega (arith, inside (goal.at.slice_bounds-find-end c).After-shared_slice_known-1)
 
 pub find-requires : goal.find-requires
 unfolding node_of
 find-requires c =
-    rw lent
-    (c.requires.0.shaped, length_part _ _ _ (inside (goal.at.find-requires c).After-shared_slice_known-1), c.requires.2, c.requires.3, c.requires.4, omega (arith, c.requires.5), c.requires.6, c.requires.7)
+    let e = c.node_words-node.ensures.0 in
+    let within : c.args.from ≤ get_or c.node_words-node.result.now 0 0 = rw e c.requires.5 in
+    (c.requires.0.shaped, c.node_words-node.ensures.1, c.requires.2, c.requires.3, rw e c.requires.4, omega arith, c.requires.6, c.requires.7)
 
 pub returns : goal.returns
 returns c =
-    let e = rw lent at c.find.ensures in
+    let e = rw c.node_words-node.ensures.0 at c.find.ensures in
     record {
       finds = e;
       few = λ j o t u q.
-          (let z = used_before c.args.g _ c.args.effect c.args.k c.args.from _ c.args.effects c.args.prepares c.args.area.now c.requires.4 c.requires.3 (λ i. omega (arith, c.shared_slice_known-1.given i)) j o t u (sym e ∙ q) in
+          (let z = used_before c.args.g _ c.args.effect c.args.k c.args.from _ c.args.effects c.args.prepares c.args.area.now c.requires.4 c.requires.3 (λ i. omega (arith, c.type_inv.area i)) j o t u (rw e at q) in
           (omega (arith, c.requires.0.shaped, z.0), omega (arith, c.requires.0.shaped, z.1)));
     }

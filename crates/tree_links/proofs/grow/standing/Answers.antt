@@ -1,45 +1,25 @@
 -- `tree_links::grow::standing`: the tests are those of the definition, each before what it allows to be read.
-use native.Mathlib.Omega.{arith}
-use lib.ListN.{length}
-use Rattle.model_laws.specs.AreaRead.{node_end}
 use Rattle.tree_links.proofs.AddSteps.{no_node, no_after, no_new, no_place, too_long, stands_at}
+use Rattle.tree_links.proofs.grow.standing.Goals.{then-p-used-via-then-p-used, then-p-used-via-else-p-used+then-after-g, then-p-used-via-else-p-used+else-after-g+then-new-g, then-i-len-via-then-i-len, then-i-len-via-else-i-len+then-len-g}
 use Rattle.tree_links.proofs.grow.standing.Goals as goal
 
-pub returns-then-k-used : goal.returns-then-k-used
-returns-then-k-used c = no_node _ _ _ _ _ _ _ c.if-k-used.true
-
-pub returns-then-a-nodes : goal.returns-then-a-nodes
-returns-then-a-nodes c = no_after _ _ _ _ _ _ _ c.if-k-used.false c.if-a-nodes.true
-
-pub returns-then-n-nodes : goal.returns-then-n-nodes
-returns-then-n-nodes c = no_new _ _ _ _ _ _ _ c.if-k-used.false c.if-a-nodes.false c.if-n-nodes.true
-
-pub word-len-requires : goal.word-len-requires
-word-len-requires c =
-    let pre = c.requires in
-    let args = c.args in
-    let if1 = c.if-k-used in
-    (omega (arith, pre.0.shaped.words), node_end args.g args.p.0 (length args.inners.now) (omega (arith, if1.false, pre.1)) pre.0.inners)
+pub returns-then-p-used : goal.returns-then-p-used
+returns-then-p-used c = elim c.then-p-used.branch [
+  | then-p-used-via-then-p-used w ↦ no_node _ _ _ _ _ _ _ w.if-p-used.true
+  | then-p-used-via-else-p-used+then-after-g w ↦ no_after _ _ _ _ _ _ _ w.if-p-used.false w.if-after-g.true
+  | then-p-used-via-else-p-used+else-after-g+then-new-g w ↦ no_new _ _ _ _ _ _ _ w.if-p-used.false w.if-after-g.false w.if-new-g.true
+]
 
 pub returns-then-i-len : goal.returns-then-i-len
 returns-then-i-len c =
-    let if1 = c.if-k-used in
-    let if2 = c.if-a-nodes in
-    let if3 = c.if-n-nodes in
-    no_place _ _ _ _ _ _ _ _ _ c.word_of-i.ensures c.word-len.ensures if1.false if2.false if3.false c.if-i-len.true
-
-pub returns-then-len-fan : goal.returns-then-len-fan
-returns-then-len-fan c =
-    let word_of = c.word_of-i in
-    let if1 = c.if-k-used in
-    let if2 = c.if-a-nodes in
-    let if3 = c.if-n-nodes in
-    too_long _ _ _ _ _ _ _ _ _ word_of.ensures c.word-len.ensures if1.false if2.false if3.false c.if-i-len.false c.if-len-fan.true
+    let p = c.if-p-used.false in
+    let after = c.if-after-g.false in
+    let new = c.if-new-g.false in
+    elim c.then-i-len.branch [
+      | then-i-len-via-then-i-len w ↦ no_place _ _ _ _ _ _ _ _ _ c.word_of-i.ensures c.word-len.ensures p after new w.if-i-len.true
+      | then-i-len-via-else-i-len+then-len-g w ↦ too_long _ _ _ _ _ _ _ _ _ c.word_of-i.ensures c.word-len.ensures p after new w.if-i-len.false w.if-len-g.true
+    ]
 
 pub returns : goal.returns
 returns c =
-    let word_of = c.word_of-i in
-    let if1 = c.if-k-used in
-    let if2 = c.if-a-nodes in
-    let if3 = c.if-n-nodes in
-    stands_at _ _ _ _ _ _ _ _ _ word_of.ensures c.word-len.ensures if1.false if2.false if3.false c.if-i-len.false c.if-len-fan.false
+    stands_at _ _ _ _ _ _ _ _ _ c.word_of-i.ensures c.word-len.ensures c.if-p-used.false c.if-after-g.false c.if-new-g.false c.if-i-len.false c.if-len-g.false

@@ -8,6 +8,3 @@ use Rattle.tree_links.proofs.parts.adopt_all.Given as goal
 abbrev pub invariant-loop-i : goal.invariant-loop-i
 invariant-loop-i l = (length l.leaves ≡ length l.initial.leaves) × (length l.inners ≡ length l.initial.inners)
     × (adopt_all l.g l.level l.p.0 (l.to - l.i) l.i (areas l.leaves l.inners) ≡ adopt_all l.g l.level l.p.0 (l.to - l.from) l.from (areas l.initial.leaves l.initial.inners))
-
-abbrev pub decreases-loop-i : goal.decreases-loop-i
-decreases-loop-i l = l.to - l.i

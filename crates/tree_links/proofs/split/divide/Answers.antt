@@ -14,46 +14,6 @@ use Rattle.tree_links.proofs.split.divide.Goals as goal
 anew : (w g : Shape) (level m n : ℕ) (r : Linked) (a : Areas) → g ≡ w → r ≡ adopt_all g level m n 0 a → r ≡ adopt_all w level m n 0 a
 anew w g level m n r a e q = q ∙ ap (λ (h : Shape). adopt_all h level m n 0 a) e
 
-pub shape_for-g-requires : goal.shape_for-g-requires
-shape_for-g-requires c = (omega (arith, c.requires.0.shaped.narrow), c.requires.0.shaped.few)
-
-pub overflow_cast-k : goal.overflow_cast-k
-overflow_cast-k c =
-    let good = c.well_formed in
-    omega (arith, good)
-
-pub overflow_cast-m : goal.overflow_cast-m
-overflow_cast-m c =
-    let good = c.well_formed in
-    omega (arith, good)
-
-pub split_off-requires : goal.split_off-requires
-split_off-requires c =
-    let pre = c.requires in
-    let args = c.args in
-    (pre.0.shaped, pre.1, node_end (shape_for args.views args.fan args.nodes) args.m.0 (length args.inners.now) pre.2 pre.0.inners)
-
-pub overflow_sub-fan : goal.overflow_sub-fan
-overflow_sub-fan c = omega arith
-
-pub adopt_all-requires : goal.adopt_all-requires
-adopt_all-requires c =
-    let shape-for = c.shape_for-g in
-    let split_off = c.split_off in
-    let pre = c.requires in
-    rw shape-for.ensures (rw split_off.auto.area pre.0, pre.2, omega arith)
-
-pub shape_of-leaves : goal.shape_of-leaves
-shape_of-leaves c =
-    let adopt_all_law = c.adopt_all in
-    adopt_all_law.auto.leaves
-
-pub shape_of-inners : goal.shape_of-inners
-shape_of-inners c =
-    let adopt_all_law = c.adopt_all in
-    let split_off = c.split_off in
-    adopt_all_law.auto.inners ∙ split_off.auto.area
-
 pub returns : goal.returns
 returns c =
     let args = c.args in

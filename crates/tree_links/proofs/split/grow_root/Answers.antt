@@ -2,14 +2,13 @@
 use mathlib.Core.Path.{◌≡◌, refl, ap, ◌∙◌}
 use mathlib.Core.List.{List, [], ◌∷◌}
 use Prim.Native.Nat.{ℕ, ◌+◌, ◌<◌}
-use native.Mathlib.Omega.{arith}
 use lib.ListN.{length, get_or, set, take, length-set}
 use Rattle.model.specs.Node.{none, slot_for, new_node}
 use Rattle.model.specs.State.{shape_for, node_at, put_node}
 use Rattle.model.specs.Grow.{areas, linked, grown, grow_root, adopt_all}
 use Rattle.model.specs.declared.shape.Shape.{Shape}
 use Rattle.model_laws.specs.Grow.{root_none, root_as}
-use Rattle.tree_links.specs.Tops.{top_in, grown_in, levels_kept, top_grown}
+use Rattle.tree_links.specs.Tops.{top_in, grown_in, top_grown}
 use Rattle.tree_links.proofs.split.grow_root.Goals as goal
 
 -- a new root as the model has it: g is the shape w that the sizes make
@@ -19,86 +18,11 @@ risen w g k m t ls xs x y zs n ls₁ xs₁ e l h ex ey ez er =
     ∙ root_as g (top_in t) k m ls xs (take g.stride x) (take g.stride y) _ _ zs n (areas ls₁ xs₁) (rw e h) ex ey refl refl ez er
     ∙ ap (λ s. grow_root s (top_in t) k m (areas ls xs)) e
 
-pub shape_for-g-requires : goal.shape_for-g-requires
-shape_for-g-requires c = (omega (arith, c.requires.0.shaped.narrow), c.requires.0.shaped.few)
-
-pub bounds-top-0 : goal.bounds-top-0
-bounds-top-0 c = omega arith
-
-pub overflow_cast-used : goal.overflow_cast-used
-overflow_cast-used c =
-    let pre = c.requires in
-    omega (arith, pre.3, pre.0.shaped.areas)
-
 pub returns-then-used-nodes : goal.returns-then-used-nodes
 returns-then-used-nodes c =
     let args = c.args in
     let pre = c.requires in
     (root_none (shape_for args.views args.fan args.nodes) (top_in args.top.now) args.k.0 args.m.0 _ _ c.if-used-nodes.true, pre.5)
-
-pub sum_node-requires : goal.sum_node-requires
-sum_node-requires c =
-    let shape-for = c.shape_for-g in
-    let pre = c.requires in
-    rw shape-for.ensures (pre.0.shaped, pre.1, pre.0.inners, refl)
-
-pub sum_node-requires-2 : goal.sum_node-requires-2
-sum_node-requires-2 c =
-    let shape-for = c.shape_for-g in
-    let pre = c.requires in
-    rw shape-for.ensures (pre.0.shaped, pre.2, pre.0.inners, refl)
-
-pub new_two-requires : goal.new_two-requires
-new_two-requires c =
-    let shape-for = c.shape_for-g in
-    let pre = c.requires in
-    let if1 = c.if-used-nodes in
-    let sum-node = c.sum_node in
-    let sum-node2 = c.sum_node-2 in
-    (rw shape-for.ensures (record { shaped = pre.0.shaped; room = pre.0.inners }), rw shape-for.ensures if1.false, sum-node.ensures.1, sum-node2.ensures.1)
-
-pub adopt_all-n-requires : goal.adopt_all-n-requires
-adopt_all-n-requires c =
-    let shape-for = c.shape_for-g in
-    let new_two = c.new_two in
-    let pre = c.requires in
-    let if1 = c.if-used-nodes in
-    rw shape-for.ensures (rw new_two.auto.area pre.0, if1.false, omega (arith, pre.0.shaped.slots))
-
-pub overflow_add-top : goal.overflow_add-top
-overflow_add-top c =
-    let if1 = c.if-used-nodes in
-    let pre = c.requires in
-    omega (arith, if1.false, pre.0.shaped.areas)
-
-pub bounds-top-0-2 : goal.bounds-top-0-2
-bounds-top-0-2 c = omega arith
-
-pub bounds-top-1 : goal.bounds-top-1
-bounds-top-1 c = omega arith
-
-pub bounds-top-2 : goal.bounds-top-2
-bounds-top-2 c = omega arith
-
-pub overflow_add-top-2 : goal.overflow_add-top-2
-overflow_add-top-2 c =
-    let args = c.args in
-    let pre = c.requires in
-    omega (arith, levels_kept args.top.now (get_or args.top.now 0 0 + 1) (get_or args.top.now 0 0) pre.5, pre.4)
-
-pub bounds-top-2-2 : goal.bounds-top-2-2
-bounds-top-2-2 c = omega arith
-
-pub shape_of-leaves : goal.shape_of-leaves
-shape_of-leaves c =
-    let adopt_all_law = c.adopt_all-n in
-    adopt_all_law.auto.leaves
-
-pub shape_of-inners : goal.shape_of-inners
-shape_of-inners c =
-    let adopt_all_law = c.adopt_all-n in
-    let new_two = c.new_two in
-    adopt_all_law.auto.inners ∙ new_two.auto.area
 
 pub returns : goal.returns
 returns c =
@@ -109,7 +33,7 @@ returns c =
     let sum-node = c.sum_node in
     let sum-node2 = c.sum_node-2 in
     let new_two = c.new_two in
-    let adopt_all_law = c.adopt_all-n in (
+    let adopt_all_law = c.adopt_all-adopted in (
       risen (shape_for args.views args.fan args.nodes) _ args.k.0 args.m.0 args.top.now _ _ _ _ _ _ _ _ shape-for.ensures pre.5 if1.false
           sum-node.ensures.0 sum-node2.ensures.0 new_two.ensures adopt_all_law.ensures,
       simp length-set pre.5,

@@ -1,11 +1,9 @@
 -- `tree_node::read::find_effect`: the effect lengths passed are what the index lost, and each turn passes one slot.
-use Rattle.std.proofs.Common.{◌≡◌, ℕ, ◌+◌, ◌-◌, ◌*◌, ◌<◌, ◌≤◌, List, length, get_or, drop, sym, ap, ◌∙◌, arith}
+use Rattle.std.specs.Prelude.{Some}
+use Rattle.std.proofs.Common.{◌≡◌, ℕ, ◌+◌, ◌-◌, ◌*◌, ◌<◌, ◌≤◌, List, get_or, drop, sym, refl, ap, ◌∙◌, arith}
 use Rattle.model.specs.Node.{slots_from, find_from}
-use Rattle.model.specs.declared.shape.Found.TheVariants.{At}
-use Rattle.model_laws.specs.Lists.{one_more, in_row}
 use Rattle.model_laws.specs.Nodes.{used_slots}
 use Rattle.model_laws.specs.Read.{find_here, find_on, find_none}
-use Rattle.tree_node.proofs.read.find_effect.Goals.{In-loop-k}
 use Rattle.tree_node.proofs.read.find_effect.Goals as goal
 
 -- a slot passed
@@ -16,89 +14,20 @@ module _ (s n e k q i rest a b : ℕ) (ws : List ℕ) (he : e + 1 < s) (hq : q �
       find_on s n 3 e e k rest (a + (i - rest)) b q ws he he hq hk h
       ∙ ap (λ (x : ℕ). find_from e e (k + 1) (rest - get_or ws (q + e) 0) x (b + get_or ws q 0) (drop (k + 1) (slots_from s n 3 ws))) (omega arith)
 
-  held : rest < get_or ws (q + e) 0 → find_from e e k rest (a + (i - rest)) b (drop k (slots_from s n 3 ws)) ≡ At k rest (a + (i - rest)) b
+  held : rest < get_or ws (q + e) 0 → find_from e e k rest (a + (i - rest)) b (drop k (slots_from s n 3 ws)) ≡ Some (k, rest, a + (i - rest), b)
   held h = find_here s n 3 e e k rest (a + (i - rest)) b q ws he he hq hk h
-
--- the words of a turn lie in the node
-turn : (c : In-loop-k) (v : ℕ) → v + 1 < c.args.g.stride → c.loop-k.p + v < length c.args.node.now
-turn c v h =
-    let a = c.args in
-    omega (arith, c.requires.0, in_row c.loop-k.k a.g.fan a.g.stride (v + 1) (omega arith) h)
-
-pub bounds-node-0 : goal.bounds-node-0
-bounds-node-0 c = omega arith
-
-pub overflow_cast-len : goal.overflow_cast-len
-overflow_cast-len c = omega (arith, c.shared_slice_known-2-1.given 0)
-
-pub loop-k-init : goal.loop-k-init
-loop-k-init c =
-    let a = c.args in (
-      omega arith,
-      omega arith,
-      omega arith,
-      omega arith,
-      ap (λ (x : ℕ). find_from a.effect a.effect 0 a.index x a.prepares (slots_from a.g.stride (get_or a.node.now 0 0) 3 a.node.now)) (omega arith),
-    )
-
-pub overflow_add-here : goal.overflow_add-here
-overflow_add-here c =
-    omega (arith, turn (goal.at.overflow_add-here c).In-loop-k c.args.effect c.requires.2)
-
-pub offset_bounds-node-p : goal.offset_bounds-node-p
-offset_bounds-node-p c =
-    omega (arith, turn (goal.at.offset_bounds-node-p c).In-loop-k c.args.effect c.requires.2)
-
-pub bounds-node-p : goal.bounds-node-p
-bounds-node-p c =
-    turn (goal.at.bounds-node-p c).In-loop-k c.args.effect c.requires.2
-
-pub overflow_sub-index : goal.overflow_sub-index
-overflow_sub-index c = omega arith
-
-pub overflow_add-result : goal.overflow_add-result
-overflow_add-result c = omega (arith, c.ranges)
 
 pub returns-then-rest-here : goal.returns-then-rest-here
 returns-then-rest-here c =
-    let l = c.loop-k in
-    rw (used_slots _ _ _ c.requires.3, c.wide.ensures)
-    (sym (held _ _ _ _ _ c.args.index _ c.args.effects _ _ c.requires.2 l.invariant.2 c.loop-k-test.true l.invariant.1 c.if-rest-here.true) ∙ l.invariant.4)
-
-pub offset_bounds-node-p-in-loop-k : goal.offset_bounds-node-p-in-loop-k
-offset_bounds-node-p-in-loop-k c =
-    omega (arith, turn (goal.at.offset_bounds-node-p-in-loop-k c).In-loop-k 0 (omega (arith, c.requires.2)))
-
-pub bounds-node-p-in-loop-k : goal.bounds-node-p-in-loop-k
-bounds-node-p-in-loop-k c =
-    omega (arith, turn (goal.at.bounds-node-p-in-loop-k c).In-loop-k 0 (omega (arith, c.requires.2)))
-
-pub overflow_add-sum : goal.overflow_add-sum
-overflow_add-sum c =
-    omega (arith, c.shared_slice_known-in-loop-k-2-1.given c.loop-k.p)
-
-pub overflow_add-p : goal.overflow_add-p
-overflow_add-p c =
-    omega (arith, turn (goal.at.overflow_add-p c).In-loop-k c.args.effect c.requires.2)
-
-pub overflow_add-k : goal.overflow_add-k
-overflow_add-k c = omega arith
-
-pub loop-k-smaller : goal.loop-k-smaller
-loop-k-smaller c = omega arith
+    rw (used_slots _ _ _ c.requires.3, c.from.ensures)
+    (sym (held _ _ _ _ _ c.args.index _ c.args.effects _ _ c.requires.2 refl c.loop-k-test.true c.loop-k.invariant.0 c.if-rest-here.true) ∙ c.loop-k.invariant.2)
 
 pub loop-k-preserved : goal.loop-k-preserved
-loop-k-preserved c =
-    let l = c.loop-k in (
-      omega arith,
-      omega arith,
-      omega (arith, one_more l.k c.args.g.stride),
-      omega (arith, c.shared_slice_known-in-loop-k-2-1.given l.p),
-      rw c.wide-sum.ensures
-          (sym (passed _ _ _ _ _ c.args.index _ c.args.effects _ _ c.requires.2 l.invariant.2 c.loop-k-test.true l.invariant.1 c.if-rest-here.false) ∙ l.invariant.4),
-    )
+loop-k-preserved c = (
+  omega arith,
+  omega arith,
+  rw c.from-sum.ensures (sym (passed _ _ _ _ _ c.args.index _ c.args.effects _ _ c.requires.2 refl c.loop-k-test.true c.loop-k.invariant.0 c.if-rest-here.false) ∙ c.loop-k.invariant.2),
+)
 
 pub returns : goal.returns
-returns c =
-    let pre = c.requires in
-    rw (used_slots _ _ _ pre.3) (sym (find_none _ _ _ _ _ _ _ _ _ _ c.loop-k-test.false) ∙ c.loop-k.invariant.4)
+returns c = rw (used_slots _ _ _ c.requires.3) (sym (find_none _ _ _ _ _ _ _ _ _ _ c.loop-k-test.false) ∙ c.loop-k.invariant.2)

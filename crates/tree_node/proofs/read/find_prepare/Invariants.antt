@@ -4,8 +4,5 @@ use Rattle.model.specs.Node.{slots_from, find_from}
 use Rattle.tree_node.proofs.read.find_prepare.Given as goal
 
 abbrev pub invariant-loop-k : goal.invariant-loop-k
-invariant-loop-k l = (l.k ≤ l.len) × (l.rest ≤ l.index) × (l.p ≡ 3 + l.k * l.stride + 1) × (l.sum ≤ l.effects + l.k * 4294967296)
+invariant-loop-k l = (l.rest ≤ l.index) × (l.sum ≤ l.effects + l.k * 4294967296)
     × (find_from 0 l.effect l.k l.rest l.sum (l.prepares + (l.index - l.rest)) (drop l.k (slots_from l.stride l.len 3 l.node)) ≡ find_from 0 l.effect 0 l.index l.effects l.prepares (slots_from l.stride l.len 3 l.node))
-
-abbrev pub decreases-loop-k : goal.decreases-loop-k
-decreases-loop-k l = l.len - l.k

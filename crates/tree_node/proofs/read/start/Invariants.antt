@@ -1,10 +1,7 @@
 -- `tree_node::read::start`: the sum is the total of the slots passed, and each turn adds the next slot's length.
-use Rattle.std.proofs.Common.{◌≡◌, ◌+◌, ◌-◌, ◌*◌, ◌≤◌}
+use Rattle.std.proofs.Common.{◌≡◌, ◌+◌, ◌*◌, ◌≤◌}
 use Rattle.model.specs.Node.{slots_from, total}
 use Rattle.tree_node.proofs.read.start.Given as goal
 
-abbrev pub invariant-loop-k : goal.invariant-loop-k
-invariant-loop-k l = (l.k ≤ l.i) × (l.p ≡ 3 + l.k * l.stride + (l.view + 1)) × (l.sum ≤ l.k * 4294967295) × (l.sum ≡ total l.view (slots_from l.stride l.k 3 l.node))
-
-abbrev pub decreases-loop-k : goal.decreases-loop-k
-decreases-loop-k l = l.i - l.k
+abbrev pub invariant-loop : goal.invariant-loop
+invariant-loop l = (l.p ≡ 3 + l.counter * l.stride + (l.view + 1)) × (l.sum ≤ l.counter * 4294967295) × (l.sum ≡ total l.view (slots_from l.stride l.counter 3 l.node))

@@ -1,50 +1,18 @@
 -- `tree_node::read::start_low`: the sum is the total of the slots passed modulo 2 ^ 32, and each turn adds the next slot's length.
-use Rattle.std.proofs.Common.{◌≡◌, ◌+◌, ◌*◌, ◌<◌, length, refl, ◌∙◌, zero-mul, arith}
+use Rattle.std.proofs.Common.{◌≡◌, refl, arith}
 use Rattle.model.specs.Node.{node_of}
-use Rattle.model_laws.specs.Lists.{one_more, in_row}
 use Rattle.model_laws.specs.Slots.{slots_take}
 use Rattle.model_laws.specs.Read.{low_none, low_more}
-use Rattle.tree_node.proofs.read.start_low.Goals.{In-loop-k}
 use Rattle.tree_node.proofs.read.start_low.Goals as goal
 
--- the word of a turn lies in the node
-turn : (c : In-loop-k) → 3 + c.loop-k.k * c.args.g.stride + (c.args.view + 1) < length c.args.node.now
-turn c =
-    let pre = c.requires in
-    let args = c.args in
-    omega (arith, pre.0, in_row c.loop-k.k args.g.fan args.g.stride (args.view + 1) (omega arith) (omega arith))
+pub loop-init : goal.loop-init
+loop-init c = (omega arith, low_none _ _ _ _)
 
-pub overflow_add-p : goal.overflow_add-p
-overflow_add-p c = omega arith
-
-pub overflow_add-p-2 : goal.overflow_add-p-2
-overflow_add-p-2 c = omega arith
-
-pub loop-k-init : goal.loop-k-init
-loop-k-init c = (omega arith, omega (arith, zero-mul c.args.g.stride), low_none _ _ _ _)
-
-pub offset_bounds-node-p : goal.offset_bounds-node-p
-offset_bounds-node-p c = omega (arith, turn (goal.at.offset_bounds-node-p c).In-loop-k)
-
-pub bounds-node-p : goal.bounds-node-p
-bounds-node-p c = omega (arith, turn (goal.at.bounds-node-p c).In-loop-k)
-
-pub overflow_add-p-in-loop-k : goal.overflow_add-p-in-loop-k
-overflow_add-p-in-loop-k c = omega (arith, turn (goal.at.overflow_add-p-in-loop-k c).In-loop-k)
-
-pub overflow_add-k : goal.overflow_add-k
-overflow_add-k c = omega arith
-
-pub loop-k-smaller : goal.loop-k-smaller
-loop-k-smaller c = omega arith
-
-pub loop-k-preserved : goal.loop-k-preserved
-loop-k-preserved c =
-    let l = c.loop-k in
-    (omega arith, omega (arith, one_more l.k c.args.g.stride), c.wrapping_add_u32-sum.ensures.value ∙ low_more _ _ _ _ _ _ _ _ c.requires.2 l.invariant.1 l.invariant.2 refl)
+pub loop-preserved : goal.loop-preserved
+loop-preserved c = (omega arith, low_more _ _ _ _ _ _ _ _ c.requires.2 c.loop.invariant.0 c.loop.invariant.1 refl)
 
 pub returns : goal.returns
 unfolding node_of
 returns c =
-    let e : c.loop-k.k ≡ c.args.i = omega arith in
-    rw (slots_take _ _ _ 3 c.args.node.now c.requires.3, ← e) c.loop-k.invariant.2
+    let e : c.loop.counter ≡ c.args.i = omega arith in
+    rw (slots_take _ _ _ 3 c.args.node.now c.requires.3, ← e) c.loop.invariant.1

@@ -1,27 +1,16 @@
 -- `tree_node::read::used_total`: the slots in use are the first len of a node, or all of them where len is past the fan.
-use Rattle.std.proofs.Common.{◌≡◌, ℕ, ◌≤◌, List, get_or, take, sym, ap, ◌∙◌, arith, take_all}
+use Rattle.std.proofs.Common.{◌≡◌, ℕ, List, get_or, take, min, sym, ap, ◌∙◌}
+use Rattle.std.proofs.lemmas.List.{take_min}
 use Rattle.model.specs.Node.{slots_from, node_of, used, total}
 use Rattle.model_laws.specs.Slots.{slots_length}
 use Rattle.tree_node.proofs.read.used_total.Goals as goal
 
--- all slots are in use where len is not below the fan
-fewer : (s fan : ℕ) (ws : List ℕ) → fan ≤ get_or ws 0 0 → take fan (node_of s fan ws).slots ≡ used (node_of s fan ws)
+-- no more slots are in use than there are
+front : (s fan m : ℕ) (ws : List ℕ) → m ≡ min (get_or ws 0 0) fan → take m (node_of s fan ws).slots ≡ used (node_of s fan ws)
 unfolding node_of
-fewer s fan ws h =
-    let l = slots_length s fan 3 ws in
-    take_all fan (slots_from s fan 3 ws) (omega arith) ∙ sym (take_all (get_or ws 0 0) (slots_from s fan 3 ws) (omega arith))
-
-pub bounds-node-0 : goal.bounds-node-0
-bounds-node-0 c = omega arith
-
-pub overflow_cast-len : goal.overflow_cast-len
-overflow_cast-len c = omega (arith, c.shared_slice_known-2-1.given 0)
-
-pub returns-then-len-fan : goal.returns-then-len-fan
-unfolding node_of
-returns-then-len-fan c = c.start.ensures
+front s fan m ws e =
+    let slots = slots_from s fan 3 ws in
+    ap (λ (n : ℕ). take n slots) (e ∙ ap (min (get_or ws 0 0)) (sym (slots_length s fan 3 ws))) ∙ take_min (get_or ws 0 0) slots
 
 pub returns : goal.returns
-returns c =
-    let args = c.args in
-    (c.start-2.ensures.0 ∙ ap (total args.view) (fewer _ _ _ c.if-len-fan.false), c.start-2.ensures.1)
+returns c = (c.start.ensures.0 ∙ ap (total c.args.view) (front _ _ _ _ c.min.ensures), c.start.ensures.1)

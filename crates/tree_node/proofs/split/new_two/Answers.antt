@@ -18,33 +18,6 @@ room c = slots_in_law c.args.g _ c.requires.0 c.requires.1 2 (omega (arith, c.re
 both : (s : ℕ) (x y ws one two : List ℕ) → length x ≡ s → 3 + s + length y ≤ length ws → one ≡ put_at 3 x ws → two ≡ put_at (3 + s) y one → two ≡ put_at 3 (flat (x ∷ y ∷ [])) ws
 both s x y ws one two e h p q = rw (flat_two, q, p) (put_next 3 (3 + s) x y ws (omega arith) h)
 
-pub put_slot-requires : goal.put_slot-requires
-put_slot-requires c = (c.requires.0, omega (arith, room (goal.at.put_slot-requires c).Start), c.requires.2)
-
-pub overflow_add-stride : goal.overflow_add-stride
-overflow_add-stride c =
-    let pre = c.requires in
-    omega (arith, pre.0)
-
-pub put_slot-requires-2 : goal.put_slot-requires-2
-put_slot-requires-2 c =
-    let pre = c.requires in
-    let put-slot = c.put_slot in
-    (pre.0, omega (arith, room (goal.at.put_slot-requires-2 c).Start, put-slot.auto.node), pre.3)
-
-pub keep-requires : goal.keep-requires
-keep-requires c =
-    let pre = c.requires in
-    let put-slot2 = c.put_slot-2 in
-    let put-slot = c.put_slot in
-    (pre.0, put-slot2.auto.node ∙ put-slot.auto.node ∙ pre.1, omega (arith, pre.0))
-
-pub shape_of-node : goal.shape_of-node
-shape_of-node c =
-    let put-slot2 = c.put_slot-2 in
-    let put-slot = c.put_slot in
-    c.keep.auto.node ∙ put-slot2.auto.node ∙ put-slot.auto.node
-
 pub returns : goal.returns
 unfolding All
 returns c =

@@ -2,15 +2,7 @@
 use Rattle.tree_place.proofs.SizeLaws.{replaced}
 use Rattle.tree_place.proofs.size.replace.Goals as goal
 
-pub set_lengths-requires : goal.set_lengths-requires
-set_lengths-requires c = c.requires
-
-pub shape_of-leaves : goal.shape_of-leaves
-shape_of-leaves c =
-    let set-lengths = c.set_lengths in
-    set-lengths.auto.area
-
 pub returns : goal.returns
 returns c =
     let args = c.args in
-    λ xs hs. replaced args.g _ _ _ _ _ _ args.leaves.now _ xs hs c.set_lengths.ensures c.changing-moved.ensures c.with_finger.ensures
+    λ xs hs. replaced args.g _ _ _ _ _ _ args.leaves.now _ xs hs c.set_lengths.ensures c.changing.ensures c.with_finger.ensures

@@ -1,19 +1,34 @@
 -- `tree_seats::rule::is_fair`: a tree without seats is fair; of a seated one three sums are tested.
-use Rattle.std.proofs.Common.{sym, ◌∙◌, arith}
+use Rattle.std.proofs.Common.{◌∙◌, sym, arith, eq-eqb, eqb-true, ltb-true}
+use Rattle.std.proofs.lemmas.Bool.{eqb-false}
 use Rattle.tree_seats.proofs.RuleLaws.{fair_unseated, fair_high, fair_charges, fair_covers}
 use Rattle.tree_seats.proofs.rule.is_fair.Goals as goal
+use Rattle.tree_seats.proofs.rule.is_fair.Goals.{then-sum-wide, else-sum-wide}
 
 pub returns-then-seats-eq0 : goal.returns-then-seats-eq0
-returns-then-seats-eq0 c = fair_unseated c.args.limit c.args.entries c.args.seats.now c.if-seats-eq0.true
+returns-then-seats-eq0 c = eq-eqb _ 0 c.if-seats-eq0.true ∙ fair_unseated c.args.limit c.args.entries c.args.seats.now c.if-seats-eq0.true
 
-pub returns-then-wide-sum : goal.returns-then-wide-sum
-returns-then-wide-sum c = fair_high c.args.limit c.args.entries c.args.seats.now c.if-seats-eq0.false c.sum.result c.sum.ensures.0 (omega (arith, c.wide.ensures.0, c.if-wide-sum.true))
+-- the shares and the charges are as they should be
+pub returns-then-sum-wide-2 : goal.returns-then-sum-wide-2
+returns-then-sum-wide-2 c =
+    let a = c.args in
+    let limit = c.wide.ensures.0 in
+    elim c.if-sum-wide.branch [
+      | then-sum-wide w ↦
+          let one = eqb-true _ _ (sym w.value-is ∙ c.if-sum-wide-2.true) ∙ w.wide-then-sum-wide.ensures.0 in
+          fair_covers a.limit a.entries a.seats.now c.if-seats-eq0.false _ c.sum.ensures.0 (omega (arith, limit, w.if-sum-wide.true)) _ w.sum-then-sum-wide.ensures.0 one _ _ c.unused.ensures c.left.ensures.0
+      | else-sum-wide w ↦ absurd (omega (arith, w.if-sum-wide.false, ltb-true _ _ (sym w.value-is ∙ c.if-sum-wide-2.true)))
+    ]
 
-pub overflow_add-sum : goal.overflow_add-sum
-overflow_add-sum c = omega (arith, c.sum-2.ensures.1)
-
-pub returns-then-sum-wide : goal.returns-then-sum-wide
-returns-then-sum-wide c = fair_charges c.args.limit c.args.entries c.args.seats.now c.if-seats-eq0.false c.sum.result c.sum.ensures.0 (omega (arith, c.wide.ensures.0, c.if-wide-sum.false)) c.sum-2.result c.sum-2.ensures.0 (λ z. c.if-sum-wide.true (z ∙ sym c.wide-2.ensures.0))
-
-pub returns : goal.returns
-returns c = fair_covers c.args.limit c.args.entries c.args.seats.now c.if-seats-eq0.false c.sum.result c.sum.ensures.0 (omega (arith, c.wide.ensures.0, c.if-wide-sum.false)) c.sum-2.result c.sum-2.ensures.0 (c.if-sum-wide.false ∙ c.wide-2.ensures.0) _ _ c.unused.ensures c.left.ensures.0
+-- the shares sum too high, or the charges to another number
+pub returns-else-sum-wide-2 : goal.returns-else-sum-wide-2
+returns-else-sum-wide-2 c =
+    let a = c.args in
+    let limit = c.wide.ensures.0 in
+    c.if-sum-wide-2.false
+    ∙ elim c.if-sum-wide.branch [
+      | then-sum-wide w ↦
+          let other = eqb-false _ _ (sym w.value-is ∙ c.if-sum-wide-2.false) in
+          fair_charges a.limit a.entries a.seats.now c.if-seats-eq0.false _ c.sum.ensures.0 (omega (arith, limit, w.if-sum-wide.true)) _ w.sum-then-sum-wide.ensures.0 (λ z. other (z ∙ sym w.wide-then-sum-wide.ensures.0))
+      | else-sum-wide w ↦ fair_high a.limit a.entries a.seats.now c.if-seats-eq0.false _ c.sum.ensures.0 (omega (arith, limit, w.if-sum-wide.false))
+    ]

@@ -1,22 +1,23 @@
--- `tree_seats::sum::unused`: what is summed and the unused shares from here on are all of them.
-use Rattle.std.proofs.Common.{◌∙◌, arith}
-use Rattle.tree_seats.proofs.SumLaws.{begin, again, end, unused_word}
+-- `tree_seats::sum::unused`: the shares beside the charges are the list that is summed, and each difference is below 2^32.
+use Rattle.std.proofs.Common.{◌-◌, ◌^◌, ◌∙◌, arith, rules, tests}
+use Rattle.std.proofs.lemmas.Iterator.{YieldsList-from_slice, YieldsList-from_map, YieldsList-from_zip}
+use Rattle.std.proofs.lemmas.Iterator.Adapters.{fits_from_length, at_most_from_yields_List}
+use Rattle.std.proofs.lemmas.Iterator.Consumers.{YieldsList-at, sum_by_from_yields_List}
+use Rattle.model.specs.Lists.{part}
+use Rattle.tree_seats.proofs.SumLaws.{eight_pairs, unused_sum}
 use Rattle.tree_seats.proofs.sum.unused.Goals as goal
 
-pub loop-j-init : goal.loop-j-init
-loop-j-init c = begin _
-
-pub bounds-seats-j : goal.bounds-seats-j
-bounds-seats-j c = omega (arith, c.requires, c.loop-j-test.true)
-
-pub bounds-seats-j-in-loop-j : goal.bounds-seats-j-in-loop-j
-bounds-seats-j-in-loop-j c = omega (arith, c.requires, c.loop-j-test.true)
-
-pub overflow_add-total : goal.overflow_add-total
-overflow_add-total c = omega (arith, c.loop-j.invariant.2, c.loop-j-test.true, c.left-total.ensures.1)
-
-pub loop-j-preserved : goal.loop-j-preserved
-loop-j-preserved c = again _ _ _ _ c.loop-j.invariant c.loop-j-test.true (c.left-total.ensures.0 ∙ unused_word c.args.seats.now _ c.loop-j-test.true) c.left-total.ensures.1
+pub sum-requires-clause-fits : goal.sum-requires-clause-fits
+unfolding part
+sum-requires-clause-fits c =
+    let shares = part 1 8 c.args.seats.now in
+    let charges = part 9 8 c.args.seats.now in
+    fits_from_length _ _ 8 (2 ^ 64) (at_most_from_yields_List (YieldsList-at c.map.ensures.source (YieldsList-from_zip (YieldsList-from_slice shares (cc)) (YieldsList-from_slice charges (cc)))) (omega (arith, eight_pairs c.args.seats.now c.requires))) c.map.ensures.closure (omega arith) (λ x r q k. search (rules, tests))
 
 pub returns : goal.returns
-returns c = (end _ _ _ c.loop-j.invariant c.loop-j-test.false).0
+unfolding part
+returns c =
+    let shares = part 1 8 c.args.seats.now in
+    let charges = part 9 8 c.args.seats.now in
+    let is = sum_by_from_yields_List (λ x. x.0 - x.1) _ c.map.result _ c.sum.ensures.ran (YieldsList-from_map _ (λ x. x.0 - x.1) (YieldsList-at c.map.ensures.source (YieldsList-from_zip (YieldsList-from_slice shares (cc)) (YieldsList-from_slice charges (cc)))) c.map.ensures.closure (λ x r q k. search (rules, tests))) in
+    is ∙ unused_sum c.args.seats.now c.requires

@@ -3,8 +3,5 @@ use Rattle.std.proofs.Common.{◌≡◌, ◌-◌, length, take}
 use Rattle.tree_walk.specs.Raise.{raise_up}
 use Rattle.tree_walk.proofs.climb.add_up.Given as goal
 
-abbrev pub invariant-loop-n : goal.invariant-loop-n
-invariant-loop-n l = (length l.inners ≡ length l.initial.inners) × (raise_up l.g (take (l.g.stride - 1) l.delta) l.n l.node_id l.at l.inners ≡ raise_up l.g (take (l.g.stride - 1) l.delta) l.left l.initial.node_id l.i l.initial.inners)
-
-abbrev pub decreases-loop-n : goal.decreases-loop-n
-decreases-loop-n l = l.n
+abbrev pub invariant-loop : goal.invariant-loop
+invariant-loop l = (length l.inners ≡ length l.initial.inners) × (raise_up l.g (take (l.g.stride - 1) l.delta) (l.left - l.counter) l.node_id l.at l.inners ≡ raise_up l.g (take (l.g.stride - 1) l.delta) l.left l.initial.node_id l.i l.initial.inners)

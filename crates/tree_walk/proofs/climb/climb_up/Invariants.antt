@@ -4,9 +4,6 @@ use Rattle.model.specs.Climb.{climb_up}
 use Rattle.tree_walk.specs.Low.{low_way}
 use Rattle.tree_walk.proofs.climb.climb_up.Given as goal
 
-abbrev pub invariant-loop-levels : goal.invariant-loop-levels
-invariant-loop-levels l = (length l.inners ≡ length l.initial.inners) × (l.index ≤ 4294967295)
-    × (low_way (climb_up l.g l.view (take (l.g.stride - 1) l.delta) l.levels l.node_id l.child l.index l.inners) ≡ low_way (climb_up l.g l.view (take (l.g.stride - 1) l.delta) l.left l.initial.node_id l.i l.sum l.initial.inners))
-
-abbrev pub decreases-loop-levels : goal.decreases-loop-levels
-decreases-loop-levels l = l.levels
+abbrev pub invariant-loop : goal.invariant-loop
+invariant-loop l = (length l.inners ≡ length l.initial.inners) × (l.index ≤ 4294967295)
+    × (low_way (climb_up l.g l.view (take (l.g.stride - 1) l.delta) (l.left - l.counter) l.node_id l.child l.index l.inners) ≡ low_way (climb_up l.g l.view (take (l.g.stride - 1) l.delta) l.left l.initial.node_id l.i l.sum l.initial.inners))

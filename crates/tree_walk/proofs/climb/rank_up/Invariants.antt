@@ -3,8 +3,5 @@ use Rattle.std.proofs.Common.{◌≡◌, ◌+◌, ◌-◌, ◌*◌, ◌≤◌}
 use Rattle.model.specs.Climb.{rank_up}
 use Rattle.tree_walk.proofs.climb.rank_up.Given as goal
 
-abbrev pub invariant-loop-n : goal.invariant-loop-n
-invariant-loop-n l = (l.n ≤ l.left) × (l.total ≤ l.sum + (l.left - l.n) * 137438953440) × (rank_up l.g l.view l.n l.node l.at l.total l.inners ≡ rank_up l.g l.view l.left l.initial.node l.i l.sum l.inners)
-
-abbrev pub decreases-loop-n : goal.decreases-loop-n
-decreases-loop-n l = l.n
+abbrev pub invariant-loop : goal.invariant-loop
+invariant-loop l = (l.total ≤ l.sum + l.counter * 137438953440) × (rank_up l.g l.view (l.left - l.counter) l.node l.at l.total l.inners ≡ rank_up l.g l.view l.left l.initial.node l.i l.sum l.inners)

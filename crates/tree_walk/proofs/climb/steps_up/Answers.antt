@@ -1,7 +1,7 @@
 -- `tree_walk::climb::steps_up`: the places on the way from here on, before those written so far, are the places asked for.
 use Rattle.std.proofs.Common.{◌≡◌, true, sym, refl, ◌∙◌, arith, length-set}
 use Rattle.model.specs.Climb.{inside}
-use Rattle.model_laws.specs.Climb.{in_both, steps_end, steps_broken, steps_on, step_more, no_steps, all_steps}
+use Rattle.model_laws.specs.Climb.{steps_end, steps_broken, steps_on, step_more, no_steps, all_steps}
 use Rattle.tree_walk.proofs.climb.steps_up.Goals.{Else-not-inside}
 use Rattle.tree_walk.proofs.climb.steps_up.Goals as goal
 
@@ -18,36 +18,6 @@ returns-then-not-inside c =
       sym (steps_broken c.args.g _ _ _ _ _ c.loop-level-test.true (sym c.inside.ensures ∙ c.if-not-inside.true)) ∙ l.invariant.2,
       l.invariant.1 ∙ c.requires.2,
     )
-
-pub overflow_sub-level : goal.overflow_sub-level
-overflow_sub-level c = omega arith
-
-pub overflow_cast-steps : goal.overflow_cast-steps
-overflow_cast-steps c =
-    let args = c.args in
-    let pre = c.requires in
-    omega (arith, (in_both args.g _ _ (turn (goal.at.overflow_cast-steps c).Else-not-inside)).1, pre.0.shaped)
-
-pub bounds-steps-level : goal.bounds-steps-level
-bounds-steps-level c =
-    let the-loop = c.loop-level in
-    let pre = c.requires in
-    omega (arith, the-loop.invariant, pre)
-
-pub parent_of-up-requires : goal.parent_of-up-requires
-parent_of-up-requires c =
-    let pre = c.requires in
-    let args = c.args in
-    (pre.0, (in_both args.g _ _ (turn (goal.at.parent_of-up-requires c).Else-not-inside)).0)
-
-pub at_of-at-requires : goal.at_of-at-requires
-at_of-at-requires c =
-    let pre = c.requires in
-    let args = c.args in
-    (pre.0, (in_both args.g _ _ (turn (goal.at.at_of-at-requires c).Else-not-inside)).0)
-
-pub loop-level-smaller : goal.loop-level-smaller
-loop-level-smaller c = omega arith
 
 pub loop-level-preserved : goal.loop-level-preserved
 loop-level-preserved c =

@@ -6,6 +6,3 @@ use Rattle.tree_walk.proofs.climb.steps_up.Given as goal
 
 abbrev pub invariant-loop-level : goal.invariant-loop-level
 invariant-loop-level l = (l.level ≤ l.left) × (length l.steps ≡ length l.initial.steps) × (steps_up l.g l.level l.node_id l.at (part l.level (l.left - l.level) l.steps) l.inners ≡ steps_up l.g l.left l.initial.node_id l.i [] l.inners)
-
-abbrev pub decreases-loop-level : goal.decreases-loop-level
-decreases-loop-level l = l.level

@@ -1,27 +1,10 @@
--- `tree_words::run::four_up`: the last word moves first, and none that is yet to be read is written.
-use mathlib.Core.Path.{refl}
-use native.Mathlib.Omega.{arith}
-use lib.ListN.{length-set}
-use Rattle.tree_words.proofs.Turns.{four_up}
+-- `tree_words::run::four_up`: the four words are read before any is written, so that those written over may be among them.
+use Rattle.std.proofs.Common.{List, ℕ, ◌+◌, ◌∙◌, ap, arith}
+use Rattle.model.specs.Lists.{put_at}
+use Rattle.tree_words.proofs.Turns.{part_four, put_four}
 use Rattle.tree_words.proofs.run.four_up.Goals as goal
 
-pub bounds-ws-w-3 : goal.bounds-ws-w-3
-bounds-ws-w-3 c = simp length-set (omega arith)
-
-pub bounds-ws-w-4 : goal.bounds-ws-w-4
-bounds-ws-w-4 c = simp length-set (omega arith)
-
-pub bounds-ws-w-5 : goal.bounds-ws-w-5
-bounds-ws-w-5 c = simp length-set (omega arith)
-
-pub bounds-ws-w-6 : goal.bounds-ws-w-6
-bounds-ws-w-6 c = simp length-set (omega arith)
-
-pub bounds-ws-w-7 : goal.bounds-ws-w-7
-bounds-ws-w-7 c = simp length-set (omega arith)
-
-pub bounds-ws-w-8 : goal.bounds-ws-w-8
-bounds-ws-w-8 c = simp length-set (omega arith)
-
 pub returns : goal.returns
-returns c = four_up _ _ _ _ _ _ (omega arith) refl refl refl
+returns c =
+    put_four (c.args.w + c.args.s) _ _ _ _ c.args.ws.now (omega arith)
+    ∙ ap (λ (z : List ℕ). put_at (c.args.w + c.args.s) z c.args.ws.now) (part_four _ _ (omega arith))

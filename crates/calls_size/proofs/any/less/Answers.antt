@@ -1,7 +1,0 @@
--- `calls_size::any::less`: the standard library wraps.
-use Rattle.std.proofs.Common.{arith}
-use Rattle.tree_words.proofs.Turns.{wrapped_less}
-use Rattle.calls_size.proofs.any.less.Goals as goal
-
-pub returns : goal.returns
-returns c = wrapped_less _ _ c.wrapping_sub_u32.result c.wrapping_sub_u32.ensures.value (omega arith) c.ranges.b.fits
