@@ -49,12 +49,13 @@ fn back(leaves: &[u32], g: Shape, view: usize, effect: usize, f: Finger, index: 
     stand
 }
 
-// How many slots stand from a to b, back or on, both included.
+// How many slots stand from a to b, back or on, both included. Of two differences, as abs_diff has them, the compiler would keep both at hand
+// all the way.
 fn span(a: u32, b: u32) -> u32
     requires { (a < 65536) × (b < 65536) }
     ensures { result ≡ span a b }
 {
-    a.abs_diff(b) + 1
+    a.max(b) - a.min(b) + 1
 }
 
 // The finger moved from its own slot, back or on, to the slot that holds the index, which counts from the leaf's start. In vain it goes to the

@@ -158,26 +158,26 @@ pub fn find_first(
     }
 }
 
-// The slot that holds the child, and how many slots were read to know it (Node::index_of): the loop ends where the child is met.
+// The slot that holds the child, and how many slots were read to know it (Node::index_of): the loop ends where the child is met. The count
+// goes up behind each read, so that it says what the loop did.
 pub fn index_of(node: &[u32], g: Shape, child: u32) -> Scan
     requires { Shaped g × (length node.now ≡ g.size) × (slice_index node.now 0 ≤ g.fan) }
     ensures { result ≡ scan (slice_index node.now 0) (index_from child 0 (used (node_of g.stride g.fan node.now))) }
 {
     let stride = g.stride;
     let len = node[0] as usize;
+    let mut read: usize = 0;
     for k in 0..len {
         let here = node[3 + k * stride];
+        read += 1;
         if here == child {
             return Scan {
                 place: Some(k),
-                read: k + 1,
+                read,
             };
         }
     }
-    Scan {
-        place: None,
-        read: len,
-    }
+    Scan { place: None, read }
 }
 
 // The slot for node k in its parent: its number and its totals, summed up in one pass, with a 0 for each length that a slot doesn't
