@@ -1,8 +1,7 @@
 -- What is written to the seats' words. Assumes nothing.
 use Rattle.std.specs.Prelude.{Some, None, Option}
-use Rattle.std.proofs.Common.{◌≡◌, ℕ, zero, suc, ◌+◌, ◌-◌, replicate, length-append, length-take, length-drop, drop-drop, ◌<◌, ◌≤◌, cond, not, eqb, List, [], ◌∷◌, ◌++◌, length, get_or, take, drop, set, sym, refl, ap, ◌∙◌, ap₂, arith, drop_of_length-le, drop-cons, get_or-set_other, take_at, drop_at}
-use borrow.Rule.Slice.PartMut.{put_mid, post_of}
-use lib.Seq.{take-set-lt, take-set-le, drop-set-add}
+use Rattle.std.proofs.Common.{◌≡◌, ℕ, zero, suc, ◌+◌, ◌<◌, ◌≤◌, true, cond, not, eqb, ltb, List, [], ◌∷◌, ◌++◌, length, get_or, take, drop, set, sym, refl, ap, ◌∙◌, subst, ap₂, append_assoc, arith, drop_of_length-le, drop-cons, get_or-set_other, take_at, drop_at, ltb-true}
+use lib.Seq.{sets, sets-eq, lt-length-sets, length-sets, take-set-lt, take-set-le, drop-set-add}
 use Rattle.model.specs.Lists.{part, put_at}
 use Rattle.model.specs.Node.{wrap}
 use Rattle.model.specs.declared.seats.Seats.{Seats}
@@ -10,6 +9,10 @@ use Rattle.model.specs.Seats.{seats_of, no_charges, charged, charged_to, uncharg
 use Rattle.model_laws.specs.Words.{part_before, part_same, part_add, part_end, get_d_before}
 use Rattle.tree_seats.specs.Words.{seats_from, seats_words}
 use Rattle.tree_seats.proofs.SumLaws.{charge_word}
+
+-- a place is within the words, whatever was written to some of them
+pub in_words : (w vs : List ℕ) (i j : ℕ) → ltb j 17 ≡ true → length w ≡ 17 → j < length (sets w i vs)
+in_words w vs i j t e = lt-length-sets w i vs (subst (λ (n : ℕ). j < n) (sym e) (ltb-true j 17 t))
 
 -- one entry more for seat i
 module _ (w : List ℕ) (i : ℕ) (l : i < 8) (a : ℕ) where
@@ -42,9 +45,9 @@ pub charged_number : (b : Seats) (t : Option ℕ) (i : ℕ) → t ≡ Some i →
 charged_number b t i e a d = rw e d
 
 -- eight zeros in the last eight words
-pub cleared : (w ys : List ℕ) → length w ≡ 17 → ys ≡ replicate (length (take (length w - 9) (drop 9 w))) 0 → put_mid 9 (length w - 9) w ys ≡ put_at 9 no_charges w
+pub cleared : (w : List ℕ) → length w ≡ 17 → sets w 9 no_charges ≡ put_at 9 no_charges w
 unfolding put_at
-cleared w ys e h = rw (h, length-take, length-drop, e, drop-drop) refl
+cleared w e = sets-eq no_charges w 9 (omega (arith, e)) ∙ append_assoc (take 9 w) no_charges (drop 17 w)
 
 pub flag_cleared : (w : List ℕ) → length w ≡ 17 → get_or (put_at 9 no_charges w) 0 0 ≡ get_or w 0 0
 flag_cleared w e = get_d_before 9 0 no_charges w (omega arith) (omega (arith, e))
@@ -55,12 +58,32 @@ seats_cleared w e =
     rw (part_before 1 8 9 no_charges w (omega arith) (omega (arith, e)), part_same 9 no_charges w (omega (arith, e)), get_d_before 9 0 no_charges w (omega arith) (omega (arith, e)))
 
 -- a new tree's words: nine in front, and no charges
-pub begun : (w : List ℕ) (seated : ℕ) (ss u : List ℕ) → length w ≡ 17 → length ss ≡ 8 → u ≡ put_at 9 no_charges (put_mid 1 8 (set w 0 seated) ss) → u ≡ seated ∷ (ss ++ no_charges)
+front_written : (w vs : List ℕ) → length w ≡ 17 → length vs ≡ 9 → take 9 (sets w 0 vs) ≡ vs
+front_written w vs e n =
+    ap (take 9) (sets-eq vs w 0 (omega (arith, e, n))) ∙ take_at vs (drop (0 + length vs) w) 9 n
+
+-- eight words, one by one
+eight : (ss : List ℕ) → length ss ≡ 8
+    → ◌≡◌ {A = List ℕ} (get_or ss 0 0 ∷ get_or ss 1 0 ∷ get_or ss 2 0 ∷ get_or ss 3 0 ∷ get_or ss 4 0 ∷ get_or ss 5 0 ∷ get_or ss 6 0 ∷ get_or ss 7 0 ∷ []) ss
+eight [] q = absurd (omega (arith, q))
+eight (a ∷ []) q = absurd (omega (arith, q))
+eight (a ∷ b ∷ []) q = absurd (omega (arith, q))
+eight (a ∷ b ∷ c ∷ []) q = absurd (omega (arith, q))
+eight (a ∷ b ∷ c ∷ d ∷ []) q = absurd (omega (arith, q))
+eight (a ∷ b ∷ c ∷ d ∷ e ∷ []) q = absurd (omega (arith, q))
+eight (a ∷ b ∷ c ∷ d ∷ e ∷ f ∷ []) q = absurd (omega (arith, q))
+eight (a ∷ b ∷ c ∷ d ∷ e ∷ f ∷ g ∷ []) q = absurd (omega (arith, q))
+eight (a ∷ b ∷ c ∷ d ∷ e ∷ f ∷ g ∷ h ∷ []) q = refl
+eight (a ∷ b ∷ c ∷ d ∷ e ∷ f ∷ g ∷ h ∷ i ∷ ss) q = absurd (omega (arith, q))
+
+pub begun : (w : List ℕ) (seated : ℕ) (ss u : List ℕ) → length w ≡ 17 → length ss ≡ 8
+    → u ≡ put_at 9 no_charges (sets w 0 (seated ∷ get_or ss 0 0 ∷ get_or ss 1 0 ∷ get_or ss 2 0 ∷ get_or ss 3 0 ∷ get_or ss 4 0 ∷ get_or ss 5 0 ∷ get_or ss 6 0 ∷ get_or ss 7 0 ∷ []))
+    → u ≡ seated ∷ (ss ++ no_charges)
 unfolding put_at
-begun [] seated ss u e n h = absurd (omega (arith, e))
-begun (a ∷ w) seated ss u e n h =
-    h ∙ ap₂ (λ (x y : List ℕ). seated ∷ (x ++ (no_charges ++ y))) (take_at ss (post_of 1 8 (seated ∷ w)) 8 n)
-    (drop_of_length-le (seated ∷ (ss ++ post_of 1 8 (seated ∷ w))) {i = 17} (rw (length-append, length-drop) (omega (arith, e, n))))
+begun w seated ss u e n h =
+    let nine : List ℕ = seated ∷ get_or ss 0 0 ∷ get_or ss 1 0 ∷ get_or ss 2 0 ∷ get_or ss 3 0 ∷ get_or ss 4 0 ∷ get_or ss 5 0 ∷ get_or ss 6 0 ∷ get_or ss 7 0 ∷ [] in
+    h ∙ ap₂ (λ (x y : List ℕ). x ++ (no_charges ++ y)) (front_written w nine e refl ∙ ap (λ (x : List ℕ). seated ∷ x) (eight ss n))
+    (drop_of_length-le (sets w 0 nine) {i = 17} (omega (arith, e, length-sets w 0 nine)))
 
 pub seats_begun : (seated : ℕ) (ss : List ℕ) → length ss ≡ 8 → seats_from (seated ∷ (ss ++ no_charges)) ≡ seats_of (not (eqb seated 0)) ss no_charges
 unfolding seats_from part

@@ -25,20 +25,35 @@ pub fn charge(seats: &mut [u32], seat: Option<u32>)
     }
 }
 
-// No charges.
+// No charges. Word by word, as the shares below: of a fill or a copy no edit of one word alone is refused for its value.
 pub fn clear(seats: &mut [u32])
     requires { length seats.old ≡ 17 }
     ensures { seats.new ≡ put_at 9 no_charges seats.old }
 {
-    seats[9..].fill(0);
+    seats[9] = 0;
+    seats[10] = 0;
+    seats[11] = 0;
+    seats[12] = 0;
+    seats[13] = 0;
+    seats[14] = 0;
+    seats[15] = 0;
+    seats[16] = 0;
 }
 
-// A new tree's words: whether it has seats, their shares, and no charges.
+// A new tree's words: whether it has seats, their shares, and no charges. A copy of a slice of shares would call memmove, which the archive for C
+// hadn't needed.
 pub fn begin(seats: &mut [u32], seated: u32, shares: &[u32])
     requires { (length seats.old ≡ 17) × (length shares.now ≡ 8) }
     ensures { seats.new ≡ seated ∷ (shares.now ++ no_charges) }
 {
     seats[0] = seated;
-    seats[1..9].copy_from_slice(shares);
+    seats[1] = shares[0];
+    seats[2] = shares[1];
+    seats[3] = shares[2];
+    seats[4] = shares[3];
+    seats[5] = shares[4];
+    seats[6] = shares[5];
+    seats[7] = shares[6];
+    seats[8] = shares[7];
     clear(seats);
 }
