@@ -1,21 +1,31 @@
 -- The test of a leaf and its entries, by what its parts answer. Assumes nothing.
 use mathlib.Core.Path.{◌≡◌, ap, ◌∙◌}
-use mathlib.Core.Bool.{Bool, ◌&&◌}
+use mathlib.Core.Bool.{Bool, true, false, ◌&&◌}
 use mathlib.Core.List.{List, []}
 use Prim.Native.Nat.{ℕ, suc, ◌-◌}
 use native.Mathlib.Omega.{arith}
+use lib.ListN.{get_or}
 use lib.Dec.{eqb}
+use borrow.Author.Tests.{eq-eqb, ne_eqb}
 use Rattle.model.specs.Kind.{stride}
+use Rattle.model.specs.Node.{Node, child}
 use Rattle.model.specs.State.{state, node_at}
 use Rattle.model.specs.Refuse.{shape_of}
 use Rattle.model.specs.Sound.{least_leaf}
-use Rattle.model.specs.Audit.{every, depth, is_filled, is_held, is_entry, is_leaf}
+use Rattle.model.specs.Audit.{every, is_other, depth, is_filled, is_held, is_entry, is_leaf}
 use Rattle.model.specs.declared.shape.Kind.{Kind}
 use Rattle.model.specs.declared.shape.Shape.{Shape}
 use Rattle.model.specs.declared.head.Head.{Head}
 use Rattle.calls_audit.proofs.Every.{every_same}
 use Rattle.calls_audit.specs.Links.{depth_by, held_by, entry_by}
 use Rattle.calls_audit.proofs.InnerLaws.{depth_same}
+
+-- a slot that holds the child, or another
+pub other_met : (n : Node) (c j x : ℕ) → x ≡ child (get_or n.slots j []) → x ≡ c → is_other n c j ≡ false
+other_met n c j x e q = rw (← e, eq-eqb x c q)
+
+pub other_passed : (n : Node) (c j x : ℕ) → x ≡ child (get_or n.slots j []) → (x ≡ c → ⊥) → is_other n c j ≡ true
+other_passed n c j x e q = rw (← e, ne_eqb x c q)
 
 -- a leaf
 module _ (K : Kind) (h : Head) (ls xs hs : List ℕ) where

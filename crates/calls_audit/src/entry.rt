@@ -19,12 +19,18 @@ use model::shape::Shape;
 use tree_area::word::{at_of, child_of, len_of, length_of, parent_of};
 use tree_open::lengths::{crossed, lengths_at};
 
-// Whether no slot of leaf k before slot i holds the id.
+// Whether no slot of leaf k before slot i holds the id. By `for`: an audit of full leaves spends most of its time here, and with `all` LLVM makes
+// seven instructions a turn of these five.
 fn is_new(leaves: &[u32], g: Shape, k: LeafNo, i: u32, id: EntryId) -> bool
     requires { AreaHolds g (length leaves.now) × (k.0 < g.nodes) × (i < g.fan) }
     ensures { result ≡ every (is_other (node_at g k.0 leaves.now) id.0) 0 i }
 {
-    (0..i).all(|j| child_of(leaves, g, k.0, j as usize) != id.0)
+    for j in 0..i {
+        if child_of(leaves, g, k.0, j as usize) == id.0 {
+            return false;
+        }
+    }
+    true
 }
 
 // Whether slot i of leaf k has a lowest above a highest length, where they are ordered.

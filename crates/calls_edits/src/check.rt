@@ -15,12 +15,12 @@ fn is_late(e: usize, parent: u32) -> bool
     parent != NONE && e <= parent as usize
 }
 
-// Whether edit e's record is accepted, by its four words.
+// Whether edit e's record is accepted, by its four words. Both sides of each test are asked: `||` is a branch, and takes half as long again.
 fn check_words(e: usize, left: u32, right: u32, third: u32, fourth: u32) -> Result<(), Refusal>
     ensures { number_of result ≡ refusal (causes_of e left right third fourth) }
 {
-    let filled = third != 0 || fourth != 0;
-    let late = is_late(e, left) || is_late(e, right);
+    let filled = (third != 0) | (fourth != 0);
+    let late = is_late(e, left) | is_late(e, right);
     if filled {
         return Err(Refusal::Field);
     }
