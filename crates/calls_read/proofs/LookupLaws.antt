@@ -4,7 +4,6 @@ use Rattle.model.specs.Numbered.{Numbered, numbered, refusal_number, broken}
 use Rattle.model.specs.declared.refusal.Refusal.{Refusal}
 use Rattle.model.specs.declared.refusal.Refusal.TheVariants as refusal
 use Rattle.std.specs.Prelude.{Ok, Err, Some, None, Option, Result}
-use Rattle.std.specs.Result.{MatchResult, IsOkAnd}
 use Rattle.std.proofs.Common.{◌≡◌, ℕ, ◌+◌, true, false, sym, refl, ap, ◌∙◌, subst, ap₂, arith}
 use Rattle.model.specs.State.{State, state}
 use Rattle.model.specs.Locate.{served_by, from_root}
@@ -23,13 +22,6 @@ use Rattle.tree_open.proofs.Causes.{call_refused, call_good}
 use Rattle.tree_open.specs.Open.{opened_by}
 use Rattle.calls_read.specs.Lookup.{located_reply, hit_of, search_of, Stayed}
 use Rattle.calls_read.proofs.StayLaws.{served_stays}
-
--- an answer mapped to its first two parts
-less : (P : Cursor × ℕ × ℕ × ℕ → Cursor × ℕ → Type 0) → ((a : Cursor × ℕ × ℕ × ℕ) (b : Cursor × ℕ) → P a b → b ≡ (a.0, a.1)) → (t : Result (Cursor × ℕ × ℕ × ℕ) Refusal)
-    (r : Result (Cursor × ℕ) Refusal) → MatchResult t (λ a. IsOkAnd r (P a)) (λ n. r ≡ Err n) → numbered r ≡ less_positions (numbered t)
-less P told (Ok a) (Ok b) h = ap Ok (told a b h)
-less P told (Ok a) (Err n) h = absurd h
-less P told (Err n) r h = ap numbered h
 
 module _ (s : State) where
   -- a lookup writes no area
@@ -140,11 +132,9 @@ module _ (s : State) where
           )
 
     -- the two positions are left out
-    pub less_positions_law : (x : LocatedReply) → counted_of x ≡ count.locate K s v index
-        → (P : Cursor × ℕ × ℕ × ℕ → Cursor × ℕ → Type 0) → ((a : Cursor × ℕ × ℕ × ℕ) (b : Cursor × ℕ) → P a b → b ≡ (a.0, a.1))
-        → (r : Result (Cursor × ℕ) Refusal) → MatchResult x.answer (λ a. IsOkAnd r (P a)) (λ n. r ≡ Err n)
-        → reply (state x.head s.leaves s.inners s.homes) (counted (numbered r) x.examined) ≡ count.char_index_to_entry K s v index
+    pub less_positions_law : (x : LocatedReply) → counted_of x ≡ count.locate K s v index → (a : Result (Cursor × ℕ × ℕ × ℕ) Refusal) → x.answer ≡ a
+        → reply (state x.head s.leaves s.inners s.homes) (counted (less_positions (numbered a)) x.examined) ≡ count.char_index_to_entry K s v index
     unfolding count.char_index_to_entry count.locate char_index_to_entry
-    less_positions_law x e P told r h =
-        ap (λ (y : Numbered (Cursor × ℕ)). reply (state x.head s.leaves s.inners s.homes) (counted y x.examined)) (less P told x.answer r h)
+    less_positions_law x e a ea =
+        ap (λ (y : Result (Cursor × ℕ × ℕ × ℕ) Refusal). reply (state x.head s.leaves s.inners s.homes) (counted (less_positions (numbered y)) x.examined)) (sym ea)
         ∙ ap (λ (y : Reply (Counted (Numbered (Cursor × ℕ × ℕ × ℕ)))). reply y.after (counted (less_positions y.answer.answer) y.answer.examined)) e

@@ -27,7 +27,7 @@ pub fn locate(
     crate::any_lookup::locate(3, 1, head, leaves, inners, homes, view.number(), index)
 }
 
-// The same without the two positions.
+// The same without the two positions. By arms: of a `map` no edit of the refusal is refused for its value.
 pub fn char_index_to_entry(
     head: Head,
     leaves: &[u32],
@@ -39,9 +39,17 @@ pub fn char_index_to_entry(
     ensures { reply (state result.head leaves.now inners.now homes.now) (counted (numbered result.answer) result.examined) ≡ count.char_index_to_entry base (state head leaves.now inners.now homes.now) (view_number view) index }
 {
     let r = locate(head, leaves, inners, homes, view, index);
-    SelectedReply {
-        head: r.head,
-        answer: r.answer.map(|(at, offset, _, _)| (at, offset)),
-        examined: r.examined,
+    let examined = r.examined;
+    match r.answer {
+        Ok((at, offset, _, _)) => SelectedReply {
+            head: r.head,
+            answer: Ok((at, offset)),
+            examined,
+        },
+        Err(why) => SelectedReply {
+            head: r.head,
+            answer: Err(why),
+            examined,
+        },
     }
 }

@@ -1,28 +1,45 @@
--- A part of a buffer moved to its start; a tail's line; bytes read behind those that are kept. Assumes nothing.
+-- Bytes moved to the start of a buffer one by one; a tail's line; bytes read behind those that are kept. Assumes nothing.
 use mathlib.Core.Bool.{Bool, true, false, cond}
-use mathlib.Core.Path.{◌≡◌, sym}
-use mathlib.Core.List.{List, []}
-use Prim.Native.Nat.{ℕ, ◌+◌, ◌-◌, ◌≤◌}
+use mathlib.Core.Path.{◌≡◌, refl, sym, ap, ◌∙◌}
+use mathlib.Core.List.{List, [], ◌∷◌, ◌++◌}
+use Prim.Native.Nat.{ℕ, suc, ◌+◌, ◌-◌, ◌≤◌, ◌<◌}
 use native.Mathlib.Omega.{arith}
 use borrow.Author.Tests.{eq-eqb, ne_eqb}
-use lib.ListN.{length, take, drop, length-drop}
+use lib.ListN.{length, take, drop, get_or, set, length-drop}
 use lib.Dec.{eqb}
-use lib.Seq.{paste, sets-eq, length-take-le}
-use native.Mathlib.Nat.{zero-add}
+use lib.Seq.{sets, take-suc, get_or-drop, get_or-set_other, length-take-le}
 use Rattle.model.specs.Lists.{part}
 use Rattle.model.specs.Row.{refused}
 use Rattle.list_records.specs.Said.{answer_of}
 use Rattle.list_stream.specs.Text.{line, put}
-use Rattle.list_stream.proofs.TextLaws.{behind, line_short, put_nil}
+use Rattle.list_stream.proofs.TextLaws.{behind, line_short, after, put_nil, put_one, put_more}
 use Rattle.list_stream.specs.Shown.{tail}
 
--- a part copied to the start
-pub moved : (block b : List ℕ) (from n : ℕ) → from + n ≤ length block → b ≡ paste block 0 (drop from block) (from + n - from) → (n, b) ≡ put block 0 (part from n block)
-unfolding put part
-moved block b from n h e =
-    let k : from + n - from ≡ n = omega arith in
-    let long : length (take n (drop from block)) ≡ n = length-take-le n (drop from block) (omega (arith, length-drop from block)) in
-    rw (e, k, sets-eq (take n (drop from block)) block 0 (omega arith), long, zero-add n)
+-- the bytes behind what is written are as they were
+behind_sets : (xs out : List ℕ) (at k d : ℕ) → at + length xs ≤ k → get_or (sets out at xs) k d ≡ get_or out k d
+behind_sets [] out at k d h = refl
+behind_sets (x ∷ xs) out at k d h = behind_sets xs (set out at x) (suc at) k d (omega arith) ∙ get_or-set_other out at k x d (λ e. omega arith)
+
+-- one byte more
+pub keep_more : (block b : List ℕ) (from i n : ℕ) → from + n ≤ length block → i < n → (i, b) ≡ put block 0 (part from i block)
+    → (i + 1, set b i (get_or b (from + i) 0)) ≡ put block 0 (part from (i + 1) block)
+unfolding part
+keep_more block b from i n h l e =
+    let xs = take i (drop from block) in
+    let long : i < length (drop from block) = omega (arith, length-drop from block) in
+    let same : get_or b (from + i) 0 ≡ get_or (drop from block) i 0 =
+    ap (λ (z : List ℕ). get_or z (from + i) 0) (after block b 0 i xs e) ∙ behind_sets xs block 0 (from + i) 0 (omega (arith, length-take-le i (drop from block) (omega arith)))
+    ∙ sym (get_or-drop from block i 0) in
+    let one : i + 1 ≡ suc i = omega arith in
+    put_one b i (get_or b (from + i) 0)
+    ∙ put_more block b 0 i xs (get_or b (from + i) 0 ∷ []) e
+    ∙ ap (λ (v : ℕ). put block 0 (xs ++ (v ∷ []))) same
+    ∙ ap (put block 0) (sym (take-suc (drop from block) i 0 long))
+    ∙ ap (λ (k : ℕ). put block 0 (take k (drop from block))) (sym one)
+
+pub keep_none : (block : List ℕ) (from : ℕ) → (0, block) ≡ put block 0 (part from 0 block)
+unfolding part
+keep_none block from = sym (put_nil block 0)
 
 -- a tail or none
 pub no_tail : (stray : ℕ) (out : List ℕ) → stray ≡ 0 → (0, out) ≡ put out 0 (tail stray)

@@ -7,12 +7,14 @@ ghost use Rattle.list_stream.specs.Shown.{tail};
 use crate::line::line;
 use list_records::answer::Answer;
 
-// The n bytes from place `from` on, moved to the start.
+// The n bytes from place `from` on, moved to the start. One by one: of `copy_within` no edit of a byte alone is refused for its value.
 pub fn keep(block: &mut [u8], from: usize, n: usize)
     requires { from + n ≤ length block.old }
     ensures { (n, block.new) ≡ put block.old 0 (part from n block.old) }
 {
-    block.copy_within(from..from + n, 0);
+    for i in 0..n {
+        block[i] = block[from + i];
+    }
 }
 
 // The line of a tail of stray bytes, none where there are no such.

@@ -1,28 +1,36 @@
 -- One turn of each loop that writes words. Assumes nothing.
 use mathlib.Core.Path.{◌≡◌, refl, sym, ap, ◌∙◌}
-use mathlib.Core.List.{List, [], ◌∷◌, ◌++◌, append_assoc}
+use mathlib.Core.List.{List, [], ◌∷◌, ◌++◌}
 use Prim.Native.Nat.{ℕ, zero, suc, ◌+◌, ◌-◌, ◌*◌, ◌%◌, ◌^◌, ◌<◌, ◌≤◌}
 use native.Mathlib.Omega.{arith}
 use native.Mathlib.Numerals.{unary_clauses}
-use lib.ListN.{length, get_or, take, drop, set, replicate, length-take, length-drop, length-replicate, replicate-append-replicate}
-use Rattle.std.specs.List.{copy_within}
+use lib.ListN.{length, get_or, take, drop, set, replicate, length-replicate, replicate-append-replicate}
 use Rattle.model.specs.Lists.{part, put_at}
 use Rattle.model.specs.Node.{none, wrap, empty_slot, empty_slots}
 use Rattle.model_laws.specs.Lists.{row_end}
 use Rattle.model_laws.specs.Slots.{flat, flat_append, flat_one, length_flat}
 use Rattle.model_laws.specs.Formed.{length_empty, empty_wide}
-use Rattle.model_laws.specs.Words.{set_put, put_on, length_part, length_put, part_none, part_front, part_part, part_add, part_same, part_before, part_after, put_next, put_prev, put_back, put_same, put_put, put_over}
+use Rattle.model_laws.specs.Words.{get_d_before, set_put, put_on, length_part, length_put, part_none, part_front, part_part, part_add, part_same, part_before, part_after, put_next, put_prev, put_back, put_same, put_put, put_over}
 
 -- the difference modulo 2 ^ 32 is the number that, added again, gives the first
 pub wrapped_less : (a b r : ℕ) → (r + b) % 2 ^ 32 ≡ a → r < 2 ^ 32 → b < 2 ^ 32 → r ≡ wrap (a + (2 ^ 32 - b))
 wrapped_less a b r e h g = omega arith
 
--- the words from p up to q copied s words further up
-pub shifted : (p q s : ℕ) (ws : List ℕ) → p ≤ q → q + s ≤ length ws → copy_within ws p q (p + s) ≡ put_at (p + s) (part p (q - p) ws) ws
-unfolding part put_at
-shifted p q s ws h g =
-    let l : length (take (q - p) (drop p ws)) ≡ q - p = simp (length-take, length-drop) (omega arith) in
-    rw l (append_assoc (take (p + s) ws) (take (q - p) (drop p ws)) _)
+-- one word more moved up, the last first
+pub shift_turn : (s w q : ℕ) (ws : List ℕ) → 0 < w → w ≤ q → q + s ≤ length ws
+    → set (put_at (w + s) (part w (q - w) ws) ws) (w - 1 + s) (get_or (put_at (w + s) (part w (q - w) ws) ws) (w - 1) 0) ≡ put_at (w - 1 + s) (part (w - 1) (q - (w - 1)) ws) ws
+shift_turn s w q ws h hw hq =
+    let l : length (part w (q - w) ws) ≡ q - w = length_part w (q - w) ws (omega arith) in
+    let e : q - (w - 1) ≡ q - w + 1 = omega arith in
+    let f : w - 1 + 1 ≡ w = omega arith in
+    rw (
+      get_d_before (w + s) (w - 1) (part w (q - w) ws) ws (omega arith) (omega arith),
+      put_back (w + s) (w - 1 + s) (get_or ws (w - 1) 0) (part w (q - w) ws) ws (omega arith)
+          (omega arith),
+      e,
+      part_front (w - 1) (q - w) ws (omega arith),
+      f,
+    )
 
 -- four words read one by one
 pub part_four : (w : ℕ) (ws : List ℕ) → w + 4 ≤ length ws → get_or ws w 0 ∷ get_or ws (w + 1) 0 ∷ get_or ws (w + 2) 0 ∷ get_or ws (w + 3) 0 ∷ [] ≡ part w 4 ws

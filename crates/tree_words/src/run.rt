@@ -6,12 +6,14 @@ ghost use Rattle.model_laws.specs.Slots.{flat};
 
 use model::length::Slot;
 
-// Moves the words from p up to q by s words.
+// Moves the words from p up to q by s words, the last first. One by one: of `copy_within` no edit of what is moved is refused for its value.
 pub fn shift(ws: &mut [u32], p: usize, q: usize, s: usize)
     requires { (p ≤ q) × (q + s ≤ length ws.old) }
     ensures { ws.new ≡ put_at (p + s) (part p (q - p) ws.old) ws.old }
 {
-    ws.copy_within(p..q, p + s);
+    for w in (p..q).rev() {
+        ws[w + s] = ws[w];
+    }
 }
 
 // Moves four words from word w on up by s words. All are read before the first is written: that is one load and one store.
@@ -27,7 +29,7 @@ fn four_up(ws: &mut [u32], w: usize, s: usize)
 }
 
 // As shift, four words a turn, to make room for s words from word p on: what stands there then is left open, for up to s words below p
-// may have moved along. Of few slots that is faster than shift, which copies word by word up to eight words.
+// may have moved along. Of slots of four words each turn moves one, by one load and one store.
 pub fn open_gap(ws: &mut [u32], p: usize, q: usize, s: usize)
     requires { (3 ≤ p) × (p ≤ q) × (q + s ≤ length ws.old) × (2 ≤ s) × (s ≤ 4) × ((q - p) % 2 ≤ s - 2) }
     ensures { (x : List ℕ) → length x ≡ s → put_at p x ws.new ≡ put_at p x (put_at (p + s) (part p (q - p) ws.old) ws.old) }
