@@ -3,11 +3,10 @@ use Rattle.model.specs.declared.number.LeafNo.{LeafNo}
 use Rattle.std.specs.declared.cmp.Ordering.{Ordering}
 use Rattle.std.specs.declared.cmp.Ordering.TheVariants.{Less, Equal, Greater}
 use Rattle.std.specs.Ordering.{MatchOrdering}
-use Rattle.std.specs.Option.{MatchOption, IsSomeAnd}
 use Rattle.model.specs.declared.way.Broken.{Broken}
 use Rattle.model.specs.Numbered.{Numbered, refusal_number}
 use Rattle.model.specs.declared.refusal.Refusal.{Refusal}
-use Rattle.std.specs.Prelude.{Ok, Err, Some, None, Option, Result}
+use Rattle.std.specs.Prelude.{Ok, Err, Some, Option, Result}
 use Rattle.std.proofs.Common.{◌≡◌, ℕ, ◌+◌, ◌<◌, ◌≤◌, cond, eqb, ltb, List, [], ◌∷◌, ◌++◌, length, sym, refl, ap, ◌∙◌, lt_of_lt_of_le, arith, le-ltb, lt-ltb, eq-eqb, ne_eqb}
 use Rattle.model.specs.Lists.{Cause, refusal}
 use Rattle.model.specs.Node.{start}
@@ -86,13 +85,6 @@ module _ (K : Kind) (s : State) (c : Cursor) where
     unfolding next_after
     next_on h p a r ep ea er =
         call_good Err next_by _ (shape_of K s.head) _ e g refl _ (rw (← el, le-ltb (c.slot + 1) len h, ← ep, ← ea) (ap (next_of s.head.stamp) er))
-
--- slot 0 of the leaf that was found, if there is one
-pub slot_first : (stamp : ℕ) (P : LeafNo → Cursor → Type 0) → ((k : LeafNo) (x : Cursor) → P k x → x ≡ cursor_at stamp k.0 0) → (t : Option LeafNo) (r : Option Cursor)
-    → MatchOption t (r ≡ None) (λ k. IsSomeAnd r (P k)) → Ok r ≡ next_of stamp (Ok t)
-slot_first stamp P told (Some k) (Some x) h = ap (λ (y : Cursor). Ok (Some y)) (told k x h)
-slot_first stamp P told (Some k) None h = absurd h
-slot_first stamp P told None r h = ap Ok h
 
 -- cmp -------------------------------------------------------------------------------------------------------------------------------------
 

@@ -180,11 +180,15 @@ pub fn next(
     let parent = parent_of(leaves, g, k);
     let place = at_of(leaves, g, k);
     let after = next_up(inners, g, head.levels, NodeNo(parent), place)?;
-    Ok(after.map(|leaf| Cursor {
-        leaf,
-        slot: 0,
-        stamp,
-    }))
+    // By arms: of a `map` no edit of the end alone is refused for its value.
+    match after {
+        Some(leaf) => Ok(Some(Cursor {
+            leaf,
+            slot: 0,
+            stamp,
+        })),
+        None => Ok(None),
+    }
 }
 
 // The steps from the root down to leaf k, into the front of steps; whether the way was whole.

@@ -1,7 +1,6 @@
 -- An argument's digits, one by one from the first. Assumes nothing.
 use Rattle.std.specs.Prelude.{Option, Some, None}
 use mathlib.Core.Path.{◌≡◌, sym, ap, ◌∙◌}
-use mathlib.Core.Logic.{◌⊎◌, ⊎_elim}
 use mathlib.Core.Bool.{true, false}
 use mathlib.Core.List.{List, ◌∷◌}
 use Prim.Native.Nat.{ℕ, suc, ◌+◌, ◌-◌, ◌*◌, ◌^◌, ◌<◌, ◌≤◌}
@@ -45,16 +44,13 @@ module _ (text : List ℕ) where
     next : drop i text ≡ get_or text i 0 ∷ drop (suc i) text
     next = drop-cons text i 0 inside
 
-    too_low : get_or text i 0 < 48 → digits text ≡ false
+    pub too_low : get_or text i 0 < 48 → digits text ≡ false
     unfolding digits
     too_low h = sym same ∙ (ap digits next ∙ rw (lt-leb 48 (get_or text i 0) h))
 
-    too_high : 48 ≤ get_or text i 0 → 57 < get_or text i 0 → digits text ≡ false
+    pub too_high : 48 ≤ get_or text i 0 → 57 < get_or text i 0 → digits text ≡ false
     unfolding digits
     too_high h g = sym same ∙ (ap digits next ∙ rw (le-leb 48 (get_or text i 0) h, lt-leb (get_or text i 0) 57 g))
-
-    pub no_digit : (get_or text i 0 < 48) ⊎ (57 < get_or text i 0) → digits text ≡ false
-    no_digit h = ⊎_elim too_low (λ g. too_high (omega arith) g) h
 
     module _ (n : ℕ) (said : said_by n (drop i text) ≡ said_by 0 text) (low : 48 ≤ get_or text i 0) (high : get_or text i 0 ≤ 57) where
       pub more_digits : digits (drop (i + 1) text) ≡ digits text

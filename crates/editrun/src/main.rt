@@ -43,7 +43,11 @@ fn number_in(text: &[u8]) -> Option<u32>
     }
     let mut n: u64 = 0;
     for &b in text {
-        if !b.is_ascii_digit() {
+        // By its bounds: of `is_ascii_digit` no edit of one bound is refused for its value.
+        if b < 48 {
+            return None;
+        }
+        if b > 57 {
             return None;
         }
         n = n * 10 + u64::from(b - b'0');

@@ -1,7 +1,7 @@
 -- `editrun::number_in`: what the digits from here on say behind those that say n is what all of them say.
 use Rattle.std.proofs.Common.{◌≡◌, sym, ◌∙◌, length, arith}
 use borrow.Author.Tests.{eqb-true, eqb-false}
-use Rattle.editrun.proofs.AskedLaws.{empty, long, no_digits, by_digits, no_digit, more_digits, more_said, all_digits, all_said, said_less}
+use Rattle.editrun.proofs.AskedLaws.{empty, long, no_digits, by_digits, too_low, too_high, more_digits, more_said, all_digits, all_said, said_less}
 use Rattle.editrun.proofs.number_in.Goals as goal
 use Rattle.editrun.proofs.number_in.Goals.{then-is_empty-via-then-is_empty, then-is_empty-via-else-is_empty+then-text-gt10}
 
@@ -11,17 +11,19 @@ returns-then-is_empty c = elim c.then-is_empty.branch [
   | then-is_empty-via-else-is_empty+then-text-gt10 w ↦ let some : length c.args.text.now ≡ 0 → ⊥ = eqb-false _ 0 (sym c.is_empty.ensures ∙ w.if-is_empty.false) in long _ (omega arith) w.if-text-gt10.true
 ]
 
-pub returns-then-not-is_ascii_digit : goal.returns-then-not-is_ascii_digit
-returns-then-not-is_ascii_digit c = no_digits _ (omega arith) c.if-text-gt10.false (no_digit _ _ c.loop-b-test.true c.loop-b.invariant.digits c.if-not-is_ascii_digit.ensures.cases)
+pub returns-then-b-lt48 : goal.returns-then-b-lt48
+returns-then-b-lt48 c = no_digits _ (omega arith) c.if-text-gt10.false (too_low _ _ c.loop-b-test.true c.loop-b.invariant.digits c.if-b-lt48.true)
+
+pub returns-then-b-gt57 : goal.returns-then-b-gt57
+returns-then-b-gt57 c = no_digits _ (omega arith) c.if-text-gt10.false (too_high _ _ c.loop-b-test.true c.loop-b.invariant.digits c.if-b-lt48.false c.if-b-gt57.true)
 
 pub loop-b-preserved : goal.loop-b-preserved
 loop-b-preserved c =
     let it = c.loop-b.invariant in
-    let digit = c.if-not-is_ascii_digit.ensures.cases in
     record {
-      small = rw c.from.ensures (said_less _ _ _ it.small digit.1);
-      said = rw c.from.ensures (more_said _ _ c.loop-b-test.true it.digits _ it.said digit.0 digit.1);
-      digits = more_digits _ _ c.loop-b-test.true it.digits _ it.said digit.0 digit.1;
+      small = rw c.from.ensures (said_less _ _ _ it.small c.if-b-gt57.false);
+      said = rw c.from.ensures (more_said _ _ c.loop-b-test.true it.digits _ it.said c.if-b-lt48.false c.if-b-gt57.false);
+      digits = more_digits _ _ c.loop-b-test.true it.digits _ it.said c.if-b-lt48.false c.if-b-gt57.false;
     }
 
 pub returns : goal.returns

@@ -1,10 +1,10 @@
 -- `calls_read::any::next`: the slot after in the same leaf, or slot 0 of the leaf after.
-use Rattle.std.proofs.Common.{refl, ◌∙◌, arith, rules}
+use Rattle.std.proofs.Common.{refl, ◌∙◌, arith}
 use Rattle.model.specs.Kind.{kind}
 use Rattle.model_laws.specs.Handed.{handed}
 use Rattle.tree_open.proofs.ReadyLaws.{inner_area}
 use Rattle.tree_open.proofs.CursorLaws.{cursor_ready, slot_in_law}
-use Rattle.calls_read.proofs.OrderLaws.{next_refused, next_here, next_on, slot_first}
+use Rattle.calls_read.proofs.OrderLaws.{next_refused, next_here, next_on}
 use Rattle.calls_read.proofs.any.next.Goals as goal
 
 pub overflow_add-i : goal.overflow_add-i
@@ -40,8 +40,12 @@ returns-in_err-after c effect =
     ∙ next_on (kind c.args.views effect) _ c.args.at _ (c.in_ok-g.ensures effect) _ c.len_of.ensures c.if-i-len_of.false _ _ _ c.parent_of-parent.ensures
     c.at_of-place.ensures c.in_err-after.ensures
 
-pub returns : goal.returns
-returns c effect =
-    slot_first c.args.head.stamp _ (λ k x q. search rules) _ _ c.map.ensures.cases
-    ∙ next_on (kind c.args.views effect) _ c.args.at _ (c.in_ok-g.ensures effect) _ c.len_of.ensures c.if-i-len_of.false _ _ _ c.parent_of-parent.ensures
-    c.at_of-place.ensures c.in_ok-after.ensures
+pub returns-in-Some : goal.returns-in-Some
+returns-in-Some c effect =
+    rw c.in-Some.is at (next_on (kind c.args.views effect) _ c.args.at _ (c.in_ok-g.ensures effect) _ c.len_of.ensures c.if-i-len_of.false _ _ _ c.parent_of-parent.ensures
+    c.at_of-place.ensures c.in_ok-after.ensures)
+
+pub returns-in-None : goal.returns-in-None
+returns-in-None c effect =
+    rw c.in-None.is at (next_on (kind c.args.views effect) _ c.args.at _ (c.in_ok-g.ensures effect) _ c.len_of.ensures c.if-i-len_of.false _ _ _ c.parent_of-parent.ensures
+    c.at_of-place.ensures c.in_ok-after.ensures)
